@@ -1,4 +1,4 @@
-//! A list that is written as a run and read.
+//! Writing a list as a run, and reading it.
 ghost use Rattle.std.specs.Prelude.{◌≡◌, ◌+◌, ◌^◌, ◌<◌, [], Some, IfErr, IfOk, IfSome, MatchOption};
 ghost use Rattle.sst_entries.specs.declared.error.Error.TheVariants.{OutOfMemory};
 ghost use Rattle.logpurple.specs.Words.{CanDeal, Faults, FitsAsTables, IsWritable, ReadsOf};
@@ -11,9 +11,14 @@ use logpurple::table::{TableIds, Timestamp};
 use std::alloc::Allocator;
 use std::ops::Bound;
 
-/// What a point read and a range of a list give once it was written as a run and opened; `None`
-/// where the list has no entry. The contracts of writing, opening and reading runs alone say that
-/// it is the list. Refused as [`write_run`] with ids from 1 on.
+/// Writes a list as a run, opens it, and returns a point read and a range of it; `None` if the list
+/// has no entry.
+///
+/// By the contracts of writing, opening and reading runs alone, they read the list.
+///
+/// # Errors
+///
+/// Those of [`write_run`] with ids from 1 on.
 pub fn read_run_back<A: Allocator + Clone>(
     alloc: A,
     items: Vec<InternalValue<A>, A>,
@@ -24,21 +29,22 @@ pub fn read_run_back<A: Allocator + Clone>(
     range: (Bound<UserKey<A>>, Bound<UserKey<A>>),
 ) -> Result<Option<Reads<A>>, Error>
     requires { IsWritable items.items }
-    // The first match of the key, and from both ends the newest version of each key within the
-    // bounds, of the list, lifted.
+    // They are the first match of the key in the list and, from both ends, the newest version of
+    // each key within the bounds, global seqno applied.
     ensures list { let gives = ⟦<NewestOfRuns<A> as Iterator>⟧.next_gives in
         let back_gives = ⟦<NewestOfRuns<A> as DoubleEndedIterator>⟧.next_back_gives in
         IfOk result (λ r. MatchOption r (items.items ≡ [])
         (ReadsOf gives back_gives key.now seqno range.0 range.1 (lift items.items global_seqno))) }
-    // Where the list has no entry, there is no answer.
+    // If the list has no entry, there is no result.
     ensures none { IfOk result (λ r. IfSome r (λ _. items.items ≡ [] → ⊥)) }
-    // Both ends of the range may be asked however often.
+    // Both ends of the range may be called any number of times.
     ensures can { IfOk result (λ r. IfSome r (λ read.
         CanDeal ⟦<NewestOfRuns<A> as Iterator>⟧.next_gives
         ⟦<NewestOfRuns<A> as DoubleEndedIterator>⟧.next_back_gives
         ⟦<NewestOfRuns<A> as Iterator>⟧.can_next
         ⟦<NewestOfRuns<A> as DoubleEndedIterator>⟧.can_next_back read.1)) }
-    // Memory aside, the refusal is that of writing and opening the list: reading refuses nothing.
+    // Except for `OutOfMemory`, the error is that of writing and opening the list: reading does not
+    // fail.
     ensures refused { Faults result
         (chain_fault (Some 1) target_size 0 items.items global_seqno) }
     ensures taken { FitsAsTables (Some 1) target_size items.items →

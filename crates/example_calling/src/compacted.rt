@@ -1,4 +1,4 @@
-//! A list that is written as a run, which is compacted alone and read.
+//! Writing a list as a run, compacting it alone, and reading it.
 ghost use Rattle.std.specs.Prelude.{◌≡◌, ◌∷◌, [], List, IfErr, IfOk, IfSome, MatchOption, Some};
 ghost use Rattle.std.specs.Prelude.{length};
 ghost use Rattle.sst_entries.specs.declared.error.Error.TheVariants.{OutOfMemory};
@@ -17,7 +17,7 @@ use std::alloc::Allocator;
 use std::ops::Bound;
 use std::sync::Arc;
 
-// Compacts a run alone into tables, and puts these in a run; none where nothing is kept.
+// Compacts a run alone into tables, and puts these in a run; none if nothing is kept.
 fn compact_alone<A: Allocator + Clone>(
     alloc: A,
     run: Run<Table<A>, A>,
@@ -45,7 +45,7 @@ fn compact_alone<A: Allocator + Clone>(
     Ok(compacted)
 }
 
-// Writes a list as a run and compacts it; none where nothing is kept.
+// Writes a list as a run and compacts it; none if nothing is kept.
 fn write_and_compact<A: Allocator + Clone>(
     alloc: &A,
     items: Vec<InternalValue<A>, A>,
@@ -57,8 +57,8 @@ fn write_and_compact<A: Allocator + Clone>(
         IfOk result (λ r. MatchOption r (left ≡ []) (λ run. IsRunOfList left 0 run)) }
     ensures none { let left = kept rules (unfiltered items.items) in
         IfOk result (λ r. IfSome r (λ _. left ≡ [] → ⊥)) }
-    // The refusal is the first: of writing the list, which is cut into these tables, and then what
-    // is kept.
+    // Except for `OutOfMemory`, the error is the first one: of writing the list, which is cut into
+    // these tables, and then what is kept.
     ensures refused { let left = kept rules (unfiltered items.items) in
         (tables : List (List Entry)) →
         AreTables default_options.data_block_size target_size items.items tables →
@@ -76,13 +76,16 @@ fn write_and_compact<A: Allocator + Clone>(
     compact_alone(alloc.clone()?, run, ids, target_size, rules)
 }
 
-/// What a point read and a range give of a list that was written as a run, compacted, and whose new
-/// tables were opened; `None` where nothing is kept. The contracts of writing, compacting, opening
-/// and reading runs alone say that it is what the compaction keeps of the list. The tables are of
-/// the first level, under ids from 1 on.
+/// Writes a list as a run, compacts it, opens the new tables, and returns a point read and a range;
+/// `None` if nothing is kept.
 ///
-/// Refused with the first fault of writing the list, or else that of writing what is kept behind
-/// the list's tables; and [`Error::OutOfMemory`].
+/// By the contracts of writing, compacting, opening and reading runs alone, they read what the
+/// compaction keeps of the list. The tables are of the first level, with ids from 1 on.
+///
+/// # Errors
+///
+/// The first error of writing the list, or else of writing what is kept with the next ids;
+/// [`Error::OutOfMemory`].
 pub fn compact_run_back<A: Allocator + Clone>(
     alloc: A,
     items: Vec<InternalValue<A>, A>,
@@ -93,30 +96,30 @@ pub fn compact_run_back<A: Allocator + Clone>(
     range: (Bound<UserKey<A>>, Bound<UserKey<A>>),
 ) -> Result<Option<Reads<A>>, Error>
     requires { IsWritable items.items }
-    // The first match of the key, and from both ends the newest version of each key within the
-    // bounds, of what is kept.
+    // They are the first match of the key in what is kept and, from both ends, the newest version
+    // of each key within the bounds.
     ensures list { let gives = ⟦<NewestOfRuns<A> as Iterator>⟧.next_gives in
         let back_gives = ⟦<NewestOfRuns<A> as DoubleEndedIterator>⟧.next_back_gives in
         let left = kept rules (unfiltered items.items) in
         IfOk result (λ r. MatchOption r (left ≡ [])
         (ReadsOf gives back_gives key.now seqno range.0 range.1 left)) }
-    // Where nothing is kept, there is no answer.
+    // If nothing is kept, there is no result.
     ensures none { let left = kept rules (unfiltered items.items) in
         IfOk result (λ r. IfSome r (λ _. left ≡ [] → ⊥)) }
-    // Both ends of the range may be asked however often.
+    // Both ends of the range may be called any number of times.
     ensures can { IfOk result (λ r. IfSome r (λ read.
         CanDeal ⟦<NewestOfRuns<A> as Iterator>⟧.next_gives
         ⟦<NewestOfRuns<A> as DoubleEndedIterator>⟧.next_back_gives
         ⟦<NewestOfRuns<A> as Iterator>⟧.can_next
         ⟦<NewestOfRuns<A> as DoubleEndedIterator>⟧.can_next_back read.1)) }
-    // Memory aside, the refusal is the first: of writing the list, which is cut into these tables,
-    // and then what is kept.
+    // Except for `OutOfMemory`, the error is the first one: of writing the list, which is cut into
+    // these tables, and then what is kept.
     ensures refused { let left = kept rules (unfiltered items.items) in
         (tables : List (List Entry)) →
         AreTables default_options.data_block_size target_size items.items tables →
         Faults result (both_fault target_size items.items tables left) }
-    // Where the tables of the list fit, and behind them those of what is kept, with an id left for
-    // each, it is refused for want of memory alone.
+    // If the tables of the list fit, and then those of what is kept, with enough ids left, the only
+    // error is `OutOfMemory`.
     ensures taken { let left = kept rules (unfiltered items.items) in
         (first : FitsAsTables (Some 1) target_size items.items) →
         FitsAsTables (ids_behind (Some 1) target_size (length first.tables)) target_size left →

@@ -1,10 +1,15 @@
-//! What a caller proves of calls of its own, where it names the one crate `logpurple`: a read of a
-//! table that stores a list, a list that is written, opened and read, a table of any bytes that is
-//! verified and read, runs that are compacted, and a loop over what several runs have below a
-//! number. The reads need no proof file, the compaction one law, and the loop one invariant.
+//! Examples of proofs of a caller, who names the one crate `logpurple`.
 //!
-//! The modules have whole paths as theorems: what is read of a list that was written as a table, or
-//! as a run, or compacted, is the list's, by the contracts of the calls alone.
+//! - A read of a table that stores a list.
+//! - A list that is written, opened and read.
+//! - A table of any bytes that is verified and read.
+//! - Runs that are compacted.
+//! - A loop over the newest versions of several runs below a seqno.
+//!
+//! The reads need no proof file, the compaction needs one law, and the loop one invariant.
+//!
+//! The modules prove workflows end to end: a list that is written as a table or as a run, or
+//! compacted, is what the reads return. The proofs use the contracts of the calls alone.
 #![tactic(auto)]
 
 ghost use Rattle.std.specs.Prelude.{◌≡◌, ◌-◌, ◌^◌, ◌≤◌, [], IfErr, IfOk, List, MatchOption, Some};
@@ -40,9 +45,15 @@ use std::ops::Bound;
 use std::sync::Arc;
 pub use written::read_back;
 
-/// The first entry of a key numbered below `seqno`, of a table that was opened without a global
-/// number. Whoever wrote a list, or has verified the table, has the premise. Refused for want of
-/// memory alone then.
+/// Returns the newest version of a key visible at `seqno`, of a table that was opened without a
+/// global seqno.
+///
+/// The contract is for a table that stores a list. This is known to whoever wrote the list, or has
+/// verified the table.
+///
+/// # Errors
+///
+/// [`Error::OutOfMemory`] only, if the table stores a list.
 pub fn find<A: Allocator + Clone>(
     table: &Table<A>,
     key: &[u8],
@@ -56,8 +67,12 @@ pub fn find<A: Allocator + Clone>(
     table.get_by_key(key, seqno)
 }
 
-/// The first entry of a key numbered below `seqno` in a list that is written as a table and opened;
-/// `None` where the list has no entry. Refused as [`write_and_open`] is.
+/// Writes a list as a table, opens it, and returns the newest version of a key visible at `seqno`;
+/// `None` if the list has no entry.
+///
+/// # Errors
+///
+/// Those of [`write_and_open`].
 pub fn write_and_find<A: Allocator + Clone>(
     alloc: A,
     items: Vec<InternalValue<A>, A>,
@@ -76,9 +91,14 @@ pub fn write_and_find<A: Allocator + Clone>(
     }
 }
 
-/// The first entry of a key numbered below `seqno`, of a table of any bytes that was opened without
-/// a global number. All of it is verified first: where a read is answered, its bytes store a list,
-/// and the answer is that list's. Refused as [`Table::verify`] is.
+/// Verifies a table of any bytes, and returns the newest version of a key visible at `seqno`.
+///
+/// The table was opened without a global seqno. If the call succeeds, its bytes store a list, and
+/// the result is that list's. It reads the whole table.
+///
+/// # Errors
+///
+/// Those of [`Table::verify`].
 pub fn verify_and_find<A: Allocator + Clone>(
     table: &Table<A>,
     key: &[u8],
@@ -91,14 +111,18 @@ pub fn verify_and_find<A: Allocator + Clone>(
     table.verify()?;
     match table.get_by_key(key, seqno) {
         Ok(found) => Ok(found),
-        // A table that stores a list refuses a read for want of memory alone.
+        // A read of a table that stores a list fails with `OutOfMemory` only.
         Err(_) => Err(VerifyError::OutOfMemory),
     }
 }
 
-/// Compacts runs into one, none where nothing is kept, and answers the counter of ids behind its
-/// tables. Readers at `watermark` and above see in it what they saw in the runs together. Refused
-/// as [`compact_to_run`] is.
+/// Compacts runs into one, none if nothing is kept, and returns the id counter after its tables.
+///
+/// A read at `watermark` or above sees in it what it saw in the runs together.
+///
+/// # Errors
+///
+/// Those of [`compact_to_run`].
 pub fn compact_below<A: Allocator + Clone>(
     alloc: A,
     runs: &[Arc<Run<Table<A>, A>, A>],
@@ -128,8 +152,12 @@ pub fn compact_below<A: Allocator + Clone>(
     Ok(made)
 }
 
-/// How many keys several runs have, by versions numbered below `seqno`, up to `u64::MAX`. Refused
-/// for want of memory alone, where their tables hold lists.
+/// Returns the number of keys that several runs have, by versions visible at `seqno`, at most
+/// `u64::MAX`.
+///
+/// # Errors
+///
+/// [`Error::OutOfMemory`] only, if their tables hold lists.
 pub fn count_below<A: Allocator + Clone>(
     alloc: A,
     runs: &[Arc<Run<Table<A>, A>, A>],
@@ -146,8 +174,8 @@ pub fn count_below<A: Allocator + Clone>(
     count_newest(range_runs_at(alloc, runs, all, seqno)?)
 }
 
-// How many newest versions some sources have, as `count`. Generic in the sources: to hand a whole
-// concrete stream to a function that is generic in streams costs a proof a minute or two.
+// The number of newest versions that some sources have, as `count`. Generic in the sources: a whole
+// concrete stream costs a proof a minute or two.
 fn count_newest<S: DoubleEndedIterator<Item = IterItem<A>> + Drop, A: Allocator>(
     items: NewestOf<S, A>,
 ) -> Result<u64, Error>
@@ -165,7 +193,7 @@ fn count_newest<S: DoubleEndedIterator<Item = IterItem<A>> + Drop, A: Allocator>
     count(items)
 }
 
-// How many entries a stream gives, up to `u64::MAX`.
+// The number of entries that a stream yields, at most `u64::MAX`.
 fn count<I: DoubleEndedIterator<Item = IterItem<A>> + Drop, A: Allocator>(
     items: I,
 ) -> Result<u64, Error>

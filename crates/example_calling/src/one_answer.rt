@@ -14,7 +14,7 @@ use std::ops::Bound;
 /// The entries of a table within two bounds, and all of them.
 pub type Ranges<A> = (Iter<A>, Iter<A>);
 
-/// What a point read of a table finds, and a scan of the table.
+/// The result of a point read of a table, and a scan of the table.
 pub type PointAndScan<A> = (Option<InternalValue<A>>, Scanner<A>);
 
 // The entries within two bounds, and all.
@@ -36,7 +36,7 @@ fn ranges_of<A: Allocator + Clone>(
     beside(range, all)
 }
 
-// What a point read finds, and a scan.
+// The result of a point read, and a scan.
 fn read_and_scan<A: Allocator + Clone>(
     table: &Table<A>,
     key: &[u8],
@@ -52,16 +52,22 @@ fn read_and_scan<A: Allocator + Clone>(
     Ok((found, table.scan()?))
 }
 
-/// What each read of a table gives: what a point read finds, beside a scan of all; and the entries
-/// within two bounds, beside all entries, both from both ends.
+/// Runs every kind of read on a table: a point read, a scan of all, a range within two bounds, and
+/// a range of all.
 ///
-/// Of bytes that store a list these are the list's, its numbers lifted by the global number, and
-/// nothing else of the table has a say in it: whoever wrote it, whichever index and filter it was
-/// written with, in one block or in partitions, whichever of their blocks stay loaded, of whichever
-/// sizes its blocks are and in whichever version it is stored. So two tables of one list answer
-/// alike. Where the list has an
-/// entry it is refused [`Error::OutOfMemory`] alone; other tables as [`Table::get`], or else
-/// [`Table::scan`], is.
+/// Both ranges may be read from both ends. If the bytes store a list, the results are those of the
+/// list, the global seqno applied, and depend on nothing else of the table. So two tables of one
+/// list yield the same, whatever differs between them:
+///
+/// - who wrote them;
+/// - which index and filter they have, in one block or in partitions, and which of these blocks are
+///   pinned;
+/// - the sizes of their blocks, and the version in which they are stored.
+///
+/// # Errors
+///
+/// [`Error::OutOfMemory`] only, if the table stores a list that has an entry. For other tables,
+/// those of [`Table::get`], or else of [`Table::scan`].
 pub fn read_each_way<A: Allocator + Clone>(
     table: &Table<A>,
     key: &[u8],
@@ -76,10 +82,10 @@ pub fn read_each_way<A: Allocator + Clone>(
         ReadsList es g key.now seqno read.0.0 read.0.1
         × DealsWithin gives back_gives lower upper es g read.1.0
         × DealsAll gives back_gives es g read.1.1) }
-    // Whatever the table's bytes are, the refusal is that of the point read, or else of the scan,
-    // memory aside.
+    // Whatever the table's bytes, except for `OutOfMemory`, the error is that of the point read, or
+    // else of the scan.
     ensures refused { Faults result (reads_fault table.now key.now seqno) }
-    // Where the list has an entry, it is refused for want of memory alone.
+    // If the list has an entry, the only error is `OutOfMemory`.
     ensures err { (es : List Entry) → StoresList table.now.bytes es → (es ≡ [] → ⊥) →
         IfErr result (λ e. e ≡ OutOfMemory) }
 {

@@ -1,4 +1,4 @@
-//! A part of several runs that is compacted, and what is read of the runs before and after.
+//! Compacting a part of several runs, and reading the runs before and after.
 ghost use Rattle.std.specs.Prelude.{◌≡◌, ◌∷◌, ◌++◌, ◌⊎◌, [], IfErr, IfOk, List, MatchOption, OnOk};
 ghost use Rattle.std.specs.Prelude.{map};
 ghost use Rattle.std.specs.Arc.{arc_value};
@@ -22,7 +22,7 @@ use std::alloc::Allocator;
 use std::ops::Bound;
 use std::sync::Arc;
 
-// Shares runs behind others.
+// Shares runs and adds them after others.
 fn share_behind<A: Allocator>(
     shared: &mut Vec<Arc<Run<Table<A>, A>, A>, A>,
     runs: &[Arc<Run<Table<A>, A>, A>],
@@ -37,7 +37,7 @@ fn share_behind<A: Allocator>(
     Ok(())
 }
 
-// Runs side by side: those in front of a part, the part, and those behind it.
+// Adjacent runs: those before a part, the part, and those after it.
 fn side_by_side<A: Allocator + Clone>(
     alloc: &A,
     front: &[Arc<Run<Table<A>, A>, A>],
@@ -55,7 +55,7 @@ fn side_by_side<A: Allocator + Clone>(
     Ok(runs)
 }
 
-// What a point read and a range of runs side by side give.
+// A point read and a range of adjacent runs.
 fn read_side_by_side<A: Allocator + Clone>(
     alloc: &A,
     front: &[Arc<Run<Table<A>, A>, A>],
@@ -83,8 +83,7 @@ fn read_side_by_side<A: Allocator + Clone>(
     read_runs(alloc, &runs, key, seqno, range)
 }
 
-// What a point read and a range of runs side by side give, where the bounds are read within again:
-// it shares them.
+// A point read and a range of adjacent runs. It shares the bounds, because they are used again.
 fn read_within<A: Allocator + Clone>(
     alloc: &A,
     front: &[Arc<Run<Table<A>, A>, A>],
@@ -113,7 +112,7 @@ fn read_within<A: Allocator + Clone>(
     read_side_by_side(alloc, front, part, behind, key, seqno, bounds)
 }
 
-// A run alone, as one that is shared; none where there is none.
+// A run alone, as a shared one; none if there is none.
 fn shared_alone<A: Allocator + Clone>(
     alloc: &A,
     run: Option<Run<Table<A>, A>>,
@@ -132,7 +131,7 @@ fn shared_alone<A: Allocator + Clone>(
     }
 }
 
-// Compacts a part into a run, where something is kept.
+// Compacts a part into a run, if something is kept.
 fn compact_part<A: Allocator + Clone>(
     alloc: &A,
     part: &[Arc<Run<Table<A>, A>, A>],
@@ -154,7 +153,7 @@ fn compact_part<A: Allocator + Clone>(
     shared_alone(alloc, run)
 }
 
-// What a point read and a range of runs side by side give once the part is compacted.
+// A point read and a range of adjacent runs after the part is compacted.
 fn read_compacted<A: Allocator + Clone>(
     alloc: &A,
     front: &[Arc<Run<Table<A>, A>, A>],
@@ -190,16 +189,24 @@ fn read_compacted<A: Allocator + Clone>(
     read_side_by_side(alloc, front, &made, behind, key, seqno, range)
 }
 
-/// What a point read and a range of several runs give before and after a part of them is compacted,
-/// by [`compact_to_run`], and its run put in the part's place. The contracts of reading and
-/// compacting runs, and [`compaction_law`], alone say that readers see the same: where nothing is
-/// evicted or zeroed and the part has no weak tombstone, or of each key all others are newer than
-/// the part; the point reads where their bound is the watermark or above.
+/// Returns a point read and a range of several runs before and after a part of them is compacted by
+/// [`compact_to_run`].
 ///
-/// Refused as [`compact_to_run`]. Whatever is answered, the given runs are as they were.
-/// Conditions: those of [`compact_to_run`] on the part. That the other runs are in order, that
-/// their tables hold lists, and that no key of all lists together has one number twice, are
-/// premises of the clauses alone.
+/// The new run replaces the part. By the contracts of reading and compacting runs and
+/// [`compaction_law`] alone, readers see the same in two cases:
+///
+/// - nothing is evicted or zeroed, and the part has no weak tombstone;
+/// - of each key, all other entries are newer than the part.
+///
+/// For point reads, the bound must be the watermark or above.
+///
+/// The conditions on the part are those of [`compact_to_run`]. Some clauses also have premises: the
+/// other runs are in order, their tables hold lists, and no key of all lists has one seqno twice.
+/// The runs are not changed.
+///
+/// # Errors
+///
+/// Those of [`compact_to_run`].
 pub fn compact_part_back<A: Allocator + Clone>(
     alloc: A,
     front: &[Arc<Run<Table<A>, A>, A>],
@@ -214,20 +221,20 @@ pub fn compact_part_back<A: Allocator + Clone>(
     range: (Bound<UserKey<A>>, Bound<UserKey<A>>),
 ) -> Result<(Reads<A>, Reads<A>), Error>
     requires { AreCompactable (map arc_value part.now) }
-    // Before, what is read is that of all lists together,
+    // The reads before are those of all lists together.
     ensures before { let gives = ⟦<NewestOfRuns<A> as Iterator>⟧.next_gives in
         let back_gives = ⟦<NewestOfRuns<A> as DoubleEndedIterator>⟧.next_back_gives in
         (fs ps bs : List (List (List Entry))) → HoldSides (map arc_value front.now)
         (map arc_value part.now) (map arc_value behind.now) fs ps bs → IfOk result (λ r.
         ReadsOf gives back_gives key.now seqno range.0 range.1 (union_in (fs ++ (ps ++ bs))) r.0) }
-    // after, that of what is kept of the part's lists and of the others.
+    // The reads after are those of what is kept of the part's lists, and of the others.
     ensures after { let gives = ⟦<NewestOfRuns<A> as Iterator>⟧.next_gives in
         let back_gives = ⟦<NewestOfRuns<A> as DoubleEndedIterator>⟧.next_back_gives in
         (fs ps bs : List (List (List Entry))) → HoldSides (map arc_value front.now)
         (map arc_value part.now) (map arc_value behind.now) fs ps bs → IfOk result (λ r.
         ReadsKept gives back_gives key.now seqno range.0 range.1 rules fs ps bs r.1) }
-    // Both show the same, under the conditions of the law: the point reads to a reader at the
-    // watermark or above, the ranges to any.
+    // Both show the same under the conditions of the law: point reads for a bound of the watermark
+    // or above, ranges always.
     ensures alike { let gives = ⟦<NewestOfRuns<A> as Iterator>⟧.next_gives in
         let back_gives = ⟦<NewestOfRuns<A> as DoubleEndedIterator>⟧.next_back_gives in
         (fs ps bs : List (List (List Entry))) → HoldSides (map arc_value front.now)
@@ -236,19 +243,19 @@ pub fn compact_part_back<A: Allocator + Clone>(
         IsPlain rules (union_in ps) ⊎ AllNewer (union_in ps) (union_in (fs ++ bs)) →
         IfOk result (λ r. ShowAlike gives back_gives key.now seqno range.0 range.1
         rules.watermark r.0 r.1) }
-    // Both ends of both ranges may be asked however often.
+    // Both ends of both ranges may be called any number of times.
     ensures can { let can =
         CanDeal ⟦<NewestOfRuns<A> as Iterator>⟧.next_gives
         ⟦<NewestOfRuns<A> as DoubleEndedIterator>⟧.next_back_gives
         ⟦<NewestOfRuns<A> as Iterator>⟧.can_next
         ⟦<NewestOfRuns<A> as DoubleEndedIterator>⟧.can_next_back in
         IfOk result (λ r. can r.0.1 × can r.1.1) }
-    // Memory aside, the refusal is the first of writing what is kept: reading refuses nothing.
+    // Except for `OutOfMemory`, the error is the first one of writing what is kept: reading does
+    // not fail.
     ensures refused { (fs ps bs : List (List (List Entry))) → HoldSides (map arc_value front.now)
         (map arc_value part.now) (map arc_value behind.now) fs ps bs →
         Faults result (tables_fault ids target_size created_at (kept_in rules ps)) }
-    // Where the tables of what is kept fit, with an id left for each, it is refused for want of
-    // memory alone.
+    // If the tables of what is kept fit and enough ids remain, the only error is `OutOfMemory`.
     ensures taken { (fs ps bs : List (List (List Entry))) → HoldSides (map arc_value front.now)
         (map arc_value part.now) (map arc_value behind.now) fs ps bs →
         FitsAsTables ids target_size (kept_in rules ps) → IfErr result (λ e. e ≡ OutOfMemory) }

@@ -1,4 +1,4 @@
-//! What a point read and a range give together, of several runs and of one.
+//! A point read and a range together, of several runs and of one.
 ghost use Rattle.std.specs.Prelude.{◌≡◌, ◌∷◌, ℕ, [], IfErr, IfOk, List, None, Ok, map};
 ghost use Rattle.std.specs.Arc.{arc_value};
 ghost use Rattle.std.specs.List.{AllByRecursion};
@@ -15,10 +15,10 @@ use std::alloc::Allocator;
 use std::ops::Bound;
 use std::sync::Arc;
 
-/// What a point read finds, and the newest version of each key within two bounds.
+/// The result of a point read, and a range of the newest version of each key within two bounds.
 pub type Reads<A> = (Option<InternalValue<A>>, NewestOfRuns<A>);
 
-// What a point read and a range of several runs give.
+// A point read and a range of several runs.
 pub(crate) fn read_runs<A: Allocator + Clone>(
     alloc: &A,
     runs: &[Arc<Run<Table<A>, A>, A>],
@@ -38,13 +38,13 @@ pub(crate) fn read_runs<A: Allocator + Clone>(
         ⟦<NewestOfRuns<A> as DoubleEndedIterator>⟧.can_next_back read.1) }
     ensures taken { (lists : List (List (List Entry))) →
         RunsHoldLists (map arc_value runs.now) lists → IfErr result (λ e. e ≡ OutOfMemory) }
-    // Of any tables in runs in order the point read is what they tell, and memory aside so is the
-    // refusal;
+    // For any tables in runs in order, the point read returns the result of reading these. Except
+    // for `OutOfMemory`, so is the error.
     ensures told { AllByRecursion (IsInOrder range_of) (map arc_value runs.now) →
         IfOk result (λ read. runs_told key.now seqno None (map arc_value runs.now) ≡ Ok read.0) }
     ensures fails { AllByRecursion (IsInOrder range_of) (map arc_value runs.now) →
         IfErr result (λ e. Fails e (runs_told key.now seqno None (map arc_value runs.now))) }
-    // and the range is over the spans within the bounds.
+    // The range is over the spans within the bounds.
     ensures steps { let gives = ⟦<NewestOfRuns<A> as Iterator>⟧.next_gives in
         let back_gives = ⟦<NewestOfRuns<A> as DoubleEndedIterator>⟧.next_back_gives in
         AllByRecursion (IsInOrder range_of) (map arc_value runs.now) → IfOk result (λ read.
@@ -55,9 +55,14 @@ pub(crate) fn read_runs<A: Allocator + Clone>(
     Ok((found, stream))
 }
 
-/// What a point read of one run finds, and the newest version of each key of it within two bounds:
-/// [`get_runs`] and [`range_runs`] of this run alone. Refused as [`get_runs`]; of a run whose
-/// tables hold a list for want of memory alone.
+/// Returns a point read of one run, and a range of the newest version of each key within two
+/// bounds.
+///
+/// These are [`get_runs`] and [`range_runs`] of this run alone.
+///
+/// # Errors
+///
+/// Those of [`get_runs`]; [`Error::OutOfMemory`] only, if the run's tables hold a list.
 pub fn read_run<A: Allocator + Clone>(
     alloc: A,
     run: Run<Table<A>, A>,
@@ -65,12 +70,12 @@ pub fn read_run<A: Allocator + Clone>(
     seqno: SeqNo,
     range: (Bound<UserKey<A>>, Bound<UserKey<A>>),
 ) -> Result<Reads<A>, Error>
-    // Of tables of a list, lifted, they are those of the list.
+    // For tables of a list, global seqnos applied, they read the list.
     ensures list { let gives = ⟦<NewestOfRuns<A> as Iterator>⟧.next_gives in
         let back_gives = ⟦<NewestOfRuns<A> as DoubleEndedIterator>⟧.next_back_gives in
         (es : List Entry) (g : ℕ) → IsRunOfList es g run →
         IfOk result (ReadsOf gives back_gives key.now seqno range.0 range.1 (lift es g)) }
-    // Both ends of the range may be asked however often.
+    // Both ends of the range may be called any number of times.
     ensures can { IfOk result (λ read.
         CanDeal ⟦<NewestOfRuns<A> as Iterator>⟧.next_gives
         ⟦<NewestOfRuns<A> as DoubleEndedIterator>⟧.next_back_gives
@@ -78,13 +83,13 @@ pub fn read_run<A: Allocator + Clone>(
         ⟦<NewestOfRuns<A> as DoubleEndedIterator>⟧.can_next_back read.1) }
     ensures taken { (es : List Entry) (g : ℕ) → IsRunOfList es g run →
         IfErr result (λ e. e ≡ OutOfMemory) }
-    // Of any tables in a run in order the point read is what they tell, and memory aside so is the
-    // refusal;
+    // For any tables in a run in order, the point read returns the result of reading these. Except
+    // for `OutOfMemory`, so is the error.
     ensures told { IsInOrder range_of run →
         IfOk result (λ read. runs_told key.now seqno None (run ∷ []) ≡ Ok read.0) }
     ensures fails { IsInOrder range_of run →
         IfErr result (λ e. Fails e (runs_told key.now seqno None (run ∷ []))) }
-    // and the range is over the span within the bounds.
+    // The range is over the span within the bounds.
     ensures steps { let gives = ⟦<NewestOfRuns<A> as Iterator>⟧.next_gives in
         let back_gives = ⟦<NewestOfRuns<A> as DoubleEndedIterator>⟧.next_back_gives in
         IsInOrder range_of run → IfOk result (λ read.

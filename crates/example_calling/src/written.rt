@@ -1,4 +1,4 @@
-//! A list that is written as a table, opened and read.
+//! Writing a list as a table, opening and reading it.
 ghost use Rattle.std.specs.Prelude.{◌≡◌, [], IfOk, MatchOption};
 ghost use Rattle.sst_entries.specs.Error.{Faults};
 ghost use Rattle.lsm_compactions.specs.Written.{ReadsList, opening_fault};
@@ -8,9 +8,14 @@ use logpurple::block::{Error, InternalValue, SeqNo};
 use logpurple::table::{Scanner, Table, Timestamp, write_and_open};
 use std::alloc::Allocator;
 
-/// What a point read and a scan of a list give once it was written and opened; `None` where the
-/// list has no entry. The contracts of writing, opening and reading alone say that it is the list.
-/// Refused as [`write_and_open`].
+/// Writes a list, opens the table, and returns a point read and a scan of it; `None` if the list
+/// has no entry.
+///
+/// By the contracts of writing, opening and reading alone, they read the list.
+///
+/// # Errors
+///
+/// Those of [`write_and_open`].
 pub fn read_back<A: Allocator + Clone>(
     alloc: A,
     items: Vec<InternalValue<A>, A>,

@@ -1,4 +1,4 @@
--- What is kept of a store that is closed.
+-- The state of a closed store.
 use Rattle.std.specs.Prelude.{◌≡◌, ℕ, List, [], map}
 use Rattle.std.specs.List.{AllZip}
 use Rattle.example_store.specs.Story.{Holding}
@@ -9,11 +9,11 @@ use Rattle.logpurple.specs.Words.{Entry, OpenTable, StoresList}
 abbrev pub bytes_by_run : List (List OpenTable) → List (List (List ℕ))
 bytes_by_run runs = map (map (λ (t : OpenTable). t.bytes)) runs
 
--- the files that are kept, run by run
+-- the files of a closed store, run by run
 abbrev pub files_in : {A : Type 0} → Closed A → List (List (List ℕ))
 files_in c = map (λ run. run.items) c.files.items
 
--- it is kept of a store that has nothing but its tables
+-- the state of a closed store that has nothing but its tables
 pub record IsClosed {A : Type 0} (s : Holding) (c : Closed A) : Type 0 where
   pub none : s.recent ≡ []
   pub files : files_in c ≡ bytes_by_run s.runs

@@ -1,4 +1,4 @@
--- What is wrong with the files of a store that is not opened.
+-- Faults in the files of a store that does not open.
 use Rattle.std.specs.Prelude.{◌≡◌, ℕ, ◌-◌, ◌^◌, ◌<◌, ◌≤◌, true, List, [], ◌∷◌, ◌++◌, count_by}
 use Rattle.std.specs.Prelude.{length, map, Ok, Err}
 use Rattle.std.specs.List.{AllByRecursion}
@@ -16,19 +16,19 @@ use Rattle.example_store.specs.declared.store.open.OpenError.TheVariants.{File, 
 use Rattle.example_store.specs.declared.store.open.OpenError.TheVariants.{OldestTooHigh, OutOfOrder}
 use Rattle.example_store.specs.declared.store.open.OpenError.TheVariants.{Repeated, SeqNoOverflow}
 
--- a file that may be a store's: it stores a list that has an entry, and a store's own alone
+-- a file that may be a store's: it stores a list that has an entry, and only a store's own entries
 pub record IsOwnFile (next : ℕ) (bytes : List ℕ) : Type 0 where
   pub list : List Entry
   pub stores : StoresList bytes list
   pub some : 0 < length list
   pub own : AllByRecursion (IsOwn next) list
 
--- a file whose opening as a table is refused so, memory aside: it stores no list
+-- a file that fails to open as a table with this error, except for `OutOfMemory`: it stores no list
 pub record IsNoTable (bytes : List ℕ) (e : Error) : Type 0 where
   pub refused : recovered_told bytes 0 true true ≡ Err e
   pub none : (es : List Entry) → StoresList bytes es → ⊥
 
--- a file that opens as a table, in which this is found first: it stores no list
+-- a file that opens as a table, in which this is the first finding: it stores no list
 pub record IsNoList (bytes : List ℕ) (f : Finding) : Type 0 where
   pub table : OpenTable
   pub opens : recovered_told bytes 0 true true ≡ Ok table.parts
@@ -41,8 +41,8 @@ pub record StoresSome (bytes : List ℕ) : Type 0 where
   pub stores : StoresList bytes list
   pub some : 0 < length list
 
--- what a fault says of a file: it does not open; it stores no list; it stores the empty one; it has
--- an entry that is numbered as the next write or above; it has none, but a weak tombstone
+-- the fault of a file: it does not open; stores no list; stores the empty list; has a seqno not
+-- below the next; or, having none, has a weak tombstone
 abbrev pub IsFaultOf : ℕ → List ℕ → FileFault → Type 0
 IsFaultOf next bytes (Unopened e) = IsNoTable bytes e
 IsFaultOf next bytes (Unsound f) = IsNoList bytes f
@@ -51,7 +51,7 @@ IsFaultOf next bytes TooHigh = (file : StoresSome bytes) × (next ≤ highest_se
 IsFaultOf next bytes Weak = (file : StoresSome bytes) × (highest_seqno file.list < next)
     × (0 < count_by is_weak file.list)
 
--- a refusal names the file that stands at a place of a run, by its fault
+-- the error names the file at an index of a run, by its fault
 abbrev pub NamesFile : ℕ → List ℕ → ℕ → ℕ → OpenError → Type 0
 NamesFile next bytes run place OutOfMemory = Unit {0}
 NamesFile next bytes run place SeqNoOverflow = ⊥
@@ -79,7 +79,7 @@ pub record AreNoRun (next : ℕ) (files : List (List ℕ)) : Type 0 where
   pub wrong : (tables : List OpenTable) → map (λ (t : OpenTable). t.bytes) tables ≡ files
       → AllByRecursion (IsOwnTable next) tables → IsInOrder range_of tables → ⊥
 
--- a refusal names what is wrong first in a run
+-- the error names the first fault in a run
 abbrev pub NamesInRun : ℕ → List (List ℕ) → ℕ → OpenError → Type 0
 NamesInRun next files run OutOfMemory = Unit {0}
 NamesInRun next files run SeqNoOverflow = ⊥
@@ -95,7 +95,7 @@ pub record AreOwnFiles (next : ℕ) (files : List (List ℕ)) : Type 0 where
   pub own : IsOwnRun next run
   pub files_are : map (λ (t : OpenTable). t.bytes) run ≡ files
 
--- the first run with something wrong, which is this
+-- the first run at fault, which has this error
 pub record IsFirstRun (next : ℕ) (files : List (List (List ℕ))) (e : OpenError) : Type 0 where
   pub front : List (List (List ℕ))
   pub run : List (List ℕ)
@@ -104,7 +104,7 @@ pub record IsFirstRun (next : ℕ) (files : List (List (List ℕ))) (e : OpenErr
   pub fine : AllByRecursion (AreOwnFiles next) front
   pub wrong : NamesInRun next run (length front) e
 
--- a refusal names what is wrong first in all runs
+-- the error names the first fault in all runs
 abbrev pub IsFirstFault : ℕ → List (List (List ℕ)) → OpenError → Type 0
 IsFirstFault next files OutOfMemory = Unit {0}
 IsFirstFault next files SeqNoOverflow = ⊥
@@ -114,20 +114,19 @@ IsFirstFault next files (NoFile run) = IsFirstRun next files (NoFile run)
 IsFirstFault next files (OutOfOrder run) = IsFirstRun next files (OutOfOrder run)
 IsFirstFault next files Repeated = ⊥
 
--- the next write has a number, and the snapshot of all writes is kept
+-- the next write has a seqno, and the snapshot of all writes is kept
 pub record HasNumbers {A : Type 0} (c : Closed A) : Type 0 where
   pub room : c.next < 2 ^ 64 - 1
   pub kept : c.oldest ≤ c.next
 
--- each run may be a store's, but two entries of them have one key and one number
+-- each run may be a store's, but two of their entries have one key and one seqno
 pub record HasTwice (next : ℕ) (files : List (List (List ℕ))) : Type 0 where
   pub fine : AllByRecursion (AreOwnFiles next) files
   pub lists : List (List (List Entry))
   pub store : StoreLists files lists
   pub wrong : IsStrict (union_in lists) → ⊥
 
--- what a refusal to open a store says of what was kept of one: of its numbers, and where these are
--- right, of its files
+-- the error of opening a closed store: of its seqnos, or, if these are right, of its files
 abbrev pub IsOpenFault : {A : Type 0} → Closed A → OpenError → Type 0
 IsOpenFault c OutOfMemory = Unit {0}
 IsOpenFault c SeqNoOverflow = c.next ≡ 2 ^ 64 - 1

@@ -4,15 +4,15 @@ use Rattle.logpurple.specs.Words.{Entry, OpenTable, ids_behind, kept_in, rules_b
 use Rattle.example_store.specs.Ids.{AreMadeOf}
 use Rattle.example_store.specs.Story.{Holding}
 
--- the runs from a place on up to another, which is not among them, those in front and those behind
+-- the runs from one index up to another, exclusive, and the runs before these
 abbrev pub part_runs : ℕ → ℕ → List (List OpenTable) → List (List OpenTable)
 part_runs from to runs = drop from (take to runs)
 
 abbrev pub front_runs : ℕ → ℕ → List (List OpenTable) → List (List OpenTable)
 front_runs from to runs = take from (take to runs)
 
--- in the place of a part stands what is kept of its lists, in one run at most, and the counter of
--- ids runs on behind that run's tables
+-- a part is replaced by what is kept of its lists, in one run at most, and the counter of ids is
+-- after its tables
 pub record IsPartKept (from to watermark : ℕ) (lists : List (List (List Entry)))
     (old new : Holding) : Type 0 where
   pub made : List (List OpenTable)

@@ -1,8 +1,8 @@
--- Entries in order, and one that is put between them.
+-- Entries in order, and one that is inserted.
 use Rattle.std.specs.Prelude.{◌≡◌, ℕ, List, ◌∷◌, ◌++◌}
 use Rattle.logpurple.specs.Words.{Entry, point}
 
--- an entry was put between those of a list, and each read finds it before all of them
+-- an entry was inserted into a list, and each read finds it before all others
 pub record IsPut (e : Entry) (old new : List Entry) : Type 0 where
   pub front : List Entry
   pub behind : List Entry

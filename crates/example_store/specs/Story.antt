@@ -1,4 +1,4 @@
--- What a store has, and the story of its writes that it tells.
+-- The state of a store, and the history of its writes.
 use Rattle.std.specs.Prelude.{◌≡◌, ℕ, ◌-◌, ◌^◌, ◌<◌, ◌≤◌, nat_le, nat_lt, List, [], ◌∷◌, ◌++◌}
 use Rattle.std.specs.Prelude.{false, if◌then◌else◌, length, None, Option, Some}
 use Rattle.std.specs.List.{AllByRecursion}
@@ -7,10 +7,9 @@ use Rattle.logpurple.specs.Words.{AreCompactable, Entry, Error, HoldsList, IsInO
 use Rattle.logpurple.specs.Words.{OpenTable, RunsHoldLists, SeqNoOverflow, ValueTooLong, range_of}
 use Rattle.logpurple.specs.Words.{is_weak, seen, union_in}
 
--- what a store has: the entries that are in no table yet, the tables of its runs, the counter of
--- their ids and how large each is to be; the number of the next write, the number from which on
--- those entries are numbered, the oldest snapshot that it keeps, and how many entries it has in no
--- table before they are flushed
+-- the state of a store: the entries in no table yet, the tables of its runs, the counter of their
+-- ids, and their target size. Also the seqno of the next write, the lower bound of the former
+-- entries' seqnos, the oldest snapshot that is kept, and the limit of entries before a flush
 pub record Holding : Type 0 where
   pub recent : List Entry
   pub runs : List (List OpenTable)
@@ -21,7 +20,7 @@ pub record Holding : Type 0 where
   pub oldest : ℕ
   pub limit : ℕ
 
--- it of its parts
+-- the state with these parts
 abbrev pub holding : List Entry → List (List OpenTable) → Option ℕ → ℕ → ℕ → ℕ → ℕ → ℕ → Holding
 holding recent runs ids target next flushed oldest limit = record {
   recent = recent;
@@ -34,18 +33,17 @@ holding recent runs ids target next flushed oldest limit = record {
   limit = limit;
 }
 
--- a story is the list of all writes, the newest first: each has a number below that of the one
--- before it, and the first a number below the next
+-- a history is the list of all writes, the newest first: each seqno is below that of the one before
+-- it, and the first is below the next
 abbrev pub IsStory : ℕ → List Entry → Type 0
 IsStory next [] = Unit {0}
 IsStory next (e ∷ ws) = (e.seqno < next) × IsStory e.seqno ws
 
--- an entry that is numbered below a bound, and is no weak tombstone
+-- an entry with a seqno below a bound, and no weak tombstone
 abbrev pub IsOwn : ℕ → Entry → Type 0
 IsOwn bound e = (e.seqno < bound) × (is_weak e ≡ false)
 
--- a table that was opened without a global number, of a list that has such entries alone, and one
--- at least
+-- a table that was opened without a global seqno, of a list of such entries, at least one
 pub record IsOwnTable (bound : ℕ) (t : OpenTable) : Type 0 where
   pub list : List Entry
   pub holds : HoldsList t list
@@ -64,11 +62,11 @@ pub record HoldBelow (bound : ℕ) (runs : List (List OpenTable)) : Type 0 where
   pub own : AllByRecursion (IsOwnRun bound) runs
   pub able : AreCompactable runs
 
--- entries are numbered from one number on, and below another, and none is a weak tombstone
+-- entries with seqnos from one on, and below another, and no weak tombstone among them
 abbrev pub AreNumbered : ℕ → ℕ → List Entry → Type 0
 AreNumbered from to es = AllByRecursion (λ (e : Entry). (from ≤ e.seqno) × IsOwn to e) es
 
--- what is so of every store: what is in a table is older than what is not, and the snapshot of all
+-- the invariant of a store: what is in a table is older than what is not, and the snapshot of all
 -- writes is kept
 pub record IsStore (s : Holding) : Type 0 where
   pub recent : AreNumbered s.flushed s.next s.recent
@@ -77,8 +75,8 @@ pub record IsStore (s : Holding) : Type 0 where
   pub room : s.next < 2 ^ 64 - 1
   pub kept : s.oldest ≤ s.next
 
--- a store tells a story: of each key a reader sees in what the store has, at each snapshot that it
--- keeps, what the story says
+-- a store reads as a history: at each snapshot that it keeps, a reader sees in it the same of each
+-- key as in the history
 pub record IsTold (s : Holding) (ws : List Entry) : Type 0 where
   pub story : IsStory s.next ws
   pub lists : List (List (List Entry))
@@ -86,19 +84,19 @@ pub record IsTold (s : Holding) (ws : List Entry) : Type 0 where
   pub same : (key : List ℕ) (bound : ℕ) → s.oldest ≤ bound
       → seen (s.recent ++ union_in lists) key bound ≡ seen ws key bound
 
--- the value of a key at a snapshot, none where it was deleted last, or never written
+-- the value of a key at a snapshot; none if it was deleted last, or never written
 abbrev pub value_in : List Entry → List ℕ → ℕ → Option (List ℕ)
 value_in ws key bound = option_map (λ v. v.1) (seen ws key bound)
 
--- what is wrong with a write under a number: its key or its value is longer than a table takes, or
--- no number is left behind it
+-- the error of a write with this seqno: its key or its value is longer than a table takes, or no
+-- seqno is left after it
 abbrev pub put_fault : ℕ → List ℕ → List ℕ → Option Error
 put_fault next key value =
     if nat_lt 1048576 (length key) then Some KeyTooLong
     else (if nat_lt (2 ^ 32 - 1) (length value) then Some ValueTooLong
     else (if nat_le (2 ^ 64 - 2) next then Some SeqNoOverflow else None))
 
--- a list of at most one
+-- the list of an option
 abbrev pub option_list : {X : Type 0} → Option X → List X
 option_list None = []
 option_list (Some x) = x ∷ []

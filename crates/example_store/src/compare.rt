@@ -1,4 +1,4 @@
-//! A store at a snapshot, compared with a plain map.
+//! Comparing a store at a snapshot with a plain map.
 ghost use Rattle.std.specs.Iterator.{IsFinite};
 ghost use Rattle.std.specs.Prelude.{IfOk};
 
@@ -9,37 +9,37 @@ use std::alloc::{Allocator, Global};
 use std::collections::BTreeMap;
 use std::ops::Bound;
 
-/// How many keys are written.
+/// The number of keys that are written.
 pub const KEYS: u32 = 20_000;
 
-/// What a store should have at a snapshot.
+/// The expected contents of a store at a snapshot.
 pub type Plain = BTreeMap<u32, u32>;
 
-/// How much was compared, and how much of it is wrong.
+/// The number of comparisons, and of those that failed.
 #[derive(Clone, Copy)]
 pub struct Count {
-    /// All.
+    /// All comparisons.
     pub all: usize,
-    /// What is wrong, missing or too much.
+    /// Comparisons that found a wrong, missing or additional entry.
     pub wrong: usize,
 }
 
 impl Count {
-    // Counts one more.
+    // Counts one comparison.
     fn add(&mut self, is_right: bool) {
         self.all = self.all.saturating_add(1);
         self.wrong = self.wrong.saturating_add(usize::from(!is_right));
     }
 }
 
-/// What was compared at one moment.
+/// The comparisons at one snapshot after one step.
 #[derive(Clone, Copy)]
 pub struct Compared {
-    /// What was done last.
+    /// The step before them.
     pub moment: &'static str,
     /// The snapshot.
     pub snapshot: SeqNo,
-    /// What each key has.
+    /// Point reads of each key.
     pub gets: Count,
     /// The keys with a value, from the front.
     pub front: Count,
@@ -58,13 +58,13 @@ fn is_value(found: &Option<Slice>, want: Option<&u32>) -> bool {
     found.as_slice() == want.to_be_bytes().as_slice()
 }
 
-// Whether a key has what it should.
+// Whether a key has the expected value.
 fn is_got(store: &Store, plain: &Plain, key: u32, snapshot: SeqNo) -> Result<bool, Error> {
     let found = store.get(&key.to_be_bytes(), snapshot)?;
     Ok(is_value(&found, plain.get(&key)))
 }
 
-// Looks up each key.
+// Reads each key.
 fn compare_gets(store: &Store, plain: &Plain, snapshot: SeqNo) -> Result<Count, Error> {
     let mut count = Count { all: 0, wrong: 0 };
     for key in 0..KEYS {
@@ -95,7 +95,7 @@ fn is_row<A: Allocator>(item: &InternalValue<A>, want: Option<&(u32, u32)>) -> b
     }
 }
 
-// Compares the next entry, where it has a value.
+// Compares the next entry, if it has a value.
 fn compare_item<A: Allocator>(item: &InternalValue<A>, rows: &[(u32, u32)], count: &mut Count) {
     if !item.is_tombstone() {
         let want = rows.get(count.all);
@@ -103,7 +103,7 @@ fn compare_item<A: Allocator>(item: &InternalValue<A>, rows: &[(u32, u32)], coun
     }
 }
 
-// Compares all entries in turn, which should have the values of these rows.
+// Compares all entries in turn with the values of these rows.
 fn compare_each<I: Iterator<Item = IterItem<A>> + Drop, A: Allocator>(
     items: I,
     rows: &[(u32, u32)],
@@ -120,8 +120,8 @@ fn compare_each<I: Iterator<Item = IterItem<A>> + Drop, A: Allocator>(
     Ok(count)
 }
 
-// Compares all entries from one end on. Generic in what has them, so that its parts are looked at
-// once for both ends.
+// Compares all entries from one end. Generic in the source, so that a proof unfolds its parts once
+// for both ends.
 fn compare_from<I: DoubleEndedIterator<Item = IterItem<A>> + Drop, A: Allocator>(
     end: Direction,
     items: I,
@@ -137,8 +137,8 @@ fn compare_from<I: DoubleEndedIterator<Item = IterItem<A>> + Drop, A: Allocator>
     }
 }
 
-// Compares newest versions from one end on. Generic in what these are over: a whole concrete stream
-// costs a proof much where it is handed to a function that is generic in streams.
+// Compares newest versions from one end. Generic in the sources: a whole concrete stream makes a
+// proof expensive.
 fn compare_newest<S: DoubleEndedIterator<Item = IterItem<A>> + Drop, A: Allocator>(
     end: Direction,
     items: Result<NewestOf<S, A>, Error>,
@@ -153,8 +153,8 @@ fn compare_newest<S: DoubleEndedIterator<Item = IterItem<A>> + Drop, A: Allocato
     compare_from(end, items?, rows)
 }
 
-// Compares newest versions of what is numbered below a bound, generic in what that comes from: each
-// layer with which a concrete stream is handed on costs a proof about half as much again.
+// Compares newest versions below a seqno. Generic in the sources: each layer of a concrete stream
+// costs a proof about half as much again.
 fn compare_below<S: DoubleEndedIterator<Item = IterItem<A>> + Drop, A: Allocator>(
     end: Direction,
     items: Result<NewestOf<Below<S>, A>, Error>,
@@ -169,8 +169,8 @@ fn compare_below<S: DoubleEndedIterator<Item = IterItem<A>> + Drop, A: Allocator
     compare_newest(end, items, rows)
 }
 
-// Compares all that a store has at a snapshot, from one end on. Generic in the allocator: with a
-// concrete one a proof looks at more of each part.
+// Compares all that a store has at a snapshot, from one end. Generic in the allocator: with a
+// concrete one a proof unfolds more of each part.
 fn compare_range<A: Allocator + Clone>(
     end: Direction,
     store: &Store<A>,
@@ -181,7 +181,8 @@ fn compare_range<A: Allocator + Clone>(
     compare_below(end, store.range(all, snapshot), rows)
 }
 
-/// Compares what each key has at a snapshot, and what there is from either end.
+/// Compares a store with a plain map at a snapshot: point reads of each key, and ranges from both
+/// ends.
 pub fn compare(
     alloc: Global,
     moment: &'static str,

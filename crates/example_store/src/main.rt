@@ -1,12 +1,12 @@
-//! A small store over sorted tables: the newest entries in memory, and runs of tables behind them.
+//! A small store over sorted tables: the newest entries in memory, and then runs of tables.
 //!
-//! Each write gets the next number, and the store is told by the list of its writes: a read at a
-//! snapshot answers what that list says, whatever was flushed, compacted and packed since, whether
-//! the store was closed and opened, and whatever was refused on the way.
+//! Each write gets the next sequence number, and the store reads as the history of its writes: a
+//! read at a snapshot returns what this history says. This holds whatever was flushed, compacted
+//! and packed since, whether the store was closed and opened, and whatever failed in between.
 //!
-//! The program writes, overwrites and deletes 20,000 keys of a store, with two snapshots, packing
-//! and compaction, closes it, opens it from its files and goes on, and compares it each time with a
-//! plain map: what each key has, and what there is from either end.
+//! The program writes, overwrites and deletes 20,000 keys, with two snapshots, packing and
+//! compaction. It closes the store, opens it from its files and goes on. Each time it compares the
+//! store with a plain map, by point reads of each key and by ranges from both ends.
 #![tactic(auto)]
 
 mod compare;
@@ -18,7 +18,7 @@ mod writes;
 use compare::Compared;
 use std::io::{self, Write};
 
-// Prints what was compared at one moment.
+// Prints the comparisons of one step.
 fn print_one<W: Write>(out: &mut W, compared: &Compared) -> io::Result<()> {
     let (moment, snapshot) = (compared.moment, compared.snapshot);
     let (gets, front, back) = (compared.gets, compared.front, compared.back);

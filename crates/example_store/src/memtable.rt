@@ -14,8 +14,9 @@ use std::marker::Model;
 use std::ops::Bound;
 use std::vec::IntoIter;
 
-/// The newest entries of a store in order: keys upward, and the newest of a key first. A contract
-/// sees the list.
+/// The newest entries of a store in order: keys ascending, and the newest version of a key first.
+///
+/// Its model is the list.
 #[derive(Drop)]
 pub struct Memtable<A: Allocator = Global> {
     items: Vec<InternalValue<A>, A>,
@@ -33,7 +34,7 @@ impl<A: Allocator> Model for Memtable<A> {
 }
 
 impl<A: Allocator + Clone> Memtable<A> {
-    /// No entries.
+    /// Returns a memtable without entries.
     pub fn new(alloc: A) -> Memtable<A>
         ensures { result ≡ [] }
     {
@@ -42,25 +43,28 @@ impl<A: Allocator + Clone> Memtable<A> {
         }
     }
 
-    /// Lets all entries go.
+    /// Drops all entries.
     pub fn clear(&mut self)
         ensures { self.new ≡ [] }
     {
         self.items.clear();
     }
 
-    /// How many entries there are.
+    /// Returns the number of entries.
     pub fn len(&self) -> usize
         ensures { result ≡ length self.now }
     {
         self.items.len()
     }
 
-    /// Adds an entry that is numbered above all others. Refused for want of memory alone; nothing
-    /// is added then.
+    /// Adds an entry with a seqno above all others.
+    ///
+    /// # Errors
+    ///
+    /// [`Error::OutOfMemory`] only. Nothing is added then.
     pub fn insert(&mut self, item: InternalValue<A>) -> Result<(), Error>
         requires newest { AllByRecursion (λ (e : Entry). e.seqno < item.seqno) self.old }
-        // It stands where the order has it, and a read finds it before what was there.
+        // It is inserted in order, and a read finds it before the others.
         ensures put { OnOk result (IsPut item self.old self.new) }
         ensures err { OnErr result (self.new ≡ self.old) }
         ensures memory { IfErr result (λ e. e ≡ OutOfMemory) }
@@ -70,7 +74,11 @@ impl<A: Allocator + Clone> Memtable<A> {
         Ok(())
     }
 
-    /// The first entry of a key numbered below `seqno`. Refused for want of memory alone.
+    /// Returns the newest version of a key visible at `seqno`.
+    ///
+    /// # Errors
+    ///
+    /// [`Error::OutOfMemory`] only.
     pub fn get(&self, key: &[u8], seqno: SeqNo) -> Result<Option<InternalValue<A>>, Error>
         ensures { Gives (λ (x : Option Entry). x) result (Ok (point self.now key.now seqno)) }
     {
@@ -84,7 +92,11 @@ impl<A: Allocator + Clone> Memtable<A> {
         Ok(Some(item.clone()?))
     }
 
-    /// The entries, shared: no bytes are copied. Refused for want of memory alone.
+    /// Returns the entries, shared: no bytes are copied.
+    ///
+    /// # Errors
+    ///
+    /// [`Error::OutOfMemory`] only.
     pub fn share(&self, alloc: &A) -> Result<Vec<InternalValue<A>, A>, Error>
         ensures items { IfOk result (λ shared. shared.items ≡ self.now) }
         ensures strict { IsStrict self.now }
@@ -94,8 +106,11 @@ impl<A: Allocator + Clone> Memtable<A> {
         Ok(Vec::from_clones(alloc.clone()?, items)?)
     }
 
-    /// The entries within two bounds, shared, in order, from both ends. Refused for want of memory
-    /// alone.
+    /// Returns the entries within two bounds, shared, in order, from both ends.
+    ///
+    /// # Errors
+    ///
+    /// [`Error::OutOfMemory`] only.
     pub fn within(
         &self,
         alloc: &A,
@@ -106,7 +121,7 @@ impl<A: Allocator + Clone> Memtable<A> {
             IfOk result (DealsList gives back_gives
             (within bounds.now.0 bounds.now.1 self.now)) }
         ensures strict { IsStrict self.now }
-        // Both ends may be asked, and it ends.
+        // Both ends may be called, and it ends.
         ensures can { IfOk result (CanDeal
             ⟦<IntoIter<IterItem<A>, A> as Iterator>⟧.next_gives
             ⟦<IntoIter<IterItem<A>, A> as DoubleEndedIterator>⟧.next_back_gives
@@ -121,7 +136,7 @@ impl<A: Allocator + Clone> Memtable<A> {
     }
 }
 
-// How many entries of a list in order come before an entry.
+// The number of entries of a sorted list before an entry.
 fn count_before<A: Allocator>(items: &[InternalValue<A>], item: &InternalValue<A>) -> usize
     ensures exact { IsStrict items.now →
         result ≡ front_length (λ e. is_before e item.now) items.now }
@@ -130,7 +145,7 @@ fn count_before<A: Allocator>(items: &[InternalValue<A>], item: &InternalValue<A
     items.partition_point(|other| item.may_follow(Some(other)))
 }
 
-// How many entries of a list in order do not come after the place of a key and a number.
+// The number of entries of a sorted list that are not after a key and a seqno.
 fn count_up_to<A: Allocator>(items: &[InternalValue<A>], key: &[u8], seqno: SeqNo) -> usize
     ensures exact { IsStrict items.now →
         result ≡ front_length (λ e. not (is_before (read_place key.now seqno) e)) items.now }
@@ -144,7 +159,7 @@ fn count_up_to<A: Allocator>(items: &[InternalValue<A>], key: &[u8], seqno: SeqN
     })
 }
 
-// Shares of the entries whose keys lie within two bounds.
+// The entries whose keys are within two bounds, shared.
 fn items_within<A: Allocator + Clone>(
     alloc: &A,
     items: &[InternalValue<A>],
@@ -164,7 +179,7 @@ fn items_within<A: Allocator + Clone>(
     Ok(found)
 }
 
-// Whether a key lies within two bounds.
+// Whether a key is within two bounds.
 fn is_within<A: Allocator>(bounds: &(Bound<UserKey<A>>, Bound<UserKey<A>>), key: &[u8]) -> bool
     ensures { result ≡ (is_from bounds.now.0 key.now && is_to bounds.now.1 key.now) }
 {

@@ -1,18 +1,18 @@
-//! A store that is closed, its tables written to files and read again, and opened from those.
+//! Closing a store, writing its tables to files and reading them again, and opening it from those.
 use crate::store::{Closed, Store};
 use anyhow::bail;
 use logpurple::block::{Error, Slice};
 use std::path::PathBuf;
 use std::{env, fs, process};
 
-// A path of its own among those of files that do not last.
+// A path of its own for a temporary file.
 fn path_of(rt: &HostRuntime) -> anyhow::Result<PathBuf> {
     let id = process::id(rt.process());
     let name = format!(in rt.alloc(); "example_store-{id}.sst")?;
     Ok(env::temp_dir(rt)?.join(rt.alloc(), name.as_str())?)
 }
 
-// Some bytes, written to a file and read again; the file is removed.
+// Writes bytes to a file, reads them again, and removes the file.
 fn through_file(rt: &HostRuntime, path: &PathBuf, bytes: &Slice) -> anyhow::Result<Slice> {
     fs::write(rt, path.as_path(), bytes.as_slice())?;
     let read = fs::read(rt, path.as_path());
@@ -20,7 +20,7 @@ fn through_file(rt: &HostRuntime, path: &PathBuf, bytes: &Slice) -> anyhow::Resu
     Ok(Slice::from(rt.alloc(), read?.as_slice())?)
 }
 
-// The files of a run, each written and read again.
+// Writes each file of a run and reads it again.
 fn run_through_files(
     rt: &HostRuntime,
     path: &PathBuf,
@@ -33,7 +33,7 @@ fn run_through_files(
     Ok(read)
 }
 
-// All files, each written and read again.
+// Writes each file and reads it again.
 fn through_files(rt: &HostRuntime, closed: &Closed) -> anyhow::Result<Closed> {
     let path = path_of(rt)?;
     let mut files = Vec::new(rt.alloc());
@@ -48,7 +48,7 @@ fn through_files(rt: &HostRuntime, closed: &Closed) -> anyhow::Result<Closed> {
     })
 }
 
-/// Closes a store, and opens another one from what was kept of it.
+/// Closes a store, and opens another one from its state.
 pub fn reopen(
     rt: &HostRuntime,
     store: &mut Store,

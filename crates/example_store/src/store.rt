@@ -1,4 +1,4 @@
-//! A store: writes under their numbers, and reads at snapshots.
+//! A store: writes with sequence numbers, and reads at snapshots.
 ghost use Rattle.std.specs.Prelude.{◌≡◌, ◌+◌, ◌-◌, ◌^◌, ◌<◌, ◌≤◌, [], ◌∷◌, ◌++◌, map, Err, IfErr};
 ghost use Rattle.std.specs.Prelude.{IfOk, IfSome, List, MatchOption, None, Ok, OnErr, OnOk};
 ghost use Rattle.std.specs.Prelude.{Option, Some, false, length, ℕ};
@@ -30,22 +30,25 @@ use std::alloc::{Allocator, Global};
 use std::marker::Model;
 use std::sync::Arc;
 
-/// A store. Each write gets the next number; a snapshot is a number, and sees all writes below it.
+/// A store of keys and values, over a memtable and runs of tables.
 ///
-/// A contract sees what the store has, and says by which list of writes it is told.
+/// Each write gets the next sequence number. A snapshot is a sequence number, and sees all writes
+/// below it.
+///
+/// Its model is its state. Contracts state the history of writes that it reads as.
 #[derive(Drop)]
 pub struct Store<A: Allocator = Global> {
     alloc: A,
-    // how many entries the memtable has when it is flushed
+    // the number of entries at which the memtable is flushed
     limit: usize,
-    // how many bytes of data blocks a table has before the next one begins
+    // the target size of a table in bytes of data blocks
     target: u64,
     memtable: Memtable<A>,
     // the newest first
     runs: Vec<Arc<Run<Table<A>, A>, A>, A>,
     ids: TableIds,
     next: SeqNo,
-    // the number from which on the memtable's entries are numbered
+    // the lower bound of the seqnos in the memtable
     flushed: SeqNo,
     // the oldest snapshot that is kept
     oldest: SeqNo,
@@ -66,9 +69,14 @@ impl<A: Allocator> Model for Store<A> {
 }
 
 impl<A: Allocator + Clone> Store<A> {
-    /// A store without entries. Its memtable is flushed before it has more than `limit` entries, at
-    /// 0 before it has more than one, to tables that each but the last have at least `target` bytes
-    /// of data blocks.
+    /// Returns a store without entries.
+    ///
+    /// The memtable is flushed before it has more than `limit` entries, or, for a limit of 0, more
+    /// than one. Each table of a flush but the last has at least `target` bytes of data blocks.
+    ///
+    /// # Errors
+    ///
+    /// [`Error::OutOfMemory`] only.
     pub fn new(alloc: A, limit: usize, target: u64) -> Result<Store<A>, Error>
         ensures story { IfOk result (λ store. IsTold store []) }
         ensures next { IfOk result (λ store. store.next ≡ 0) }
@@ -94,24 +102,33 @@ impl<A: Allocator + Clone> Store<A> {
         })
     }
 
-    /// The snapshot of all writes so far.
+    /// Returns the snapshot of all writes so far.
     pub fn snapshot(&self) -> SeqNo
         ensures { result ≡ self.now.next }
     {
         self.next
     }
 
-    /// The oldest snapshot that is kept: at it and at later ones a read answers what the writes
-    /// say.
+    /// Returns the oldest snapshot that is kept.
+    ///
+    /// At this snapshot and later ones, a read returns what the history of writes says.
     pub fn oldest_snapshot(&self) -> SeqNo
         ensures { result ≡ self.now.oldest }
     {
         self.oldest
     }
 
-    /// Writes a value. Refused [`Error::KeyTooLong`], [`Error::ValueTooLong`], and
-    /// [`Error::SeqNoOverflow`] where no number is left; then as [`Store::flush`], where the
-    /// memtable is full. Where it is refused, nothing is written, and nothing is lost.
+    /// Writes a value.
+    ///
+    /// # Errors
+    ///
+    /// - [`Error::KeyTooLong`] or [`Error::ValueTooLong`] if a table does not take the key or the
+    ///   value;
+    /// - [`Error::SeqNoOverflow`] if no sequence number is left;
+    /// - then, if the memtable is full, those of [`Store::flush`];
+    /// - [`Error::OutOfMemory`].
+    ///
+    /// Nothing is written then, and nothing is lost.
     pub fn put(&mut self, key: &[u8], value: &[u8]) -> Result<(), Error>
         ensures written { (ws : List Entry) → IsTold self.old ws →
             OnOk result (IsTold self.new (entry key.now value.now self.old.next Value ∷ ws)) }
@@ -121,18 +138,18 @@ impl<A: Allocator + Clone> Store<A> {
         ensures oldest { self.new.oldest ≡ self.old.oldest }
         ensures limit { self.new.limit ≡ self.old.limit }
         ensures target { self.new.target ≡ self.old.target }
-        // The entry is put to those of the memtable. One that is full is flushed before.
+        // The entry is added to those of the memtable; a full memtable is flushed before.
         ensures taken { OnOk result
             (IsTakenIn (entry key.now value.now self.old.next Value) self.old self.new) }
         ensures err { OnErr result (StaysOrFlushes self.old self.new) }
-        // No table is made where there is room.
+        // No table is made if there is room.
         ensures waits { length self.old.recent < self.old.limit → self.new.runs ≡ self.old.runs }
         ensures room { length self.old.recent < self.old.limit →
             OnErr result (self.new ≡ self.old) }
-        // What is wrong with the write is found before anything is done.
+        // An error of the write itself is found before anything is changed.
         ensures fault { (e : Error) → put_fault self.old.next key.now value.now ≡ Some e →
             (result ≡ Err e) × (self.new ≡ self.old) }
-        // Otherwise, memory aside, it is refused what flushing is, where the memtable is full.
+        // Otherwise, except for `OutOfMemory`, the error is that of flushing a full memtable.
         ensures refused { put_fault self.old.next key.now value.now ≡ None →
             IfErr result (λ e. is_memory e ≡ false → (self.old.limit ≤ length self.old.recent) ×
             (tables_fault self.old.ids self.old.target 0 self.old.recent ≡ Some e)) }
@@ -140,7 +157,11 @@ impl<A: Allocator + Clone> Store<A> {
         self.write(key, value, ValueType::Value)
     }
 
-    /// Deletes a key, whether it has a value or not. Refused as [`Store::put`].
+    /// Deletes a key, whether it has a value or not.
+    ///
+    /// # Errors
+    ///
+    /// Those of [`Store::put`].
     pub fn delete(&mut self, key: &[u8]) -> Result<(), Error>
         ensures written { (ws : List Entry) → IsTold self.old ws →
             OnOk result (IsTold self.new (entry key.now [] self.old.next Tombstone ∷ ws)) }
@@ -214,7 +235,7 @@ impl<A: Allocator + Clone> Store<A> {
         self.flush()
     }
 
-    // Adds an entry that has the next number.
+    // Adds an entry with the next seqno.
     fn add(&mut self, item: InternalValue<A>) -> Result<(), Error>
         requires number { item.seqno ≡ self.old.next }
         requires kind { is_weak item ≡ false }
@@ -236,9 +257,12 @@ impl<A: Allocator + Clone> Store<A> {
         Ok(())
     }
 
-    /// Writes the memtable's entries as a run of tables, in front of the others. Refused as
-    /// [`write_run`] is: where no id of a table is left, and where a section is too large. Where it
-    /// is refused, the store has what it had.
+    /// Writes the memtable's entries as a run of tables, before the others.
+    ///
+    /// # Errors
+    ///
+    /// Those of [`write_run`]: no id is left for a table, or a section is too large;
+    /// [`Error::OutOfMemory`]. The store is not changed then.
     pub fn flush(&mut self) -> Result<(), Error>
         ensures story { (ws : List Entry) → IsTold self.old ws → IsTold self.new ws }
         ensures emptied { OnOk result (self.new.recent ≡ []) }
@@ -246,10 +270,10 @@ impl<A: Allocator + Clone> Store<A> {
         ensures oldest { self.new.oldest ≡ self.old.oldest }
         ensures limit { self.new.limit ≡ self.old.limit }
         ensures target { self.new.target ≡ self.old.target }
-        // They are cut by the target, and the counter of ids is behind them, if some were made.
+        // The tables are cut by the target, and the counter of ids is after them, if there are any.
         ensures flushed { OnOk result (HasFlushed self.old self.new) }
         ensures err { OnErr result (self.new ≡ self.old) }
-        // Memory aside, it is refused what writing the entries as tables is.
+        // Except for `OutOfMemory`, the error is that of writing the entries as tables.
         ensures refused { IfErr result (λ e. is_memory e ≡ false →
             tables_fault self.old.ids self.old.target 0 self.old.recent ≡ Some e) }
     {
@@ -261,8 +285,8 @@ impl<A: Allocator + Clone> Store<A> {
         }
     }
 
-    // Puts a run of the memtable's entries in front of the others, in place of them. Where it is
-    // refused, the store has what it had.
+    // Replaces the memtable's entries by a run of them, before the other runs. After an error the
+    // store is not changed.
     fn put_in_front(&mut self, run: Arc<Run<Table<A>, A>, A>, ids: TableIds) -> Result<(), Error>
         requires list { HasList self.old.recent (arc_value run) }
         requires strict { IsStrict self.old.recent }
@@ -287,15 +311,20 @@ impl<A: Allocator + Clone> Store<A> {
         Ok(())
     }
 
-    /// The value that a key has at a snapshot, none where it was deleted last, or never written.
-    /// Below [`Store::oldest_snapshot`] it is the value of the newest entry numbered below the
-    /// snapshot that is still there, which may be none where there was one, and an older one where
-    /// a later was compacted away. Refused for want of memory alone.
+    /// Returns the value of a key at a snapshot; `None` if it was deleted last, or never written.
+    ///
+    /// Below [`Store::oldest_snapshot`] it is the value of the newest version below the snapshot
+    /// that is still stored. If a later version was compacted away, this may be `None`, or an older
+    /// value.
+    ///
+    /// # Errors
+    ///
+    /// [`Error::OutOfMemory`] only.
     pub fn get(&self, key: &[u8], snapshot: SeqNo) -> Result<Option<Slice<A>>, Error>
-        // At a snapshot that is kept it is the value that the writes say.
+        // At a snapshot that is kept, it is the value in the history of writes.
         ensures told { (ws : List Entry) → IsTold self.now ws → self.now.oldest ≤ snapshot →
             IfOk result (λ value. value ≡ value_in ws key.now snapshot) }
-        // At any it is the one that the entries say of the memtable and of the tables' lists.
+        // At any snapshot, it is the value in the entries of the memtable and of the tables' lists.
         ensures read { (lists : List (List (List Entry))) → RunsHoldLists self.now.runs lists →
             IfOk result (λ value.
             value ≡ value_in (self.now.recent ++ union_in lists) key.now snapshot) }
@@ -306,8 +335,8 @@ impl<A: Allocator + Clone> Store<A> {
     }
 }
 
-// Whether a write may be taken under a number: refused where its key or its value is longer than a
-// table takes, or no number is left.
+// Tests a write with the next seqno. Fails if its key or its value is longer than a table takes, or
+// if no seqno is left.
 fn check_write(next: SeqNo, key: &[u8], value: &[u8]) -> Result<(), Error>
     ensures { Refuses result (put_fault next key.now value.now) }
 {
@@ -323,7 +352,7 @@ fn check_write(next: SeqNo, key: &[u8], value: &[u8]) -> Result<(), Error>
     Ok(())
 }
 
-// An entry with a key and a value of its own.
+// An entry with copies of a key and a value.
 fn entry_of<A: Allocator + Clone>(
     alloc: &A,
     key: &[u8],
@@ -347,8 +376,8 @@ fn slice_of<A: Allocator + Clone>(alloc: &A, bytes: &[u8]) -> Result<Slice<A>, E
     Slice::from(alloc.clone()?, bytes)
 }
 
-// A run of a list that can be written, none where it has no entry, and the counter of ids behind
-// its tables.
+// A run of a list that can be written, none if it has no entry, and the counter of ids after its
+// tables.
 fn run_of<A: Allocator + Clone>(
     alloc: &A,
     ids: TableIds,
@@ -358,13 +387,13 @@ fn run_of<A: Allocator + Clone>(
     requires { IsWritable items.items }
     ensures run { IfOk result (λ r. MatchOption r.0 (items.items ≡ [])
         (λ run. HasList items.items (arc_value run))) }
-    // It has the store's own entries, where the list has.
+    // It has the store's own entries, if the list has.
     ensures own { (from to : ℕ) → AreNumbered from to items.items →
         IfOk result (λ r. IfSome r.0 (λ run. IsOwnRun to (arc_value run))) }
-    // It is cut by the target,
+    // It is cut by the target.
     ensures cut { IfOk result (λ r. IfSome r.0 (λ run.
         AreCutOf (run_label ids target 0) target items.items 0 (arc_value run))) }
-    // and the counter runs on behind its tables.
+    // The counter is after its tables.
     ensures ids { IfOk result (λ r. IfSome r.0 (λ run.
         r.1 ≡ ids_behind ids target (length (arc_value run)))) }
     ensures refused { IfErr result (λ e. is_memory e ≡ false →
@@ -375,8 +404,8 @@ fn run_of<A: Allocator + Clone>(
     Ok((share_run(alloc, run)?, left))
 }
 
-// A run that can be shared, where there is one. It is generic in what a run is, so that none of its
-// parts is looked at.
+// A run, shared, if there is one. Generic in the type of a run, so that a proof does not unfold its
+// parts.
 fn share_run<T: Drop, A: Allocator + Clone>(
     alloc: &A,
     run: Option<T>,
@@ -390,7 +419,7 @@ fn share_run<T: Drop, A: Allocator + Clone>(
     }
 }
 
-// The first entry of a key numbered below `seqno`, in a memtable and then in runs.
+// The newest version of a key visible at `seqno`, in a memtable and then in runs.
 fn find_in<A: Allocator + Clone>(
     memtable: &Memtable<A>,
     runs: &[Arc<Run<Table<A>, A>, A>],

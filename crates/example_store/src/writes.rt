@@ -1,4 +1,4 @@
-//! What is written to a store and to plain maps beside it, and what is done between.
+//! The writes to a store and to plain maps, and the steps between them.
 use crate::compare::{Compared, KEYS, Plain, compare};
 use crate::reopen::reopen;
 use crate::store::Store;
@@ -6,10 +6,10 @@ use logpurple::block::{Error, SeqNo};
 use std::alloc::Global;
 use std::collections::BTreeMap;
 
-// How many entries the memtable takes before it is flushed.
+// The number of entries at which the memtable is flushed.
 const LIMIT: usize = 2_000;
 
-// How many bytes of data blocks a table has before the next one begins.
+// The target size of a table in bytes of data blocks.
 const TARGET: u64 = 16_384;
 
 fn put(store: &mut Store, plain: &mut Plain, key: u32, value: u32) -> Result<(), Error> {
@@ -33,7 +33,7 @@ fn put_all(store: &mut Store, plain: &mut Plain) -> Result<(), Error> {
     Ok(())
 }
 
-// Overwrites keys that lie so far apart.
+// Overwrites the keys that are multiples of `step`.
 fn put_each(store: &mut Store, plain: &mut Plain, step: u32, more: u32) -> Result<(), Error> {
     for n in 0..KEYS {
         if n.is_multiple_of(step) {
@@ -43,7 +43,7 @@ fn put_each(store: &mut Store, plain: &mut Plain, step: u32, more: u32) -> Resul
     Ok(())
 }
 
-// Deletes keys that lie so far apart.
+// Deletes the keys that are multiples of `step`.
 fn delete_each(store: &mut Store, plain: &mut Plain, step: u32) -> Result<(), Error> {
     for n in 0..KEYS {
         if n.is_multiple_of(step) {
@@ -76,7 +76,7 @@ fn write_second(store: &mut Store, plain: &mut Plain) -> Result<SeqNo, Error> {
     Ok(store.snapshot())
 }
 
-// Writes what no snapshot that is looked at sees.
+// Writes after both snapshots, which no comparison sees.
 fn write_third(store: &mut Store, plains: &Plains) -> Result<(), Error> {
     for key in 0..KEYS / 4 {
         let value = plains.second_at.to_be_bytes();
@@ -141,7 +141,7 @@ fn compare_steps(
     compare_both(alloc, "compacted", store, plains, all)
 }
 
-// Writes some more to a store that was opened, and compares before and after.
+// Writes more to a store that was opened, and compares before and after.
 fn compare_opened(
     alloc: Global,
     store: &mut Store,
@@ -190,7 +190,7 @@ fn compare_over(
     Ok(())
 }
 
-/// All that is compared.
+/// Runs all comparisons.
 pub fn compare_all(rt: &HostRuntime) -> anyhow::Result<Vec<Compared>> {
     let mut all = Vec::new(rt.alloc());
     let mut store = Store::new(rt.alloc(), LIMIT, TARGET)?;

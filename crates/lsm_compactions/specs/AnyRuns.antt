@@ -1,4 +1,4 @@
--- What a compaction of any tables came to.
+-- The result of a compaction of any tables.
 use Rattle.std.specs.Prelude.{◌≡◌, ◌⊎◌, ℕ, Bool, true, false, List, [], ◌∷◌, ◌++◌, filter, map}
 use Rattle.std.specs.Prelude.{Option, None, Some, Result, Ok, Err}
 use Rattle.std.specs.List.{Any}
@@ -22,29 +22,29 @@ use Rattle.lsm_compactions.specs.declared.any_runs.CompactionOutcome.TheVariants
 use Rattle.lsm_compactions.specs.declared.any_runs.CompactionOutcome.TheVariants.{Stopped}
 use Rattle.lsm_compactions.specs.declared.any_runs.CompactionOutcome.TheVariants.{Tables}
 
--- the first fault of results whose entries are written one after another
+-- the first error of some results whose entries are written one after another
 abbrev pub results_fault : TablesWriting → List R → Option Error
 results_fault m [] = None
 results_fault m (Ok e ∷ rs) = option_or (took_fault m e) (results_fault (took m e) rs)
 results_fault m (Err f ∷ rs) = Some f
 
--- entries that a writer takes one after another: each may follow, and none is refused
+-- entries that a writer takes one after another: each may follow, and none fails
 pub record AreTaken (w : TablesWriting) (es : List Entry) : Type 0 where
   pub writable : IsWritable es
   pub none : results_fault w (ok_results es) ≡ None
 
--- a writer once it took these entries, one after another
+-- a writer after it took these entries, one after another
 abbrev pub took_all : TablesWriting → List Entry → TablesWriting
 took_all w [] = w
 took_all w (e ∷ es) = took_all (took w e) es
 
--- a writer took this list, one entry after another, and refused none
+-- a writer took this list, one entry after another, and none failed
 pub record TookList (w : TablesWriting) (es : List Entry) (m : TablesWriting) : Type 0 where
   pub taken : AreTaken w es
   pub is : m ≡ took_all w es
   pub listed : all_written m ≡ es
 
--- of some results, behind entries that a writer takes stands one that may not follow them
+-- some results: entries that a writer takes, then an entry that may not follow them
 pub record LeavesOrder (w : TablesWriting) (rs : List R) : Type 0 where
   pub front : List Entry
   pub entry : Entry
@@ -53,26 +53,26 @@ pub record LeavesOrder (w : TablesWriting) (rs : List R) : Type 0 where
   pub taken : AreTaken w front
   pub follows : may_be_written front entry.user_key entry.seqno ≡ false
 
--- it came to the tables of this list, as a writer makes them that had written nothing
+-- the outcome is the tables of this list, made by a writer that had written nothing
 abbrev pub AreTablesBy : {A : Type 0} → TablesWriting → List Entry → CompactionOutcome A → Type 0
 AreTablesBy w es (Tables tables left) = AreWrittenBy w es tables.items left
 AreTablesBy w es OutOfOrder = ⊥
 AreTablesBy w es Stopped = ⊥
 
--- of this list it came to its tables, or as far as the first entry that may not follow
+-- the outcome is the tables of this list, or out of order at its first entry that may not follow
 abbrev pub CameInOrder : {A : Type 0} → TablesWriting → List Entry → CompactionOutcome A → Type 0
 CameInOrder w es (Tables tables left) = AreWrittenBy w es tables.items left
 CameInOrder w es OutOfOrder = LeavesOrder w (ok_results es)
 CameInOrder w es Stopped = ⊥
 
--- finished tables of a list that can be written, and the counter behind them
+-- finished tables of some list that can be written, and the counter after them
 pub record WritesSome {A : Type 0} (w : TablesWriting) (fs : List (FinishedTable A))
     (left : Option ℕ) : Type 0 where
   pub list : List Entry
   pub writable : IsWritable list
   pub written : AreWrittenBy w list fs left
 
--- where it came to tables they are those of such a list
+-- if the outcome is tables, they are those of such a list
 abbrev pub HasMade : {A : Type 0} → TablesWriting → CompactionOutcome A → Type 0
 HasMade w (Tables tables left) = WritesSome w tables.items left
 HasMade w OutOfOrder = Unit {0}
@@ -84,14 +84,15 @@ GoesThrough (Tables tables left) = Unit {0}
 GoesThrough OutOfOrder = Unit {0}
 GoesThrough Stopped = ⊥
 
--- ---- results that are written one by one, for as long as each may follow those before it
+-- ---- results that are written one by one, as long as each may follow those before it
 
 -- an error, or an entry that may follow these
 abbrev pub MayCome : List Entry → R → Type 0
 MayCome es (Ok x) = may_be_written es x.user_key x.seqno ≡ true
 MayCome es (Err e) = Unit {0}
 
--- behind entries that a writer takes stands this error, or an entry that it refuses so
+-- after entries that a writer takes comes this error, or an entry for which the writer fails with
+-- it
 pub record MeetsFault (w : TablesWriting) (rs : List R) (e : Error) : Type 0 where
   pub front : List Entry
   pub last : R
@@ -101,18 +102,18 @@ pub record MeetsFault (w : TablesWriting) (rs : List R) (e : Error) : Type 0 whe
   pub comes : MayCome front last
   pub fault : results_fault w (ok_results front ++ last ∷ []) ≡ Some e
 
--- all are entries, which a writer takes, and refuses so to finish
+-- all results are entries that a writer takes, and finishing fails with this error
 pub record FailsBehind (w : TablesWriting) (rs : List R) (e : Error) : Type 0 where
   pub list : List Entry
   pub whole : rs ≡ ok_results list
   pub taken : AreTaken w list
   pub fault : writes_fault w list ≡ Some e
 
--- it refuses so, whichever is met first
+-- it fails with this error, at a result or at the end
 abbrev pub RefusesOf : TablesWriting → List R → Error → Type 0
 RefusesOf w rs e = MeetsFault w rs e ⊎ FailsBehind w rs e
 
--- all are entries, and finished tables are theirs
+-- all results are entries, and the finished tables are theirs
 pub record TakesWhole {A : Type 0} (w : TablesWriting) (rs : List R) (fs : List (FinishedTable A))
     (left : Option ℕ) : Type 0 where
   pub list : List Entry
@@ -120,8 +121,8 @@ pub record TakesWhole {A : Type 0} (w : TablesWriting) (rs : List R) (fs : List 
   pub none : writes_fault w list ≡ None
   pub written : AreWrittenBy w list fs left
 
--- what comes of it, memory aside: the tables of all, the first entry that may not follow, or the
--- first fault
+-- the result of writing these, except for `OutOfMemory`: the tables of all, the first entry that
+-- may not follow, or the first error
 abbrev pub CameOf : {A : Type 0} → TablesWriting → List R → Result (CompactionOutcome A) Error
     → Type 0
 CameOf w rs (Ok (Tables tables left)) = TakesWhole w rs tables.items left
@@ -129,14 +130,14 @@ CameOf w rs (Ok OutOfOrder) = LeavesOrder w rs
 CameOf w rs (Ok Stopped) = ⊥
 CameOf w rs (Err e) = is_memory e ≡ false → RefusesOf w rs e
 
--- where want of memory stops its reader, a source deals just these results
+-- up to `OutOfMemory`, a source yields exactly these results
 abbrev pub DealsResults : {S : Type 0} → (S → Option R → S → Type 0) → List R → S → Type 0
 DealsResults next rs s = (stops : Error → Bool) → stops OutOfMemory ≡ true →
     Deals (answer_stops stops) next nowhere s rs
 
 -- ---- tables of any bytes
 
--- what scans of the runs give that have a table, each up to its first error
+-- the results of the scans of the runs that have a table, each up to its first error
 abbrev pub scans_of : List (List OpenTable) → List (List R)
 scans_of runs = map tables_scan (filter has_table runs)
 
@@ -145,13 +146,13 @@ abbrev pub first_block_fault : List OpenTable → Option Error
 first_block_fault [] = None
 first_block_fault (t ∷ ts) = scan_fault t
 
--- the first of these, in the order of the runs
+-- the first of these errors, in the order of the runs
 abbrev pub first_blocks_fault : List (List OpenTable) → Option Error
 first_blocks_fault [] = None
 first_blocks_fault (run ∷ runs) = option_or (first_block_fault run) (first_blocks_fault runs)
 
--- this is the error of the first run, in their order, whose first data block cannot be loaded, and
--- a scan begins with it
+-- this is the error of the first run, in order, whose first data block cannot be loaded, and a scan
+-- begins with it
 pub record BeginsWith (runs : List (List OpenTable)) (e : Error) : Type 0 where
   pub fault : first_blocks_fault runs ≡ Some e
   pub begins : Any (λ (rs : List R). first rs ≡ Some (Err e)) (scans_of runs)

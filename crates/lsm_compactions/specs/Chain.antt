@@ -20,7 +20,7 @@ use Rattle.lsm_runs.specs.RunLists.{HoldLists}
 use Rattle.lsm_runs.specs.RunParts.{range_of}
 use Rattle.lsm_compactions.specs.Written.{IsOpened, number_fault}
 
--- opened tables whose lists, one behind another, are a list, lifted; they stand in order
+-- opened tables in order, whose lists, concatenated, are a list with the global seqno applied
 pub record IsRunOfList (es : List Entry) (g : ℕ) (tables : List OpenTable) : Type 0 where
   pub lists : List (List Entry)
   pub whole : joined lists ≡ lift es g
@@ -34,7 +34,7 @@ pub record IsOpenedOf (label : Label) (es : List Entry) (g : ℕ) (t : OpenTable
   pub opened : IsOpen t
   pub range : range_of t ≡ ends_of es
 
--- opened tables of these lists, under ids that run on from the label's
+-- opened tables of these lists, with consecutive ids from that of the table info
 abbrev pub AreOpened : Label → List (List Entry) → ℕ → List OpenTable → Type 0
 AreOpened label [] g [] = Unit {0}
 AreOpened label [] g (t ∷ ts) = ⊥
@@ -42,23 +42,24 @@ AreOpened label (es ∷ ls) g [] = ⊥
 AreOpened label (es ∷ ls) g (t ∷ ts) =
     IsOpenedOf label es g t × AreOpened (next_label label) ls g ts
 
--- opened tables of a list that is cut by a target, under ids that run on from the label's
+-- opened tables of a list that is cut by a target size, with consecutive ids from that of the table
+-- info
 pub record AreCutOf (label : Label) (target : ℕ) (es : List Entry) (g : ℕ)
     (tables : List OpenTable) : Type 0 where
   pub lists : List (List Entry)
   pub cut : AreTables default_options.data_block_size target es lists
   pub opened : AreOpened label lists g tables
 
--- the label of the first table that has entries
+-- the table info of the first table that has entries
 abbrev pub run_label : Option ℕ → ℕ → ℕ → Label
 run_label ids target moment = label_of (first_id target (unwrap_or ids 0)) 0 moment
 
--- the counter behind the last of so many tables
+-- the counter after the last of so many tables
 abbrev pub ids_behind : Option ℕ → ℕ → ℕ → Option ℕ
 ids_behind ids target zero = drawn ids
 ids_behind ids target (suc n) = next_id (first_id target (unwrap_or ids 0) + n)
 
--- finished tables of a list that is cut by a target, and the counter behind them
+-- finished tables of a list that is cut by a target size, and the counter after them
 pub record AreWritten {A : Type 0} (ids : Option ℕ) (target : ℕ) (moment : ℕ) (es : List Entry)
     (fs : List (FinishedTable A)) (left : Option ℕ) : Type 0 where
   pub lists : List (List Entry)
@@ -67,7 +68,7 @@ pub record AreWritten {A : Type 0} (ids : Option ℕ) (target : ℕ) (moment : �
   pub finished : AreFinished default_options (run_label ids target moment) lists fs
   pub left_is : left ≡ ids_behind ids target (length lists)
 
--- a list whose tables fit, where an id is left for each
+-- a list whose tables fit, with enough ids left
 pub record FitsAsTables (ids : Option ℕ) (target : ℕ) (es : List Entry) : Type 0 where
   pub first : ℕ
   pub first_is : ids ≡ Some first
@@ -76,23 +77,24 @@ pub record FitsAsTables (ids : Option ℕ) (target : ℕ) (es : List Entry) : Ty
   pub fit : AllByRecursion (TableFits default_options) tables
   pub left : first_id target first + length tables ≤ 2 ^ 64
 
--- the first fault of writing some entries one by one and then finishing
+-- the first error of writing some entries one by one and then finishing
 abbrev pub writes_fault : TablesWriting → List Entry → Option Error
 writes_fault m [] = run_fault m
 writes_fault m (e ∷ es) = option_or (took_fault m e) (writes_fault (took m e) es)
 
--- what writing a list as tables refuses: that no id is left, or else the first fault of its writing
+-- the error of writing a list as tables: no id is left, or else the first error of writing it
 abbrev pub tables_fault : Option ℕ → ℕ → ℕ → List Entry → Option Error
 tables_fault ids target moment es =
     option_or (ids_fault ids) (writes_fault (new_tables ids target 0 moment) es)
 
--- what writing a list as a run refuses: that, or else that a number is too large once it is lifted
+-- the error of writing a list as a run: the same, or else a seqno that is too large with the global
+-- one applied
 abbrev pub chain_fault : Option ℕ → ℕ → ℕ → List Entry → ℕ → Option Error
 chain_fault ids target moment es g =
     option_or (tables_fault ids target moment es) (number_fault es g)
 
--- what writing a list as tables under ids from 1 on refuses, or else writing what is kept of it
--- under those behind
+-- the error of writing a list as tables with ids from 1 on, or else of writing what is kept of it
+-- with the next ids
 abbrev pub both_fault : ℕ → List Entry → List (List Entry) → List Entry → Option Error
 both_fault target es tables left =
     option_or (tables_fault (Some 1) target 0 es)

@@ -1,4 +1,5 @@
--- Several runs that are compacted: what is kept of them, and the tables that a writer makes of it.
+-- A compaction of several runs: the entries that are kept, and the tables that a writer makes of
+-- them.
 use Rattle.std.specs.Prelude.{◌≡◌, ℕ, Bool, zero, suc, ◌+◌, ◌-◌, ◌^◌, ◌<◌, ◌≤◌, ◌==◌, List}
 use Rattle.std.specs.Prelude.{length, Option, Result, if◌then◌else◌}
 use Rattle.std.specs.List.{AllByRecursion}
@@ -19,7 +20,7 @@ use Rattle.lsm_runs.specs.SeveralRuns.{union_in}
 
 -- ---- what is compacted
 
--- a run's lists: there are some, and each has an entry
+-- a run's lists: at least one, and each has an entry
 abbrev pub HaveEntries : List (List Entry) → Type 0
 HaveEntries ls = (0 < length ls) × AllByRecursion (λ (es : List Entry). 0 < length es) ls
 
@@ -29,57 +30,56 @@ pub record AreMergeable (runs : List (List OpenTable)) : Type 0 where
   pub hold : RunsHoldLists runs lists
   pub some : AllByRecursion HaveEntries lists
 
--- runs in order of tables of lists that have entries; what they have together, lifted, can be
--- written: no key is there twice under one number, and each number is below the largest one
+-- runs that may be merged, whose entries together can be written: no key has one seqno twice, and
+-- each seqno, the global one applied, is below the largest
 pub record AreCompactable (runs : List (List OpenTable)) : Type 0 where
   pub lists : List (List (List Entry))
   pub hold : RunsHoldLists runs lists
   pub some : AllByRecursion HaveEntries lists
   pub writable : IsWritable (union_in lists)
 
--- as runs whose entries may be merged
+-- such runs may be merged
 abbrev pub merged_as : {runs : List (List OpenTable)} → AreCompactable runs → AreMergeable runs
 merged_as able = record { lists = able.lists; hold = able.hold; some = able.some }
 
--- how a compaction is set
+-- the rules of a compaction
 abbrev pub rules_by : ℕ → Bool → Bool → Rules
 rules_by watermark evict zeroing =
     record { watermark = watermark; evict = evict; zeroing = zeroing }
 
--- what a compaction without a filter keeps of the sorted entries of several runs' lists
+-- the entries that a compaction without a filter keeps of several runs' lists
 abbrev pub kept_in : Rules → List (List (List Entry)) → List Entry
 kept_in rules lists = kept rules (unfiltered (union_in lists))
 
--- a source that deals a list that can be written
+-- a source that yields a list that can be written
 pub record DealsWritable {S : Type 0} (next : S → Option (Result Entry Error) → S → Type 0)
     (s : S) : Type 0 where
   pub list : List Entry
   pub writable : IsWritable list
   pub deals : DealsList next nowhere list s
 
--- ---- a list that is written by a writer that has written nothing
+-- ---- a list written by a writer that has written nothing
 
--- the next id is the one behind that of the first table
+-- the next id is the one after that of the first table
 abbrev pub RunsOn : TablesWriting → Type 0
 RunsOn w = w.ids ≡ next_id w.present.label.table_id
 
--- a counter once it was drawn from so often
+-- a counter after so many draws
 abbrev pub drawn_often : ℕ → Option ℕ → Option ℕ
 drawn_often zero ids = ids
 drawn_often (suc n) ids = drawn (drawn_often n ids)
 
--- how many tables were begun behind the writer's first, where so many have entries: at target 0 the
+-- the number of tables begun after the writer's first, if so many have entries: at target 0 the
 -- first one has none
 abbrev pub begun_behind : ℕ → ℕ → ℕ
 begun_behind target n = if target == 0 then n else n - 1
 
--- the label of the first table that has entries
+-- the table info of the first table that has entries
 abbrev pub first_written : TablesWriting → Label
 first_written w = record w.present.label { table_id = first_id w.target w.present.label.table_id }
 
--- finished tables of a list that is cut by the writer's target, with the writer's options, level
--- and moment, under ids that run on from the writer's; and the counter behind them, which was drawn
--- from for each table behind the writer's first
+-- finished tables of a list cut by the writer's target, with its options, level, timestamp and
+-- consecutive ids; and the counter, drawn once for each table after the writer's first
 pub record AreWrittenBy {A : Type 0} (w : TablesWriting) (es : List Entry)
     (fs : List (FinishedTable A)) (left : Option ℕ) : Type 0 where
   pub strict : IsStrict es
@@ -89,7 +89,7 @@ pub record AreWrittenBy {A : Type 0} (w : TablesWriting) (es : List Entry)
   pub finished : AreFinished w.present.options (first_written w) lists fs
   pub left_is : left ≡ drawn_often (begun_behind w.target (length lists)) w.ids
 
--- a list whose tables fit, where an id is left for each
+-- a list whose tables fit, with enough ids left
 pub record FitsBy (w : TablesWriting) (es : List Entry) : Type 0 where
   pub tables : List (List Entry)
   pub cut : AreTables w.present.options.data_block_size w.target es tables

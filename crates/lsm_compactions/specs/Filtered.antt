@@ -1,4 +1,4 @@
--- What a compaction with a filter and a callback came to.
+-- The result of a compaction with a filter and a callback.
 use Rattle.std.specs.Prelude.{◌≡◌, ◌⊎◌, Bool, false, List, [], ◌∷◌, ◌++◌, Option, Some, None}
 use Rattle.std.specs.Prelude.{Result, Ok, Err, ℕ}
 use Rattle.std.specs.Iterator.{Yields}
@@ -31,8 +31,8 @@ use Rattle.lsm_compactions.specs.declared.observer.CompactionProgress.{Compactio
 -- ---- a stream whose entries are written
 
 module _ {S : Type 0} (next : S → Option R → S → Type 0) (w : TablesWriting) (s : S) where
-  -- what a stream gave behind these entries: nothing more, where no fault is met and finished
-  -- tables are theirs; an entry that may not follow them; or it was not called again
+  -- how a stream ends after these entries, by the outcome: with `None`, no error, and finished
+  -- tables of these; with an entry that may not follow; or without another call
   abbrev pub EndsAs : {A : Type 0} → List Entry → S → CompactionOutcome A → S → Type 0
   EndsAs list led (Tables tables left) u =
       next led None u × (writes_fault w list ≡ None) × AreWrittenBy w list tables.items left
@@ -47,8 +47,8 @@ module _ {S : Type 0} (next : S → Option R → S → Type 0) (w : TablesWritin
       (e : Entry) × next led (Some (Ok e)) u × (may_be_written list e.user_key e.seqno ≡ false)
   EndsAt list led AtStop u = led ≡ u
 
-  -- it gave a result more: this error, which is not `OutOfMemory`, or an entry that may follow and
-  -- for which the writer, once it took the list, fails so
+  -- the next result is this error, which is not `OutOfMemory`, or an entry that may follow and for
+  -- which the writer, after the list, fails with it
   pub record FailsAt (list : List Entry) (led : S) (e : Error) : Type 0 where
     pub last : R
     pub comes : MayCome list last
@@ -57,14 +57,15 @@ module _ {S : Type 0} (next : S → Option R → S → Type 0) (w : TablesWritin
     pub one : next led (Some last) then
     pub fault : results_fault (took_all w list) (last ∷ []) ≡ Some e
 
-  -- it gave nothing more, and the writer refuses so to finish
+  -- nothing is left, and finishing the writer fails with this error
   pub record FailsToEnd (list : List Entry) (led : S) (e : Error) : Type 0 where
     pub then : S
     pub ended : next led None then
     pub fault : writes_fault w list ≡ Some e
 
   module _ {O : Type 0} (says : O → CompactionProgress → Bool → O → Type 0) (o : O) where
-    -- a stream gave these entries, which were written, and ended so; the observer was told of them
+    -- a stream yielded these entries, which were written, and ended so; the observer was called for
+    -- them
     pub record IsWritten {A : Type 0} (outcome : CompactionOutcome A) (u : S) (q : O) : Type 0 where
       pub list : List Entry
       pub taken : AreTaken w list
@@ -73,15 +74,15 @@ module _ {S : Type 0} (next : S → Option R → S → Type 0) (w : TablesWritin
       pub ends : EndsAs list led outcome u
       pub told : WasToldOf says w list outcome o q
 
-    -- it gave these, and their writing ended so; the observer was told of them
+    -- it yielded these, and their writing ended so; the observer was called for them
     pub record WroteUntil (list : List Entry) (ending : Ending) (u : S) (q : O) : Type 0 where
       pub led : S
       pub gave : Yields next s (ok_results list) led
       pub ends : EndsAt list led ending u
       pub told : WasToldAt says w list ending o q
 
-    -- it gave these, which were written, and the observer was told of them; then, memory aside, it
-    -- or the writer refused so
+    -- it yielded these, which were written, and the observer was called for them; then, except for
+    -- `OutOfMemory`, it or the writer failed with this error
     pub record RefusesWritten (e : Error) (q : O) : Type 0 where
       pub list : List Entry
       pub taken : AreTaken w list
@@ -92,11 +93,11 @@ module _ {S : Type 0} (next : S → Option R → S → Type 0) (w : TablesWritin
 
 -- ---- a list that is compacted
 
--- whatever a filter says of the entries of a list, what is kept of them fits as tables
+-- for any verdicts of a filter on a list, the entries that are kept fit as tables
 abbrev pub FitsKept : TablesWriting → Rules → List Entry → Type 0
 FitsKept w rules es = (js : List Judged) → entries js ≡ es → FitsBy w (kept rules js)
 
--- a filter refuses nothing but for want of memory
+-- a filter fails with `OutOfMemory` only
 abbrev pub RefusesForMemory : {F : Type 0} → (F → Entry → Result Verdict Error → F → Type 0)
     → Type 0
 RefusesForMemory {F} gives =
@@ -104,8 +105,8 @@ RefusesForMemory {F} gives =
 
 module _ {F C : Type 0} (gives : F → Entry → Result Verdict Error → F → Type 0)
     (gets : C → Entry → C → Type 0) (rules : Rules) (f : F) (c : C) where
-  -- a source that compacts these results: calls up to the one where nothing comes give, ask and
-  -- report what a compaction of all of them does, and any calls what one of a part does
+  -- a source that compacts these results: calls up to the first `None` yield, filter and report as
+  -- a compaction of all does, any calls as one of a part
   pub record CompactsAs {T : Type 0} (xs : List R) (next : T → Option R → T → Type 0) (s : T)
       (filter_in : T → F) (callback_in : T → C) : Type 0 where
     pub whole : (gave : List R) (t u : T)
@@ -117,14 +118,14 @@ module _ {F C : Type 0} (gives : F → Entry → Result Verdict Error → F → 
         → CompactedPart gives gets rules f c xs gave (filter_in t) (callback_in t)
 
   module _ (es : List Entry) (w : TablesWriting) where
-    -- what a compaction of the list keeps fits as tables at each point of it: what it gave so far,
-    -- with what the rules keep of the rest without a filter
+    -- at each point of the list, the entries kept so far and those that the rules keep of the rest
+    -- without a filter fit as tables
     abbrev pub FitsThroughout : Type 0
     FitsThroughout = (gave : List R) (g : F) (d : C)
         (p : CompactedPart gives gets rules f c (ok_results es) gave g d)
         → FitsBy w (entries_among (gave ++ lent_outs rules (past_hidden p.key p.left)))
 
-    -- finished tables are those of what a compaction of the list keeps
+    -- finished tables are those of the entries that a compaction of the list keeps
     pub record KeepsAll {A : Type 0} (fs : List (FinishedTable A)) (left : Option ℕ) (d : C)
         : Type 0 where
       pub kept : List Entry
@@ -132,26 +133,26 @@ module _ {F C : Type 0} (gives : F → Entry → Result Verdict Error → F → 
       pub compacted : Compacted gives gets rules f c (ok_results es) (ok_results kept) filter d
       pub written : AreWrittenBy w kept fs left
 
-    -- a compaction of the list gave some of what it keeps
+    -- a compaction of the list yielded some of the entries that it keeps
     pub record KeepsPart (d : C) : Type 0 where
       pub kept : List Entry
       pub filter : F
       pub part : CompactedPart gives gets rules f c (ok_results es) (ok_results kept) filter d
 
-    -- what a compaction of the list came to, and its callback then; entries come in order
+    -- the outcome of a compaction of the list, and its callback then; entries come in order
     abbrev pub CameTo : {A : Type 0} → CompactionOutcome A → C → Type 0
     CameTo (Tables tables left) d = KeepsAll tables.items left d
     CameTo OutOfOrder d = ⊥
     CameTo Stopped d = KeepsPart d
 
   module _ (xs : List R) (w : TablesWriting) where
-    -- calls of a compaction of the results gave these, and its callback is then as said
+    -- calls of a compaction of the results yielded these, and its callback is then this
     pub record KeepsSome (gave : List R) (d : C) : Type 0 where
       pub filter : F
       pub part : CompactedPart gives gets rules f c xs gave filter d
 
-    -- what such a compaction gives after these entries: nothing more, where no fault is met and
-    -- finished tables are theirs; an entry that may not follow them; or it was not called again
+    -- how such a compaction ends after these, by the outcome: with `None`, no error, and finished
+    -- tables of these; with an entry that may not follow; or without another call
     abbrev pub KeepsThen : {A : Type 0} → List Entry → CompactionOutcome A → C → Type 0
     KeepsThen kept (Tables tables left) d =
         (g : F) × CompactedLent gives gets rules f c xs (ok_results kept) g d
@@ -161,8 +162,8 @@ module _ {F C : Type 0} (gives : F → Entry → Result Verdict Error → F → 
         × (may_be_written kept e.user_key e.seqno ≡ false)
     KeepsThen kept Stopped d = KeepsSome (ok_results kept) d
 
-    -- it gives a result more, which is this error or an entry that may follow and for which the
-    -- writer, once it took these, fails so; or nothing more, and the writer fails so to finish
+    -- the next result is this error, or an entry that may follow and for which the writer fails
+    -- with it; or nothing is left, and finishing fails with it
     abbrev pub KeepsFault : List Entry → Error → Type 0
     KeepsFault kept e =
         ((last : R) × (d : C) × KeepsSome (ok_results kept ++ last ∷ []) d × MayCome kept last
@@ -170,16 +171,16 @@ module _ {F C : Type 0} (gives : F → Entry → Result Verdict Error → F → 
         ⊎ ((g : F) × (d : C) × CompactedLent gives gets rules f c xs (ok_results kept) g d
         × (writes_fault w kept ≡ Some e))
 
-    -- the first error, of the source, the filter or the writer: that behind entries that the
-    -- compaction keeps and the writer takes
+    -- the first error, of the source, the filter or the writer, after entries that the compaction
+    -- keeps and the writer takes
     pub record RefusesBy (e : Error) : Type 0 where
       pub kept : List Entry
       pub taken : AreTaken w kept
       pub fails : KeepsFault kept e
 
     module _ {O : Type 0} (says : O → CompactionProgress → Bool → O → Type 0) (o : O) where
-      -- what a compaction of any results came to, and its callback and an observer then: these
-      -- entries of it were kept and written, and it ended so
+      -- the outcome of a compaction of any results, with its callback and observer then: these
+      -- entries were kept and written, and it ended so
       pub record CameUpTo {A : Type 0} (outcome : CompactionOutcome A) (d : C) (q : O)
           : Type 0 where
         pub kept : List Entry
@@ -187,7 +188,7 @@ module _ {F C : Type 0} (gives : F → Entry → Result Verdict Error → F → 
         pub came : KeepsThen kept outcome d
         pub told : WasToldOf says w kept outcome o q
 
-      -- these were kept and written; then, memory aside, it was refused so
+      -- these were kept and written; then, except for `OutOfMemory`, it failed with this error
       pub record CameUntil (e : Error) (q : O) : Type 0 where
         pub kept : List Entry
         pub taken : AreTaken w kept

@@ -1,4 +1,4 @@
--- Runs that lists were written as, each alone and several together.
+-- Runs that were written from lists, each alone and several together.
 use Rattle.std.specs.Prelude.{◌≡◌, List}
 use Rattle.std.specs.List.{AllByRecursion}
 use Rattle.sst_entries.specs.Entry.{Entry}
@@ -18,7 +18,7 @@ pub record HasList (es : List Entry) (run : List OpenTable) : Type 0 where
   pub some : HaveEntries lists
   pub whole : joined lists ≡ es
 
--- several of them, whose lists are together a list
+-- several such runs, whose lists are together a list
 pub record HaveAll (es : List Entry) (runs : List (List OpenTable)) : Type 0 where
   pub lists : List (List (List Entry))
   pub hold : RunsHoldLists runs lists

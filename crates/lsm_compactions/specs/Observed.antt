@@ -1,5 +1,4 @@
--- A compaction that an observer is told of: how far it has come, at the end of each table behind
--- which another begins.
+-- A compaction with an observer: its progress at the end of each table that another one follows.
 use Rattle.std.specs.Prelude.{◌≡◌, ◌⊎◌, ℕ, ◌-◌, ◌^◌, min, Bool, true, false, List, [], ◌∷◌}
 use Rattle.std.specs.Prelude.{◌++◌, length}
 use Rattle.sst_entries.specs.Entry.{Entry}
@@ -16,11 +15,11 @@ use Rattle.lsm_compactions.specs.declared.any_runs_with.Ending.{Ending}
 use Rattle.lsm_compactions.specs.declared.any_runs_with.Ending.TheVariants.{AtDisorder, AtEnd, AtStop}
 use Rattle.lsm_compactions.specs.declared.observer.CompactionProgress.{CompactionProgress}
 
--- a count that would pass the largest number stays there
+-- a count, at most the largest number
 abbrev pub told_count : ℕ → ℕ
 told_count n = min n (2 ^ 64 - 1)
 
--- how far a compaction has come that has finished these tables
+-- the progress of a compaction that has finished these tables
 abbrev pub progress_at : List (List Entry) → CompactionProgress
 progress_at ts =
     record { tables = told_count (length ts); entries = told_count (length (joined ts)) }
@@ -36,7 +35,7 @@ IsCounted progress m = progress ≡ record {
 abbrev pub HasBegun : TablesWriting → Type 0
 HasBegun m = written m.present ≡ [] → m.tables ≡ []
 
--- what is told as these tables are finished one after another, behind others
+-- the progress reported as these tables are finished one after another, after others
 abbrev pub told_behind : List (List Entry) → List (List Entry) → List CompactionProgress
 told_behind before [] = []
 told_behind before (t ∷ ts) =
@@ -46,12 +45,12 @@ abbrev pub told_of : List (List Entry) → List CompactionProgress
 told_of ts = told_behind [] ts
 
 module _ {O : Type 0} (says : O → CompactionProgress → Bool → O → Type 0) where
-  -- an observer was told these one after another, and answered each time to go on
+  -- an observer was called with these in order, and returned each time to go on
   abbrev pub GoesOnAt : O → List CompactionProgress → O → Type 0
   GoesOnAt o [] q = o ≡ q
   GoesOnAt o (m ∷ ms) q = (r : O) × says o m true r × GoesOnAt r ms q
 
-  -- it was told these, and answered at the last one to stop
+  -- it was called with these, and returned at the last one to stop
   pub record StopsAtLast (o : O) (ms : List CompactionProgress) (q : O) : Type 0 where
     pub before : List CompactionProgress
     pub last : CompactionProgress
@@ -60,21 +59,21 @@ module _ {O : Type 0} (says : O → CompactionProgress → Bool → O → Type 0
     pub went_on : GoesOnAt o before then
     pub stopped : says then last false q
 
-  -- an entry was written: where a table was finished for it, the observer was told and answered
+  -- an entry was written: if that finished a table, the observer was called
   abbrev pub TellsNext : TablesWriting → TablesWriting → O → Bool → O → Type 0
   TellsNext m n o goes q =
       ((n.tables ≡ m.tables) × (goes ≡ true) × (o ≡ q))
       ⊎ ((t : List Entry) × (n.tables ≡ m.tables ++ t ∷ []) × says o (progress_at n.tables) goes q)
 
-  -- a list was written, cut into tables as a writer cuts it: the observer was told of all but the
-  -- last, and answered each time to go on
+  -- a list was written, cut into tables by the writer: the observer was called for all but the
+  -- last, and went on each time
   pub record ToldOfPart (w : TablesWriting) (list : List Entry) (o q : O) : Type 0 where
     pub tables : List (List Entry)
     pub cut : AreTables w.present.options.data_block_size w.target list tables
     pub told : GoesOnAt o (told_of (but_last tables)) q
 
-  -- it was told of all but the last, and answered at the last of these to stop: nothing was written
-  -- behind the entry that began the next table
+  -- it was called for all but the last, and stopped at the last of these: nothing was written after
+  -- the entry that began the next table
   pub record StoppedAt (w : TablesWriting) (list : List Entry) (o q : O) : Type 0 where
     pub tables : List (List Entry)
     pub next : Entry
@@ -82,15 +81,15 @@ module _ {O : Type 0} (says : O → CompactionProgress → Bool → O → Type 0
         (tables ++ (next ∷ []) ∷ [])
     pub told : StopsAtLast o (told_of tables) q
 
-  -- of finished tables it was told of all but the last, and answered each time to go on
+  -- it was called for all but the last of these finished tables, and went on each time
   pub record ToldOfAll {A : Type 0} (w : TablesWriting) (fs : List (FinishedTable A)) (o q : O)
       : Type 0 where
     pub tables : List (List Entry)
     pub finished : AreFinished w.present.options (first_written w) tables fs
     pub told : GoesOnAt o (told_of (but_last tables)) q
 
-  -- what an observer was told of a list that was written, by what a compaction came to then: it is
-  -- stopped just where the observer answered so, and at once
+  -- the calls of an observer for a list that was written, by the outcome: a compaction stops
+  -- exactly when the observer returns so, and at once
   abbrev pub WasToldOf : {A : Type 0} → TablesWriting → List Entry → CompactionOutcome A → O → O
       → Type 0
   WasToldOf w list (Tables tables left) o q = ToldOfPart w list o q
@@ -109,6 +108,6 @@ module _ {O : Type 0} (says : O → CompactionProgress → Bool → O → Type 0
   WasTold w OutOfOrder o q = (list : List Entry) × ToldOfPart w list o q
   WasTold w Stopped o q = (list : List Entry) × StoppedAt w list o q
 
-  -- what it was told until a compaction was refused, whatever was written
+  -- the calls of an observer until a compaction failed, whatever was written
   abbrev pub WasToldUntil : TablesWriting → O → O → Type 0
   WasToldUntil w o q = (list : List Entry) × ToldOfPart w list o q

@@ -1,4 +1,4 @@
--- What readers see where some of several runs are compacted and the others stay.
+-- Reads of several runs if some of them are compacted and the others are kept.
 use Rattle.std.specs.Prelude.{◌≡◌, ◌≤◌, ◌⊎◌, ℕ, not, List, ◌++◌, filter, map}
 use Rattle.std.specs.declared.ops.Bound.{Bound}
 use Rattle.sst_entries.specs.declared.value_type.ValueType.{ValueType}
@@ -26,10 +26,10 @@ all_shown es = map shown_of (filter (λ e. not (is_tombstone_kind e.kind)) es)
 abbrev pub joined_in : List (List (List Entry)) → List Entry
 joined_in lists = joined (map joined lists)
 
--- a part of the runs is compacted, and the rest stays: the runs before have the entries of both,
--- where no key is there twice under one number; those after have what is kept of the part, and the
--- entries of the rest, in whatever runs. Nothing is evicted or zeroed and no weak tombstone is in
--- the part, or else of each key all others are newer than the part
+-- a part of the runs is compacted, and the rest stays. The runs before have the entries of both,
+-- and no key has one seqno twice. The runs after have what is kept of the part and the entries of
+-- the rest, in any runs. Either nothing is evicted or zeroed and the part has no weak tombstone, or
+-- of each key all entries of the rest are newer than the part
 pub record AreReplaced (rules : Rules) (part rest before after : List (List (List Entry))) : Type 0
   where
     pub strict : IsStrict (union_in before)
@@ -50,18 +50,18 @@ RangesStay = (rules : Rules) (part rest before after : List (List (List Entry)))
     all_shown (newest (within low high (union_in after)))
     ≡ all_shown (newest (within low high (union_in before)))
 
--- again no key is there twice under one number
+-- again no key has one seqno twice
 abbrev pub StayStrict : Type 0
 StayStrict = (rules : Rules) (part rest before after : List (List (List Entry))) →
     AreReplaced rules part rest before after → IsStrict (union_in after)
 
--- and each number stays below the largest one: the runs may be compacted again
+-- and if each seqno was below the largest, each still is: the runs may be compacted again
 abbrev pub StayWritable : Type 0
 StayWritable = (rules : Rules) (part rest before after : List (List (List Entry))) →
     AreReplaced rules part rest before after → IsWritable (union_in before) →
     IsWritable (union_in after)
 
--- so it is where runs that stand side by side are compacted into runs that take their place
+-- the same if adjacent runs are compacted into runs that replace them
 abbrev pub SideBySide : Type 0
 SideBySide = (rules : Rules) (front part made behind : List (List (List Entry))) →
     joined_in made ≡ kept_in rules part → IsStrict (union_in (front ++ (part ++ behind))) →

@@ -24,7 +24,7 @@ use Rattle.lsm_readers.specs.OfList.{parts_said}
 use Rattle.lsm_readers.specs.Scan.{Scan, ScansNext, fault_of}
 use Rattle.lsm_readers.specs.Table.{OpenTable}
 
--- the highest number passes u64 with the global number added
+-- the error if the highest seqno plus the global one passes u64
 abbrev pub number_fault : List Entry → ℕ → Option Error
 number_fault es g =
     if nat_lt (2 ^ 64 - 1) (highest_seqno es + g) then Some GlobalSeqNoTooLarge else None
@@ -34,7 +34,7 @@ abbrev pub is_nonempty : List Entry → Bool
 is_nonempty [] = false
 is_nonempty (e ∷ es) = true
 
--- no reader opens a table whose index has a restart interval other than 1
+-- the error if the index of a list that has an entry has a restart interval other than 1
 abbrev pub interval_fault : Options → List Entry → Option Error
 interval_fault options es =
     if options.index_block_restart_interval == 1 || not (is_nonempty es) then None
@@ -44,12 +44,12 @@ interval_fault options es =
 abbrev pub opens_fault : Options → List Entry → ℕ → Option Error
 opens_fault options es g = option_or (interval_fault options es) (number_fault es g)
 
--- what writing a list as a table and opening it refuses
+-- the error of writing a list as a table and opening it
 abbrev pub opening_fault : Label → List Entry → ℕ → Option Error
 opening_fault label es g = option_or (list_fault label es) (number_fault es g)
 
--- an opened table of a list, in the version that is written, of tree 0 and with the checksum of its
--- bytes; no block was spilled before it was full, and its filter and its index stay loaded
+-- an opened table of a list: of the written version and tree 0, with the checksum of its bytes, no
+-- block spilled before it was full, filter and index pinned
 pub record IsOpened (label : Label) (es : List Entry) (g : ℕ) (t : OpenTable) : Type 0 where
   pub some : es ≡ [] → ⊥
   pub table : IsTable t.bytes es
@@ -62,13 +62,14 @@ pub record IsOpened (label : Label) (es : List Entry) (g : ℕ) (t : OpenTable) 
   pub checksum_is : t.checksum ≡ fnv1a t.bytes
   pub parts_are : t.parts ≡ parts_said table true true
 
--- what a point read of a table, and a scan behind it, refuse
+-- the error of a point read of a table, or else of a scan after it
 abbrev pub reads_fault : OpenTable → List ℕ → ℕ → Option Error
 reads_fault t key bound =
     option_or (fault_of (table_answer t key bound).told)
     (fault_of (load_at_told (body_of t.bytes) 0 Data))
 
--- what was read of a list: the first match of a key, and a scan of all, each number lifted
+-- the results of reading a list: the first match of a key, and a scan of all, the global seqno
+-- applied
 pub record ReadsList (es : List Entry) (g : ℕ) (key : List ℕ) (bound : ℕ)
     (found : Option Entry) (s : Scan) : Type 0 where
   pub point_is : found ≡ point (lift es g) key bound

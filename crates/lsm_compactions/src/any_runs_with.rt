@@ -46,7 +46,7 @@ use sst_blocks::{EntryRef, Error, Lending};
 use std::alloc::Allocator;
 use std::sync::Arc;
 
-// How the writing of entries, one after another, ended.
+// How the writing of some entries ended.
 #[derive(Clone, Copy)]
 enum Ending {
     // All are written.
@@ -57,7 +57,7 @@ enum Ending {
     AtStop,
 }
 
-// Writes an entry and counts it. Where a table was finished for it, the observer is told, and says
+// Writes an entry and counts it. If that finished a table, it calls the observer, which returns
 // whether to go on. Fails as the writer does.
 fn write_and_tell<O: CompactionObserver, A: Allocator + Clone>(
     writer: &mut MultiWriter<A>,
@@ -68,7 +68,7 @@ fn write_and_tell<O: CompactionObserver, A: Allocator + Clone>(
     requires { let e = entry_of_ref entry.now in
         IsTrue (may_be_written (all_written writer.old) e.user_key e.seqno) }
     ensures ok { OnOk result (writer.new ≡ took writer.old (entry_of_ref entry.now)) }
-    // After an error the observer was told nothing.
+    // After an error the observer was not called.
     ensures still { OnErr result (observer.new ≡ observer.old) }
     ensures listed { OnOk result
         (all_written writer.new ≡ all_written writer.old ++ entry_of_ref entry.now ∷ []) }
@@ -86,7 +86,7 @@ fn write_and_tell<O: CompactionObserver, A: Allocator + Clone>(
     if written == 0 {
         return Ok(true);
     }
-    // After it an id is drawn just where one is finished.
+    // After it, an id is drawn exactly when a table is finished.
     if writer.table_ids() == ids {
         return Ok(true);
     }
@@ -97,8 +97,8 @@ fn write_and_tell<O: CompactionObserver, A: Allocator + Clone>(
     }))
 }
 
-// Writes what a source lends, for as long as each entry may follow the one before it and the
-// observer lets it go on. Fails as the source and the writer do.
+// Writes what a source lends, as long as each entry may follow the one before it and the observer
+// goes on. Fails as the source and the writer do.
 fn write_while_observed<L: Lending, O: CompactionObserver, A: Allocator + Clone>(
     source: &mut L,
     writer: &mut MultiWriter<A>,
@@ -130,8 +130,8 @@ fn write_while_observed<L: Lending, O: CompactionObserver, A: Allocator + Clone>
     Ok(Ending::AtEnd)
 }
 
-// What a compaction came to, by how its writing ended: tables of all that the writer took at the
-// end alone. Refused as the writing was, and then as the writer is.
+// The outcome of a compaction, by how its writing ended: only at the end, the tables of all that
+// the writer took. Fails as the writing did, and then as the writer does.
 fn ended<A: Allocator + Clone>(
     writer: MultiWriter<A>,
     ending: Result<Ending, Error>,
@@ -164,8 +164,8 @@ fn ended<A: Allocator + Clone>(
     }
 }
 
-// Writes what a compaction lends, for as long as each entry may follow the one before it and the
-// observer lets it go on, and finishes. Fails as the compaction and the writer do.
+// Writes what a compaction lends, as long as each entry may follow the one before it and the
+// observer goes on, and finishes. Fails as the compaction and the writer do.
 fn write_observed<
     L: Lending,
     F: LentFilter<A> + Drop,
@@ -195,8 +195,8 @@ fn write_observed<
     ended(writer, ending)
 }
 
-// All entries of some sources together, in order, as they are compacted. It is generic in these, so
-// that none of a scanner's parts is looked at.
+// The compaction of all entries of some sources, in order. Generic, so that a proof does not unfold
+// a scanner's parts.
 fn compacted_from<
     L: Lending + Drop,
     F: LentFilter<A> + Drop,
@@ -218,7 +218,7 @@ fn compacted_from<
         DealTogether L.advances nowhere sources.items (map joined lists) →
         IfOk result (λ s. CompactsAs F.gives C.gets rules filter callback
         (ok_results (union_in lists)) next s lent_filter lent_callback) }
-    // Of any results that come in order from each source, so of them together.
+    // For any results that come in order from each source, it compacts their merge.
     ensures any { let next = ⟦<Compacted<L, F, C, A> as Lending>⟧.advances in
         (lists : List (List R)) →
         AllZip (λ s rs. DealsResults L.advances rs s) sources.items lists →
@@ -232,7 +232,7 @@ fn compacted_from<
     LendingCompaction::with(alloc, merger, rules, filter, callback)
 }
 
-// All entries of the runs together, in order where the runs may be merged, as they are compacted.
+// The compaction of all entries of the runs, in order if the runs may be merged.
 fn compacted_of<F: LentFilter<A> + Drop, C: LentCallback + Drop, A: Allocator + Clone>(
     alloc: A,
     runs: &[Arc<Run<Table<A>, A>, A>],
@@ -249,7 +249,7 @@ fn compacted_of<F: LentFilter<A> + Drop, C: LentCallback + Drop, A: Allocator + 
         IfOk result (λ s. CompactsAs F.gives C.gets rules filter callback
         (ok_results (union_in able.lists)) next s lent_filter lent_callback) }
     ensures err { AreMergeable (map arc_value runs.now) → IfErr result (λ e. e ≡ OutOfMemory) }
-    // So of any tables whose scans come in order in each run.
+    // For any tables whose scans come in order in each run, it compacts their merge.
     ensures any { let next = ⟦<Compacted<RunScanner<A>, F, C, A> as Lending>⟧.advances in
         let scans = scans_of (map arc_value runs.now) in
         AllByRecursion (λ rs. Ascends (entries_among rs)) scans →
@@ -264,22 +264,23 @@ fn compacted_of<F: LentFilter<A> + Drop, C: LentCallback + Drop, A: Allocator + 
     compacted_from(alloc, scanners, rules, filter, callback)
 }
 
-/// Compacts several runs of any tables that were opened into new tables, as
-/// [`compact_any_runs`](crate::compact_any_runs), with a filter and a callback by reference, as a
-/// [`LendingCompaction`] has them: the filter may change or drop the entries that are kept, and the
-/// callback gets each entry that is dropped, replaced or hidden when the compaction passes it. The
-/// callback is returned.
+/// Compacts several runs of any opened tables, with a filter, a callback and an observer.
 ///
-/// At the end of each table behind which another begins, the observer is told how many tables are
-/// finished and how many entries they have; where it says so, the compaction stops with
+/// It compacts as [`compact_any_runs`](crate::compact_any_runs) does, with a filter and a callback
+/// by reference, as a [`LendingCompaction`] has them. The filter may change or drop the entries
+/// that are kept. The callback gets each entry that is dropped, replaced or hidden when the
+/// compaction passes it. The callback is returned.
+///
+/// At the end of each table that another one follows, it calls the observer with the number of
+/// finished tables and of their entries. If the observer returns `false`, it stops with
 /// [`CompactionOutcome::Stopped`], and no table is kept.
 ///
 /// The first data block of each run is loaded before anything is written, in the order of the runs.
-/// The runs stay as they were, also after an error.
+/// The runs are not changed, also after an error.
 ///
 /// # Errors
 ///
-/// As [`compact_any_runs`](crate::compact_any_runs), and any error of the filter.
+/// Those of [`compact_any_runs`](crate::compact_any_runs), and any error of the filter.
 pub fn compact_any_runs_with<
     F: LentFilter<A> + Drop,
     C: LentCallback + Drop,
@@ -295,23 +296,24 @@ pub fn compact_any_runs_with<
     observer: &mut O,
 ) -> Result<(CompactionOutcome<A>, C), Error>
     requires fresh { IsFreshRun writer }
-    // Of runs that may be compacted the tables are those of what the filter and the rules keep of
-    // all entries together, as the writer cuts them, and the callback heard what is then reported;
-    // where it is stopped, what was reported until then.
+    // For compactable runs, the tables are those of what the filter and the rules keep of all
+    // entries, as the writer cuts them. The callback got what is then reported; if it was stopped,
+    // what was reported until then.
     ensures kept { AreCompactable (map arc_value runs.now) →
         (lists : List (List (List Entry))) → RunsHoldLists (map arc_value runs.now) lists →
         IfOk result (λ r.
         CameTo F.gives C.gets rules filter callback (union_in lists) writer r.0 r.1) }
-    // Whether or not a key has one number twice, of tables of lists that have entries it is what
-    // comes of them: tables of all that is kept, or it ends at the first kept entry that may not
-    // follow, or as soon as the observer says so. The callback heard what is reported until then,
-    // and the observer was told of what was written.
+    // For tables of lists that have entries, also if a key has one seqno twice: the outcome is the
+    // tables of all that is kept. Or it ends at the first kept entry that may not follow, or as
+    // soon as the observer returns so. The callback got what is reported until then, and the
+    // observer was called for what was written.
     ensures merged { (lists : List (List (List Entry))) →
         RunsHoldLists (map arc_value runs.now) lists → AllByRecursion HaveEntries lists →
         IfOk result (λ r. CameUpTo F.gives C.gets rules filter callback
         (ok_results (union_in lists)) writer O.says observer.old r.0 r.1 observer.new) }
-    // Of any tables whose scans come in order in each run, that of the scans together, each error
-    // in its place; or the error of the first run whose first data block cannot be loaded.
+    // For any tables whose scans come in order in each run, it is the outcome of their merge, each
+    // error in its position. Or it is the error of the first run whose first data block cannot be
+    // loaded.
     ensures any { let scans = scans_of (map arc_value runs.now) in
         AllByRecursion (λ rs. Ascends (entries_among rs)) scans → MatchResult result
         (λ r. CameUpTo F.gives C.gets rules filter callback (merge_of scans) writer O.says
@@ -322,14 +324,15 @@ pub fn compact_any_runs_with<
     // loaded, if there is one. The observer is not called then.
     ensures opens { let first = first_blocks_fault (map arc_value runs.now) in first ≢ None →
         Faults result first × (observer.new ≡ observer.old) }
-    // Whatever the tables hold, what is made are tables of a list that can be written.
+    // For any tables, those that are made are of a list that can be written.
     ensures made { IfOk result (λ r. HasMade writer r.0) }
-    // The observer was told of each table but the last, in their order; it is stopped just where
-    // the observer said so, at once.
+    // The observer was called for each table but the last, in their order. The compaction stops
+    // exactly when the observer returns so, at once.
     ensures told { IfOk result (λ r. WasTold O.says writer r.0 observer.old observer.new) }
-    // On a refusal it was told so of the tables that were finished until then,
+    // On an error, it was called for the tables that were finished until then.
     ensures heard { IfErr result (λ _. WasToldUntil O.says writer observer.old observer.new) }
-    // which are those of what was kept until then, behind which, memory aside, it is refused so.
+    // These are the tables of what was kept until then; after it comes the error, except for
+    // `OutOfMemory`.
     ensures until { (lists : List (List (List Entry))) →
         RunsHoldLists (map arc_value runs.now) lists → AllByRecursion HaveEntries lists →
         IfErr result (λ e. CameUntil F.gives C.gets rules filter callback
@@ -339,20 +342,20 @@ pub fn compact_any_runs_with<
         RunsHoldLists (map arc_value runs.now) lists → AllByRecursion HaveEntries lists →
         IfErr result (λ e. is_memory e ≡ false →
         RefusesBy F.gives C.gets rules filter callback (ok_results (union_in lists)) writer e) }
-    // Where the filter refuses nothing but for want of memory, and whatever may be kept fits as
-    // tables, with an id left for each, neither does the compaction.
+    // If the filter fails with `OutOfMemory` only, and whatever may be kept fits as tables with
+    // enough ids left, the compaction fails with `OutOfMemory` only.
     ensures taken { AreCompactable (map arc_value runs.now) →
         (lists : List (List (List Entry))) → RunsHoldLists (map arc_value runs.now) lists →
         RefusesForMemory F.gives → FitsKept writer rules (union_in lists) →
         IfErr result (λ e. e ≡ OutOfMemory) }
-    // It is enough that what this filter keeps fits, whatever else a filter might keep.
+    // It is enough that what this filter keeps fits, whatever another filter might keep.
     ensures fits { AreCompactable (map arc_value runs.now) →
         (lists : List (List (List Entry))) → RunsHoldLists (map arc_value runs.now) lists →
         RefusesForMemory F.gives →
         FitsThroughout F.gives C.gets rules filter callback (union_in lists) writer →
         IfErr result (λ e. e ≡ OutOfMemory) }
 {
-    // A list whose tables fit is taken whole.
+    // A list whose tables fit is written whole.
     tables_law();
     let mut source = compacted_of(alloc, runs, rules, filter, callback)?;
     let written = write_observed(&mut source, writer, observer);

@@ -32,13 +32,14 @@ use std::sync::Arc;
 // The scanner of a whole run.
 fn scanner_of<A: Allocator + Clone>(run: &Arc<Run<Table<A>, A>, A>) -> Result<RunScanner<A>, Error>
     requires { 0 < length (arc_value run.now) }
-    // Of tables of lists that have entries it deals these lists, one behind another.
+    // For tables of lists that have entries, it yields these lists, one after another.
     ensures list { let gives = ⟦<RunScanner<A> as Iterator>⟧.next_gives in
         (lists : List (List Entry)) → HoldLists (arc_value run.now) lists → HaveEntries lists →
         IfOk result (DealsList gives nowhere (joined lists)) }
     ensures refused { (lists : List (List Entry)) → HoldLists (arc_value run.now) lists →
         HaveEntries lists → IfErr result (λ e. e ≡ OutOfMemory) }
-    // Of any tables it deals what their scans give, up to the first error, or it begins with that.
+    // For any tables, it yields the results of their scans up to the first error, or the call fails
+    // with that error.
     ensures any { IfOk result (DealsResults ⟦<RunScanner<A> as Iterator>⟧.next_gives
         (tables_scan (arc_value run.now))) }
     ensures told { IfErr result (λ e. is_memory e ≡ false →
@@ -54,13 +55,13 @@ pub(crate) fn scanners_of<A: Allocator + Clone>(
     alloc: A,
     runs: &[Arc<Run<Table<A>, A>, A>],
 ) -> Result<Vec<RunScanner<A>, A>, Error>
-    // They deal together what each run has.
+    // They yield together the entries of each run.
     ensures list { let gives = ⟦<RunScanner<A> as Iterator>⟧.next_gives in
         (able : AreMergeable (map arc_value runs.now)) →
         IfOk result (λ v. DealTogether gives nowhere v.items (map joined able.lists)) }
     ensures err { AreMergeable (map arc_value runs.now) → IfErr result (λ e. e ≡ OutOfMemory) }
-    // Of any tables each deals what its scan gives. Else, except for `OutOfMemory`, the error is
-    // that of the first run whose first data block cannot be loaded.
+    // For any tables, each yields the results of its scan. Else, except for `OutOfMemory`, the
+    // error is that of the first run whose first data block cannot be loaded.
     ensures any { let gives = ⟦<RunScanner<A> as Iterator>⟧.next_gives in
         IfOk result (λ v. AllZip (λ s rs. DealsResults gives rs s) v.items
         (scans_of (map arc_value runs.now))) }
@@ -78,16 +79,15 @@ pub(crate) fn scanners_of<A: Allocator + Clone>(
     Ok(scanners)
 }
 
-/// A compaction of all entries of some sources together, by reference. What takes it is generic in
-/// the sources: a whole concrete stream costs a proof much where it is handed to a function that is
-/// generic in streams.
+/// A compaction of all entries of some sources, by reference. Functions that take it are generic in
+/// the sources: proofs with a concrete stream cost much.
 pub(crate) type Compacted<L, F, C, A> = LendingCompaction<LendingMerger<L, A>, F, C, A>;
 
 // The same without a filter and a callback.
 type Kept<L, A> = Compacted<L, NoFilter, NoCallback, A>;
 
-// What is kept of all entries of some sources together, in order. It is generic in these, so that
-// none of a scanner's parts is looked at.
+// The entries that are kept of some sources, in order. Generic, so that a proof does not unfold a
+// scanner's parts.
 fn kept_from<L: Lending + Drop, A: Allocator + Clone>(
     alloc: A,
     sources: Vec<L, A>,
@@ -109,7 +109,7 @@ fn kept_from<L: Lending + Drop, A: Allocator + Clone>(
     LendingCompaction::new(alloc, merger, rules)
 }
 
-// What is kept of all entries of the runs together, in order where the runs may be merged.
+// The entries that are kept of the runs, in order if the runs may be merged.
 fn kept_of<A: Allocator + Clone>(
     alloc: A,
     runs: &[Arc<Run<Table<A>, A>, A>],
@@ -129,7 +129,7 @@ fn kept_of<A: Allocator + Clone>(
     kept_from(alloc, scanners, rules)
 }
 
-// Writes all that a source lends. Refused as the writer is.
+// Writes all that a source lends. Fails as the writer does.
 fn write_each<L: Lending, A: Allocator + Clone>(
     source: &mut L,
     writer: &mut MultiWriter<A>,
@@ -139,7 +139,7 @@ fn write_each<L: Lending, A: Allocator + Clone>(
     requires deals { DealsWritable L.advances source.old }
     ensures took { (d : DealsWritable L.advances source.old) →
         OnOk result (TookList writer.old d.list writer.new) }
-    // The source refuses nothing but for want of memory.
+    // The source fails with `OutOfMemory` only.
     ensures refused { (d : DealsWritable L.advances source.old) →
         IfErr result (λ e. is_memory e ≡ false → writes_fault writer.old d.list ≡ Some e) }
 {
@@ -151,8 +151,8 @@ fn write_each<L: Lending, A: Allocator + Clone>(
     Ok(())
 }
 
-// The tables of all that a writer took since it began, and its counter of ids behind them. Refused
-// as the writer is.
+// The tables of all that a writer took since it began, and its id counter after them. Fails as the
+// writer does.
 pub(crate) fn finished<A: Allocator + Clone>(
     writer: MultiWriter<A>,
 ) -> Result<(Vec<FinishedTable<A>, A>, TableIds), Error>
@@ -166,7 +166,7 @@ pub(crate) fn finished<A: Allocator + Clone>(
     Ok((tables, left))
 }
 
-// Writes all that is kept, and finishes. Refused as the writer is.
+// Writes all that is kept, and finishes. Fails as the writer does.
 fn write_all<L: Lending + Drop, A: Allocator + Clone>(
     mut source: Kept<L, A>,
     mut writer: MultiWriter<A>,
@@ -178,7 +178,7 @@ fn write_all<L: Lending + Drop, A: Allocator + Clone>(
     requires deals { DealsWritable ⟦<Kept<L, A> as Lending>⟧.advances source }
     ensures written { (d : DealsWritable ⟦<Kept<L, A> as Lending>⟧.advances source) →
         IfOk result (λ r. AreWrittenBy writer d.list r.0.items r.1) }
-    // The source refuses nothing but for want of memory.
+    // The source fails with `OutOfMemory` only.
     ensures refused { (d : DealsWritable ⟦<Kept<L, A> as Lending>⟧.advances source) →
         Faults result (writes_fault writer d.list) }
 {
@@ -191,14 +191,23 @@ fn write_all<L: Lending + Drop, A: Allocator + Clone>(
     finished(writer)
 }
 
-/// Compacts several runs into new tables: what a [`LendingCompaction`] keeps of all their entries
-/// together is written by `writer`, in one pass, each entry from where it lies. Answers the
-/// finished tables, none where nothing is kept, and the writer's counter of ids behind them.
+/// Compacts several runs into new tables, in one pass.
 ///
-/// Refused as [`MultiWriter::write`] and [`MultiWriter::finish`] are, and [`Error::OutOfMemory`].
-/// Whatever is answered, the runs are as they were. Conditions: `writer` has written nothing; the
-/// runs are in order, each has a table, and each of their tables holds a list that has an entry; in
-/// all lists together, lifted, no key has one number twice, and each number is below `u64::MAX`.
+/// `writer` writes what a [`LendingCompaction`] keeps of all their entries, borrowed from their
+/// blocks. It returns the finished tables, none if nothing is kept, and the writer's id counter
+/// after them. The runs are not changed.
+///
+/// Conditions:
+///
+/// - `writer` has written nothing;
+/// - the runs are in order, each has a table, and each of their tables holds a list that has an
+///   entry;
+/// - in all lists together, global seqnos applied, no key has one seqno twice, and each seqno is
+///   below `u64::MAX`.
+///
+/// # Errors
+///
+/// The errors of [`MultiWriter::write`] and [`MultiWriter::finish`]; [`Error::OutOfMemory`].
 pub fn compact_runs<A: Allocator + Clone>(
     alloc: A,
     runs: &[Arc<Run<Table<A>, A>, A>],
@@ -209,20 +218,20 @@ pub fn compact_runs<A: Allocator + Clone>(
 ) -> Result<(Vec<FinishedTable<A>, A>, TableIds), Error>
     requires fresh { IsFreshRun writer }
     requires able { AreCompactable (map arc_value runs.now) }
-    // The tables are those of what is kept of all entries together, as the writer cuts them.
+    // The tables are those of what is kept of all entries, as the writer cuts them.
     ensures tables { let rules = rules_by gc_seqno_threshold evict_tombstones zero_seqnos in
         (lists : List (List (List Entry))) → RunsHoldLists (map arc_value runs.now) lists →
         IfOk result (λ r. AreWrittenBy writer (kept_in rules lists) r.0.items r.1) }
-    // The refusal is the writer's first one: reading refuses nothing but for want of memory.
+    // The error is the writer's first one: reading fails with `OutOfMemory` only.
     ensures refused { let rules = rules_by gc_seqno_threshold evict_tombstones zero_seqnos in
         (lists : List (List (List Entry))) → RunsHoldLists (map arc_value runs.now) lists →
         Faults result (writes_fault writer (kept_in rules lists)) }
-    // Where its tables fit, and an id is left for each, that is for want of memory alone.
+    // If the tables fit and enough ids remain, the only error is `OutOfMemory`.
     ensures taken { let rules = rules_by gc_seqno_threshold evict_tombstones zero_seqnos in
         (lists : List (List (List Entry))) → RunsHoldLists (map arc_value runs.now) lists →
         FitsBy writer (kept_in rules lists) → IfErr result (λ e. e ≡ OutOfMemory) }
 {
-    // A list whose tables fit is taken whole.
+    // A list whose tables fit is written whole.
     tables_law();
     let rules = Rules {
         watermark: gc_seqno_threshold,
@@ -233,15 +242,21 @@ pub fn compact_runs<A: Allocator + Clone>(
     write_all(kept, writer)
 }
 
-/// Laws of reads of several runs where a part of them is compacted, without a filter, and the rest
-/// stays: no key was there twice under one number, and nothing is evicted or zeroed and the part
-/// has no weak tombstone, or of each key all others are newer. A point read whose bound is the
-/// watermark or above sees the same of each key before and after, and so does a range of the newest
-/// versions within any bounds. Again no key is there twice under one number, and where each number
-/// was below the largest one, each still is: so the runs may be compacted again.
+/// States that readers see the same after a part of several runs is compacted without a filter and
+/// the rest stays.
 ///
-/// What is said holds wherever the new runs stand among the others; the last clause says it of runs
-/// side by side. The call does nothing: its contract says so.
+/// Conditions:
+///
+/// - no key had one seqno twice;
+/// - nothing is evicted or zeroed and the part has no weak tombstone, or of each key all entries of
+///   the rest are newer.
+///
+/// A point read whose bound is the watermark or above sees the same of each key before and after.
+/// So does a range of the newest versions within any bounds. Again no key has one seqno twice. If
+/// each seqno was below the largest, each still is, so the runs may be compacted again.
+///
+/// This holds wherever the new runs are among the others; the last clause is for adjacent runs. The
+/// call does nothing: its contract states the law.
 pub fn compaction_law()
     ensures points { PointsStay }
     ensures ranges { RangesStay }
@@ -249,6 +264,6 @@ pub fn compaction_law()
     ensures writable { StayWritable }
     ensures side_by_side { SideBySide }
 {
-    // Of a part that is compacted.
+    // The law for a part that is compacted.
     read_law();
 }

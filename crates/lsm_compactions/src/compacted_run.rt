@@ -1,4 +1,4 @@
-//! Several runs that are compacted into one.
+//! Compacting several runs into one.
 ghost use Rattle.std.specs.Prelude.{◌≡◌, ◌∷◌, ◌+◌, ◌<◌, ◌^◌, ℕ, [], List, Option, IfErr, IfOk};
 ghost use Rattle.std.specs.Prelude.{IfSome, MatchOption, length, map};
 ghost use Rattle.std.specs.Arc.{arc_value};
@@ -20,8 +20,7 @@ use sst_blocks::Error;
 use std::alloc::Allocator;
 use std::sync::Arc;
 
-// Opens finished tables without a global number and puts them in a run; none where there is no
-// table.
+// Opens finished tables without a global seqno and puts them in a run; none if there is no table.
 fn run_of_tables<A: Allocator + Clone>(
     alloc: A,
     tables: Vec<FinishedTable<A>, A>,
@@ -44,13 +43,18 @@ fn run_of_tables<A: Allocator + Clone>(
     Ok(Run::new(opened))
 }
 
-/// Compacts several runs and puts what is kept in a run: [`compact_runs`] with a writer of tables
-/// of the first level, each but the last of at least `target_size` bytes of data blocks, under ids
-/// that run on; then each table is opened without a global number. No run where nothing is kept.
-/// Answers the counter of ids behind the last table, too.
+/// Compacts several runs and puts what is kept in one run.
 ///
-/// Refused as [`MultiWriter::new`] and [`compact_runs`] are, whose conditions of the runs are its
-/// own, and [`Error::OutOfMemory`]. Whatever is answered, the given runs are as they were.
+/// It calls [`compact_runs`] with a writer of tables of the first level, with consecutive ids. Each
+/// table but the last has at least `target_size` bytes of data blocks. Then it opens each table
+/// without a global seqno. There is no run if nothing is kept. It also returns the id counter after
+/// the last table.
+///
+/// The conditions on the runs are those of [`compact_runs`]. The given runs are not changed.
+///
+/// # Errors
+///
+/// The errors of [`MultiWriter::new`] and [`compact_runs`]; [`Error::OutOfMemory`].
 pub fn compact_to_run<A: Allocator + Clone>(
     alloc: A,
     runs: &[Arc<Run<Table<A>, A>, A>],
@@ -60,12 +64,12 @@ pub fn compact_to_run<A: Allocator + Clone>(
     created_at: Timestamp,
 ) -> Result<(Option<Run<Table<A>, A>>, TableIds), Error>
     requires { AreCompactable (map arc_value runs.now) }
-    // The tables hold what is kept of all entries together, one behind another, and stand in order.
+    // The tables hold what is kept of all entries, one after another, and are in order.
     ensures run { (lists : List (List (List Entry))) →
         RunsHoldLists (map arc_value runs.now) lists →
         let left = kept_in rules lists in
         IfOk result (λ r. MatchOption r.0 (left ≡ []) (λ run. IsRunOfList left 0 run)) }
-    // What is kept is cut by the target, and the tables' ids run on.
+    // The entries that are kept are cut by the target size, and the tables' ids are consecutive.
     ensures cut { (lists : List (List (List Entry))) →
         RunsHoldLists (map arc_value runs.now) lists →
         IfOk result (λ r. IfSome r.0 (λ run.
@@ -74,17 +78,17 @@ pub fn compact_to_run<A: Allocator + Clone>(
         r.1 ≡ ids_behind ids target_size (option_map_or length r.0 0)) }
     // The run may be compacted again.
     ensures able { IfOk result (λ r. IfSome r.0 (λ run. AreCompactable (run ∷ []))) }
-    // What is kept can be written again: no key is there twice under one number, each number is
-    // below the largest one.
+    // The entries that are kept can be written again: no key has one seqno twice, and each seqno is
+    // below the largest.
     ensures writable { (lists : List (List (List Entry))) →
         RunsHoldLists (map arc_value runs.now) lists →
         IfOk result (λ _. IsWritable (kept_in rules lists)) }
-    // Memory aside, the refusal is the first: of the counter, of the entries that are kept in
+    // Except for `OutOfMemory`, the error is the first one: of the counter, of the kept entries in
     // order, of the last table.
     ensures refused { (lists : List (List (List Entry))) →
         RunsHoldLists (map arc_value runs.now) lists →
         Faults result (tables_fault ids target_size created_at (kept_in rules lists)) }
-    // Where the tables fit, with an id left for each, it is refused for want of memory alone.
+    // If the tables fit and enough ids remain, the only error is `OutOfMemory`.
     ensures taken { (lists : List (List (List Entry))) →
         RunsHoldLists (map arc_value runs.now) lists →
         FitsAsTables ids target_size (kept_in rules lists) → IfErr result (λ e. e ≡ OutOfMemory) }

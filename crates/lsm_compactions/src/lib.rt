@@ -1,5 +1,5 @@
-//! Making runs of tables: of a list, of several runs that are compacted, and of the tables of
-//! several runs that are packed.
+//! Making runs of tables: from a list, from several runs by compaction, and from the tables of
+//! several runs by packing.
 #![tactic(auto)]
 
 mod any_runs;

@@ -1,28 +1,29 @@
-//! Whom a compaction tells how far it has come.
+//! Observing the progress of a compaction.
 ghost use Rattle.std.specs.Prelude.{◌≡◌, Bool, true};
 ghost use Rattle.lsm_compactions.specs.declared.observer.CompactionProgress.{CompactionProgress};
 
-/// How far a compaction has come, at the end of a table behind which another begins. A count that
-/// would pass `u64::MAX` stays there.
+/// The progress of a compaction at the end of a table that another one follows.
+///
+/// A count that would pass `u64::MAX` stays there.
 #[derive(Clone, Copy, Debug, PartialEq, Eq)]
 pub struct CompactionProgress {
-    /// How many tables are finished.
+    /// The number of finished tables.
     pub tables: u64,
-    /// How many entries these have.
+    /// The number of entries in these tables.
     pub entries: u64,
 }
 
 /// An observer of a compaction, which may stop it between two tables.
 pub trait CompactionObserver {
-    // The observer is told this, answers whether to go on, and is then as said.
+    // One call: the observer before it, the progress, whether to go on, and the observer after it.
     ghost says: { Self → CompactionProgress → Bool → Self → Type 0 };
 
-    /// Hears that a table is finished, and that another one begins; answers whether to go on.
+    /// Is called when a table is finished and another one begins; returns whether to go on.
     fn goes_on(&mut self, progress: CompactionProgress) -> bool
         ensures { says self.old progress result self.new };
 }
 
-/// The observer that lets every compaction go on.
+/// The observer that never stops a compaction.
 #[derive(Clone, Copy, Debug)]
 pub struct NoObserver;
 

@@ -12,16 +12,16 @@ use lsm_writers::FinishedTable;
 use sst_blocks::{Error, SeqNo};
 use std::alloc::Allocator;
 
-/// How finished tables are opened.
+/// Options for opening finished tables.
 #[derive(Clone, Copy, Debug, PartialEq, Eq)]
 pub struct OpenOptions {
-    /// The number that is added to every stored number.
+    /// The sequence number that is added to every stored one.
     pub global_seqno: SeqNo,
     /// The id of the tree that the table belongs to.
     pub tree_id: TreeId,
-    /// Whether the one block of a full filter stays loaded.
+    /// Whether the one block of a full filter is pinned.
     pub pin_filter: bool,
-    /// Whether the block of a full index stays loaded.
+    /// Whether the block of a full index is pinned.
     pub pin_index: bool,
 }
 
@@ -29,7 +29,7 @@ impl Default for OpenOptions {
     ghost use Rattle.std.specs.Prelude.{◌≡◌};
     ghost use Rattle.lsm_compactions.specs.OpenedBy.{default_opening};
 
-    /// No global number, tree 0, and both the filter and the index stay loaded.
+    /// Returns the options without a global seqno, for tree 0, with both filter and index pinned.
     fn default() -> OpenOptions
         ensures { result ≡ default_opening }
     {
@@ -43,14 +43,16 @@ impl Default for OpenOptions {
 }
 
 impl OpenOptions {
-    /// Opens a finished table, whose bytes are shared: the finished table stays as it is.
+    /// Opens a finished table and shares its bytes; the finished table is not changed.
     ///
     /// # Errors
     ///
-    /// As [`Table::recover`] of the bytes. A table that was written of a list fails with
-    /// [`Error::UnsupportedIndexInterval`] if its index has a restart interval other than 1, and
-    /// with [`Error::GlobalSeqNoTooLarge`] if the highest number plus the global one passes `u64`;
-    /// else only with [`Error::OutOfMemory`].
+    /// Those of [`Table::recover`] of the bytes. For a table that was written from a list these are
+    /// only:
+    ///
+    /// - [`Error::UnsupportedIndexInterval`] if its index has a restart interval other than 1;
+    /// - [`Error::GlobalSeqNoTooLarge`] if the highest seqno plus the global one passes `u64`;
+    /// - [`Error::OutOfMemory`].
     pub fn open<A: Allocator + Clone>(
         &self,
         alloc: A,
@@ -59,9 +61,9 @@ impl OpenOptions {
         ensures told { Gives (λ (t : OpenTable). t.parts) result
             (recovered_told table.now.bytes self.now.global_seqno self.now.pin_filter
             self.now.pin_index) }
-        // It has the bytes and the checksum, and was opened as is told.
+        // It has the bytes and the checksum, and was opened with these options.
         ensures opened { IfOk result (IsOpenedBy self.now table.now) }
-        // What was written of a list stores it, so that what is promised of reads holds.
+        // A table that was written from a list stores it, so the contracts of reads hold.
         ensures stored { (label : Label) (options : Options) (es : List Entry) →
             IsTableWith label options es table.now.id table.now.checksum.0 table.now.bytes →
             IfOk result (λ t. StoresList t.bytes es) }
@@ -87,7 +89,7 @@ impl OpenOptions {
     }
 }
 
-// Opens finished tables, which stay as they are.
+// Opens finished tables, which are not changed.
 pub(crate) fn open_all<A: Allocator + Clone>(
     alloc: A,
     tables: &[FinishedTable<A>],

@@ -1,4 +1,4 @@
-//! Packing runs of tables, and what packed runs hold.
+//! Packing runs of tables, and the entries that packed runs hold.
 ghost use Rattle.std.specs.Prelude.{◌≡◌, ◌<◌, ◌≤◌, IfErr, IfOk, List, filter, length, map};
 ghost use Rattle.std.specs.Arc.{arc_value};
 ghost use Rattle.sst_entries.specs.Entry.{Entry};
@@ -18,15 +18,16 @@ use sst_blocks::Error;
 use std::alloc::Allocator;
 use std::sync::Arc;
 
-/// Laws of the same tables in other runs, each in order.
+/// States that the same tables in other runs, each in order, hold the same entries.
 ///
-/// Of runs in order that hold together a strict list, in which no key has one number twice,
-/// whatever runs in order have their tables hold that list; so a point read and a range give the
-/// same of them. Where the list is not strict, it still holds of runs in which each key has its
-/// tables in the same order. The tables of runs hold one list each: what two clauses say of their
-/// lists is said of the same ones.
+/// If runs in order hold together a strict list, in which no key has one seqno twice, any runs in
+/// order of their tables hold that list. So a point read and a range yield the same of them.
 ///
-/// The call does nothing: its contract says so.
+/// A list that is not strict is still held by runs in which each key has its tables in the same
+/// order. The tables of runs hold one list each: two clauses about their lists are about the same
+/// ones.
+///
+/// The call does nothing: its contract states the law.
 pub fn packing_law()
     ensures reads { PackedLaw }
     ensures kept { KeptLaw }
@@ -66,39 +67,44 @@ fn share_runs<A: Allocator + Clone>(
     Ok(shared)
 }
 
-/// Packs the tables of some runs in as few runs as there can be, as [`optimize_runs`]; runs with no
-/// table are left out. The tables are shared handles: no bytes are copied, and the given runs stay.
-/// Refused [`Error::OutOfMemory`] alone.
+/// Packs the tables of some runs in as few runs as possible, as [`optimize_runs`] does.
+///
+/// Runs without a table are left out. The tables are shared handles: no bytes are copied. The given
+/// runs are not changed.
+///
+/// # Errors
+///
+/// [`Error::OutOfMemory`] only.
 pub fn pack_runs<A: Allocator + Clone>(
     alloc: A,
     runs: &[Arc<Run<Table<A>, A>, A>],
 ) -> Result<Vec<Run<Table<A>, A>, A>, Error>
-    // Of tables of lists in runs in order the packed runs hold the same lists' entries, so each
-    // read gives the same.
+    // For tables of lists in runs in order, the packed runs hold the same lists' entries, so each
+    // read returns the same.
     ensures list { (lists : List (List (List Entry))) →
         RunsHoldLists (map arc_value runs.now) lists →
         IfOk result (λ packed. HoldUnion packed.items (union_in lists)) }
-    // Where the runs may be compacted, the packed ones may be.
+    // If the runs may be compacted, so may the packed ones.
     ensures able { AreCompactable (map arc_value runs.now) →
         IfOk result (λ packed. AreCompactable packed.items) }
-    // One run alone comes back as it is, in order or not.
+    // A single run is returned unchanged, in order or not.
     ensures one { let given = filter has_table (map arc_value runs.now) in
         length given ≤ 1 → IfOk result (λ packed. packed.items ≡ given) }
     // The tables are the same, each as often.
     ensures tables { IfOk result (λ packed.
         SameTables (map arc_value runs.now) packed.items) }
-    // Of runs in order, for each key the tables whose range has it come in the same order,
+    // For runs in order, each key has the tables whose range has it in the same order.
     ensures holders { IfOk result (λ packed. AreInOrder range_of (map arc_value runs.now) →
         SameHolders range_of (map arc_value runs.now) packed.items) }
-    // each table stands one run behind the last run of an earlier table that it overlaps, or in the
-    // first, where more than one run has a table,
+    // For runs in order, more than one with a table: each table is one run after the last run of an
+    // earlier table that it overlaps, or in the first.
     ensures placed { let given = map arc_value runs.now in IfOk result (λ packed.
         AreInOrder range_of given → 1 < length (filter has_table given) →
         ArePlaced range_of (tables_in given) packed.items) }
-    // each packed run is in order and has a table,
+    // For runs in order, each packed run is in order and has a table.
     ensures ordered { IfOk result (λ packed. AreInOrder range_of (map arc_value runs.now) →
         ArePacked range_of packed.items) }
-    // and no fewer runs can do.
+    // For runs in order, no fewer runs are possible.
     ensures least { IfOk result (λ packed. AreInOrder range_of (map arc_value runs.now) →
         IsLeastSize range_of (map arc_value runs.now) (length packed.items)) }
     ensures err { IfErr result (λ e. e ≡ OutOfMemory) }

@@ -23,7 +23,7 @@ use lsm_writers::{FinishedTable, MultiWriter, TableIds, tables_law};
 use sst_blocks::{Error, InternalValue, SeqNo};
 use std::alloc::Allocator;
 
-// Gives a writer the entries of a list. Refused as the writer is.
+// Writes the entries of a list. Fails as the writer does.
 fn write_items<A: Allocator + Clone>(
     writer: &mut MultiWriter<A>,
     items: Vec<InternalValue<A>, A>,
@@ -40,7 +40,7 @@ fn write_items<A: Allocator + Clone>(
     Ok(())
 }
 
-// Writes a list as a writer cuts it, and finishes. Refused as the writer is.
+// Writes a list and finishes. Fails as the writer does.
 pub(crate) fn write_by<A: Allocator + Clone>(
     mut writer: MultiWriter<A>,
     items: Vec<InternalValue<A>, A>,
@@ -52,7 +52,7 @@ pub(crate) fn write_by<A: Allocator + Clone>(
     ensures refused { Faults result (writes_fault writer items.items) }
     ensures taken { FitsBy writer items.items → IfErr result (λ e. e ≡ OutOfMemory) }
 {
-    // A list whose tables fit is taken whole.
+    // A list whose tables fit is written whole.
     tables_law();
     let took = write_items(&mut writer, items);
     if let Err(error) = took {
@@ -62,8 +62,7 @@ pub(crate) fn write_by<A: Allocator + Clone>(
     finished(writer)
 }
 
-// Writes a list as tables of a target size; none where it has no entry. Refused as `MultiWriter`
-// is.
+// Writes a list as tables of a target size; none if it has no entry. Fails as `MultiWriter` does.
 fn write_tables<A: Allocator + Clone>(
     alloc: A,
     ids: TableIds,
@@ -82,7 +81,7 @@ fn write_tables<A: Allocator + Clone>(
     write_by(writer, items)
 }
 
-// Opens a finished table; its filter and its index stay loaded.
+// Opens a finished table, with filter and index pinned.
 fn open_table<A: Allocator + Clone>(
     alloc: A,
     table: FinishedTable<A>,
@@ -125,12 +124,16 @@ pub(crate) fn open_tables<A: Allocator + Clone>(
     Ok(opened)
 }
 
-/// Writes a list as tables of the first level, each but the last of at least `target_size` bytes of
-/// data blocks, under ids that run on, opens each and puts them in a run; no run where the list has
-/// no entry. Answers the counter of ids behind the last table, too.
+/// Writes a list as tables of the first level, opens them and puts them in a run.
 ///
-/// Refused as [`MultiWriter::new`], [`MultiWriter::write`] and [`MultiWriter::finish`] are, then
-/// [`Error::GlobalSeqNoTooLarge`] where the highest number plus `global_seqno` passes `u64`; and
+/// Each table but the last has at least `target_size` bytes of data blocks. The ids are
+/// consecutive. There is no run if the list has no entry. It also returns the id counter after the
+/// last table.
+///
+/// # Errors
+///
+/// The errors of [`MultiWriter::new`], [`MultiWriter::write`] and [`MultiWriter::finish`]; then
+/// [`Error::GlobalSeqNoTooLarge`] if the highest seqno plus `global_seqno` passes `u64`;
 /// [`Error::OutOfMemory`].
 pub fn write_run<A: Allocator + Clone>(
     alloc: A,
@@ -141,23 +144,24 @@ pub fn write_run<A: Allocator + Clone>(
     global_seqno: SeqNo,
 ) -> Result<(Option<Run<Table<A>, A>>, TableIds), Error>
     requires { IsWritable items.items }
-    // The tables hold the list, one behind another, and stand in order.
+    // The tables hold the list, one after another, and are in order.
     ensures run { IfOk result (λ r. MatchOption r.0 (items.items ≡ [])
         (λ run. IsRunOfList items.items global_seqno run)) }
-    // The list is cut by the target, and the tables' ids run on.
+    // The list is cut by the target size, and the tables' ids are consecutive.
     ensures cut { IfOk result (λ r. IfSome r.0 (λ run.
         AreCutOf (run_label ids target_size created_at) target_size items.items global_seqno run)) }
     ensures ids { IfOk result (λ r.
         r.1 ≡ ids_behind ids target_size (option_map_or length r.0 0)) }
-    // Where the lifted list can be written, as where its numbers stay below the largest one, the
-    // run may be compacted.
+    // If the list, the global seqno applied, can be written, as when each seqno stays below the
+    // largest, the run may be compacted.
     ensures able { IsWritable (lift items.items global_seqno) →
         IfOk result (λ r. IfSome r.0 (λ run. AreCompactable (run ∷ []))) }
-    // Memory aside, the refusal is the first: of the counter, of the entries in order, of the last
-    // table, of the numbers.
+    // Except for `OutOfMemory`, the error is the first one: of the counter, of the entries in
+    // order, of the last table, of the seqnos.
     ensures refused { Faults result
         (chain_fault ids target_size created_at items.items global_seqno) }
-    // A list whose tables fit, with an id left for each, is refused for want of memory alone.
+    // If the tables fit, enough ids remain and no seqno is too large, the only error is
+    // `OutOfMemory`.
     ensures taken { FitsAsTables ids target_size items.items →
         highest_seqno items.items + global_seqno < 2 ^ 64 →
         IfErr result (λ e. e ≡ OutOfMemory) }

@@ -18,20 +18,21 @@ pub record Part : Type 0 where
   pub low : Bound (List ℕ)
   pub high : Bound (List ℕ)
 
--- what a reader of it deals
+-- the results that a reader of it yields
 abbrev pub part_told : Part → List (Result Entry Error)
 part_told p = range_told p.table p.low p.high
 
--- how many handles of data blocks its index names between the bounds' edges
+-- the number of handles of data blocks that its index has between the bounds' edges
 abbrev pub handles_within : Part → ℕ
 handles_within p = length ((table_index p.table).told (lower_edge p.low) (upper_edge p.high))
 
--- how many loads its reader may make: of data blocks and of its index, whose edges are to be sought
--- before the first
+-- a bound on the loads of its reader: of data blocks and of its index, the search for the edges
+-- included
 abbrev pub part_loads : Part → ℕ
 part_loads p = handles_within p + index_within p.table p.low p.high + 1
 
--- the first and the last place of some tables of a run, which are read within two bounds
+-- the first and the last index of some tables of a run, and the two bounds within which they are
+-- read
 pub record RunSpan : Type 0 where
   pub first : ℕ
   pub last : ℕ
@@ -41,7 +42,8 @@ pub record RunSpan : Type 0 where
 abbrev pub span_of : ℕ × ℕ → Bound (List ℕ) → Bound (List ℕ) → RunSpan
 span_of ends low high = record { first = ends.0; last = ends.1; low = low; high = high }
 
--- a table is read within the bounds where the span begins or ends with it, and whole in between
+-- whether the span begins or ends at an index: the table there is read within the bounds, any other
+-- whole
 abbrev pub is_edge : RunSpan → ℕ → Bool
 is_edge s place = (place == s.first) || (place == s.last)
 
@@ -50,12 +52,12 @@ span_part_at s place t =
     if is_edge s place then record { table = t; low = s.low; high = s.high }
     else record { table = t; low = Unbounded; high = Unbounded }
 
--- so each table from a place on
+-- the same of each table, from an index on
 abbrev pub span_parts_from : RunSpan → ℕ → List OpenTable → List Part
 span_parts_from s place [] = []
 span_parts_from s place (t ∷ ts) = span_part_at s place t ∷ span_parts_from s (suc place) ts
 
--- those of a run from one place up to another, which is not among them
+-- those of a run from the index lo up to hi, exclusive
 abbrev pub span_parts_between : RunSpan → List OpenTable → ℕ → ℕ → List Part
 span_parts_between s tables lo hi = take (hi - lo) (drop lo (span_parts_from s 0 tables))
 
@@ -63,7 +65,7 @@ span_parts_between s tables lo hi = take (hi - lo) (drop lo (span_parts_from s 0
 abbrev pub span_parts : RunSpan → List OpenTable → List Part
 span_parts s tables = span_parts_between s tables s.first (suc s.last)
 
--- the first and the last place of a run, where they are not given
+-- the first and the last index, by default those of the whole run
 abbrev pub ends_given : List OpenTable → Option ℕ × Option ℕ → ℕ × ℕ
 ends_given tables places = (unwrap_or places.0 0, unwrap_or places.1 (length tables - 1))
 

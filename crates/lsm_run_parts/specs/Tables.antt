@@ -1,4 +1,4 @@
--- The tables of a run that are not opened, as parts of a walk.
+-- The unopened tables of a run, as the parts of an iteration.
 use Rattle.std.specs.Prelude.{◌≡◌, ℕ, suc, ◌+◌, ◌-◌, List, [], ◌∷◌, map, Option, Some, None}
 use Rattle.std.specs.Prelude.{Result, Ok, Err}
 use Rattle.std.specs.List.{flat_map, sum_by}
@@ -9,42 +9,42 @@ use Rattle.sst_entries.specs.Entry.{Entry}
 use Rattle.lsm_walks.specs.Parts.{Coming, Loading, loads_in}
 use Rattle.lsm_run_parts.specs.RunParts.{Part, part_loads, part_told}
 
--- the tables that are not opened, and how many were
+-- the unopened tables, and the number of those opened
 pub record Unopened : Type 0 where
   pub parts : List Part
   pub opened : ℕ
 
--- the results of tables that are not opened, and how many loads their readers may make
+-- the results of unopened tables, and a bound on the loads of their readers
 abbrev pub run_parts_told : List Part → List (Result Entry Error)
 run_parts_told ps = flat_map part_told ps
 
 abbrev pub parts_loads : List Part → ℕ
 parts_loads ps = sum_by part_loads ps
 
--- the place at an end of those from one up to another, and the places that are left
+-- the index at an end of the range from lo to hi, exclusive, and the range that is left
 abbrev pub place_taken : Direction → ℕ → ℕ → ℕ × ℕ × ℕ
 place_taken Front lo hi = (lo, suc lo, hi)
 place_taken Back lo hi = (hi - 1, lo, hi - 1)
 
--- a table that is not opened; opening it does not look at its bytes
+-- an unopened table; opening it does not read its bytes
 abbrev pub table_named : Part → Result (Loading Entry) Error
 table_named p = Ok (record { results = part_told p; early = None })
 
--- those that are to come, and the loads that their readers may make
+-- the unopened tables, and a bound on the loads of their readers
 abbrev pub coming_tables : Unopened → Coming Entry
 coming_tables u = record { parts = map table_named u.parts; loads = parts_loads u.parts }
 
--- what one load keeps: a table that it opens is counted
+-- one load: a table that it opens is counted
 abbrev pub KeepsTables : Unopened → Option (Result (Loading Entry) Error) → Unopened → Type 0
 KeepsTables s named t = t.opened ≡ loads_in (named ∷ []) + s.opened
 
--- how many tables a load opened
+-- the number of tables that a load opened
 abbrev pub opened_tables : {T : Type 0} → Option (Result T Error) → ℕ
 opened_tables None = 0
 opened_tables (Some (Ok reader)) = 1
 opened_tables (Some (Err e)) = 0
 
--- none is to come any more
+-- no unopened table is left
 abbrev pub none_unopened : Unopened → Unopened
 none_unopened u = record u { parts = [] }
 

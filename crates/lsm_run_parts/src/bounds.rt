@@ -6,7 +6,7 @@ use sst_blocks::UserKey;
 use std::alloc::{AllocError, Allocator};
 use std::ops::Bound;
 
-/// The bound, by the bytes of its key.
+/// Borrows the key of a bound as bytes.
 pub(crate) fn edge<A: Allocator>(bound: &Bound<UserKey<A>>) -> Bound<&[u8]>
     ensures { key_bound result ≡ bound.now }
 {
@@ -17,7 +17,11 @@ pub(crate) fn edge<A: Allocator>(bound: &Bound<UserKey<A>>) -> Bound<&[u8]>
     }
 }
 
-/// A copy of a bound that shares its key's memory. Refused where its count of sharers is full.
+/// Copies a bound, sharing its key's memory.
+///
+/// # Errors
+///
+/// [`AllocError`] if the key's reference count is full.
 pub fn share<A: Allocator>(bound: &Bound<UserKey<A>>) -> Result<Bound<UserKey<A>>, AllocError>
     ensures { IfOk result (λ b. b ≡ bound.now) }
 {

@@ -1,5 +1,5 @@
-//! The tables of a run as parts of a walk, each of which is opened where a step first needs it;
-//! with the spans of a run, and bounds that own their keys.
+//! The tables of a run as the parts of an iteration, each opened by the step that first needs it.
+//! Also spans of runs, and bounds that own their keys.
 #![tactic(auto)]
 
 mod bounds;

@@ -1,4 +1,4 @@
-//! Spans of runs: some tables that stand together, by the first and the last place.
+//! Spans of runs: consecutive tables, by the first and the last index.
 ghost use Rattle.std.specs.Prelude.{◌≡◌, ◌+◌, ◌<◌, ◌≤◌, ◌==◌, ◌||◌, IfSome, length};
 ghost use Rattle.lsm_ranges.specs.Run.{ArePlacesOf, IsInOrder, overlap_indexes};
 ghost use Rattle.lsm_run_parts.specs.RunParts.{ends_given, range_of, ranges_of};
@@ -12,8 +12,10 @@ use sst_entries::Direction;
 use std::alloc::Allocator;
 use std::ops::Bound;
 
-/// The first and the last place of the tables whose ranges reach past both bounds, of a run that is
-/// in order. Of any other run, some first and last place or none.
+/// Returns the first and the last index of the tables that overlap both bounds, of a run in order.
+///
+/// A table overlaps them if its key range reaches past both. For a run out of order, the result is
+/// some first and last index, or `None`.
 pub fn places_within<A: Allocator>(
     run: &Run<Table<A>, A>,
     range: &(Bound<UserKey<A>>, Bound<UserKey<A>>),
@@ -25,7 +27,7 @@ pub fn places_within<A: Allocator>(
     run.range_overlap_indexes(edge(&range.0), edge(&range.1))
 }
 
-/// A first and a last place, where they are not given those of all tables.
+/// Returns the first and the last index, by default those of all tables.
 pub fn ends_in<A: Allocator>(
     tables: &[Table<A>],
     span: (Option<usize>, Option<usize>),
@@ -36,14 +38,14 @@ pub fn ends_in<A: Allocator>(
     (span.0.unwrap_or(0), span.1.unwrap_or(tables.len() - 1))
 }
 
-/// Whether a span begins or ends at a place.
+/// Whether a span begins or ends at an index.
 pub(crate) fn is_end(place: usize, ends: (usize, usize)) -> bool
     ensures { result ≡ ((place == ends.0) || (place == ends.1)) }
 {
     place == ends.0 || place == ends.1
 }
 
-/// The place behind a place of some tables.
+/// Returns the index after that of a table.
 pub fn place_behind<T>(tables: &[T], place: usize) -> usize
     requires { place < length tables.now }
     ensures { result ≡ place + 1 }
@@ -51,7 +53,7 @@ pub fn place_behind<T>(tables: &[T], place: usize) -> usize
     place + 1
 }
 
-/// The place at an end of those from one up to another, and the places that are left.
+/// The index at an end of the range from `lo` to `hi`, and the range that is left.
 pub(crate) fn place_at_end(lo: usize, hi: usize, at: Direction) -> (usize, usize, usize)
     requires { lo < hi }
     ensures is { result ≡ place_taken at lo hi }

@@ -1,4 +1,4 @@
-//! The tables of a run that are not opened yet.
+//! The unopened tables of a run.
 ghost use Rattle.std.specs.Prelude.{◌≡◌, ◌+◌, ◌<◌, Some, IfOk, IfErr, length, slice_get};
 ghost use Rattle.std.specs.Arc.{arc_value};
 ghost use Rattle.sst_entries.specs.declared.error.Error.TheVariants.{OutOfMemory};
@@ -23,14 +23,14 @@ use std::marker::Model;
 use std::ops::Bound;
 use std::sync::Arc;
 
-/// The tables of a span of a run that have no reader yet, and how many readers were made.
+/// The tables of a span of a run that have no reader yet, and the number of readers made.
 #[derive(Drop)]
 pub struct Unopened<A: Allocator> {
     run: Arc<Run<Table<A>, A>, A>,
     range: (Bound<UserKey<A>>, Bound<UserKey<A>>),
-    // the first and the last place of the span, whose tables are read within the bounds
+    // the first and the last index of the span, whose tables are read within the bounds
     ends: (usize, usize),
-    // the place of the first table that is not opened, and that behind the last
+    // the index of the first unopened table, and that after the last one
     lo: usize,
     hi: usize,
     opened: usize,
@@ -53,7 +53,7 @@ impl<A: Allocator> Model for Unopened<A> {
         (u.opened + u.hi ≤ length (arc_value u.run) + u.lo) };
 }
 
-/// The reader of the table at a place: within the bounds where the span begins or ends there, else
+/// The reader of the table at an index: within the bounds where the span begins or ends there, else
 /// of the whole table.
 fn reader_at<A: Allocator + Clone>(
     tables: &[Table<A>],
@@ -76,7 +76,7 @@ fn reader_at<A: Allocator + Clone>(
 }
 
 impl<A: Allocator> Unopened<A> {
-    /// All tables from the first place of a span to its last.
+    /// Returns all tables of a span, from its first index to its last.
     pub fn new(
         run: Arc<Run<Table<A>, A>, A>,
         range: (Bound<UserKey<A>>, Bound<UserKey<A>>),
@@ -97,7 +97,7 @@ impl<A: Allocator> Unopened<A> {
         }
     }
 
-    /// How many readers were made.
+    /// Returns the number of readers made.
     pub fn opened(&self) -> usize
         ensures { result ≡ self.now.opened }
     {
@@ -114,8 +114,11 @@ impl<A: Allocator + Clone> Parts for Unopened<A> {
 
     ghost ends = { EndsTables };
 
-    /// Opens the table at an end, and counts it. Where that is refused nothing is counted, and none
-    /// is to come any more.
+    /// Opens the table at an end, and counts it.
+    ///
+    /// # Errors
+    ///
+    /// [`Error::OutOfMemory`]. Nothing is counted then, and no table is left.
     #[inline(never)]
     fn load(&mut self, at: Direction) -> Option<Result<Iter<A>, Error>>
         ensures gives { let remains = range_remains {A = A} in

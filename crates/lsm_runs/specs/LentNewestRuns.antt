@@ -1,4 +1,4 @@
--- What is newest of sources that lend.
+-- The newest versions of lending sources.
 use Rattle.std.specs.Prelude.{◌≡◌, ℕ, Bool, true, List, [], map, Option}
 use Rattle.std.specs.declared.ops.Bound.{Bound}
 use Rattle.sst_entries.specs.declared.error.Error.{Error}
@@ -14,9 +14,8 @@ use Rattle.lsm_run_parts.specs.RunParts.{RunSpan, span_parts}
 use Rattle.lsm_run_parts.specs.Tables.{run_parts_told}
 use Rattle.lsm_runs.specs.SpansRead.{spans_within}
 
--- where want of memory stops its reader, of what sorted sources have together the newest version of
--- each key is lent; of sources without errors, and with errors among them up to the first, which
--- comes in its place
+-- up to `OutOfMemory`, a stream lends the newest versions of sorted sources: of their union, or,
+-- with errors among them, of their merge up to the first error
 pub record LendsNewest {S T : Type 0} (advances : S → Option R → S → Type 0) (its : List S)
     (next : T → Option R → T → Type 0) (t : T) : Type 0 where
   pub deals : (stops : Error → Bool) (lists : List (List R)) → stops OutOfMemory ≡ true
@@ -26,17 +25,17 @@ pub record LendsNewest {S T : Type 0} (advances : S → Option R → S → Type 
       → DealSorted advances nowhere stops its lists
       → Deals (answer_stops stops) next nowhere t (newest_results (merge_of lists))
 
--- where want of memory stops its reader, a source lends just these results
+-- up to `OutOfMemory`, a source lends exactly these results
 abbrev pub LendsResults : {S : Type 0} → (S → Option R → S → Type 0) → List R → S → Type 0
 LendsResults advances rs s = (stops : Error → Bool) → stops OutOfMemory ≡ true →
     Deals (answer_stops stops) advances nowhere s rs
 
--- what the tables of a span tell, each within the bounds where the span begins or ends with it, up
--- to the first error
+-- the results of a span's tables up to the first error, with the bounds applied where the span
+-- begins or ends
 abbrev pub span_told : List OpenTable × RunSpan → List R
 span_told run = up_to_error (run_parts_told (span_parts run.1 run.0))
 
--- so of each run that has a table whose range reaches past both bounds
+-- the same of each run that has a table whose range reaches past both bounds
 abbrev pub runs_told_within : Bound (List ℕ) → Bound (List ℕ) → List (List OpenTable)
     → List (List R)
 runs_told_within low high runs = map span_told (spans_within low high runs)

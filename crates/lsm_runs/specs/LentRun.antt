@@ -1,4 +1,4 @@
--- A reader of a run that lends its entries, from the front.
+-- A lending reader of a run, from the front.
 use Rattle.std.specs.Prelude.{◌≡◌, true, List, ◌∷◌, Option, Some, None, Result, Ok, Err}
 use Rattle.sst_entries.specs.declared.error.Error.{Error}
 use Rattle.sst_entries.specs.declared.stream.Direction.TheVariants.{Front}
@@ -15,7 +15,7 @@ use Rattle.lsm_runs.specs.RunRange.{RunGives, RunRange, front_tables}
 
 -- ---- the reader of one table
 
--- what comes next of a table stands in a block that is loaded
+-- the next result of a table is an entry in a loaded block
 pub record Stands {A : Type 0} (reader : Option (Range A)) (x : Result Entry Error) : Type 0 where
   pub range : Range A
   pub is : reader ≡ Some range
@@ -25,21 +25,20 @@ pub record Stands {A : Type 0} (reader : Option (Range A)) (x : Result Entry Err
   pub front : range.front ≡ entry ∷ others
   pub told : x ≡ lifted_told range.of.global_seqno entry
 
--- one step of it; what stands in a loaded block comes, whatever memory there is
+-- one step of it; an entry in a loaded block is yielded even when out of memory
 pub record ReaderLends {A : Type 0} (s : Option (Range A)) (r : Option (Result Entry Error))
     (t : Option (Range A)) : Type 0 where
   pub gives : StepGives Front (remains_in range_remains s) r (remains_in range_remains t)
   pub there : (x : Result Entry Error) → Stands s x → r ≡ Some x
 
--- ---- a walk over the tables of a run
+-- ---- an iteration over the tables of a run
 
 -- one load at the front: of the parts s, with p left
 abbrev pub LoadsFront : {A : Type 0} → Unopened → Option (Result (Range A) Error) → Unopened
     → Type 0
 LoadsFront s r p = LoadGives range_remains coming_tables KeepsTables Front s r p
 
--- the table that comes next was opened and is at the front now, or it could not be, or none is to
--- come
+-- the next table was opened and is now at the front, or opening it failed, or none is left
 abbrev pub OpensNext : {A : Type 0} → Walk Unopened (Range A)
     → Option (Result (Unit {0}) Error) → Walk Unopened (Range A) → Type 0
 OpensNext {A = A} s None t =
@@ -52,12 +51,12 @@ OpensNext {A = A} s (Some (Ok u)) t =
 
 -- ---- the run
 
--- nothing is lent, and nothing more comes
+-- nothing is lent, and nothing is left
 abbrev pub over_run : {A : Type 0} → RunRange A → RunRange A
 over_run s = record { unopened = none_unopened s.unopened; front = None; back = None }
 
--- one step: as one call at the front of the run; and what stands next in a loaded block of the
--- table that is opened at the front comes, whatever memory there is
+-- one step: one call at the front of the run; the next entry in a loaded block of the front table
+-- is yielded even when out of memory
 pub record RunLends {A : Type 0} (s : RunRange A) (r : Option (Result Entry Error))
     (t : RunRange A) : Type 0 where
   pub gives : RunGives front_of front_tables s r t

@@ -1,4 +1,4 @@
--- Runs of tables whose bytes store lists, and what is read of them.
+-- Runs of tables whose bytes store lists, and the results of reading them.
 use Rattle.std.specs.Prelude.{◌≡◌, ℕ, suc, ◌-◌, Bool, true, List, [], ◌∷◌, drop, take, Option}
 use Rattle.std.specs.Prelude.{Result, if◌then◌else◌}
 use Rattle.std.specs.List.{AllByRecursion, AllZip}
@@ -16,43 +16,43 @@ use Rattle.lsm_readers.specs.Stored.{StoresList}
 use Rattle.lsm_readers.specs.Table.{IsOpen, OpenTable}
 use Rattle.lsm_run_parts.specs.RunParts.{RunSpan, is_edge, range_of}
 
--- an opened table whose bytes store a list, which it gives lifted
+-- an opened table whose bytes store a list, which it yields with the global seqno applied
 pub record HoldsList (t : OpenTable) (es : List Entry) : Type 0 where
   pub stored : List Entry
   pub opened : IsOpen t
   pub table : StoresList t.bytes stored
   pub lifted_is : es ≡ lift stored t.global_seqno
 
--- so each table of a run
+-- the same of each table of a run
 abbrev pub HoldLists : List OpenTable → List (List Entry) → Type 0
 HoldLists tables lists = AllZip HoldsList tables lists
 
--- a list at a place: within the bounds where the span begins or ends with it, and whole in between
+-- the list at an index: within the bounds where the span begins or ends there, else whole
 abbrev pub list_at : RunSpan → ℕ → List Entry → List Entry
 list_at s place es = if is_edge s place then within s.low s.high es else es
 
--- so each list from a place on
+-- the same of each list, from an index on
 abbrev pub lists_at : RunSpan → ℕ → List (List Entry) → List (List Entry)
 lists_at s place [] = []
 lists_at s place (es ∷ ls) = list_at s place es ∷ lists_at s (suc place) ls
 
--- those of the span, one behind another
+-- the lists of the span, concatenated
 abbrev pub span_list : RunSpan → List (List Entry) → List Entry
 span_list s lists = joined (take (suc s.last - s.first) (drop s.first (lists_at s 0 lists)))
 
--- and each of several runs, which are in order
+-- the same of each of several runs, which are in order
 abbrev pub RunsHoldLists : List (List OpenTable) → List (List (List Entry)) → Type 0
 RunsHoldLists runs lists =
     AllZip (λ tables ls. IsInOrder range_of tables × HoldLists tables ls) runs lists
 
--- where want of memory stops its reader, it deals just these entries, to whatever ends
+-- up to `OutOfMemory`, a source yields exactly these entries, for every list of ends
 abbrev pub DealsList : {S : Type 0} (front back : S → Option (Result Entry Error) → S → Type 0)
     → List Entry → S → Type 0
 DealsList front back es s =
     (stops : Error → Bool) → stops OutOfMemory ≡ true →
     Deals (answer_stops stops) front back s (ok_results es)
 
--- sources deal, one each, sorted lists that have together just the entries of these
+-- sources yield sorted lists, one each, which have together exactly the entries of these lists
 pub record DealTogether {S : Type 0} (front back : S → Option (Result Entry Error) → S → Type 0)
     (sources : List S) (found : List (List Entry)) : Type 0 where
   pub dealt : List (List Entry)
@@ -60,12 +60,12 @@ pub record DealTogether {S : Type 0} (front back : S → Option (Result Entry Er
   pub ascend : AllByRecursion Ascends dealt
   pub deal : AllZip (λ s es. DealsList front back es s) sources dealt
 
--- each source deals what of one of these lists, which are sorted, lies within the bounds
+-- each source yields the part within the bounds of one of these lists, which are sorted
 pub record DealWithin {S : Type 0} (front back : S → Option (Result Entry Error) → S → Type 0)
     (low high : Bound (List ℕ)) (sources : List S) (lists : List (List Entry)) : Type 0 where
   pub ascend : AllByRecursion Ascends lists
   pub deal : AllZip (λ s es. DealsList front back (within low high es) s) sources lists
 
--- beside the lists of runs, that of a source is as a run of one table
+-- the list of a source, as a run of one table
 abbrev pub single : List Entry → List (List Entry)
 single es = es ∷ []

@@ -1,4 +1,4 @@
--- Where an entry is stored in the tables of several runs.
+-- The position of an entry in the tables of several runs.
 use Rattle.std.specs.Prelude.{◌≡◌, ℕ, true, is_some, List, Option, slice_get}
 use Rattle.std.specs.Option.{option_and_then}
 use Rattle.sst_entries.specs.Entry.{Entry}
@@ -7,8 +7,7 @@ use Rattle.sst_blocks.specs.EntryPlace.{placed_in}
 use Rattle.lsm_readers.specs.Table.{OpenTable}
 use Rattle.lsm_runs.specs.declared.lent_gets.RunPlace.{RunPlace}
 
--- the entry that the tables of a run have there: none where they are too few, or the bytes too
--- short
+-- the entry of a run at this position; none if the tables are too few, or the bytes too short
 abbrev pub placed_in_run : List OpenTable → RunPlace → Option Entry
 placed_in_run tables p = option_and_then (λ t. placed_in t.bytes p.place) (slice_get tables p.table)
 
@@ -16,10 +15,10 @@ placed_in_run tables p = option_and_then (λ t. placed_in t.bytes p.place) (slic
 abbrev pub placed_in_runs : List (List OpenTable) → RunPlace → Option Entry
 placed_in_runs runs p = option_and_then (λ tables. placed_in_run tables p) (slice_get runs p.run)
 
--- there is an entry
+-- an entry is stored there
 abbrev pub IsThere : List (List OpenTable) → RunPlace → Type 0
 IsThere runs p = is_some (placed_in_runs runs p) ≡ true
 
--- a place in a table of a run
+-- the position of an entry in a table of a run
 abbrev pub place_in : ℕ → ℕ → EntryPlace → RunPlace
 place_in run table place = record { run = run; table = table; place = place }

@@ -1,4 +1,4 @@
--- What a reader of a run still deals, and one call of it.
+-- The results that a reader of a run has left, and one call of it.
 use Rattle.std.specs.Prelude.{◌≡◌, ℕ, suc, ◌+◌, ◌≤◌, false, List, [], ◌∷◌, ◌++◌, length, reverse}
 use Rattle.std.specs.Prelude.{Option, Some, None, Result, Ok, Err, MatchOption, MatchResult}
 use Rattle.sst_entries.specs.declared.error.Error.{Error}
@@ -15,36 +15,36 @@ use Rattle.lsm_readers.specs.Table.{OpenTable}
 use Rattle.lsm_run_parts.specs.RunParts.{Part, RunSpan, part_told, span_parts}
 use Rattle.lsm_run_parts.specs.Tables.{Unopened, parts_loads, run_parts_told}
 
--- the tables that are not opened, with how many were, and the readers of the tables at the front
--- and at the back, where one is opened there
+-- the unopened tables, the number of those opened, and the readers at the front and at the back, if
+-- opened
 pub record RunRange (A : Type 0) : Type 0 where
   pub unopened : Unopened
   pub front : Option (Range A)
   pub back : Option (Range A)
 
--- a walk over such tables is a reader of a run
+-- an iteration over such tables, as a reader of a run
 abbrev pub run_of : {A : Type 0} → Walk Unopened (Range A) → RunRange A
 run_of w = record { unopened = w.parts; front = w.front; back = w.back }
 
--- the results that a reader still deals, and how many loads it may make for them
+-- the results that a reader has left, and a bound on its loads for them
 abbrev pub left_of_reader : {A : Type 0} → Option (Range A) → List (Result Entry Error)
 left_of_reader reader = (remains_in range_remains reader).results
 
 abbrev pub loads_of_reader : {A : Type 0} → Option (Range A) → ℕ
 loads_of_reader reader = (remains_in range_remains reader).loads
 
--- the results still to be dealt, and how many loads the readers may make for them
+-- the results left, and a bound on the loads for them
 abbrev pub run_left : {A : Type 0} → RunRange A → List (Result Entry Error)
 run_left s = left_of_reader s.front ++ (run_parts_told s.unopened.parts ++ left_of_reader s.back)
 
 abbrev pub run_loads : {A : Type 0} → RunRange A → ℕ
 run_loads s = loads_of_reader s.front + parts_loads s.unopened.parts + loads_of_reader s.back
 
--- a bound on the answers that are left
+-- a bound on the calls that still yield something
 abbrev pub run_size : {A : Type 0} → RunRange A → ℕ
 run_size s = length (run_left s) + run_loads s
 
--- nothing more comes, and nothing is opened
+-- nothing is left to yield or to open
 abbrev pub IsRunEnded : {A : Type 0} → RunRange A → Type 0
 IsRunEnded s = run_size s ≡ 0
 
@@ -56,14 +56,14 @@ pub record IsRunOf {A : Type 0} (tables : List OpenTable) (span : RunSpan) (s : 
     pub front : s.front ≡ None
     pub back : s.back ≡ None
 
--- how many of these tables, the next one first, an end opens for its answer: those up to the first
--- that has an item
+-- the number of these tables that one call opens, the next one first: up to the first that has an
+-- item
 abbrev pub tables_needed : List Part → ℕ
 tables_needed [] = 0
 tables_needed (p ∷ ps) = suc (none_behind (part_told p) (tables_needed ps))
 
--- how many tables an end opens for its answer, at the front and at the back: none where an item of
--- a table that is opened stands there
+-- the number of tables that one call opens, at the front and at the back: none if an open table has
+-- an item there
 abbrev pub front_tables : {A : Type 0} → RunRange A → ℕ
 front_tables s = none_behind (left_of_reader s.front) (tables_needed s.unopened.parts)
 
@@ -74,8 +74,8 @@ abbrev pub tables_at : {A : Type 0} → Direction → RunRange A → ℕ
 tables_at Front s = front_tables s
 tables_at Back s = back_tables s
 
--- an answer at an end: the result that stands there, and the others are left; nothing, where
--- nothing is left; want of memory stands in the place of any answer
+-- the result of a call at an end: the first result there, `None` if nothing is left, or
+-- `OutOfMemory` in place of any
 abbrev pub RunAnswer : {A : Type 0}
     → (List (Result Entry Error) → Option (Result Entry Error) × List (Result Entry Error))
     → RunRange A → Option (Result Entry Error) → RunRange A → Type 0
@@ -83,22 +83,21 @@ RunAnswer end s None t = run_left s ≡ []
 RunAnswer end s (Some (Ok e)) t = end (run_left s) ≡ (Some (Ok e), run_left t)
 RunAnswer end s (Some (Err e)) t = is_memory e ≡ false → (end (run_left s)).0 ≡ Some (Err e)
 
--- each table that a call opens is counted, is among those that are not opened, and is needed for
--- the answer
+-- each table that a call opens is counted, was unopened, and is needed for the result
 pub record CountsTables (needed : ℕ) (s t : Unopened) : Type 0 where
   pub count : ℕ
   pub counts : t.opened ≡ count + s.opened
   pub within : count + length t.parts ≤ length s.parts
   pub most : count ≤ needed
 
--- the entry that it lends, where a table is opened
+-- the entry that a table lends, if one is open
 abbrev pub lent_of_reader : {A : Type 0} → Option (Range A) → Option Entry
 lent_of_reader None = None
 lent_of_reader (Some s) = s.lent
 
--- one call at an end; an error ends the reader; it opens the tables that it needs, and no more
--- where it wants memory; each answer but the last `None` brings the end nearer, and once all is
--- over `None` alone comes
+-- one call at an end. An error ends the reader. It opens exactly the tables that it needs, or at
+-- most these if out of memory. Each result but the last `None` brings the end nearer, and after the
+-- end only `None` comes
 pub record RunGives {A : Type 0} (end : List (Result Entry Error) → Option (Result Entry Error)
     × List (Result Entry Error)) (needed : RunRange A → ℕ) (s : RunRange A)
     (r : Option (Result Entry Error)) (t : RunRange A) : Type 0 where
@@ -109,7 +108,7 @@ pub record RunGives {A : Type 0} (end : List (Result Entry Error) → Option (Re
   pub exact : answer_stops is_memory r ≡ false → tables.count ≡ needed s
   pub lent : LendsOn r (lent_of_reader t.front)
 
--- wherever calls lead no more tables were opened than so many
+-- whatever calls are made, at most so many tables are opened
 abbrev pub OpensAtMost : {A : Type 0} (front back : RunRange A → Option (Result Entry Error)
     → RunRange A → Type 0) → ℕ → RunRange A → Type 0
 OpensAtMost {A} front back most s =

@@ -1,4 +1,4 @@
--- What a scan of a run still gives, and one call of it.
+-- The results that a scan of a run has left, and one call of it.
 use Rattle.std.specs.Prelude.{◌≡◌, ℕ, suc, ◌+◌, ◌-◌, ◌≤◌, false, List, [], ◌∷◌, ◌++◌, drop, length}
 use Rattle.std.specs.Prelude.{max, take, Option, Some, None, Result, Ok, Err, MatchOption}
 use Rattle.std.specs.Prelude.{MatchResult}
@@ -14,31 +14,31 @@ use Rattle.lsm_readers.specs.Scan.{IsNewScan, Scan, fault_of, scan_left, scan_si
 use Rattle.lsm_readers.specs.Scan.{up_to_error}
 use Rattle.lsm_readers.specs.Table.{OpenTable}
 
--- what a scan of a table gives, and a bound on its answers
+-- the results of a scan of a table, and a bound on the calls that yield something
 abbrev pub table_scan : OpenTable → List (Result Entry Error)
 table_scan t = scan_told (body_of t.bytes) t.parts.facts.data_block_count t.global_seqno
 
 abbrev pub table_size : OpenTable → ℕ
 table_size t = length (table_scan t) + max 1 t.parts.facts.data_block_count
 
--- what the scan of a table is refused with, memory aside: the fault of its first block; and what of
--- it is found before any memory is taken
+-- the error of beginning the scan of a table, except for `OutOfMemory`: that of loading its first
+-- block; and the same if it is found before any allocation
 abbrev pub scan_fault : OpenTable → Option Error
 scan_fault t = fault_of (load_at_told (body_of t.bytes) 0 Data)
 
 abbrev pub early_scan_fault : OpenTable → Option Error
 early_scan_fault t = position_fault (body_of t.bytes) 0 Data
 
--- the scan of the table that is opened, and the tables that are not
+-- the scan of the open table, and the unopened tables
 pub record RunScan : Type 0 where
   pub scan : Option Scan
   pub tables : List OpenTable
 
--- the tables of a run from a first place to a last
+-- the tables of a run from a first index to a last
 abbrev pub tables_between : List OpenTable → ℕ × ℕ → List OpenTable
 tables_between tables ends = take (suc ends.1 - ends.0) (drop ends.0 tables)
 
--- what is left of a scan, and of all, up to the first error
+-- the results that a scan has left, and all scans, up to the first error
 abbrev pub left_of_scan : Option Scan → List (Result Entry Error)
 left_of_scan None = []
 left_of_scan (Some s) = scan_left s
@@ -49,7 +49,7 @@ tables_scan ts = up_to_error (flat_map table_scan ts)
 abbrev pub run_scan_left : RunScan → List (Result Entry Error)
 run_scan_left s = up_to_error (left_of_scan s.scan ++ flat_map table_scan s.tables)
 
--- a bound on the answers that are left
+-- a bound on the calls that still yield something
 abbrev pub size_of_scan : Option Scan → ℕ
 size_of_scan None = 0
 size_of_scan (Some s) = scan_size s
@@ -69,12 +69,12 @@ lent_of_scan (Some s) = s.lent
 abbrev pub lent_of_run : RunScan → Option Entry
 lent_of_run s = lent_of_scan s.scan
 
--- nothing more comes, and nothing is opened
+-- nothing is left to yield or to open
 abbrev pub IsRunScanEnded : RunScan → Type 0
 IsRunScanEnded s = run_scan_size s ≡ 0
 
--- an answer: the first of what is left, and the others are left; nothing, where nothing is left;
--- want of memory stands in the place of any answer
+-- the result of a call: the first result left, `None` if nothing is left, or `OutOfMemory` in place
+-- of any
 abbrev pub ScanAnswer : RunScan → Option (Result Entry Error) → RunScan → Type 0
 ScanAnswer s None t = run_scan_left s ≡ []
 ScanAnswer s (Some (Ok e)) t = run_scan_left s ≡ Ok e ∷ run_scan_left t
@@ -86,14 +86,14 @@ pub record RunScansNext (s : RunScan) (r : Option (Result Entry Error)) (t : Run
   pub ends : MatchOption r (Unit {0}) (λ x. MatchResult x (λ _. Unit {0}) (λ _. IsRunScanEnded t))
   pub lowers : Lowers r (run_scan_size s) (run_scan_size t)
 
--- a scanner of a span of a run: its first table is opened, and no step was made
+-- a scanner of a span of a run: its first table is open, and no step was made
 pub record IsScanOf (tables : List OpenTable) (ends : ℕ × ℕ) (s : RunScan) : Type 0 where
   pub left : run_scan_left s ≡ tables_scan (tables_between tables ends)
   pub size : run_scan_size s ≤ tables_size (tables_between tables ends)
 
 -- ---- one step of its parts
 
--- an answer of the scan of one table, and nothing where none is opened
+-- the result of a call of the scan of one table; nothing if none is open
 abbrev pub ScannerAnswer : Option Scan → Option (Result Entry Error) → Option Scan → Type 0
 ScannerAnswer s None t = left_of_scan s ≡ []
 ScannerAnswer s (Some (Ok e)) t = left_of_scan s ≡ Ok e ∷ left_of_scan t
@@ -104,17 +104,17 @@ pub record ScansItem (s : Option Scan) (r : Option (Result Entry Error)) (t : Op
     pub answer : ScannerAnswer s r t
     pub lowers : Lowers r (size_of_scan s) (size_of_scan t)
 
--- the scan of a table begins, or it is refused, memory aside with the fault that the scan tells
+-- the scan of a table begins, or fails: except for `OutOfMemory`, with the first result of the scan
 abbrev pub BeginsScan : OpenTable → Result Scan Error → Type 0
 BeginsScan t (Ok s) = IsNewScan (body_of t.bytes) t.parts.facts.data_block_count t.global_seqno s
 BeginsScan t (Err e) = is_memory e ≡ false → first (table_scan t) ≡ Some (Err e)
 
--- that of the next table, where one is left
+-- the scan of the next table, if one is left
 abbrev pub BeginsNext : RunScan → Option (Result Scan Error) → RunScan → Type 0
 BeginsNext s None t = (s.tables ≡ []) × (t ≡ s)
 BeginsNext s (Some r) t = (table : OpenTable) × (s.tables ≡ table ∷ t.tables) × (t.scan ≡ s.scan)
     × BeginsScan table r
 
--- nothing more comes
+-- nothing is left
 abbrev pub over_scan : RunScan → RunScan
 over_scan s = record { scan = None; tables = [] }

@@ -1,4 +1,4 @@
--- What several runs answer together.
+-- The result of reading several runs together.
 use Rattle.std.specs.Prelude.{◌≡◌, ℕ, ◌+◌, ◌-◌, ◌^◌, ◌≤◌, Bool, false, nat_lt, List, [], ◌∷◌, map}
 use Rattle.std.specs.Prelude.{min, Option, Some, None, Result, if◌then◌else◌}
 use Rattle.sst_entries.specs.declared.error.Error.{Error}
@@ -14,7 +14,7 @@ use Rattle.lsm_readers.specs.Table.{OpenTable}
 use Rattle.lsm_sorted.specs.Leading.{leading_of}
 use Rattle.lsm_run_parts.specs.RunParts.{range_of}
 
--- a point read of a table, where there is one: what it tells, and which blocks it loads
+-- a point read of a table, if there is one: its result, and the blocks it loads
 abbrev pub table_read : List ℕ → ℕ → Option OpenTable → Read (Option Entry)
 table_read key bound None = known None
 table_read key bound (Some t) = table_answer t key bound
@@ -23,54 +23,53 @@ table_read key bound (Some t) = table_answer t key bound
 abbrev pub run_read : List ℕ → ℕ → List OpenTable → Read (Option Entry)
 run_read key bound tables = table_read key bound (table_of_key range_of key tables)
 
--- point reads of several runs, one behind another, behind what was found: the entry that stands
--- before the others, or the refusal of the earliest run that has one
+-- point reads of several runs in order, after what was found: the leading entry, or the error of
+-- the first run that has one
 abbrev pub runs_read_by : (Option Entry → List OpenTable → Read (Option Entry)) → Option Entry
     → List (List OpenTable) → Read (Option Entry)
 runs_read_by read found [] = known found
 runs_read_by read found (tables ∷ runs) =
     read_then (read found tables) (λ next. runs_read_by read (leading_of found next) runs)
 
--- each run is asked
+-- every run is read
 abbrev pub runs_read : List ℕ → ℕ → Option Entry → List (List OpenTable) → Read (Option Entry)
 runs_read key bound found runs = runs_read_by (λ _ tables. run_read key bound tables) found runs
 
--- what it tells
+-- the result of it
 abbrev pub runs_told : List ℕ → ℕ → Option Entry → List (List OpenTable)
     → Result (Option Entry) Error
 runs_told key bound found runs = (runs_read key bound found runs).told
 
--- a table's highest number
+-- a table's highest seqno, with the global seqno applied
 abbrev pub highest_number : OpenTable → ℕ
 highest_number t = t.parts.facts.seqno_max + t.global_seqno
 
--- all that a table has is numbered below what was found
+-- every seqno of a table is below that of what was found
 abbrev pub is_older : Option Entry → OpenTable → Bool
 is_older None t = false
 is_older (Some e) t = nat_lt (highest_number t) e.seqno
 
--- a table is worth asking unless it is older than what was found
+-- a table is read unless it is older than what was found
 abbrev pub worth_asking : Option Entry → Option OpenTable → Option OpenTable
 worth_asking found None = None
 worth_asking found (Some t) = if is_older found t then None else Some t
 
--- a point read of a run behind what was found: of the one table whose range has the key, where it
--- is worth asking
+-- a point read of a run after what was found: of the one table whose range has the key, unless it
+-- is older
 abbrev pub run_read_behind : List ℕ → ℕ → Option Entry → List OpenTable → Read (Option Entry)
 run_read_behind key bound found tables =
     table_read key bound (worth_asking found (table_of_key range_of key tables))
 
--- a point read of several runs in which no table is asked that is older than what the runs before
--- it have
+-- a point read of several runs, without the tables older than what the runs before have
 abbrev pub runs_read_by_age : List ℕ → ℕ → Option Entry → List (List OpenTable)
     → Read (Option Entry)
 runs_read_by_age key bound found runs = runs_read_by (run_read_behind key bound) found runs
 
--- two counts together, staying at the largest value
+-- the sum of two counts, at most the largest value
 abbrev pub sum_within : ℕ → ℕ → ℕ
 sum_within m n = min (m + n) (2 ^ 64 - 1)
 
--- the loads of two counts together
+-- the sum of two counts of loads
 abbrev pub loads_together : Opened → Opened → Opened
 loads_together a b = record {
   data_loads = sum_within a.data_loads b.data_loads;
@@ -79,7 +78,7 @@ loads_together a b = record {
   meta_loads = sum_within a.meta_loads b.meta_loads;
 }
 
--- at most so many data blocks, so many index blocks and so many filter blocks were loaded, and no
+-- at most so many data blocks, index blocks and filter blocks, of each kind, were loaded, and no
 -- others
 pub record LoadsEach (most : ℕ) (o : Opened) : Type 0 where
   pub data_few : o.data_loads ≤ most

@@ -19,8 +19,7 @@ use Rattle.lsm_run_parts.specs.RunParts.{RunSpan, ranges_of, span_of}
 use Rattle.lsm_runs.specs.RunRange.{IsRunOf, RunGives, RunRange, back_tables, front_tables}
 use Rattle.lsm_runs.specs.RunRange.{run_left}
 
--- the tables of a run, and the span of those that lie at a first and a last place, where there are
--- any
+-- the tables of a run, with the span from a first index to a last, if there are any
 abbrev pub span_at : List OpenTable → Bound (List ℕ) → Bound (List ℕ) → Option (ℕ × ℕ)
     → List (List OpenTable × RunSpan)
 span_at tables low high None = []
@@ -32,10 +31,10 @@ abbrev pub spans_within : Bound (List ℕ) → Bound (List ℕ) → List (List O
 spans_within low high runs =
     flat_map (λ tables. span_at tables low high (overlap_indexes low high (ranges_of tables))) runs
 
--- before any call, a stream of newest versions over one reader of each of these spans. What a
--- reader deals, up to its first error, is what its tables tell, and behind an error, want of memory
--- too, it deals nothing. For every list of ends the stream's answers are those of its steps on all
--- entries, or on what is left of them where an error that was met takes the place of a stretch
+-- a stream of newest versions before any call, over one reader of each of these spans. A reader
+-- yields the results of its tables up to its first error, `OutOfMemory` included, and nothing after
+-- it. For every list of ends, the stream steps over all entries, or over those left where an error
+-- that was met takes the place of a stretch
 pub record IsOverSpans {A : Type 0}
     (next next_back : MvccStream (Merger (RunRange A) A) (Result Entry Error)
     → Option (Result Entry Error)
@@ -51,7 +50,7 @@ pub record IsOverSpans {A : Type 0}
   pub answers : AnswersNewest (RunGives front_of front_tables) (RunGives back_of back_tables)
       readers next next_back s
 
--- the same over what each of these readers gives that is numbered below a bound, and its errors
+-- the same over the entries of each of these readers that are below a seqno, and its errors
 pub record IsOverSpansBelow {A : Type 0}
     (gives back_gives : Below (RunRange A) → Option (Result Entry Error) → Below (RunRange A)
     → Type 0)
@@ -68,12 +67,12 @@ pub record IsOverSpansBelow {A : Type 0}
   pub of : IsNewestOf (map (below_of bound) readers) s
   pub answers : AnswersNewest gives back_gives (map (below_of bound) readers) next next_back s
 
--- further sources, and behind them readers of runs
+-- further sources, then readers of runs
 abbrev pub with_readers : {R S : Type 0} → List S → List R → List (Either R S)
 with_readers sources readers = map (λ y. Right y) sources ++ map (λ x. Left x) readers
 
--- the same over what further sources, and behind them these readers, give that is numbered below a
--- bound, and their errors
+-- the same over further sources and then these readers: over their entries below a seqno, and their
+-- errors
 pub record IsOverSourcesBelow {S A : Type 0}
     (gives back_gives : Below (Either (RunRange A) S) → Option (Result Entry Error)
     → Below (Either (RunRange A) S) → Type 0)

@@ -1,5 +1,5 @@
--- The words of the contracts of runs that are read, those of the crates below among them, so that a
--- file asks for them in one place.
+-- The definitions for contracts of runs that are read, with those of the crates below, so that a
+-- file imports them from one module.
 pub use Rattle.sst_entries.specs.Entry.{Entry}
 pub use Rattle.sst_entries.specs.Error.{Faults, FaultsFirst, Gives, is_memory}
 pub use Rattle.sst_entries.specs.Lending.{came}

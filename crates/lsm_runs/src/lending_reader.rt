@@ -1,4 +1,4 @@
-//! One step of a reader of a run that lends its entries, from the front.
+//! One step of a lending reader of a run, from the front.
 ghost use Rattle.std.specs.Prelude.{◌≡◌, None, Some, IfOk, Result, is_some};
 ghost use Rattle.std.specs.Option.{option_map};
 ghost use Rattle.sst_entries.specs.Lending.{entry_of_ref};
@@ -19,10 +19,10 @@ use sst_entries::Direction;
 use std::alloc::Allocator;
 use std::mem;
 
-/// The tables of a run that hold what is read.
+/// The iteration over the tables of a run.
 pub(crate) type RunWalk<A> = Walk<Unopened<A>, Iter<A>>;
 
-// Goes on to the next entry of a table, where one is opened, and answers whether there is one.
+// Advances to the next entry of a table, if one is open; returns whether there is one.
 #[inline]
 fn advance_in<A: Allocator + Clone>(part: &mut Option<Iter<A>>) -> Result<bool, Error>
     ensures lends { ReaderLends part.old (came result (lent_of_reader part.new)) part.new }
@@ -34,23 +34,22 @@ fn advance_in<A: Allocator + Clone>(part: &mut Option<Iter<A>>) -> Result<bool, 
     }
 }
 
-// Lets a reader go for the next one. It is generic in the readers, so that none of their parts is
-// looked at.
+// Drops a reader for the next one. Generic, so that a proof does not unfold a reader's parts.
 fn put<T: Drop>(part: &mut Option<T>, next: T)
     ensures { part.new ≡ Some next }
 {
     drop(mem::replace(part, Some(next)));
 }
 
-// Lets a reader go.
+// Drops a reader.
 fn let_go<T: Drop>(part: &mut Option<T>)
     ensures { part.new ≡ None }
 {
     drop(part.take());
 }
 
-// Goes on to the next entry of the table at the back, where no other is left, and answers whether
-// there is one. The table comes to the front, so that only what stands there ever lends.
+// Advances in the table at the back, when no other is left; returns whether there is an entry. The
+// table moves to the front, so that only the front table ever lends.
 fn advance_last<A: Allocator + Clone>(walk: &mut RunWalk<A>) -> Result<bool, Error>
     ensures is { walk.new ≡ record walk.old { front = walk.new.front; back = walk.old.front } }
     ensures lends { ReaderLends walk.old.back (came result (lent_of_reader walk.new.front))
@@ -61,7 +60,7 @@ fn advance_last<A: Allocator + Clone>(walk: &mut RunWalk<A>) -> Result<bool, Err
     advance_in(&mut walk.front)
 }
 
-/// The entry that is lent of a table, where one is opened.
+/// The entry lent from a table, if one is open.
 #[inline(always)]
 pub(crate) fn entry_in<A: Allocator + Clone>(part: &Option<Iter<A>>) -> Option<EntryRef<'_>>
     ensures { option_map entry_of_ref result ≡ lent_of_reader part.now }
@@ -72,7 +71,7 @@ pub(crate) fn entry_in<A: Allocator + Clone>(part: &Option<Iter<A>>) -> Option<E
     }
 }
 
-/// Lends nothing of a table, where one is opened, until it goes on.
+/// Lends nothing from a table, if one is open, until it advances.
 #[inline(always)]
 pub(crate) fn unlend_in<A: Allocator + Clone>(part: &mut Option<Iter<A>>)
     ensures { part.new ≡ option_map without_lent part.old }
@@ -82,8 +81,8 @@ pub(crate) fn unlend_in<A: Allocator + Clone>(part: &mut Option<Iter<A>>)
     }
 }
 
-// Opens the table that comes next and puts it to the front; none where none is to come. It is a
-// call of its own, so that room for a reader is made ready once a table, and not once an entry.
+// Opens the next table and puts it at the front; `None` if none is left. Not inlined, so that room
+// for a reader is made once a table, not once an entry.
 #[inline(never)]
 fn open_next<A: Allocator + Clone>(walk: &mut RunWalk<A>) -> Option<Result<(), Error>>
     ensures { OpensNext walk.old result walk.new }
@@ -98,8 +97,8 @@ fn open_next<A: Allocator + Clone>(walk: &mut RunWalk<A>) -> Option<Result<(), E
     }
 }
 
-/// Goes on to the next entry, and answers whether there is one; an error does not end the walk yet.
-/// A table is let go where the next is opened, and with it the entry that was lent of it.
+/// Advances to the next entry; returns whether there is one. An error does not end the iteration
+/// yet. Opening the next table drops the current one, with the entry lent from it.
 #[inline]
 pub(crate) fn step<A: Allocator + Clone>(walk: &mut RunWalk<A>) -> Result<bool, Error>
     ensures takes { WalkTakes range_remains coming_tables KeepsTables Front walk.old
@@ -120,7 +119,7 @@ pub(crate) fn step<A: Allocator + Clone>(walk: &mut RunWalk<A>) -> Result<bool, 
     }
 }
 
-/// Lets go what is lent and what is left.
+/// Drops what is lent and what is left.
 pub(crate) fn end<A: Allocator + Clone>(walk: &mut RunWalk<A>)
     ensures { run_of walk.new ≡ over_run (run_of walk.old) }
 {

@@ -21,8 +21,9 @@ use std::alloc::Allocator;
 use std::ops::Bound;
 use std::sync::Arc;
 
-/// Where an entry is stored in the tables of several runs. It borrows nothing, so whoever owns the
-/// runs can keep it beside them.
+/// The position of an entry in the tables of several runs.
+///
+/// It borrows nothing, so the owner of the runs can store it beside them.
 #[derive(Clone, Copy)]
 pub struct RunPlace {
     run: usize,
@@ -40,7 +41,7 @@ fn index_of_key<A: Allocator + Clone>(run: &Run<Table<A>, A>, key: &[u8]) -> Opt
     Some(index)
 }
 
-// What was found in a table of a run, with where that table is.
+// The result of reading one table, with the table's position.
 fn found_in(
     run: usize,
     table: usize,
@@ -55,8 +56,8 @@ fn found_in(
     }
 }
 
-// Where the first match is that the one table of a run has whose range has the key, with how many
-// blocks were loaded for it.
+// The position of the first match in the one table of a run whose range has the key, and the number
+// of blocks loaded for it.
 fn place_in_run<A: Allocator + Clone>(
     run: &Run<Table<A>, A>,
     number: usize,
@@ -83,8 +84,10 @@ fn place_in_run<A: Allocator + Clone>(
     (found_in(number, index, found), opened)
 }
 
-/// The entry at a place that [`place_in_runs`] returned for these runs, borrowed from its table.
-/// For other runs it is some entry, or `None` where these do not reach that far.
+/// Returns the entry at a position that [`place_in_runs`] returned for these runs, borrowed from
+/// its table.
+///
+/// For other runs it returns some entry, or `None` if the position is outside of them.
 pub fn entry_in_runs<'a, A: Allocator + Clone>(
     runs: &'a [Arc<Run<Table<A>, A>, A>],
     place: &RunPlace,
@@ -111,8 +114,8 @@ fn found_entry<'a, A: Allocator + Clone>(
     }
 }
 
-// Of two places the one whose entry is before the other's: of one key that with the higher number.
-// The first, where neither is.
+// The one of two positions whose entry is first: of one key, the one with the higher seqno. The
+// first position, if neither entry is before the other.
 #[tactic(auto, using(crate::proofs::LentGets::same_order))]
 fn leading_place<A: Allocator + Clone>(
     runs: &[Arc<Run<Table<A>, A>, A>],
@@ -136,38 +139,43 @@ fn leading_place<A: Allocator + Clone>(
     }
 }
 
-/// Where the entry is stored that [`get_runs_ref`] returns, and how many blocks were loaded for it.
-/// Returns what [`place_in_runs`] returns.
+/// Returns the position of the entry that [`get_runs_ref`] returns, and the number of blocks loaded
+/// for it.
+///
+/// # Errors
+///
+/// Those of [`place_in_runs`].
 pub fn place_in_runs_counted<A: Allocator + Clone>(
     runs: &[Arc<Run<Table<A>, A>, A>],
     key: &[u8],
     seqno: SeqNo,
 ) -> (Result<Option<RunPlace>, Error>, Opened)
-    // On runs in order it is what the runs' tables tell, whatever their bytes, except for
-    // `OutOfMemory`.
+    // For runs in order, it is the result of reading the runs' tables, whatever their bytes, except
+    // for `OutOfMemory`.
     ensures told { AllByRecursion (IsInOrder range_of) (map arc_value runs.now) →
         Gives (option_and_then (placed_in_runs (map arc_value runs.now))) result.0
         (runs_told key.now seqno None (map arc_value runs.now)) }
-    // Of tables of lists it is the first match in the sorted entries of all lists, lifted.
+    // For tables of lists, it is the first match in the sorted entries of all lists, global seqnos
+    // applied.
     ensures list { (lists : List (List (List Entry))) →
         RunsHoldLists (map arc_value runs.now) lists →
         Gives (option_and_then (placed_in_runs (map arc_value runs.now))) result.0
         (Ok (point (union_in lists) key.now seqno)) }
-    // The blocks loaded are those of the reads of the runs' tables, up to the first error.
+    // The blocks loaded are those of reading the runs' tables, up to the first error.
     ensures opened { AllByRecursion (IsInOrder range_of) (map arc_value runs.now) →
         let read = runs_read key.now seqno None (map arc_value runs.now) in
         Opens result.0 read.loads none_opened result.1 }
-    // A fault that is found before memory is taken, of the first block that is loaded, comes before
-    // `OutOfMemory`,
+    // An error of the first block loaded that is found before any allocation takes precedence over
+    // `OutOfMemory`.
     ensures early { AllByRecursion (IsInOrder range_of) (map arc_value runs.now) →
         FaultsFirst result.0 (runs_read key.now seqno None (map arc_value runs.now)).early }
-    // and where no block is loaded, as where there are no runs, the read does not fail.
+    // It does not fail if it loads no block, as when there are no runs.
     ensures calm { AllByRecursion (IsInOrder range_of) (map arc_value runs.now) →
         (runs_read key.now seqno None (map arc_value runs.now)).loads ≡ [] → IsOk result.0 }
-    // Whatever the runs and the tables' bytes, also where it fails: at most one data block, one
-    // index block and one filter block a run;
+    // For any runs and any bytes, also on an error: at most one data block, one index block and one
+    // filter block a run.
     ensures few { LoadsEach (length runs.now) result.1 }
-    // and there is an entry where one was found.
+    // If a position was found, an entry is stored there.
     ensures there { IfOk result.0 (λ found. IfSome found (IsThere (map arc_value runs.now))) }
 {
     let mut found = None;
@@ -184,8 +192,9 @@ pub fn place_in_runs_counted<A: Allocator + Clone>(
     (Ok(found), opened)
 }
 
-/// Where the entry is stored that [`get_runs_ref`] returns. The result borrows nothing:
-/// [`entry_in_runs`] borrows the entry from the runs.
+/// Returns the position of the entry that [`get_runs_ref`] returns.
+///
+/// The position borrows nothing: [`entry_in_runs`] borrows the entry from the runs.
 ///
 /// # Errors
 ///
@@ -195,30 +204,31 @@ pub fn place_in_runs<A: Allocator + Clone>(
     key: &[u8],
     seqno: SeqNo,
 ) -> Result<Option<RunPlace>, Error>
-    // On runs in order it is what the runs' tables tell, whatever their bytes, except for
-    // `OutOfMemory`.
+    // For runs in order, it is the result of reading the runs' tables, whatever their bytes, except
+    // for `OutOfMemory`.
     ensures told { AllByRecursion (IsInOrder range_of) (map arc_value runs.now) →
         Gives (option_and_then (placed_in_runs (map arc_value runs.now))) result
         (runs_told key.now seqno None (map arc_value runs.now)) }
-    // Of tables of lists it is the first match in the sorted entries of all lists, lifted.
+    // For tables of lists, it is the first match in the sorted entries of all lists, global seqnos
+    // applied.
     ensures list { (lists : List (List (List Entry))) →
         RunsHoldLists (map arc_value runs.now) lists →
         Gives (option_and_then (placed_in_runs (map arc_value runs.now))) result
         (Ok (point (union_in lists) key.now seqno)) }
-    // A fault that is found before memory is taken, of the first block that is loaded, comes before
-    // `OutOfMemory`,
+    // An error of the first block loaded that is found before any allocation takes precedence over
+    // `OutOfMemory`.
     ensures early { AllByRecursion (IsInOrder range_of) (map arc_value runs.now) →
         FaultsFirst result (runs_read key.now seqno None (map arc_value runs.now)).early }
-    // and where no block is loaded, as where there are no runs, the read does not fail.
+    // It does not fail if it loads no block, as when there are no runs.
     ensures calm { AllByRecursion (IsInOrder range_of) (map arc_value runs.now) →
         (runs_read key.now seqno None (map arc_value runs.now)).loads ≡ [] → IsOk result }
-    // There is an entry where one was found.
+    // If a position was found, an entry is stored there.
     ensures there { IfOk result (λ found. IfSome found (IsThere (map arc_value runs.now))) }
 {
     place_in_runs_counted(runs, key, seqno).0
 }
 
-// What was found, borrowed.
+// Borrows what was found.
 fn borrowed<'a, A: Allocator + Clone>(
     runs: &'a [Arc<Run<Table<A>, A>, A>],
     found: Result<Option<RunPlace>, Error>,
@@ -232,68 +242,73 @@ fn borrowed<'a, A: Allocator + Clone>(
     }
 }
 
-/// The first entry of a key numbered below `seqno`, of what several runs have together, borrowed
-/// from its table, and how many blocks were loaded for it. Returns what [`get_runs_ref`] returns.
+/// Returns what [`get_runs_ref`] returns, and the number of blocks loaded for it.
+///
+/// # Errors
+///
+/// Those of [`get_runs_ref`].
 pub fn get_runs_ref_counted<'a, A: Allocator + Clone>(
     runs: &'a [Arc<Run<Table<A>, A>, A>],
     key: &[u8],
     seqno: SeqNo,
 ) -> (Result<Option<EntryRef<'a>>, Error>, Opened)
-    // On runs in order it is what the runs' tables tell, whatever their bytes, except for
-    // `OutOfMemory`.
+    // For runs in order, it is the result of reading the runs' tables, whatever their bytes, except
+    // for `OutOfMemory`.
     ensures told { AllByRecursion (IsInOrder range_of) (map arc_value runs.now) →
         Gives (option_map entry_of_ref) result.0
         (runs_told key.now seqno None (map arc_value runs.now)) }
-    // Of tables of lists it is the first match in the sorted entries of all lists, lifted.
+    // For tables of lists, it is the first match in the sorted entries of all lists, global seqnos
+    // applied.
     ensures list { (lists : List (List (List Entry))) →
         RunsHoldLists (map arc_value runs.now) lists →
         Gives (option_map entry_of_ref) result.0 (Ok (point (union_in lists) key.now seqno)) }
-    // The blocks loaded are those of the reads of the runs' tables, up to the first error.
+    // The blocks loaded are those of reading the runs' tables, up to the first error.
     ensures opened { AllByRecursion (IsInOrder range_of) (map arc_value runs.now) →
         let read = runs_read key.now seqno None (map arc_value runs.now) in
         Opens result.0 read.loads none_opened result.1 }
-    // A fault that is found before memory is taken, of the first block that is loaded, comes before
-    // `OutOfMemory`,
+    // An error of the first block loaded that is found before any allocation takes precedence over
+    // `OutOfMemory`.
     ensures early { AllByRecursion (IsInOrder range_of) (map arc_value runs.now) →
         FaultsFirst result.0 (runs_read key.now seqno None (map arc_value runs.now)).early }
-    // and where no block is loaded, as where there are no runs, the read does not fail.
+    // It does not fail if it loads no block, as when there are no runs.
     ensures calm { AllByRecursion (IsInOrder range_of) (map arc_value runs.now) →
         (runs_read key.now seqno None (map arc_value runs.now)).loads ≡ [] → IsOk result.0 }
-    // Whatever the runs and the tables' bytes, also where it fails: at most one data block, one
-    // index block and one filter block a run.
+    // For any runs and any bytes, also on an error: at most one data block, one index block and one
+    // filter block a run.
     ensures few { LoadsEach (length runs.now) result.1 }
 {
     let (found, opened) = place_in_runs_counted(runs, key, seqno);
     (borrowed(runs, found), opened)
 }
 
-/// The first entry of a key numbered below `seqno`, of what several runs have together, borrowed
-/// from its table: what [`crate::get_runs`] returns, with no reference count taken. In each run it
-/// reads one table at most, the one whose range has the key.
+/// Returns the newest version of a key visible at `seqno` in several runs, borrowed from its table.
+///
+/// It returns what [`crate::get_runs`] returns, without taking a reference count. It reads at most
+/// one table a run, the one whose range has the key.
 ///
 /// # Errors
 ///
-/// The first error of these reads, in the order of the runs. Where no block is loaded, it does not
-/// fail.
+/// The first error of these reads, in the order of the runs. It does not fail if it loads no block.
 pub fn get_runs_ref<'a, A: Allocator + Clone>(
     runs: &'a [Arc<Run<Table<A>, A>, A>],
     key: &[u8],
     seqno: SeqNo,
 ) -> Result<Option<EntryRef<'a>>, Error>
-    // On runs in order it is what the runs' tables tell, whatever their bytes, except for
-    // `OutOfMemory`.
+    // For runs in order, it is the result of reading the runs' tables, whatever their bytes, except
+    // for `OutOfMemory`.
     ensures told { AllByRecursion (IsInOrder range_of) (map arc_value runs.now) →
         Gives (option_map entry_of_ref) result
         (runs_told key.now seqno None (map arc_value runs.now)) }
-    // Of tables of lists it is the first match in the sorted entries of all lists, lifted.
+    // For tables of lists, it is the first match in the sorted entries of all lists, global seqnos
+    // applied.
     ensures list { (lists : List (List (List Entry))) →
         RunsHoldLists (map arc_value runs.now) lists →
         Gives (option_map entry_of_ref) result (Ok (point (union_in lists) key.now seqno)) }
-    // A fault that is found before memory is taken, of the first block that is loaded, comes before
-    // `OutOfMemory`,
+    // An error of the first block loaded that is found before any allocation takes precedence over
+    // `OutOfMemory`.
     ensures early { AllByRecursion (IsInOrder range_of) (map arc_value runs.now) →
         FaultsFirst result (runs_read key.now seqno None (map arc_value runs.now)).early }
-    // and where no block is loaded, as where there are no runs, the read does not fail.
+    // It does not fail if it loads no block, as when there are no runs.
     ensures calm { AllByRecursion (IsInOrder range_of) (map arc_value runs.now) →
         (runs_read key.now seqno None (map arc_value runs.now)).loads ≡ [] → IsOk result }
 {

@@ -1,4 +1,4 @@
-//! Several runs as one that lends.
+//! Several runs as one lending stream.
 ghost use Rattle.std.specs.Prelude.{◌≡◌, ◌<◌, ℕ, [], All, IfErr, IfOk, List, None, map};
 ghost use Rattle.std.specs.Arc.{arc_value};
 ghost use Rattle.std.specs.List.{AllByRecursion};
@@ -19,15 +19,15 @@ use std::alloc::Allocator;
 use std::ops::Bound;
 use std::sync::Arc;
 
-/// The newest version of each key of several sources that lend, lent.
+/// A lending stream of the newest version of each key of several lending sources.
 pub type LentNewestOf<L, A> = LendingNewest<LendingMerger<L, A>, A>;
 
-/// The newest version of each key of several runs that is numbered below a bound, lent: what
-/// [`lend_runs_at`] gives.
+/// The stream that [`lend_runs_at`] returns: it lends the newest version below a seqno of each key
+/// of several runs.
 pub type LentNewestOfRunsAt<A> = LentNewestOf<Below<RunReader<A>>, A>;
 
-// The newest versions of sources that lend. It is generic in these, so that none of a reader's
-// parts is looked at.
+// The newest versions of lending sources. Generic, so that a proof does not unfold a reader's
+// parts.
 fn lent_stream<L: Lending + Drop, A: Allocator + Clone>(
     alloc: A,
     sources: Vec<L, A>,
@@ -45,9 +45,15 @@ fn lent_stream<L: Lending + Drop, A: Allocator + Clone>(
     Ok(LendingNewest::new(alloc, merger))
 }
 
-/// The newest version numbered below `seqno` of each key within both bounds, of what several runs
-/// have together, lent from the blocks where it lies, ascending: what [`crate::range_runs_at`]
-/// gives from the front. No table is opened yet. Refused [`Error::OutOfMemory`] alone.
+/// Returns a lending stream of the newest version visible at `seqno` of each key within both
+/// bounds, of several runs, ascending.
+///
+/// It lends the entries from their blocks: those that [`crate::range_runs_at`] yields from the
+/// front. No table is opened yet.
+///
+/// # Errors
+///
+/// The call fails with [`Error::OutOfMemory`] only.
 pub fn lend_runs_at<A: Allocator + Clone>(
     alloc: A,
     runs: &[Arc<Run<Table<A>, A>, A>],
@@ -56,29 +62,29 @@ pub fn lend_runs_at<A: Allocator + Clone>(
 ) -> Result<LentNewestOf<Below<RunReader<A>>, A>, Error>
     // Nothing is lent yet.
     ensures none { IfOk result (λ s. ⟦<LentNewestOfRunsAt<A> as Lending>⟧.lent s ≡ None) }
-    // Of tables of lists in runs in order it lends what is newest of the sorted entries of all
-    // lists, lifted, that lie within the bounds and are numbered below `seqno`.
+    // For tables of lists in runs in order, it lends the newest versions below `seqno` of all
+    // lists' entries within the bounds, global seqnos applied.
     ensures list { let advances = ⟦<LentNewestOfRunsAt<A> as Lending>⟧.advances in
         (lists : List (List (List Entry))) → RunsHoldLists (map arc_value runs.now) lists →
         let found = newest (numbered_below seqno (within range.0 range.1 (union_in lists))) in
         IfOk result (λ s. DealsList advances nowhere found s) }
-    // Where every number is below `seqno` it lends what is newest of all that lies within the
+    // If every seqno is below `seqno`, it lends the newest versions of all entries within the
     // bounds.
     ensures whole { let advances = ⟦<LentNewestOfRunsAt<A> as Lending>⟧.advances in
         (lists : List (List (List Entry))) → RunsHoldLists (map arc_value runs.now) lists →
         All (λ e. e.seqno < seqno) (union_in lists) →
         let found = newest (within range.0 range.1 (union_in lists)) in
         IfOk result (λ s. DealsList advances nowhere found s) }
-    // Of any tables in runs in order, whatever their bytes: where the entries that each run's
-    // tables tell within the bounds come in order up to their first error, it lends what is newest
-    // of these results below `seqno`, merged up to the first error, which comes in its place.
+    // For any tables in runs in order, whatever their bytes, whose entries within the bounds come
+    // in order up to each run's first error. It lends the newest of these results below `seqno`,
+    // merged up to the first error, which comes last.
     ensures places { let advances = ⟦<LentNewestOfRunsAt<A> as Lending>⟧.advances in
         let told = runs_told_within range.0 range.1 (map arc_value runs.now) in
         AllByRecursion (IsInOrder range_of) (map arc_value runs.now) →
         AllByRecursion (λ rs. Ascends (entries_among rs)) told →
         let found = newest_results (merge_of (map (below_told seqno) told)) in
         IfOk result (LendsResults advances found) }
-    // Whatever the tables' bytes are, it may be asked however often.
+    // It may be called any number of times, whatever the tables' bytes.
     ensures can { IfOk result (CanDeal ⟦<LentNewestOfRunsAt<A> as Lending>⟧.advances nowhere
         ⟦<LentNewestOfRunsAt<A> as Lending>⟧.can_advance
         ⟦<LentNewestOfRunsAt<A> as Lending>⟧.can_advance) }

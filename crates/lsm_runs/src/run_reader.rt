@@ -1,4 +1,4 @@
-//! Reading the tables of a run one behind another, from both ends.
+//! Reading the tables of a run one after another, from both ends.
 ghost use Rattle.std.specs.Prelude.{◌≡◌, ◌-◌, ◌+◌, ℕ, [], None, Some, List, IfOk, IfSome, IsOk};
 ghost use Rattle.std.specs.Prelude.{MatchOption, length, map};
 ghost use Rattle.std.specs.Arc.{arc_value};
@@ -22,13 +22,14 @@ use std::marker::Model;
 use std::ops::Bound;
 use std::sync::Arc;
 
-/// The entries of the tables of a run, one table behind another, from both ends. It shares the run.
-/// As an iterator it gives entries that share the tables' bytes. As a [`Lending`] it lends them
-/// from there, from the front. Both go on from where the other stopped. Any entry that is lent is
-/// the one that the last call gave.
+/// An iterator over the entries of the tables of a run, one table after another, from both ends.
 ///
-/// A table is opened by the first step that needs it, once, also where both ends meet in it. After
-/// an error, [`Error::OutOfMemory`] among them, nothing more comes, from either end.
+/// It shares the run. As an iterator it yields entries that share the tables' bytes. As a
+/// [`Lending`] it lends them from there, from the front. Each continues where the other stopped. An
+/// entry that is lent is the one that the last call yielded.
+///
+/// Each table is opened once, by the first step that needs it. After an error,
+/// [`Error::OutOfMemory`] included, it is exhausted at both ends.
 #[derive(Drop)]
 pub struct RunReader<A: Allocator = Global> {
     walk: RunWalk<A>,
@@ -44,19 +45,21 @@ impl<A: Allocator> Model for RunReader<A> {
 }
 
 impl<A: Allocator + Clone> RunReader<A> {
-    /// The entries within both bounds of a run that is in order; `None` exactly where no table's
-    /// range reaches past both bounds. No table is opened yet. Nothing is refused.
+    /// Returns a reader of the entries within both bounds of a run in order.
+    ///
+    /// It returns `None` exactly if no table's range reaches past both bounds. No table is opened
+    /// yet. The call does not fail.
     pub fn new(
         run: Arc<Run<Table<A>, A>, A>,
         range: (Bound<UserKey<A>>, Bound<UserKey<A>>),
     ) -> Result<Option<RunReader<A>>, Error>
-        // On a run in order the span is that of the tables whose ranges reach past both bounds.
+        // For a run in order, the span is that of the tables whose ranges reach past both bounds.
         ensures span { let range_of = ⟦<Table<A> as Ranged>⟧.range in
             let tables = arc_value run in IsInOrder range_of tables →
             let found = overlap_indexes range.0 range.1 (map range_of tables) in
             IfOk result (λ r. MatchOption r (found ≡ None) (λ reader. (ends : ℕ × ℕ) ×
             (found ≡ Some ends) × IsRunOf tables (span_of ends range.0 range.1) reader)) }
-        // Of any other run it is some span within it.
+        // For any other run, it is some span within it.
         ensures is { let tables = arc_value run in IfOk result (λ r. IfSome r (λ reader.
             (ends : ℕ × ℕ) × ArePlacesOf tables ends ×
             IsRunOf tables (span_of ends range.0 range.1) reader)) }
@@ -64,8 +67,8 @@ impl<A: Allocator + Clone> RunReader<A> {
             let back_gives = ⟦<RunReader<A> as DoubleEndedIterator>⟧.next_back_gives in
             IfOk result (λ r. IfSome r (λ reader. DealsEnding gives back_gives
             (λ _. Unit {0}) (λ _. Unit {0}) reader (run_left reader))) }
-        // On tables of lists in a run in order it is what of all lists, lifted, lies within the
-        // bounds; without a reader there is nothing.
+        // For tables of lists in a run in order, it yields the part of all lists within the bounds,
+        // global seqnos applied; without a reader there is none.
         ensures list { let gives = ⟦<RunReader<A> as Iterator>⟧.next_gives in
             let back_gives = ⟦<RunReader<A> as DoubleEndedIterator>⟧.next_back_gives in
             let tables = arc_value run in IsInOrder ⟦<Table<A> as Ranged>⟧.range tables →
@@ -73,27 +76,27 @@ impl<A: Allocator + Clone> RunReader<A> {
             let found = within range.0 range.1 (joined lists) in
             IfOk result (λ r. MatchOption r (found ≡ [])
             (λ reader. DealsList gives back_gives found reader)) }
-        // On a run in order no more tables are opened than have a range that reaches past both
-        // bounds.
+        // For a run in order, it opens at most as many tables as have a range that reaches past
+        // both bounds.
         ensures few { let gives = ⟦<RunReader<A> as Iterator>⟧.next_gives in
             let back_gives = ⟦<RunReader<A> as DoubleEndedIterator>⟧.next_back_gives in
             let range_of = ⟦<Table<A> as Ranged>⟧.range in
             let tables = arc_value run in IsInOrder range_of tables → (ends : ℕ × ℕ) →
             overlap_indexes range.0 range.1 (map range_of tables) ≡ Some ends → IfOk result (λ r.
             IfSome r (OpensAtMost gives back_gives (ends.1 + 1 - ends.0))) }
-        // Of any other run, no more than it has.
+        // For any other run, at most as many as it has.
         ensures most { let gives = ⟦<RunReader<A> as Iterator>⟧.next_gives in
             let back_gives = ⟦<RunReader<A> as DoubleEndedIterator>⟧.next_back_gives in
             let tables = arc_value run in
             IfOk result (λ r. IfSome r (OpensAtMost gives back_gives (length tables))) }
-        // Except for `OutOfMemory` it lends from the front what it gives there, up to the first
-        // error, also where it is asked from the back in between;
+        // Except for `OutOfMemory`, it lends what it yields at the front, up to the first error,
+        // also with calls at the back in between.
         ensures lends { let advances = ⟦<RunReader<A> as Lending>⟧.advances in
             let may = ⟦<RunReader<A> as Lending>⟧.can_advance in
             let back_gives = ⟦<RunReader<A> as DoubleEndedIterator>⟧.next_back_gives in
             IfOk result (λ r. IfSome r (λ reader.
             DealsEnding advances back_gives may may reader (run_left reader))) }
-        // on tables of lists in a run in order just the entries within the bounds,
+        // For tables of lists in a run in order, it lends exactly the entries within the bounds.
         ensures lends_list { let advances = ⟦<RunReader<A> as Lending>⟧.advances in
             let back_gives = ⟦<RunReader<A> as DoubleEndedIterator>⟧.next_back_gives in
             let tables = arc_value run in IsInOrder ⟦<Table<A> as Ranged>⟧.range tables →
@@ -101,7 +104,7 @@ impl<A: Allocator + Clone> RunReader<A> {
             let found = within range.0 range.1 (joined lists) in
             IfOk result (λ r. MatchOption r (found ≡ [])
             (λ reader. DealsList advances back_gives found reader)) }
-        // and it opens no more tables for them.
+        // It opens no more tables for lending.
         ensures lends_few { let advances = ⟦<RunReader<A> as Lending>⟧.advances in
             let back_gives = ⟦<RunReader<A> as DoubleEndedIterator>⟧.next_back_gives in
             let range_of = ⟦<Table<A> as Ranged>⟧.range in
@@ -120,10 +123,12 @@ impl<A: Allocator + Clone> RunReader<A> {
         }
     }
 
-    /// The entries of the tables from a first place to a last, where they are not given of all:
-    /// those of the first and of the last table within both bounds, those between whole. No table
-    /// is opened yet. Nothing is refused. Conditions: the first place is at most the last, and the
-    /// last is below the number of tables.
+    /// Returns a reader of the tables from a first index to a last, by default of all.
+    ///
+    /// The first and the last table are read within both bounds, those between whole. No table is
+    /// opened yet. The call does not fail.
+    ///
+    /// The first index must be at most the last, and the last below the number of tables.
     pub fn culled(
         run: Arc<Run<Table<A>, A>, A>,
         range: (Bound<UserKey<A>>, Bound<UserKey<A>>),
@@ -133,19 +138,19 @@ impl<A: Allocator + Clone> RunReader<A> {
         ensures is { let tables = arc_value run in
             let ends = ends_given tables span in
             IfOk result (λ reader. IsRunOf tables (span_of ends range.0 range.1) reader) }
-        // Whatever ends are asked, it deals what its tables tell, up to the first error.
+        // For every list of ends, it yields the results of its tables, up to the first error.
         ensures deals { let gives = ⟦<RunReader<A> as Iterator>⟧.next_gives in
             let back_gives = ⟦<RunReader<A> as DoubleEndedIterator>⟧.next_back_gives in
             IfOk result (λ reader. DealsEnding gives back_gives (λ _. Unit {0}) (λ _. Unit {0})
             reader (run_left reader)) }
-        // On tables of lists it is what of the span's first and last list, lifted, lies within the
-        // bounds, and all of those between.
+        // For tables of lists, it yields the span's entries, global seqnos applied: of the first
+        // and the last list within the bounds, of those between all.
         ensures list { let gives = ⟦<RunReader<A> as Iterator>⟧.next_gives in
             let back_gives = ⟦<RunReader<A> as DoubleEndedIterator>⟧.next_back_gives in
             let tables = arc_value run in let ends = ends_given tables span in
             (lists : List (List Entry)) → HoldLists tables lists → IfOk result
             (DealsList gives back_gives (span_list (span_of ends range.0 range.1) lists)) }
-        // It lends the same from the front, also where it is asked from the back in between.
+        // It lends the same from the front, also with calls at the back in between.
         ensures lends { let advances = ⟦<RunReader<A> as Lending>⟧.advances in
             let back_gives = ⟦<RunReader<A> as DoubleEndedIterator>⟧.next_back_gives in
             let may = ⟦<RunReader<A> as Lending>⟧.can_advance in
@@ -156,7 +161,7 @@ impl<A: Allocator + Clone> RunReader<A> {
             let tables = arc_value run in let ends = ends_given tables span in
             (lists : List (List Entry)) → HoldLists tables lists → IfOk result
             (DealsList advances back_gives (span_list (span_of ends range.0 range.1) lists)) }
-        // No more tables are opened than the span has.
+        // It opens at most as many tables as the span has.
         ensures few { let gives = ⟦<RunReader<A> as Iterator>⟧.next_gives in
             let back_gives = ⟦<RunReader<A> as DoubleEndedIterator>⟧.next_back_gives in
             let ends = ends_given (arc_value run) span in
@@ -171,7 +176,7 @@ impl<A: Allocator + Clone> RunReader<A> {
         Ok(RunReader::of_span(run, range, ends))
     }
 
-    /// A reader of the tables from a first place to a last; none of them is opened yet.
+    /// A reader of the tables from a first index to a last; none of them is open yet.
     fn of_span(
         run: Arc<Run<Table<A>, A>, A>,
         range: (Bound<UserKey<A>>, Bound<UserKey<A>>),
@@ -185,14 +190,14 @@ impl<A: Allocator + Clone> RunReader<A> {
         }
     }
 
-    /// How many tables were opened. An opening that is refused is not counted.
+    /// Returns the number of tables opened. A failed opening is not counted.
     pub fn tables_opened(&self) -> usize
         ensures { result ≡ self.now.unopened.opened }
     {
         self.walk.parts.opened()
     }
 
-    /// The answer at an end.
+    /// The result of a call at an end.
     #[inline(always)]
     fn answer(&mut self, at: Direction) -> Option<IterItem<A>>
         ensures { RunGives (taken_at at) (tables_at at) self.old result self.new }

@@ -1,4 +1,4 @@
-//! Reading the tables of a run whole, one behind another.
+//! Reading the tables of a run whole, one after another.
 ghost use Rattle.std.specs.Prelude.{◌≡◌, ◌<◌, Err, IfErr, IfOk, List, Some, false, true, length};
 ghost use Rattle.std.specs.Prelude.{is_some, slice_get};
 ghost use Rattle.std.specs.Arc.{arc_value};
@@ -21,15 +21,16 @@ use std::alloc::{Allocator, Global};
 use std::marker::Model;
 use std::sync::Arc;
 
-/// The entries of the tables of a run, one table behind another, from the front, given or lent from
-/// where they lie. It shares the run.
+/// An iterator over the entries of the tables of a run, one table after another, from the front.
+///
+/// It shares the run. It yields entries, or lends them from their blocks.
 ///
 /// The first table is opened when the scanner is made, each further one by the first step that
-/// needs it. After an error, [`Error::OutOfMemory`] among them, nothing more comes.
+/// needs it. After an error, [`Error::OutOfMemory`] included, it is exhausted.
 #[derive(Drop)]
 pub struct RunScanner<A: Allocator = Global> {
     tables: Arc<Run<Table<A>, A>, A>,
-    // the place of the first table that is not opened, and that behind the last
+    // the index of the first unopened table, and that after the last one
     lo: usize,
     hi: usize,
     lo_reader: Option<Scanner<A>>,
@@ -50,7 +51,7 @@ impl<A: Allocator> Model for RunScanner<A> {
     ghost invariant = { λ s. (s.lo ≤ s.hi) × (s.hi ≤ length (arc_value s.tables)) };
 }
 
-// The scanner of the table at a place.
+// The scanner of the table at an index.
 fn scan_at<A: Allocator + Clone>(tables: &[Table<A>], place: usize) -> Result<Scanner<A>, Error>
     requires { place < length tables.now }
     ensures begins { (t : OpenTable) → slice_get tables.now place ≡ Some t →
@@ -63,7 +64,7 @@ fn scan_at<A: Allocator + Clone>(tables: &[Table<A>], place: usize) -> Result<Sc
     tables[place].scan()
 }
 
-// Goes on to the next entry of a table, where one is opened, and answers whether there is one.
+// Advances to the next entry of a table, if one is open; returns whether there is one.
 #[inline]
 fn advance_in<A: Allocator + Clone>(reader: &mut Option<Scanner<A>>) -> Result<bool, Error>
     ensures goes { ScansItem reader.old (came result (lent_of_scan reader.new)) reader.new }
@@ -90,9 +91,15 @@ fn share_in<A: Allocator + Clone>(reader: &mut Option<Scanner<A>>) -> IterItem<A
 }
 
 impl<A: Allocator + Clone> RunScanner<A> {
-    /// The entries of the tables from a first place to a last, where they are not given of all.
-    /// Refused exactly as [`Table::scan`] of the first, which is opened here. Conditions: the first
-    /// place is at most the last, and the last is below the number of tables.
+    /// Returns a scanner of the tables from a first index to a last, by default of all.
+    ///
+    /// The first index must be at most the last, and the last below the number of tables. The first
+    /// table is opened here.
+    ///
+    /// # Errors
+    ///
+    /// Exactly those of [`Table::scan`] of the first table. A table without entries has no data
+    /// block, so this fails with the fault of loading the first one.
     pub fn culled(
         run: Arc<Run<Table<A>, A>, A>,
         span: (Option<usize>, Option<usize>),
@@ -100,18 +107,19 @@ impl<A: Allocator + Clone> RunScanner<A> {
         requires { ArePlacesOf (arc_value run) (ends_given (arc_value run) span) }
         ensures is { let tables = arc_value run in
             IfOk result (λ s. IsScanOf tables (ends_given tables span) s) }
-        // Want of memory aside it gives what scans of the tables give, up to the first error, and
-        // then nothing.
+        // Except for `OutOfMemory`, it yields the results of the tables' scans, up to the first
+        // error, and then nothing.
         ensures deals { let gives = ⟦<RunScanner<A> as Iterator>⟧.next_gives in
             let tables = arc_value run in
             let left = tables_scan (tables_between tables (ends_given tables span)) in IfOk result
             (λ s. DealsEnding gives nowhere (λ _. Unit {0}) (λ _. Unit {0}) s left) }
-        // On tables of lists that each have an entry it is these lists, lifted, one behind another.
+        // For tables of lists that each have an entry, it yields these lists one after another,
+        // global seqnos applied.
         ensures list { let gives = ⟦<RunScanner<A> as Iterator>⟧.next_gives in
             let tables = tables_between (arc_value run) (ends_given (arc_value run) span) in
             (lists : List (List Entry)) → AllByRecursion (λ es. 0 < length es) lists →
             HoldLists tables lists → IfOk result (DealsList gives nowhere (joined lists)) }
-        // It lends what it gives.
+        // It lends what it yields.
         ensures lends { let advances = ⟦<RunScanner<A> as Lending>⟧.advances in
             let tables = arc_value run in
             let left = tables_scan (tables_between tables (ends_given tables span)) in IfOk result
@@ -120,15 +128,15 @@ impl<A: Allocator + Clone> RunScanner<A> {
             let tables = tables_between (arc_value run) (ends_given (arc_value run) span) in
             (lists : List (List Entry)) → AllByRecursion (λ es. 0 < length es) lists →
             HoldLists tables lists → IfOk result (DealsList advances nowhere (joined lists)) }
-        // The first table is opened here: what its scan refuses is refused, and it succeeds where
-        // that would,
+        // Except for `OutOfMemory`, it fails exactly with the error of beginning the first table's
+        // scan.
         ensures refused { let tables = arc_value run in (t : OpenTable) →
             slice_get tables (ends_given tables span).0 ≡ Some t → Faults result (scan_fault t) }
-        // and what is found before memory is taken is the refusal whatever memory there is.
+        // An error that is found before any allocation takes precedence over `OutOfMemory`.
         ensures early { let tables = arc_value run in (t : OpenTable) →
             slice_get tables (ends_given tables span).0 ≡ Some t →
             FaultsFirst result (early_scan_fault t) }
-        // It is what the scans would give first.
+        // Except for `OutOfMemory`, the error is the first result of the scans.
         ensures told { let tables = arc_value run in
             let left = tables_scan (tables_between tables (ends_given tables span)) in
             IfErr result (λ e. is_memory e ≡ false → first left ≡ Some (Err e)) }
@@ -144,7 +152,7 @@ impl<A: Allocator + Clone> RunScanner<A> {
         })
     }
 
-    /// Opens the next table, where one is left.
+    /// Opens the next table, if one is left.
     fn next_table(&mut self) -> Option<Result<Scanner<A>, Error>>
         ensures { BeginsNext self.old result self.new }
     {
@@ -156,7 +164,7 @@ impl<A: Allocator + Clone> RunScanner<A> {
         Some(scan_at(self.tables.as_slice(), place))
     }
 
-    /// Lets go what is left.
+    /// Drops what is left.
     fn end(&mut self)
         ensures { self.new ≡ over_scan self.old }
     {
@@ -164,8 +172,8 @@ impl<A: Allocator + Clone> RunScanner<A> {
         self.lo_reader = None;
     }
 
-    /// Goes on to the next entry, and answers whether there is one; an error does not end the
-    /// scanner yet.
+    /// Advances to the next entry; returns whether there is one. An error does not end the scanner
+    /// yet.
     #[inline]
     fn step(&mut self) -> Result<bool, Error>
         ensures ok { IfOk result (λ more. (more ≡ is_some (lent_of_run self.new)) ×
@@ -185,8 +193,11 @@ impl<A: Allocator + Clone> RunScanner<A> {
         }
     }
 
-    /// The entry that is lent, whose key and value share the table's memory. Refused
-    /// [`Error::OutOfMemory`] alone, and nothing more comes then. Condition: an entry is lent.
+    /// Returns the lent entry; its key and value share the table's memory. An entry must be lent.
+    ///
+    /// # Errors
+    ///
+    /// [`Error::OutOfMemory`] only. The scanner is exhausted then.
     #[inline]
     pub fn share(&mut self) -> IterItem<A>
         requires { is_some (lent_of_run self.old) ≡ true }

@@ -29,20 +29,21 @@ use std::alloc::Allocator;
 use std::ops::Bound;
 use std::sync::Arc;
 
-/// The newest version of each key of several runs, from both ends: what [`range_runs`] gives.
+/// The stream that [`range_runs`] returns: the newest version of each key of several runs, from
+/// both ends.
 pub type NewestOfRuns<A> = NewestOf<RunReader<A>, A>;
 
-/// The newest version of each key of several runs that is numbered below a bound, from both ends:
-/// what [`range_runs_at`] gives.
+/// The stream that [`range_runs_at`] returns: the newest version below a seqno of each key of
+/// several runs, from both ends.
 pub type NewestOfRunsAt<A> = NewestOf<Below<RunReader<A>>, A>;
 
-// The reader of a run within both bounds, where a table's range reaches past them.
+// The reader of a run within both bounds, if a table's range reaches past them.
 fn reader_of<A: Allocator + Clone>(
     run: &Arc<Run<Table<A>, A>, A>,
     range: &(Bound<UserKey<A>>, Bound<UserKey<A>>),
 ) -> Result<Option<RunReader<A>>, Error>
-    // Of tables of lists in a run in order it deals what lies within the bounds; without a reader
-    // there is nothing.
+    // For tables of lists in a run in order, it yields the part within the bounds; without a reader
+    // there is none.
     ensures list { let gives = ⟦<RunReader<A> as Iterator>⟧.next_gives in
         let back_gives = ⟦<RunReader<A> as DoubleEndedIterator>⟧.next_back_gives in
         (lists : List (List Entry)) →
@@ -55,8 +56,8 @@ fn reader_of<A: Allocator + Clone>(
         IsInOrder range_of (arc_value run.now) × HoldLists (arc_value run.now) lists →
         let found = within range.now.0 range.now.1 (joined lists) in IfOk result (λ r.
         MatchOption r (found ≡ []) (λ reader. DealsList advances back_gives found reader)) }
-    // Of any tables in a run in order it is that of the span of those whose ranges reach past both
-    // bounds.
+    // For any tables in a run in order, it is the reader of the span of those whose ranges reach
+    // past both bounds.
     ensures span { let tables = arc_value run.now in IsInOrder range_of tables →
         let found = overlap_indexes range.now.0 range.now.1 (map range_of tables) in
         IfOk result (λ r. MatchOption r (found ≡ None) (λ reader. (ends : ℕ × ℕ) ×
@@ -73,7 +74,7 @@ fn readers_of<A: Allocator + Clone>(
     runs: &[Arc<Run<Table<A>, A>, A>],
     range: &(Bound<UserKey<A>>, Bound<UserKey<A>>),
 ) -> Result<Vec<RunReader<A>, A>, Error>
-    // Of tables of lists in runs in order they deal together what of each run lies within the
+    // For tables of lists in runs in order, they yield together the part of each run within the
     // bounds.
     ensures list { let gives = ⟦<RunReader<A> as Iterator>⟧.next_gives in
         let back_gives = ⟦<RunReader<A> as DoubleEndedIterator>⟧.next_back_gives in
@@ -85,7 +86,7 @@ fn readers_of<A: Allocator + Clone>(
         (lists : List (List (List Entry))) → RunsHoldLists (map arc_value runs.now) lists →
         let found = map (λ ls. within range.now.0 range.now.1 (joined ls)) lists in
         IfOk result (λ v. DealTogether advances back_gives v.items found) }
-    // Of any tables in runs in order they are those of the spans.
+    // For any tables in runs in order, they are the readers of the spans.
     ensures spans { AllByRecursion (IsInOrder range_of) (map arc_value runs.now) →
         IfOk result (λ v. AllZip (λ reader span. IsRunOf span.0 span.1 reader) v.items
         (spans_within range.now.0 range.now.1 (map arc_value runs.now))) }
@@ -100,7 +101,8 @@ fn readers_of<A: Allocator + Clone>(
     Ok(readers)
 }
 
-// The readers of several runs within bounds, which it takes and drops. They give and lend the same.
+// The readers of several runs within bounds, which it takes and drops. They yield and lend the
+// same.
 pub(crate) fn readers_within<A: Allocator + Clone>(
     alloc: A,
     runs: &[Arc<Run<Table<A>, A>, A>],
@@ -124,8 +126,8 @@ pub(crate) fn readers_within<A: Allocator + Clone>(
     readers_of(alloc, runs, &range)
 }
 
-// The newest versions of sources with two ends. It is generic in these, so that none of a reader's
-// parts is looked at.
+// The newest versions of double-ended sources. Generic, so that a proof does not unfold a reader's
+// parts.
 pub(crate) fn newest_stream<I: DoubleEndedIterator<Item = IterItem<A>>, A: Allocator + Clone>(
     alloc: A,
     sources: Vec<I, A>,
@@ -150,34 +152,40 @@ pub(crate) fn newest_stream<I: DoubleEndedIterator<Item = IterItem<A>>, A: Alloc
     Ok(stream)
 }
 
-/// The newest version of each key within both bounds, of what several runs have together, from both
-/// ends. No table is opened yet. Refused [`Error::OutOfMemory`] alone.
+/// Returns the newest version of each key within both bounds, of several runs, from both ends.
+///
+/// No table is opened yet. When a table cannot be opened or read, that error takes the place of all
+/// entries that no step has taken yet, those of other runs too.
+///
+/// # Errors
+///
+/// The call fails with [`Error::OutOfMemory`] only.
 pub fn range_runs<A: Allocator + Clone>(
     alloc: A,
     runs: &[Arc<Run<Table<A>, A>, A>],
     range: (Bound<UserKey<A>>, Bound<UserKey<A>>),
 ) -> Result<MvccStream<Merger<RunReader<A>, A>>, Error>
-    // Of tables of lists in runs in order it deals, for every list of ends, what is newest of the
-    // sorted entries of all lists, lifted, that lie within the bounds.
+    // For tables of lists in runs in order, for every list of ends: it yields the newest versions
+    // of all lists' entries within the bounds, global seqnos applied.
     ensures list { let gives = ⟦<NewestOfRuns<A> as Iterator>⟧.next_gives in
         let back_gives = ⟦<NewestOfRuns<A> as DoubleEndedIterator>⟧.next_back_gives in
         (lists : List (List (List Entry))) → RunsHoldLists (map arc_value runs.now) lists →
         let found = newest (within range.0 range.1 (union_in lists)) in
         IfOk result (λ s. DealsList gives back_gives found s) }
-    // Of any tables in runs in order it is over the readers of the spans within the bounds: where
-    // one of them is refused, want of memory too, that error stands in its place, and what is dealt
-    // goes on by the stream's steps.
+    // For any tables in runs in order, it is a stream over the readers of the spans within the
+    // bounds. An error of a reader, `OutOfMemory` too, takes the place of all entries that no step
+    // has taken yet. After it, only an entry already read at the other end is yielded.
     ensures steps { let gives = ⟦<NewestOfRuns<A> as Iterator>⟧.next_gives in
         let back_gives = ⟦<NewestOfRuns<A> as DoubleEndedIterator>⟧.next_back_gives in
         AllByRecursion (IsInOrder range_of) (map arc_value runs.now) → IfOk result
         (IsOverSpans gives back_gives range.0 range.1 (map arc_value runs.now)) }
-    // Whatever the tables' bytes are, both ends may be asked however often.
+    // Both ends may be called any number of times, whatever the tables' bytes.
     ensures can { IfOk result (λ s.
         CanDeal ⟦<NewestOfRuns<A> as Iterator>⟧.next_gives
         ⟦<NewestOfRuns<A> as DoubleEndedIterator>⟧.next_back_gives
         ⟦<NewestOfRuns<A> as Iterator>⟧.can_next
         ⟦<NewestOfRuns<A> as DoubleEndedIterator>⟧.can_next_back s) }
-    // So a `for` may go over it, from the front or from the back.
+    // So a `for` may iterate over it, from the front or from the back.
     ensures next { IfOk result (λ s. ⟦<NewestOfRuns<A> as Iterator>⟧.can_next s) }
     ensures next_back { IfOk result (λ s.
         ⟦<NewestOfRuns<A> as DoubleEndedIterator>⟧.can_next_back s) }
@@ -187,46 +195,53 @@ pub fn range_runs<A: Allocator + Clone>(
     newest_stream(alloc, readers)
 }
 
-/// The newest version numbered below `seqno` of each key within both bounds, of what several runs
-/// have together, from both ends: what a snapshot at that number sees, as [`get_runs`] at it. No
-/// table is opened yet. Refused [`Error::OutOfMemory`] alone.
+/// Returns the newest version visible at `seqno` of each key within both bounds, of several runs,
+/// from both ends.
+///
+/// These are the versions that [`get_runs`] reads at `seqno`. No table is opened yet. When a table
+/// cannot be opened or read, that error takes the place of all entries that no step has taken yet,
+/// those of other runs too.
+///
+/// # Errors
+///
+/// The call fails with [`Error::OutOfMemory`] only.
 pub fn range_runs_at<A: Allocator + Clone>(
     alloc: A,
     runs: &[Arc<Run<Table<A>, A>, A>],
     range: (Bound<UserKey<A>>, Bound<UserKey<A>>),
     seqno: SeqNo,
 ) -> Result<MvccStream<Merger<Below<RunReader<A>>, A>>, Error>
-    // Of tables of lists in runs in order it deals, for every list of ends, what is newest of the
-    // sorted entries of all lists, lifted, that lie within the bounds and are numbered below
-    // `seqno`.
+    // For tables of lists in runs in order, for every list of ends: it yields the newest versions
+    // below `seqno` of all lists' entries within the bounds, global seqnos applied.
     ensures list { let gives = ⟦<NewestOfRunsAt<A> as Iterator>⟧.next_gives in
         let back_gives = ⟦<NewestOfRunsAt<A> as DoubleEndedIterator>⟧.next_back_gives in
         (lists : List (List (List Entry))) → RunsHoldLists (map arc_value runs.now) lists →
         let found = newest (numbered_below seqno (within range.0 range.1 (union_in lists))) in
         IfOk result (λ s. DealsList gives back_gives found s) }
-    // Where every number is below `seqno` it deals what `range_runs` deals.
+    // If every seqno is below `seqno`, it yields what `range_runs` yields.
     ensures whole { let gives = ⟦<NewestOfRunsAt<A> as Iterator>⟧.next_gives in
         let back_gives = ⟦<NewestOfRunsAt<A> as DoubleEndedIterator>⟧.next_back_gives in
         (lists : List (List (List Entry))) → RunsHoldLists (map arc_value runs.now) lists →
         All (λ e. e.seqno < seqno) (union_in lists) →
         let found = newest (within range.0 range.1 (union_in lists)) in
         IfOk result (λ s. DealsList gives back_gives found s) }
-    // Of any tables in runs in order it is over the readers of the spans within the bounds, each
-    // below `seqno`: where one of them is refused, want of memory too, that error stands in its
-    // place, and what is dealt goes on by the stream's steps.
+    // For any tables in runs in order, it is a stream over the readers of the spans within the
+    // bounds, each below `seqno`. An error of a reader, `OutOfMemory` too, takes the place of all
+    // entries that no step has taken yet. After it, only an entry already read at the other end is
+    // yielded.
     ensures steps { AllByRecursion (IsInOrder range_of) (map arc_value runs.now) → IfOk result
         (IsOverSpansBelow ⟦<Below<RunReader<A>> as Iterator>⟧.next_gives
         ⟦<Below<RunReader<A>> as DoubleEndedIterator>⟧.next_back_gives
         ⟦<NewestOfRunsAt<A> as Iterator>⟧.next_gives
         ⟦<NewestOfRunsAt<A> as DoubleEndedIterator>⟧.next_back_gives
         range.0 range.1 seqno (map arc_value runs.now)) }
-    // Whatever the tables' bytes are, both ends may be asked however often.
+    // Both ends may be called any number of times, whatever the tables' bytes.
     ensures can { IfOk result (λ s.
         CanDeal ⟦<NewestOfRunsAt<A> as Iterator>⟧.next_gives
         ⟦<NewestOfRunsAt<A> as DoubleEndedIterator>⟧.next_back_gives
         ⟦<NewestOfRunsAt<A> as Iterator>⟧.can_next
         ⟦<NewestOfRunsAt<A> as DoubleEndedIterator>⟧.can_next_back s) }
-    // So a `for` may go over it, from the front or from the back.
+    // So a `for` may iterate over it, from the front or from the back.
     ensures next { IfOk result (λ s. ⟦<NewestOfRunsAt<A> as Iterator>⟧.can_next s) }
     ensures next_back { IfOk result (λ s.
         ⟦<NewestOfRunsAt<A> as DoubleEndedIterator>⟧.can_next_back s) }
@@ -237,7 +252,7 @@ pub fn range_runs_at<A: Allocator + Clone>(
     newest_stream(alloc, sources)
 }
 
-// The first match in the one table of a run whose range has the key, with how many blocks were
+// The first match in the one table of a run whose range has the key, and the number of blocks
 // loaded for it.
 fn get_run_counted<A: Allocator + Clone>(
     run: &Run<Table<A>, A>,
@@ -256,7 +271,7 @@ fn get_run_counted<A: Allocator + Clone>(
     }
 }
 
-/// The loads of two counts together.
+/// The sum of two counts of loads.
 pub(crate) fn together(first: Opened, second: Opened) -> Opened
     ensures { result ≡ loads_together first second }
 {
@@ -268,7 +283,7 @@ pub(crate) fn together(first: Opened, second: Opened) -> Opened
     }
 }
 
-// Whether all that a table has is numbered below what was found.
+// Whether every seqno of a table is below that of what was found.
 fn is_older<A: Allocator>(table: &Table<A>, found: &Option<InternalValue<A>>) -> bool
     ensures { result ≡ is_older found.now table.now }
 {
@@ -278,8 +293,8 @@ fn is_older<A: Allocator>(table: &Table<A>, found: &Option<InternalValue<A>>) ->
     }
 }
 
-// The first match in the one table of a run whose range has the key, as [`get_run_counted`] has it;
-// nothing where all that the table has is older than what was found.
+// The first match in the one table of a run whose range has the key, as in [`get_run_counted`];
+// nothing if the table is older than what was found.
 fn get_run_behind_counted<A: Allocator + Clone>(
     run: &Run<Table<A>, A>,
     key: &[u8],
@@ -301,34 +316,39 @@ fn get_run_behind_counted<A: Allocator + Clone>(
     table.get_counted(key, seqno, key_hash)
 }
 
-/// The first entry of a key numbered below `seqno`, of what several runs have together, with how
-/// many blocks were loaded for it. Answers as [`get_runs`].
+/// Returns what [`get_runs`] returns, and the number of blocks loaded for it.
+///
+/// # Errors
+///
+/// Those of [`get_runs`].
 pub fn get_runs_counted<A: Allocator + Clone>(
     runs: &[Arc<Run<Table<A>, A>, A>],
     key: &[u8],
     seqno: SeqNo,
 ) -> (Result<Option<InternalValue<A>>, Error>, Opened)
-    // On runs in order, memory aside, it is what the runs' tables tell, whatever their bytes.
+    // For runs in order, it is the result of reading the runs' tables, whatever their bytes, except
+    // for `OutOfMemory`.
     ensures told { AllByRecursion (IsInOrder range_of) (map arc_value runs.now) →
         Gives (λ (x : Option Entry). x) result.0
         (runs_told key.now seqno None (map arc_value runs.now)) }
-    // Of tables of lists it is the first match in the sorted entries of all lists, lifted.
+    // For tables of lists, it is the first match in the sorted entries of all lists, global seqnos
+    // applied.
     ensures list { (lists : List (List (List Entry))) →
         RunsHoldLists (map arc_value runs.now) lists →
         Gives (λ (x : Option Entry). x) result.0 (Ok (point (union_in lists) key.now seqno)) }
-    // The blocks loaded are those of the reads of the runs' tables, up to the first refusal.
+    // The blocks loaded are those of reading the runs' tables, up to the first error.
     ensures opened { AllByRecursion (IsInOrder range_of) (map arc_value runs.now) →
         let read = runs_read key.now seqno None (map arc_value runs.now) in
         Opens result.0 read.loads none_opened result.1 }
-    // A fault that is found before memory is taken, of the first block that is loaded, comes before
-    // any want of memory,
+    // An error of the first block loaded that is found before any allocation takes precedence over
+    // `OutOfMemory`.
     ensures early { AllByRecursion (IsInOrder range_of) (map arc_value runs.now) →
         FaultsFirst result.0 (runs_read key.now seqno None (map arc_value runs.now)).early }
-    // and where no block is loaded, as where there are no runs, nothing is refused.
+    // It does not fail if it loads no block, as when there are no runs.
     ensures calm { AllByRecursion (IsInOrder range_of) (map arc_value runs.now) →
         (runs_read key.now seqno None (map arc_value runs.now)).loads ≡ [] → IsOk result.0 }
-    // Whatever the runs and the tables' bytes, also where it is refused: at most one data block,
-    // one index block and one filter block a run.
+    // For any runs and any bytes, also on an error: at most one data block, one index block and one
+    // filter block a run.
     ensures few { LoadsEach (length runs.now) result.1 }
 {
     let mut found = None;
@@ -345,65 +365,75 @@ pub fn get_runs_counted<A: Allocator + Clone>(
     (Ok(found), opened)
 }
 
-/// The first entry of a key numbered below `seqno`, of what several runs have together. In each run
-/// one table is asked at most, the one whose range has the key. Refused with the first refusal, in
-/// the order of the runs.
+/// Returns the newest version of a key visible at `seqno` in several runs.
+///
+/// It reads at most one table a run, the one whose range has the key.
+///
+/// # Errors
+///
+/// The first error of these reads, in the order of the runs. It does not fail if it loads no block.
 pub fn get_runs<A: Allocator + Clone>(
     runs: &[Arc<Run<Table<A>, A>, A>],
     key: &[u8],
     seqno: SeqNo,
 ) -> Result<Option<InternalValue<A>>, Error>
-    // On runs in order, memory aside, it is what the runs' tables tell, whatever their bytes.
+    // For runs in order, it is the result of reading the runs' tables, whatever their bytes, except
+    // for `OutOfMemory`.
     ensures told { AllByRecursion (IsInOrder range_of) (map arc_value runs.now) →
         Gives (λ (x : Option Entry). x) result
         (runs_told key.now seqno None (map arc_value runs.now)) }
-    // Of tables of lists it is the first match in the sorted entries of all lists, lifted.
+    // For tables of lists, it is the first match in the sorted entries of all lists, global seqnos
+    // applied.
     ensures list { (lists : List (List (List Entry))) →
         RunsHoldLists (map arc_value runs.now) lists →
         Gives (λ (x : Option Entry). x) result (Ok (point (union_in lists) key.now seqno)) }
-    // A fault that is found before memory is taken, of the first block that is loaded, comes before
-    // any want of memory,
+    // An error of the first block loaded that is found before any allocation takes precedence over
+    // `OutOfMemory`.
     ensures early { AllByRecursion (IsInOrder range_of) (map arc_value runs.now) →
         FaultsFirst result (runs_read key.now seqno None (map arc_value runs.now)).early }
-    // and where no block is loaded, as where there are no runs, nothing is refused.
+    // It does not fail if it loads no block, as when there are no runs.
     ensures calm { AllByRecursion (IsInOrder range_of) (map arc_value runs.now) →
         (runs_read key.now seqno None (map arc_value runs.now)).loads ≡ [] → IsOk result }
 {
     get_runs_counted(runs, key, seqno).0
 }
 
-/// The first entry of a key numbered below `seqno`, of what several runs have together, with how
-/// many blocks were loaded for it. Answers as [`get_runs_by_age`].
+/// Returns what [`get_runs_by_age`] returns, and the number of blocks loaded for it.
+///
+/// # Errors
+///
+/// Those of [`get_runs_by_age`].
 pub fn get_runs_by_age_counted<A: Allocator + Clone>(
     runs: &[Arc<Run<Table<A>, A>, A>],
     key: &[u8],
     seqno: SeqNo,
 ) -> (Result<Option<InternalValue<A>>, Error>, Opened)
-    // On runs in order, memory aside, it is what the tables that are asked tell, whatever their
-    // bytes.
+    // For runs in order, it is the result of reading the tables that are not skipped, whatever
+    // their bytes, except for `OutOfMemory`.
     ensures told { AllByRecursion (IsInOrder range_of) (map arc_value runs.now) →
         let read = runs_read_by_age key.now seqno None (map arc_value runs.now) in
         Gives (λ (x : Option Entry). x) result.0 read.told }
-    // Of tables of lists it is the first match in the sorted entries of all lists, lifted.
+    // For tables of lists, it is the first match in the sorted entries of all lists, global seqnos
+    // applied.
     ensures list { (lists : List (List (List Entry))) →
         RunsHoldLists (map arc_value runs.now) lists →
         Gives (λ (x : Option Entry). x) result.0 (Ok (point (union_in lists) key.now seqno)) }
-    // The blocks loaded are those of the reads of the tables that are asked, up to the first
-    // refusal.
+    // The blocks loaded are those of reading the tables that are not skipped, up to the first
+    // error.
     ensures opened { AllByRecursion (IsInOrder range_of) (map arc_value runs.now) →
         let read = runs_read_by_age key.now seqno None (map arc_value runs.now) in
         Opens result.0 read.loads none_opened result.1 }
-    // A fault that is found before memory is taken, of the first block that is loaded, comes before
-    // any want of memory,
+    // An error of the first block loaded that is found before any allocation takes precedence over
+    // `OutOfMemory`.
     ensures early { AllByRecursion (IsInOrder range_of) (map arc_value runs.now) →
         let read = runs_read_by_age key.now seqno None (map arc_value runs.now) in
         FaultsFirst result.0 read.early }
-    // and where no block is loaded, as where there are no runs, nothing is refused.
+    // It does not fail if it loads no block, as when there are no runs.
     ensures calm { AllByRecursion (IsInOrder range_of) (map arc_value runs.now) →
         let read = runs_read_by_age key.now seqno None (map arc_value runs.now) in
         read.loads ≡ [] → IsOk result.0 }
-    // Whatever the runs and the tables' bytes, also where it is refused: at most one data block,
-    // one index block and one filter block a run.
+    // For any runs and any bytes, also on an error: at most one data block, one index block and one
+    // filter block a run.
     ensures few { LoadsEach (length runs.now) result.1 }
 {
     let mut best = None;
@@ -420,31 +450,36 @@ pub fn get_runs_by_age_counted<A: Allocator + Clone>(
     (Ok(best), loads)
 }
 
-/// The first entry of a key numbered below `seqno`, of what several runs have together, as
-/// [`get_runs`]; but no table is asked whose highest number is below the number of what the runs
-/// before it have. So it asks fewest tables where the newest run comes first, and of tables of
-/// lists it answers the same in any order. Refused with the first refusal, in the order of the
-/// runs; what is not asked is not refused.
+/// Returns the newest version of a key visible at `seqno` in several runs, and skips older tables.
+///
+/// It reads as [`get_runs`] does, but skips a table whose highest seqno is below that of what the
+/// earlier runs have. It reads the fewest tables if the newest run comes first. For tables of
+/// lists, any order yields the same result.
+///
+/// # Errors
+///
+/// The first error of these reads, in the order of the runs. A skipped table causes no error.
 pub fn get_runs_by_age<A: Allocator + Clone>(
     runs: &[Arc<Run<Table<A>, A>, A>],
     key: &[u8],
     seqno: SeqNo,
 ) -> Result<Option<InternalValue<A>>, Error>
-    // On runs in order, memory aside, it is what the tables that are asked tell, whatever their
-    // bytes.
+    // For runs in order, it is the result of reading the tables that are not skipped, whatever
+    // their bytes, except for `OutOfMemory`.
     ensures told { AllByRecursion (IsInOrder range_of) (map arc_value runs.now) →
         let read = runs_read_by_age key.now seqno None (map arc_value runs.now) in
         Gives (λ (x : Option Entry). x) result read.told }
-    // Of tables of lists it is the first match in the sorted entries of all lists, lifted.
+    // For tables of lists, it is the first match in the sorted entries of all lists, global seqnos
+    // applied.
     ensures list { (lists : List (List (List Entry))) →
         RunsHoldLists (map arc_value runs.now) lists →
         Gives (λ (x : Option Entry). x) result (Ok (point (union_in lists) key.now seqno)) }
-    // A fault that is found before memory is taken, of the first block that is loaded, comes before
-    // any want of memory,
+    // An error of the first block loaded that is found before any allocation takes precedence over
+    // `OutOfMemory`.
     ensures early { AllByRecursion (IsInOrder range_of) (map arc_value runs.now) →
         let read = runs_read_by_age key.now seqno None (map arc_value runs.now) in
         FaultsFirst result read.early }
-    // and where no block is loaded, as where there are no runs, nothing is refused.
+    // It does not fail if it loads no block, as when there are no runs.
     ensures calm { AllByRecursion (IsInOrder range_of) (map arc_value runs.now) →
         let read = runs_read_by_age key.now seqno None (map arc_value runs.now) in
         read.loads ≡ [] → IsOk result }

@@ -1,4 +1,4 @@
-//! Reading several runs and further sources, as a table in memory, as one.
+//! Reading several runs and further sources, such as a memtable, as one.
 ghost use Rattle.std.specs.Prelude.{◌≡◌, ◌++◌, ◌<◌, All, IfErr, IfOk, List, map};
 ghost use Rattle.std.specs.Arc.{arc_value};
 ghost use Rattle.std.specs.Iterator.{IsFinite};
@@ -20,11 +20,11 @@ use std::alloc::Allocator;
 use std::ops::Bound;
 use std::sync::Arc;
 
-/// The newest version numbered below a bound of each key of several runs and of further sources,
-/// from both ends: what [`range_sources_at`] gives.
+/// The stream that [`range_sources_at`] returns: the newest version below a seqno of each key of
+/// several runs and of further sources, from both ends.
 pub type NewestOfSourcesAt<S, A> = NewestOf<Below<Either<RunReader<A>, S>>, A>;
 
-// Further sources, and behind them the readers of runs.
+// Further sources, then the readers of runs.
 fn all_sources<R: Drop, S: Drop, A: Allocator>(
     alloc: A,
     further: Vec<S, A>,
@@ -41,11 +41,17 @@ fn all_sources<R: Drop, S: Drop, A: Allocator>(
     Ok(sources)
 }
 
-/// The newest version numbered below `seqno` of each key within both bounds, of what several runs
-/// and further sources have together, from both ends. Each source gives what it has within the
-/// bounds, in order, as a table in memory does; where an entry of a source and one of a run have
-/// the same key, number and kind, the source's comes first. No table is opened yet. Refused
-/// [`Error::OutOfMemory`] alone.
+/// Returns the newest version visible at `seqno` of each key within both bounds, of several runs
+/// and further sources, from both ends.
+///
+/// Each source yields its entries within the bounds, in order, as a memtable does. If a source and
+/// a run have an entry of the same key, seqno and kind, the source's entry comes first. No table is
+/// opened yet. When a table cannot be opened or read, that error takes the place of all entries
+/// that no step has taken yet, those of other runs too.
+///
+/// # Errors
+///
+/// The call fails with [`Error::OutOfMemory`] only.
 pub fn range_sources_at<S: DoubleEndedIterator<Item = IterItem<A>> + Drop, A: Allocator + Clone>(
     alloc: A,
     runs: &[Arc<Run<Table<A>, A>, A>],
@@ -53,9 +59,9 @@ pub fn range_sources_at<S: DoubleEndedIterator<Item = IterItem<A>> + Drop, A: Al
     range: (Bound<UserKey<A>>, Bound<UserKey<A>>),
     seqno: SeqNo,
 ) -> Result<MvccStream<Merger<Below<Either<RunReader<A>, S>>, A>>, Error>
-    // Of tables of lists in runs in order, and of sources that each deal what of a sorted list lies
-    // within the bounds, it deals, for every list of ends, what is newest of the sorted entries of
-    // all these lists that lie within the bounds and are numbered below `seqno`.
+    // For tables of lists in runs in order, and sources that each yield the part of a sorted list
+    // within the bounds. For every list of ends, it yields the newest versions below `seqno` of all
+    // these lists within the bounds.
     ensures list { let gives = ⟦<NewestOfSourcesAt<S, A> as Iterator>⟧.next_gives in
         let back_gives = ⟦<NewestOfSourcesAt<S, A> as DoubleEndedIterator>⟧.next_back_gives in
         (lists : List (List (List Entry))) → RunsHoldLists (map arc_value runs.now) lists →
@@ -64,7 +70,7 @@ pub fn range_sources_at<S: DoubleEndedIterator<Item = IterItem<A>> + Drop, A: Al
         let all = union_in (map single further ++ lists) in
         let found = newest (numbered_below seqno (within range.0 range.1 all)) in
         IfOk result (λ s. DealsList gives back_gives found s) }
-    // Where every number is below `seqno` it deals what is newest of all that lies within the
+    // If every seqno is below `seqno`, it yields the newest versions of all entries within the
     // bounds.
     ensures whole { let gives = ⟦<NewestOfSourcesAt<S, A> as Iterator>⟧.next_gives in
         let back_gives = ⟦<NewestOfSourcesAt<S, A> as DoubleEndedIterator>⟧.next_back_gives in
@@ -74,25 +80,25 @@ pub fn range_sources_at<S: DoubleEndedIterator<Item = IterItem<A>> + Drop, A: Al
         let all = union_in (map single further ++ lists) in
         All (λ e. e.seqno < seqno) all → let found = newest (within range.0 range.1 all) in
         IfOk result (λ s. DealsList gives back_gives found s) }
-    // Of any tables in runs in order it is over the sources, whatever they give, and behind them
-    // over the readers of the spans within the bounds, each below `seqno`: where one of them is
-    // refused, want of memory too, that error stands in its place, and what is dealt goes on by the
-    // stream's steps.
+    // For any tables in runs in order, it is a stream over the sources, whatever they yield, and
+    // then the readers of the spans within the bounds, each below `seqno`. An error of one of them,
+    // `OutOfMemory` too, takes the place of all entries that no step has taken yet. After it, only
+    // an entry already read at the other end is yielded.
     ensures steps { AllByRecursion (IsInOrder range_of) (map arc_value runs.now) → IfOk result
         (IsOverSourcesBelow ⟦<Below<Either<RunReader<A>, S>> as Iterator>⟧.next_gives
         ⟦<Below<Either<RunReader<A>, S>> as DoubleEndedIterator>⟧.next_back_gives
         ⟦<NewestOfSourcesAt<S, A> as Iterator>⟧.next_gives
         ⟦<NewestOfSourcesAt<S, A> as DoubleEndedIterator>⟧.next_back_gives
         range.0 range.1 seqno (map arc_value runs.now) sources.items) }
-    // Where both ends of the sources may be asked, and they end, both ends may be asked however
-    // often, whatever the tables' bytes are.
+    // If the sources are finite and both their ends may be called, both ends may be called any
+    // number of times, whatever the tables' bytes.
     ensures can { All (CanDeal S.next_gives S.next_back_gives S.can_next S.can_next_back)
         sources.items → All (λ s. IsFinite (S.remaining s)) sources.items →
         IfOk result (λ s. CanDeal ⟦<NewestOfSourcesAt<S, A> as Iterator>⟧.next_gives
         ⟦<NewestOfSourcesAt<S, A> as DoubleEndedIterator>⟧.next_back_gives
         ⟦<NewestOfSourcesAt<S, A> as Iterator>⟧.can_next
         ⟦<NewestOfSourcesAt<S, A> as DoubleEndedIterator>⟧.can_next_back s) }
-    // So a `for` may go over it, from the front or from the back.
+    // So a `for` may iterate over it, from the front or from the back.
     ensures next { All (CanDeal S.next_gives S.next_back_gives S.can_next S.can_next_back)
         sources.items → All (λ s. IsFinite (S.remaining s)) sources.items →
         IfOk result (λ s. ⟦<NewestOfSourcesAt<S, A> as Iterator>⟧.can_next s) }

@@ -1,4 +1,4 @@
--- The text of answers.
+-- The text of results.
 use Rattle.std.specs.Prelude.{ℕ, List, [], ◌∷◌, ◌++◌, Some, None, codes}
 use Rattle.std.specs.Fmt.{decimal}
 use Rattle.std.specs.List.{flat_map, join_with_byte}
@@ -8,14 +8,14 @@ use Rattle.sst_script.specs.declared.print.Answer.TheVariants.{Silent, Tables, R
 use Rattle.sst_script.specs.declared.print.Answer.TheVariants.{Entries}
 use Rattle.sst_script.specs.Text.{letter_of, printed}
 
--- an entry's line: its key, number, kind and value
+-- an entry's line: its key, seqno, kind and value
 abbrev pub entry_line : Entry → List ℕ
 entry_line e =
     join_with_byte 32
     (printed e.user_key ∷ decimal e.seqno ∷ (letter_of e.kind ∷ []) ∷ printed e.value ∷ [])
     ++ 10 ∷ []
 
--- where nothing was found
+-- the line if nothing was found
 abbrev pub none_line : List ℕ
 none_line = codes "none" ++ 10 ∷ []
 
@@ -24,7 +24,7 @@ abbrev pub entry_lines : List Entry → List ℕ
 entry_lines [] = none_line
 entry_lines (e ∷ es) = flat_map entry_line (e ∷ es)
 
--- the lines of an answer, if it has any
+-- the lines of a result, if it has any
 abbrev pub answer_lines : {A : Type 0} → Answer A → List ℕ
 answer_lines Silent = []
 answer_lines (Tables n) = codes "tables " ++ decimal n ++ 10 ∷ []

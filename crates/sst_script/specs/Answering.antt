@@ -1,4 +1,4 @@
--- How the lines of a script are answered.
+-- The output for the lines of a script.
 use Rattle.std.specs.Prelude.{◌≡◌, ◌<◌, ℕ, ◌+◌, List, [], ◌∷◌, ◌++◌, length, Option, Some, None}
 use Rattle.std.specs.Prelude.{Result, Ok, Err, MatchResult, ◌⊎◌}
 use Rattle.std.specs.Io.KnownBytes.{Appends, Keeps}
@@ -16,14 +16,14 @@ use Rattle.sst_script.specs.Stop.{stop_line}
 use Rattle.sst_script.specs.Lines.{HasLines}
 use Rattle.sst_script.specs.Script.{Store, store, Executes}
 
--- what a command's result is printed as; a line at fault has no answer
+-- the text of a command's result; none if the line is at fault
 abbrev pub outcome_text : {A : Type 0} → Result (Answer A) Failure → Option (List ℕ)
 outcome_text (Ok answer) = Some (answer_lines answer)
 outcome_text (Err (Refused error)) = Some (refusal_line (number_of error))
 outcome_text (Err BadLine) = None
 
--- the text was printed; or the output failed, behind a front of it, or there was no text and the
--- line with a number ended the script
+-- the text was printed; or the output failed after a prefix of it; or there was no text, and the
+-- line with this number ended the script
 abbrev pub PrintEnds : {X : Type 0} → ℕ → Option (List ℕ) → Option (List ℕ) → Option (List ℕ)
     → Result X Stop → Type 0
 PrintEnds number None before after r = (r ≡ Err (Line number)) × (after ≡ before)
@@ -31,28 +31,28 @@ PrintEnds number (Some text) before after r =
     MatchResult r (λ _. Appends before after text)
     (λ stop. (stop ≡ Output) × AppendsFront before after text)
 
--- a line asks for a command, and this is its execution
+-- a line is a command, and this is its execution
 abbrev pub Does : (A : Type 0) → List ℕ → Store → Result (Answer A) Failure → Store → Type 0
 Does A line old r new =
     (command : Command) × AskFor (words_of line) command × Executes command old r new
 
--- a line's command has an answer that is printed as a text
+-- the result of a line's command is printed as a text
 abbrev pub Prints : (A : Type 0) → List ℕ → Store → List ℕ → Store → Type 0
 Prints A line old text new =
     (r : Result (Answer A) Failure) × Does A line old r new × (outcome_text r ≡ Some text)
 
--- a line asks for no command, or for one that finds the line at fault
+-- a line is no command, or one that finds the line at fault
 abbrev pub IsAtFault : (A : Type 0) → List ℕ → Store → Type 0
 IsAtFault A line old =
     ((command : Command) → ¬ AskFor (words_of line) command)
     ⊎ ((new : Store) × Does A line old (Err BadLine) new)
 
--- a line is answered by a text: an empty line by none, and changes nothing
+-- the text of a line and its effect: an empty line has no text, and changes nothing
 abbrev pub AnswersLine : (A : Type 0) → List ℕ → Store → List ℕ → Store → Type 0
 AnswersLine A [] old text new = (text ≡ []) × (new ≡ old)
 AnswersLine A (b ∷ bs) old text new = Prints A (b ∷ bs) old text new
 
--- a line with a number was answered, or ended the script
+-- the line with this number was executed, or ended the script
 abbrev pub LineEnds : {X : Type 0} → (A : Type 0) → ℕ → List ℕ → Store → Store → Option (List ℕ)
     → Option (List ℕ) → Result X Stop → Type 0
 LineEnds A number line old new before after (Ok x) =
@@ -63,7 +63,8 @@ LineEnds A number line old new before after (Err Input) = ⊥
 LineEnds A number line old new before after (Err Output) =
     (text : List ℕ) × Prints A line old text new × AppendsFront before after text
 
--- lines are answered one after another by a text, each from what the one before it left
+-- lines are executed one after another, each on the result of the one before it, and have this text
+-- together
 abbrev pub AnswersAll : (A : Type 0) → List (List ℕ) → Store → List ℕ → Store → Type 0
 AnswersAll A [] old text new = (text ≡ []) × (new ≡ old)
 AnswersAll A (line ∷ lines) old text new =
@@ -71,22 +72,22 @@ AnswersAll A (line ∷ lines) old text new =
     × AnswersLine A line old first between × AnswersAll A lines between rest new
     × (text ≡ first ++ rest)
 
--- the first lines of an input were answered by a text, from the start on; others follow
+-- the first lines of an input were executed from the start on, and have this text; others follow
 pub record HasAnswered (A : Type 0) (input : Option (List ℕ)) (front rest : List (List ℕ))
     (text : List ℕ) (now : Store) : Type 0 where
   pub lines : HasLines input front rest
   pub answers : AnswersAll A front (store [] [] (Some 1)) text now
 
--- known bytes grow by a text, and behind it by a front of a second one
+-- known bytes grow by a text, and then by a prefix of a second one
 pub record AppendsBehind (before after : Option (List ℕ)) (text shown : List ℕ) : Type 0 where
   pub front : List ℕ
   pub rest : List ℕ
   pub is : shown ≡ front ++ rest
   pub appends : Appends before after (text ++ front)
 
--- a script was answered to its end; or it stopped at a line at fault, where its input failed, or
--- where its output did. Each line before that was answered, and the output has these answers;
--- where it failed, a front of the next one behind them.
+-- a script ran to its end; or it stopped at a line at fault, or because its input or its output
+-- failed. Each line before that was executed, and the output has their text. If the output failed,
+-- it may have a prefix of the next line's text.
 abbrev pub ScriptEnds : {X : Type 0} → (A : Type 0) → Option (List ℕ) → Option (List ℕ)
     → Option (List ℕ) → Result X Stop → Type 0
 ScriptEnds A input before after (Ok x) =
@@ -107,13 +108,13 @@ ScriptEnds A input before after (Err Output) =
     × ((shown : List ℕ) × (new : Store) × Prints A line now shown new
     × AppendsBehind before after text shown)
 
--- the status of a script that ended so
+-- the exit status of a script that ended so
 abbrev pub status_of : {X : Type 0} → Result X Stop → ℕ
 status_of (Ok x) = 0
 status_of (Err stop) = 2
 
--- nothing was reported of a script that was answered to its end; of one that stopped the line of
--- its stop, or a front of it, and nothing else
+-- nothing was reported of a script that ran to its end; of one that stopped, the line of its stop
+-- or a prefix of it, and nothing else
 abbrev pub Reports : {X : Type 0} → Option (List ℕ) → Option (List ℕ) → Result X Stop → Type 0
 Reports before after (Ok x) = Keeps before after
 Reports before after (Err stop) = AppendsFront before after (stop_line stop)

@@ -18,12 +18,12 @@ use Rattle.sst_script.specs.Text.{letter_of, IsNumber}
 abbrev pub words_of : List ℕ → List (List ℕ)
 words_of line = slice_split (λ b. b == 32) line
 
--- the words of what follows a space, if there is one
+-- the words after a space, if there is one
 abbrev pub words_behind : Option (List ℕ) → List (List ℕ)
 words_behind None = []
 words_behind (Some rest) = words_of rest
 
--- what a word stands for: - for no bytes, any other word for itself
+-- the text of a word: - for no bytes, any other word for itself
 abbrev pub text_of : List ℕ → List ℕ
 text_of word = if pointwise nat_eq word (45 ∷ []) then [] else word
 
@@ -33,7 +33,7 @@ pub record StandsFor (word text : List ℕ) : Type 0 where
   pub visible : list_all is_ascii_graphic word ≡ true
   pub text_is : text ≡ text_of word
 
--- a number's word, and the number
+-- a word of a number, and the number
 pub record Counts (word : List ℕ) (n : ℕ) : Type 0 where
   pub number : IsNumber word
   pub value_is : n ≡ digits_value 10 word
@@ -58,7 +58,7 @@ pub record ReadsKey (words : List (List ℕ)) (key : List ℕ) (bound : ℕ) : T
   pub key_is : StandsFor key_word key
   pub bound_is : Counts number_word bound
 
--- the word of a bound: * for none, else = before a key that is within it, or ! before one that is
+-- the word of a bound: * for none, else = before a key that is included, or ! before one that is
 -- not
 abbrev pub Limits : List ℕ → Bound (List ℕ) → Type 0
 Limits word (Included key) = (text : List ℕ) × (word ≡ 61 ∷ text) × StandsFor text key
@@ -73,7 +73,7 @@ pub record ReadsRange (words : List (List ℕ)) (low high : Bound (List ℕ)) : 
   pub low_is : Limits low_word low
   pub high_is : Limits high_word high
 
--- the words behind a watermark: whether tombstones are evicted, and whether numbers become 0
+-- the words after a watermark: whether tombstones are evicted, and whether seqnos become 0
 abbrev pub setting_words : Bool → Bool → List (List ℕ)
 setting_words false false = []
 setting_words true false = codes "evict" ∷ []
@@ -86,7 +86,7 @@ pub record CompactsBy (words : List (List ℕ)) (watermark : ℕ) (evict zero : 
   pub words_are : words ≡ codes "compact" ∷ number_word ∷ setting_words evict zero
   pub watermark_is : Counts number_word watermark
 
--- the words of a line ask for a command
+-- the words of a line are a command
 abbrev pub AskFor : List (List ℕ) → Command → Type 0
 AskFor words (Entry key seqno kind value) = AddsEntry words key.now seqno kind value.now
 AskFor words Table = words ≡ codes "table" ∷ []

@@ -10,7 +10,7 @@ abbrev pub lines_of : List ℕ → List (List ℕ)
 lines_of [] = []
 lines_of (b ∷ bs) = if b == 10 then [] ∷ lines_of bs else onto_first b (lines_of bs)
 
--- known bytes begin with a line, and lose it and its end
+-- known bytes begin with a line, and lose it with its end
 abbrev pub LosesLine : Option (List ℕ) → Option (List ℕ) → List ℕ → Type 0
 LosesLine old new line = IfSome old (λ bytes.
     (0 < length bytes) × (line ≡ first_piece 10 bytes) × (new ≡ Some (drop_through 10 bytes)))
@@ -20,6 +20,6 @@ abbrev pub ReadsLine : Option (List ℕ) → Option (List ℕ) → List ℕ → 
 ReadsLine old new line true = LosesLine old new line
 ReadsLine old new line false = IsAtEnd old
 
--- the lines of known bytes are some lines, and then others
+-- the lines of known bytes are these lines, and then others
 abbrev pub HasLines : Option (List ℕ) → List (List ℕ) → List (List ℕ) → Type 0
 HasLines input front rest = IfSome input (λ bytes. lines_of bytes ≡ front ++ rest)

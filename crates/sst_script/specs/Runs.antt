@@ -1,4 +1,4 @@
--- What several runs hold and answer together.
+-- The entries that several runs hold together.
 use Rattle.std.specs.Prelude.{◌≡◌, ℕ, ◌==◌, Bool, ◌&&◌, List, map}
 use Rattle.std.specs.List.{list_any}
 use Rattle.sst_entries.specs.Entry.{Entry}
@@ -8,7 +8,7 @@ use Rattle.lsm_merge.specs.Union.{union_of}
 use Rattle.lsm_readers.specs.Table.{OpenTable}
 use Rattle.lsm_compactions.specs.Chain.{IsRunOfList}
 
--- a run: a list, and the tables that were written of it and opened, with global number 0
+-- a run: a list, and the tables that were written of it and opened without a global seqno
 pub record Run : Type 0 where
   pub list : List Entry
   pub tables : List OpenTable
@@ -17,11 +17,11 @@ pub record Run : Type 0 where
 abbrev pub run_tables : List Run → List (List OpenTable)
 run_tables runs = map (λ r. r.tables) runs
 
--- whatever runs some tables are of
+-- for all runs whose tables these are
 abbrev pub ForRuns : List (List OpenTable) → (List Run → Type 0) → Type 0
 ForRuns tables P = (runs : List Run) → run_tables runs ≡ tables → P runs
 
--- some tables are those of runs
+-- these are the tables of some runs
 abbrev pub HasRuns : List (List OpenTable) → (List Run → Type 0) → Type 0
 HasRuns tables P = (runs : List Run) × (run_tables runs ≡ tables) × P runs
 
@@ -29,10 +29,10 @@ HasRuns tables P = (runs : List Run) × (run_tables runs ≡ tables) × P runs
 abbrev pub union : List Run → List Entry
 union runs = union_of (map (λ r. ok_results r.list) runs)
 
--- whether a list has an entry of a key and number
+-- whether a list has an entry of a key and a seqno
 abbrev pub has_entry : List Entry → List ℕ → ℕ → Bool
 has_entry es key n = list_any (λ e. same_key e.user_key key && (e.seqno == n)) es
 
--- whether some runs have the key and number of one of some entries
+-- whether some runs have an entry with the key and seqno of one of these entries
 abbrev pub repeats : List Run → List Entry → Bool
 repeats runs es = list_any (λ e. has_entry (union runs) e.user_key e.seqno) es

@@ -1,4 +1,4 @@
--- What a script's commands do to its runs.
+-- The effects of a script's commands on its runs.
 use Rattle.std.specs.Prelude.{◌≡◌, ℕ, Bool, IsTrue, List, [], ◌∷◌, ◌++◌, length, Option, Some, None}
 use Rattle.std.specs.Prelude.{Result, MatchResult, ◌⊎◌, if◌then◌else◌}
 use Rattle.std.specs.Option.{option_map}
@@ -24,7 +24,7 @@ use Rattle.sst_script.specs.declared.stop.Failure.{Failure}
 use Rattle.sst_script.specs.declared.stop.Failure.TheVariants.{BadLine, Refused}
 use Rattle.sst_script.specs.Runs.{Run, repeats, run_tables, union}
 
--- what a script has stored: the entries of the next run, the runs, newest first, and the next id
+-- the state of a script: the entries of the next run, the runs, newest first, and the next id
 pub record Store : Type 0 where
   pub pending : List Entry
   pub runs : List Run
@@ -33,25 +33,24 @@ pub record Store : Type 0 where
 abbrev pub store : List Entry → List Run → Option ℕ → Store
 store pending runs id = record { pending = pending; runs = runs; next_id = id }
 
--- how many bytes of data blocks a table has before the next one begins
+-- the target size of a table in bytes of data blocks
 abbrev pub target_size : ℕ
 target_size = 65536
 
--- what writing pending entries refuses: nothing where there are none, or else that no id is left
--- for the first table, or the first fault of writing them
+-- the error of writing pending entries: none if there are none, or else that no id is left, or the
+-- first error of writing them
 abbrev pub pending_fault : Option ℕ → List Entry → Option Error
 pending_fault ids [] = None
 pending_fault ids (e ∷ es) = tables_fault ids target_size 0 (e ∷ es)
 
--- why pending entries become no run: a run holds one of them; or, where none does, writing them is
--- refused
+-- why pending entries become no run: a run holds one of them, or else writing them fails
 abbrev pub adding_fault : Store → Option Failure
 adding_fault s =
     if repeats s.runs s.pending then Some BadLine
     else option_map Refused (pending_fault s.next_id s.pending)
 
--- the pending entries became a run before the others, cut by the target into so many tables, whose
--- ids run on; or there were none
+-- the pending entries became a run before the others, cut by the target into so many tables with
+-- consecutive ids; or there were none
 abbrev pub AddsRun : Store → ℕ → Store → Type 0
 AddsRun old count new =
     ((count ≡ 0) × (old.pending ≡ []) × (new ≡ store [] old.runs old.next_id))
@@ -59,26 +58,26 @@ AddsRun old count new =
     × AreCutOf (run_label old.next_id target_size 0) target_size run.list 0 run.tables
     × (new ≡ store [] (run ∷ old.runs) (ids_behind old.next_id target_size count)))
 
--- nothing was against the pending entries, and they were written
+-- the pending entries had no fault, and were written
 abbrev pub Writes : Store → ℕ → Store → Type 0
 Writes old count new = (adding_fault old ≡ None) × AddsRun old count new
 
--- the pending entries were given up for their fault, or for want of memory
+-- the pending entries were dropped for their fault, or for `OutOfMemory`
 abbrev pub GivesUp : Store → Failure → Store → Type 0
 GivesUp old e new =
     ((e ≡ Refused OutOfMemory) ⊎ (adding_fault old ≡ Some e))
     × (new ≡ store [] old.runs old.next_id)
 
--- what writing the pending entries comes to
+-- the result of writing the pending entries
 abbrev pub WritesPending : Store → Result ℕ Failure → Store → Type 0
 WritesPending old r new = MatchResult r (λ count. Writes old count new) (λ e. GivesUp old e new)
 
--- what a compaction keeps of the sorted entries of the runs' lists
+-- the entries that a compaction keeps of the sorted entries of the runs' lists
 abbrev pub kept_by : ℕ → Bool → Bool → List Run → List Entry
 kept_by watermark evict zero runs = kept (rules_by watermark evict zero) (unfiltered (union runs))
 
--- the kept entries became the only run, cut by the target into so many tables, whose ids run on; or
--- there were none, and no run is left
+-- the kept entries became the only run, cut by the target into so many tables with consecutive ids;
+-- or there were none, and no run is left
 abbrev pub LeavesRun : Store → List Entry → ℕ → Store → Type 0
 LeavesRun old left count new =
     ((count ≡ 0) × (left ≡ [])
@@ -87,26 +86,26 @@ LeavesRun old left count new =
     × AreCutOf (run_label old.next_id target_size 0) target_size run.list 0 run.tables
     × (new ≡ store old.pending (run ∷ []) (ids_behind old.next_id target_size count)))
 
--- why kept entries become no run: writing them is refused
+-- why kept entries become no run: writing them fails
 abbrev pub kept_fault : Store → List Entry → Option Failure
 kept_fault s left = option_map Refused (tables_fault s.next_id target_size 0 left)
 
--- nothing was against the kept entries, and they were written
+-- the kept entries had no fault, and were written
 abbrev pub CompactsTo : Store → List Entry → ℕ → Store → Type 0
 CompactsTo old left count new = (kept_fault old left ≡ None) × LeavesRun old left count new
 
--- all is as it was, for the kept entries' fault or for want of memory
+-- nothing changed, because of the kept entries' fault, or of `OutOfMemory`
 abbrev pub FailsToCompact : Store → List Entry → Failure → Store → Type 0
 FailsToCompact old left e new =
     ((e ≡ Refused OutOfMemory) ⊎ (kept_fault old left ≡ Some e)) × (new ≡ old)
 
--- what compacting the runs to kept entries comes to
+-- the result of compacting the runs to kept entries
 abbrev pub CompactsRuns : Store → List Entry → Result ℕ Failure → Store → Type 0
 CompactsRuns old left r new =
     MatchResult r (λ count. CompactsTo old left count new) (λ e. FailsToCompact old left e new)
 
--- the same tables in other runs: of each key in the same order, in runs in order that have a table
--- each, so few that none can do with fewer; they hold the same sorted entries
+-- the same tables in other runs, with the same sorted entries: each key has its tables in the same
+-- order, and the runs, in order, are as few as possible
 pub record ArePackedRuns (old new : List Run) : Type 0 where
   pub tables : SameTables (run_tables old) (run_tables new)
   pub holders : SameHolders range_of (run_tables old) (run_tables new)
@@ -114,30 +113,30 @@ pub record ArePackedRuns (old new : List Run) : Type 0 where
   pub least : IsLeastSize range_of (run_tables old) (length new)
   pub union_is : union new ≡ union old
 
--- so many packed runs stand in the place of the runs
+-- so many packed runs replace the runs
 abbrev pub Packs : Store → ℕ → Store → Type 0
 Packs old count new = (count ≡ length new.runs) × ArePackedRuns old.runs new.runs
     × (new ≡ store old.pending new.runs old.next_id)
 
--- all is as it was, for want of memory
+-- nothing changed, because of `OutOfMemory`
 abbrev pub WantsMemory : Store → Failure → Store → Type 0
 WantsMemory old e new = (e ≡ Refused OutOfMemory) × (new ≡ old)
 
--- what packing the runs comes to
+-- the result of packing the runs
 abbrev pub PacksRuns : Store → Result ℕ Failure → Store → Type 0
 PacksRuns old r new =
     MatchResult r (λ count. Packs old count new) (λ e. WantsMemory old e new)
 
--- why an entry is not added: it may not follow the pending ones, or memory is refused
+-- why an entry is not added: it may not follow the pending ones, or else `OutOfMemory`
 abbrev pub entry_failure : List Entry → List ℕ → ℕ → Failure
 entry_failure es key seqno = if may_be_written es key seqno then Refused OutOfMemory else BadLine
 
--- an answer is these entries
+-- a result is these entries
 abbrev pub AreAnswered : {A : Type 0} → List Entry → Answer A → Type 0
 AreAnswered es (Entries v) = v.items ≡ es
 AreAnswered es answer = ⊥
 
--- a command's answer, and what it leaves
+-- a command's result, and the state after it
 abbrev pub Executes : {A : Type 0} → Command → Store → Result (Answer A) Failure → Store → Type 0
 Executes (Add key seqno kind value) old r new = MatchResult r
     (λ a. (a ≡ Silent) × IsTrue (may_be_written old.pending key.now seqno)

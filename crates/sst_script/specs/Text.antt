@@ -12,12 +12,12 @@ letter_of Tombstone = 84
 letter_of WeakTombstone = 87
 letter_of Indirection = 73
 
--- bytes as they are printed: - for none
+-- the printed form of bytes: - for none
 abbrev pub printed : List ℕ → List ℕ
 printed [] = 45 ∷ []
 printed (b ∷ bs) = b ∷ bs
 
--- decimal digits of a number that fits 64 bits, the first no zero but in the number 0
+-- decimal digits of a number that fits 64 bits, without leading zeros
 pub record IsNumber (word : List ℕ) : Type 0 where
   pub some : 0 < length word
   pub digits : AllDigits 10 word

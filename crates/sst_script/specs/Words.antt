@@ -1,4 +1,4 @@
--- The words of the crates below that contracts of runs use, so that a file asks for them once.
+-- The definitions of the crates below that contracts of runs use, so that a file imports them once.
 pub use Rattle.sst_entries.specs.Entry.{Entry}
 pub use Rattle.sst_entries.specs.Error.{Gives}
 pub use Rattle.sst_entries.specs.Point.{point, within}

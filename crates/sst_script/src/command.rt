@@ -1,4 +1,4 @@
-//! What a line of a script asks for.
+//! Parsing a line of a script.
 ghost use Rattle.std.specs.Prelude.{◌≡◌, ◌==◌, ◌<◌, ℕ, Bool, List, [], ◌∷◌, length, None, Some};
 ghost use Rattle.std.specs.Prelude.{IfSome, IfNone, codes};
 ghost use Rattle.std.specs.Option.{SomeIff, option_copied};
@@ -29,27 +29,27 @@ pub enum Command<'a> {
     },
     /// Writes the pending entries as a run of tables.
     Table,
-    /// Reads the newest entry of a key numbered below a bound.
+    /// Reads the newest version of a key visible at a seqno.
     Get {
         key: &'a [u8],
         bound: SeqNo,
     },
-    /// Reads the newest entry of each key within two bounds.
+    /// Reads the newest version of each key within two bounds.
     Range {
         low: Bound<&'a [u8]>,
         high: Bound<&'a [u8]>,
     },
-    /// Puts what is kept of all runs in the place of them.
+    /// Replaces all runs by one run of what is kept of them.
     Compact {
         watermark: SeqNo,
         evict: bool,
         zero: bool,
     },
-    /// Puts the tables of all runs in the fewest runs.
+    /// Puts the tables of all runs in as few runs as possible.
     Pack,
 }
 
-/// The command that a line spells, or `None` where it spells none.
+/// Parses a line; returns `None` if it is no command.
 pub fn parse_command(line: &[u8]) -> Option<Command<'_>>
     ensures form { IfSome result (λ command. AskFor (words_of line.now) command) }
     ensures none { IfNone result ((command : Command) → ¬ AskFor (words_of line.now) command) }
@@ -67,7 +67,7 @@ pub fn parse_command(line: &[u8]) -> Option<Command<'_>>
     }
 }
 
-// What follows `entry `: a key, a number, a kind and a value.
+// Parses the words after `entry `: a key, a number, a kind and a value.
 fn parse_entry(words: &[u8]) -> Option<Command<'_>>
     ensures form { IfSome result (λ command. AskFor (codes "entry" ∷ words_of words.now) command) }
     ensures none { IfNone result ((key : List ℕ) (seqno : ℕ) (kind : ValueType) (value : List ℕ) →
@@ -84,7 +84,7 @@ fn parse_entry(words: &[u8]) -> Option<Command<'_>>
     })
 }
 
-// What follows `get `: a key and a bound.
+// Parses the words after `get `: a key and a bound.
 fn parse_get(words: &[u8]) -> Option<Command<'_>>
     ensures form { IfSome result (λ command. AskFor (codes "get" ∷ words_of words.now) command) }
     ensures none { IfNone result ((key : List ℕ) (bound : ℕ) →
@@ -97,7 +97,7 @@ fn parse_get(words: &[u8]) -> Option<Command<'_>>
     })
 }
 
-// What follows `range `: two bounds.
+// Parses the words after `range `: two bounds.
 fn parse_range(words: &[u8]) -> Option<Command<'_>>
     ensures form { IfSome result (λ command. AskFor (codes "range" ∷ words_of words.now) command) }
     ensures none { IfNone result ((low high : Bound (List ℕ)) →
@@ -110,7 +110,8 @@ fn parse_range(words: &[u8]) -> Option<Command<'_>>
     })
 }
 
-// A bound: `*` for none, else `=` before a key that is within it, or `!` before one that is not.
+// Parses a bound: `*` for none, else `=` before a key that is included, or `!` before one that is
+// not.
 fn parse_bound(word: &[u8]) -> Option<Bound<&[u8]>>
     ensures bound { IfSome result (λ bound. Limits word.now (key_bound bound)) }
     ensures none { IfNone result ((bound : Bound (List ℕ)) → ¬ Limits word.now bound) }
@@ -123,7 +124,7 @@ fn parse_bound(word: &[u8]) -> Option<Bound<&[u8]>>
     }
 }
 
-// What follows `compact `: a watermark, and its settings.
+// Parses the words after `compact `: a watermark, and its settings.
 fn parse_compact(words: &[u8]) -> Option<Command<'_>>
     ensures form { IfSome result (λ command.
         AskFor (codes "compact" ∷ words_of words.now) command) }
@@ -140,7 +141,7 @@ fn parse_compact(words: &[u8]) -> Option<Command<'_>>
     })
 }
 
-// Whether tombstones are evicted and whether numbers become 0: each by its word, in this order.
+// Whether tombstones are evicted and whether seqnos become 0, each by its word, in this order.
 fn parse_settings(settings: Option<&[u8]>) -> Option<(bool, bool)>
     ensures words { IfSome result (λ told.
         words_behind (option_copied settings.entry) ≡ setting_words told.0 told.1) }
@@ -156,7 +157,7 @@ fn parse_settings(settings: Option<&[u8]>) -> Option<(bool, bool)>
     }
 }
 
-// The first word, and what follows the space behind it.
+// The first word, and the text after the space that follows it.
 fn split_word(line: &[u8]) -> (&[u8], Option<&[u8]>)
     ensures { words_of line.now ≡ result.0.now ∷ words_behind (option_copied result.1) }
 {
@@ -173,7 +174,7 @@ fn find_space(line: &[u8]) -> Option<usize>
     line.iter().position(|byte| *byte == b' ')
 }
 
-// The text of a word of visible bytes, where `-` stands for no bytes.
+// The text of a word of visible bytes; `-` means no bytes.
 fn parse_text(word: &[u8]) -> Option<&[u8]>
     ensures text { IfSome result (λ text. StandsFor word.now text.now) }
     ensures none { IfNone result ((text : List ℕ) → ¬ StandsFor word.now text) }
@@ -207,7 +208,7 @@ fn parse_number(word: &[u8]) -> Option<u64>
     }
 }
 
-// A kind's letter.
+// The letter of a kind.
 fn parse_kind(word: &[u8]) -> Option<ValueType>
     ensures letter { IfSome result (λ kind. word.now ≡ letter_of kind ∷ []) }
     ensures all { (kind : ValueType) → word.now ≡ letter_of kind ∷ [] → result ≡ Some kind }

@@ -1,14 +1,15 @@
-//! Scripts of the program `sst`: lines that write tables and read from them, and their answers.
+//! Scripts of the program `sst`: lines that write tables and read from them, and their output.
 //!
-//! A line `entry KEY NUMBER KIND VALUE` adds a pending entry, `table` writes the pending entries as
-//! tables, which are a run, `get KEY BOUND` reads the newest entry of a key numbered below a bound,
-//! and `range LOW HIGH` reads the newest entry of each key within two bounds: `*` for none, or a
-//! key behind `=`, which is within, or behind `!`, which is not.
-//!
-//! A line `compact WATERMARK` puts one run in the place of all runs, of what a compaction under
-//! that watermark keeps of them, or none where it keeps nothing. Behind the watermark may stand
-//! `evict`, so that tombstones go, then `zero`, so that numbers below the watermark become 0;
-//! either may stand alone. `pack` puts the tables of all runs in the fewest runs.
+//! - `entry KEY NUMBER KIND VALUE` adds a pending entry with that seqno.
+//! - `table` writes the pending entries as tables, which are a run.
+//! - `get KEY BOUND` reads the newest version of a key with a seqno below `BOUND`.
+//! - `range LOW HIGH` reads the newest version of each key within two bounds. A bound is `*` for
+//!   none, `=` before a key that is included, or `!` before one that is not.
+//! - `compact WATERMARK` replaces all runs by one run of what a compaction under that watermark
+//!   keeps of them, or by none if it keeps nothing. After the watermark may follow `evict`, which
+//!   drops tombstones, then `zero`, which sets seqnos below the watermark to 0. Either may be used
+//!   alone.
+//! - `pack` puts the tables of all runs in as few runs as possible.
 #![tactic(auto)]
 
 mod command;

@@ -1,4 +1,4 @@
-//! The entries that wait for the next table.
+//! The pending entries, which the next run is written from.
 ghost use Rattle.std.specs.Prelude.{◌≡◌, ◌↔◌, [], ◌∷◌, ◌++◌, length, IsTrue, IfErr, IfOk, IfSome};
 ghost use Rattle.std.specs.Prelude.{OnErr, OnOk, MatchOption};
 ghost use Rattle.std.specs.Option.{option_map_or};
@@ -19,10 +19,10 @@ use sst_blocks::{Error, InternalValue, SeqNo, Slice, ValueType};
 use std::alloc::Allocator;
 use std::marker::Model;
 
-/// How many bytes of data blocks a table has before the next one begins.
+/// The target size of a table in bytes of data blocks.
 pub(crate) const TARGET_SIZE: u64 = 65_536;
 
-/// Entries that tables can be written of. A contract sees the list.
+/// Entries that tables can be written from. Its model is the list.
 #[derive(Drop)]
 pub(crate) struct Pending<A: Allocator> {
     items: Vec<InternalValue<A>, A>,
@@ -41,7 +41,7 @@ impl<A: Allocator> Model for Pending<A> {
 }
 
 impl<A: Allocator + Clone> Pending<A> {
-    /// No entries.
+    /// Returns an empty list.
     pub(crate) fn new(alloc: A) -> Pending<A>
         ensures { result ≡ [] }
     {
@@ -65,7 +65,7 @@ impl<A: Allocator + Clone> Pending<A> {
         &self.items
     }
 
-    /// Whether an entry of this key and number may come next.
+    /// Whether an entry of this key and seqno may be next.
     fn can_follow(&self, key: &[u8], seqno: SeqNo) -> bool
         ensures { result ≡ may_be_written self.now key.now seqno }
     {
@@ -82,8 +82,12 @@ impl<A: Allocator + Clone> Pending<A> {
             }
     }
 
-    /// Adds an entry. The line is at fault where the entry does not follow the last one; nothing is
-    /// added then, nor where memory is refused.
+    /// Adds an entry.
+    ///
+    /// # Errors
+    ///
+    /// `BadLine` if the entry may not follow the last one, else `OutOfMemory`. Nothing is added
+    /// then.
     pub(crate) fn add(
         &mut self,
         key: &[u8],
@@ -107,15 +111,19 @@ impl<A: Allocator + Clone> Pending<A> {
         Ok(())
     }
 
-    /// Gives the entries up.
+    /// Drops the entries.
     pub(crate) fn clear(&mut self)
         ensures { self.new ≡ [] }
     {
         self.items.clear();
     }
 
-    /// Writes the entries as tables, and opens these as a run; none where there are no entries.
-    /// Answers the counter of ids behind the last table, too. Refused as [`write_run`].
+    /// Writes the entries as tables, and opens these as a run, none if there are no entries; also
+    /// returns the id counter after the last table.
+    ///
+    /// # Errors
+    ///
+    /// Those of [`write_run`].
     pub(crate) fn write(
         self,
         alloc: A,

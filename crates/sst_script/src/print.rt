@@ -1,4 +1,4 @@
-//! The text of answers, and of why a script ends.
+//! The text of results, and of why a script ends.
 ghost use Rattle.std.specs.Prelude.{◌≡◌, [], ◌∷◌, ◌++◌};
 ghost use Rattle.std.specs.Fmt.{decimal};
 ghost use Rattle.sst_script.specs.Answer.{answer_lines, entry_line, entry_lines, none_line};
@@ -14,14 +14,14 @@ use sst_entries::{InternalValue, ValueType};
 use std::alloc::Allocator;
 use std::io::{Result, Write};
 
-/// What a command answers.
+/// The result of a command.
 #[derive(Drop)]
 pub enum Answer<A: Allocator> {
     /// Nothing is printed.
     Silent,
-    /// How many tables were written.
+    /// The number of tables written.
     Tables(u64),
-    /// Into how many runs the tables were packed.
+    /// The number of runs into which the tables were packed.
     Runs(u64),
     /// The entry that was found.
     Found(Option<InternalValue<A>>),
@@ -29,7 +29,7 @@ pub enum Answer<A: Allocator> {
     Entries(Vec<InternalValue<A>, A>),
 }
 
-/// Prints an answer; where writing fails, a front of it.
+/// Prints a result; if writing fails, a prefix of it.
 pub fn print_answer<W: Write, A: Allocator>(output: &mut W, answer: &Answer<A>) -> Result<()>
     ensures { ShowsText (W.contents output.old) (W.contents output.new) result
         (answer_lines answer.now) }
@@ -50,7 +50,7 @@ fn print_none<W: Write>(output: &mut W) -> Result<()>
     write_text(output, b"none\n")
 }
 
-// A number behind a word, on a line.
+// Prints a line of a word and a number.
 fn print_counted<W: Write>(output: &mut W, word: &[u8], count: u64) -> Result<()>
     ensures { ShowsText (W.contents output.old) (W.contents output.new) result
         (word.now ++ decimal count ++ 10 ∷ []) }
@@ -60,7 +60,7 @@ fn print_counted<W: Write>(output: &mut W, word: &[u8], count: u64) -> Result<()
     write_text(output, b"\n")
 }
 
-// Each entry on a line of its own.
+// Prints each entry on a line of its own.
 fn print_entries<W: Write, A: Allocator>(output: &mut W, items: &[InternalValue<A>]) -> Result<()>
     ensures { ShowsText (W.contents output.old) (W.contents output.new) result
         (entry_lines items.now) }
@@ -74,7 +74,7 @@ fn print_entries<W: Write, A: Allocator>(output: &mut W, items: &[InternalValue<
     Ok(())
 }
 
-/// Prints the number of a refusal; where writing fails, a front of that line.
+/// Prints the line of an error code; if writing fails, a prefix of it.
 pub fn print_refusal<W: Write>(output: &mut W, number: u8) -> Result<()>
     ensures { ShowsText (W.contents output.old) (W.contents output.new) result
         (refusal_line number) }
@@ -82,7 +82,7 @@ pub fn print_refusal<W: Write>(output: &mut W, number: u8) -> Result<()>
     print_counted(output, b"refused ", u64::from(number))
 }
 
-/// Prints why a script ends; where writing fails, a front of that line.
+/// Prints the line of why a script ends; if writing fails, a prefix of it.
 pub fn print_stop<W: Write>(errors: &mut W, stop: Stop) -> Result<()>
     ensures { ShowsText (W.contents errors.old) (W.contents errors.new) result (stop_line stop) }
 {
@@ -93,7 +93,7 @@ pub fn print_stop<W: Write>(errors: &mut W, stop: Stop) -> Result<()>
     }
 }
 
-// A key, a number, a kind and a value.
+// Prints a key, a seqno, a kind and a value.
 fn print_entry<W: Write, A: Allocator>(output: &mut W, item: &InternalValue<A>) -> Result<()>
     ensures { ShowsText (W.contents output.old) (W.contents output.new) result
         (entry_line item.now) }
@@ -106,14 +106,14 @@ fn print_entry<W: Write, A: Allocator>(output: &mut W, item: &InternalValue<A>) 
     write_text(output, b"\n")
 }
 
-// Bytes as they are printed: `-` for none.
+// The printed form of bytes: `-` for none.
 fn printed(bytes: &[u8]) -> &[u8]
     ensures { result.now ≡ printed bytes.now }
 {
     if bytes.is_empty() { b"-" } else { bytes }
 }
 
-// A kind's letter.
+// The letter of a kind.
 fn letter_of(kind: ValueType) -> u8
     ensures { result ≡ letter_of kind }
 {

@@ -1,4 +1,4 @@
-//! What the runs that a script has written answer.
+//! Reading the runs that a script has written.
 ghost use Rattle.std.specs.Prelude.{◌≡◌, ◌+◌, ◌-◌, ◌<◌, ◌^◌, Bool, IfErr, IfOk, List, Option, Ok};
 ghost use Rattle.std.specs.Prelude.{◌∷◌, [], map};
 ghost use Rattle.std.specs.Arc.{arc_value};
@@ -18,8 +18,7 @@ use std::alloc::Allocator;
 use std::ops::Bound;
 use std::sync::Arc;
 
-/// The newest of the runs' entries of a key numbered below a bound. Refused for want of memory
-/// alone.
+/// The newest version in the runs of a key visible at a seqno. Fails with `OutOfMemory` only.
 pub(crate) fn newest_answer<A: Allocator + Clone>(
     runs: &[Arc<Run<Table<A>, A>, A>],
     key: &[u8],
@@ -31,7 +30,7 @@ pub(crate) fn newest_answer<A: Allocator + Clone>(
     get_runs(runs, key, bound)
 }
 
-/// The newest of the runs' entries of each key within two bounds. Refused for want of memory alone.
+/// The newest version in the runs of each key within two bounds. Fails with `OutOfMemory` only.
 pub(crate) fn newest_entries<A: Allocator + Clone>(
     alloc: A,
     runs: &[Arc<Run<Table<A>, A>, A>],
@@ -47,8 +46,8 @@ pub(crate) fn newest_entries<A: Allocator + Clone>(
     collect_newest(alloc, stream)
 }
 
-// All newest versions of some sources, as `collect`. It is generic in the sources: a whole concrete
-// stream costs a proof much where it is handed to a function that is generic in streams.
+// All newest versions of some sources, as `collect`. Generic in the sources: a whole concrete
+// stream makes a proof expensive.
 fn collect_newest<A: Allocator, S: Iterator<Item = IterItem<A>>>(
     alloc: A,
     stream: NewestOf<S, A>,
@@ -61,7 +60,7 @@ fn collect_newest<A: Allocator, S: Iterator<Item = IterItem<A>>>(
     collect(alloc, stream)
 }
 
-// The bound with a key of its own.
+// The bound with an owned key.
 fn owned<A: Allocator + Clone>(alloc: &A, bound: Bound<&[u8]>) -> Result<Bound<UserKey<A>>, Error>
     ensures ok { IfOk result (λ b. b ≡ key_bound bound.entry) }
     ensures err { IfErr result (λ e. e ≡ OutOfMemory) }
@@ -73,8 +72,7 @@ fn owned<A: Allocator + Clone>(alloc: &A, bound: Bound<&[u8]>) -> Result<Bound<U
     }
 }
 
-// All entries of a stream, or its first error. A stream that deals a list fails for want of memory
-// alone.
+// All entries of a stream, or its first error. For a stream of a list, that is `OutOfMemory` only.
 fn collect<A: Allocator, I: Iterator<Item = IterItem<A>>>(
     alloc: A,
     stream: I,
@@ -91,7 +89,7 @@ fn collect<A: Allocator, I: Iterator<Item = IterItem<A>>>(
     Ok(items)
 }
 
-/// A run that can be shared. Refused for want of memory alone.
+/// A run as a shared one. Fails with `OutOfMemory` only.
 pub(crate) fn share<A: Allocator + Clone>(
     alloc: &A,
     run: Run<Table<A>, A>,
@@ -102,7 +100,7 @@ pub(crate) fn share<A: Allocator + Clone>(
     Ok(Arc::new(alloc.clone()?, run)?)
 }
 
-/// A run alone that can be shared. Refused for want of memory alone.
+/// One run as a list of shared ones. Fails with `OutOfMemory` only.
 pub(crate) fn share_one<A: Allocator + Clone>(
     alloc: &A,
     run: Run<Table<A>, A>,
@@ -116,7 +114,7 @@ pub(crate) fn share_one<A: Allocator + Clone>(
     Ok(runs)
 }
 
-/// Runs that can be shared. Refused for want of memory alone.
+/// Runs as shared ones. Fails with `OutOfMemory` only.
 pub(crate) fn share_all<A: Allocator + Clone>(
     alloc: A,
     runs: Vec<Run<Table<A>, A>, A>,
@@ -131,8 +129,8 @@ pub(crate) fn share_all<A: Allocator + Clone>(
     Ok(shared)
 }
 
-/// Whether one of the runs has the key and number of one of some entries. Refused for want of
-/// memory alone.
+/// Whether the runs have an entry with the key and seqno of one of these entries. Fails with
+/// `OutOfMemory` only.
 pub(crate) fn is_repeated<A: Allocator + Clone>(
     runs: &[Arc<Run<Table<A>, A>, A>],
     items: &[InternalValue<A>],
@@ -149,8 +147,8 @@ pub(crate) fn is_repeated<A: Allocator + Clone>(
     Ok(false)
 }
 
-// Whether a run has an entry of this key and number: it is then the first that is numbered below
-// the next number.
+// Whether the runs have an entry of this key and seqno: it is then the newest version visible at
+// the next seqno.
 fn has_entry<A: Allocator + Clone>(
     runs: &[Arc<Run<Table<A>, A>, A>],
     key: &[u8],

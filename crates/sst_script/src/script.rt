@@ -31,15 +31,20 @@ use std::io::{BufRead, BufReader, Read, Write};
 use std::sync::Arc;
 use std::{io, mem};
 
-/// Runs the script that `input` gives, line by line, and answers the status: 0, or 2 where the
-/// script ends before its last line.
+/// Runs the script of `input`, line by line, and returns the exit status: 0, or 2 if the script
+/// ends before its last line.
 ///
-/// Answers go to `output`, each before the next line is read. A command that is refused prints
-/// `refused` and the refusal's number, and the script goes on. A line that is none of a script's
-/// ends it with `sst: line` and the line's number on `errors`, failing input, also want of memory
-/// for it, with `sst: input`, and failing output with `sst: output`. Whether `errors` takes that is
-/// passed over, and it is given nothing else. What was answered before the script ended stays in
-/// `output`.
+/// Results go to `output`, each before the next line is read. A command that fails prints `refused`
+/// and the error code, and the script goes on. Output written before the script ended is kept.
+///
+/// The script ends early in three cases, each with one line on `errors`:
+///
+/// - `sst: line` and the line's number, if a line is no command, or one that the script's state
+///   does not allow;
+/// - `sst: input`, if the input fails, or there is no memory for it;
+/// - `sst: output`, if the output fails.
+///
+/// An error of writing to `errors` is ignored. Nothing else is written to it.
 pub fn run_script<A: Allocator + Clone, R: Read + Drop, W: Write, E: Write>(
     alloc: A,
     input: R,
@@ -61,7 +66,7 @@ pub fn run_script<A: Allocator + Clone, R: Read + Drop, W: Write, E: Write>(
     }
 }
 
-// Answers the lines of `input` up to the last one, or up to the one at which the script ends.
+// Executes the lines of `input` up to the last one, or up to the one at which the script ends.
 fn answer_script<A: Allocator + Clone, R: Read + Drop, W: Write>(
     alloc: A,
     input: R,
@@ -82,7 +87,7 @@ fn answer_script<A: Allocator + Clone, R: Read + Drop, W: Write>(
     Err(Stop::Input)
 }
 
-// Reads the next line, without its end; `false` where there is none.
+// Reads the next line, without its end; `false` if there is none.
 fn read_line<R: BufRead, A: Allocator>(input: &mut R, line: &mut Vec<u8, A>) -> Result<bool, Stop>
     ensures read { IfOk result (ReadsLine
         (R.remaining input.old) (R.remaining input.new) line.new.items) }
@@ -94,7 +99,7 @@ fn read_line<R: BufRead, A: Allocator>(input: &mut R, line: &mut Vec<u8, A>) -> 
     Ok(length > 0)
 }
 
-// Takes away the end of a line, which the last line may lack.
+// Removes the end of a line, which the last line may lack.
 fn strip_end<A: Allocator>(line: &mut Vec<u8, A>)
     ensures { line.new.items ≡ strip_last 10 line.old.items }
 {
@@ -103,7 +108,7 @@ fn strip_end<A: Allocator>(line: &mut Vec<u8, A>)
     }
 }
 
-// Prints what a command came to.
+// Prints the result of a command.
 fn print_outcome<W: Write, A: Allocator>(
     output: &mut W,
     number: u64,
@@ -119,7 +124,7 @@ fn print_outcome<W: Write, A: Allocator>(
     }
 }
 
-// Flushes the output behind what was printed, so that nothing of it waits for what is read next.
+// Flushes the output after printing, so that none of it waits for the next input.
 fn pass_on<W: Write>(printed: io::Result<()>, output: &mut W) -> Result<(), Stop>
     ensures shown { (before : Option (List ℕ)) (text : List ℕ) →
         ShowsText before (W.contents output.old) printed text →
@@ -132,7 +137,7 @@ fn pass_on<W: Write>(printed: io::Result<()>, output: &mut W) -> Result<(), Stop
     }
 }
 
-// What a script has built so far.
+// The state of a script.
 #[derive(Drop)]
 struct Script<A: Allocator> {
     alloc: A,
@@ -155,7 +160,7 @@ impl<A: Allocator + Clone> Script<A> {
         })
     }
 
-    // Prints the answer of a line; an empty one has none.
+    // Prints the result of a line; an empty line has none.
     fn answer_line<W: Write>(
         &mut self,
         number: u64,
@@ -220,9 +225,8 @@ impl<A: Allocator + Clone> Script<A> {
         }
     }
 
-    // Writes the pending entries as a run, and answers how many tables it has. Where it is refused,
-    // the runs and the next id stay. What is left of the pending entries is for the caller to
-    // clear.
+    // Writes the pending entries as a run, and returns the number of its tables. After an error the
+    // runs and the next id are unchanged; the caller clears the pending entries.
     fn write_table(&mut self) -> Result<u64, Failure>
         requires { AreCompactable (map arc_value self.old.runs.items) }
         ensures able { AreCompactable (map arc_value self.new.runs.items) }
@@ -250,8 +254,8 @@ impl<A: Allocator + Clone> Script<A> {
         Ok(count)
     }
 
-    // Puts the run of what is kept of all runs in the place of them, or none where nothing is kept,
-    // and answers how many tables it has. Where it is refused, the runs and the next id stay.
+    // Replaces all runs by the run of what is kept of them, none if nothing is kept, and returns
+    // the number of its tables. After an error the runs and the next id are unchanged.
     fn compact(&mut self, watermark: SeqNo, evict: bool, zero: bool) -> Result<u64, Failure>
         requires { AreCompactable (map arc_value self.old.runs.items) }
         ensures able { AreCompactable (map arc_value self.new.runs.items) }
@@ -286,8 +290,8 @@ impl<A: Allocator + Clone> Script<A> {
         Ok(tables)
     }
 
-    // Puts the tables of all runs in the fewest runs, and answers how many these are. Refused for
-    // want of memory alone; the runs stay then.
+    // Puts the tables of all runs in as few runs as possible, and returns their number. Fails with
+    // `OutOfMemory` only; the runs are unchanged then.
     fn pack(&mut self) -> Result<u64, Failure>
         requires { AreCompactable (map arc_value self.old.runs.items) }
         ensures able { AreCompactable (map arc_value self.new.runs.items) }

@@ -1,4 +1,4 @@
-//! Why a line is not answered, and why a script ends early.
+//! Why a line has no result, and why a script ends early.
 
 use sst_entries::Error;
 use std::alloc::{AllocError, AllocFailed};
@@ -6,15 +6,15 @@ use std::alloc::{AllocError, AllocFailed};
 /// Why a script ends before its last line.
 #[derive(Clone, Copy)]
 pub enum Stop {
-    /// A line, counted from 1, is none of a script's, or asks for what cannot stand.
+    /// A line, counted from 1, is no command, or one that the script's state does not allow.
     Line(u64),
     /// The script cannot be read.
     Input,
-    /// The answers cannot be written.
+    /// The results cannot be written.
     Output,
 }
 
-/// Want of memory for reading the script.
+/// Out of memory for reading the script.
 impl From<AllocError> for Stop {
     ghost use Rattle.std.specs.Prelude.{◌≡◌};
     ghost use Rattle.sst_script.specs.declared.stop.Stop.TheVariants.{Input};
@@ -26,12 +26,12 @@ impl From<AllocError> for Stop {
     }
 }
 
-/// Why a command has no answer.
+/// Why a command has no result.
 #[derive(Drop)]
 pub enum Failure {
     /// The line is at fault, and the script ends.
     BadLine,
-    /// The command is refused, and the script goes on.
+    /// The command fails, and the script goes on.
     Refused(Error),
 }
 

@@ -3,7 +3,7 @@ ghost use Rattle.sst_script.specs.Shown.{ShowsText};
 
 use std::io::{Error, ErrorKind, Result, Write};
 
-/// Writes a text; where that fails, a front of it. What was interrupted is tried again.
+/// Writes a text; if that fails, a prefix of it. An interrupted write is retried.
 pub(crate) fn write_text<W: Write>(output: &mut W, text: &[u8]) -> Result<()>
     ensures { ShowsText (W.contents output.old) (W.contents output.new) result text.now }
 {

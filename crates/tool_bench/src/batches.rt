@@ -5,7 +5,7 @@ use logpurple::table::{Query, get_many};
 use sst_blocks::{Error, InternalValue, SeqNo, Slice};
 use std::alloc::Global;
 
-// For each of the keys, which stand behind one another, what asks for its newest version.
+// A query for the newest version of each key. The keys are concatenated.
 fn queries_of(alloc: Global, keys: &[u8], key_len: usize) -> Result<Vec<Query>, Error> {
     let mut queries = Vec::new(alloc);
     let mut rest = keys;
@@ -48,9 +48,11 @@ fn batch_passes(
     Ok(())
 }
 
-/// Copies and opens a table, copies the keys, and reads the newest version of each so many times
-/// over, all in one call of [`get_many`]. The keys are of one length and stand behind one another;
-/// an incomplete last one is left out. Tells what the last pass found, in the keys' order.
+/// Copies and opens a table, copies the keys, and reads the newest version of each key, all in one
+/// call of [`get_many`] a pass.
+///
+/// The keys have one length and are concatenated; an incomplete last one is ignored. `digest` is
+/// that of the last pass, in the keys' order.
 #[unsafe(no_mangle)]
 pub extern "C" fn tool_bench_get_many(
     alloc: Global,

@@ -6,21 +6,21 @@ use lsm_writers::{FinishedTable, Timestamp, Writer};
 use sst_blocks::{EntryRef, Error, InternalValue, SeqNo, Slice, ValueType};
 use std::alloc::Global;
 
-/// What was written: how many tables, how many bytes they have, and the sum of their checksums,
-/// which wraps.
+/// The number of tables written, the number of their bytes, and the wrapping sum of their
+/// checksums.
 #[repr(C)]
 #[derive(Clone, Copy)]
 pub struct Written {
-    /// How many tables.
+    /// The number of tables.
     pub tables: u64,
-    /// How many bytes.
+    /// The number of bytes.
     pub bytes: u64,
     /// The sum of the checksums.
     pub checksum: u64,
 }
 
 impl Written {
-    /// No table.
+    /// Returns the value for no table.
     pub fn none() -> Written
         ensures { result ≡ record { tables = 0; bytes = 0; checksum = 0 } }
     {
@@ -40,7 +40,7 @@ impl Written {
     }
 }
 
-// Writes an entry, where it may follow those before it.
+// Writes an entry, if it may follow those before it.
 #[inline(always)]
 pub(crate) fn write_next(writer: &mut Writer, item: InternalValue) -> Result<(), Error> {
     if !writer.can_follow(&item.key) {
@@ -49,7 +49,7 @@ pub(crate) fn write_next(writer: &mut Writer, item: InternalValue) -> Result<(),
     writer.write(item)
 }
 
-// The key and the value that stand first, and what stands behind them.
+// The first key and value, and the bytes after them.
 #[inline(always)]
 fn first_parts<'a>(
     store: &'a [u8],
@@ -65,7 +65,7 @@ fn first_parts<'a>(
     Ok((key, value, after))
 }
 
-// The entry whose key and value stand first, and what stands behind them.
+// The entry of the first key and value, and the bytes after them.
 #[inline(always)]
 pub(crate) fn first_item<'a>(
     alloc: Global,
@@ -81,7 +81,7 @@ pub(crate) fn first_item<'a>(
     Ok((item, after))
 }
 
-// Writes entries whose keys and values stand behind one another.
+// Writes entries whose keys and values are concatenated.
 fn write_each(
     alloc: Global,
     writer: &mut Writer,
@@ -102,7 +102,7 @@ fn write_each(
     Ok(())
 }
 
-// Writes an entry that lies elsewhere, where it may follow those before it.
+// Writes a borrowed entry, if it may follow those before it.
 #[inline(always)]
 fn write_next_ref(writer: &mut Writer, entry: &EntryRef<'_>) -> Result<(), Error> {
     if !writer.can_follow_ref(entry) {
@@ -111,7 +111,7 @@ fn write_next_ref(writer: &mut Writer, entry: &EntryRef<'_>) -> Result<(), Error
     writer.write_ref(entry)
 }
 
-// Writes entries whose keys and values stand behind one another, from where they lie.
+// Writes entries whose keys and values are concatenated, and borrows each of them.
 fn write_each_ref(
     writer: &mut Writer,
     store: &[u8],
@@ -137,7 +137,7 @@ fn write_each_ref(
     Ok(())
 }
 
-// Copies a table's bytes to the front of `out`, where there is room.
+// Copies a table's bytes to the start of `out`, if there is room.
 fn copy_out(table: &FinishedTable, out: &mut [u8]) {
     let bytes = table.bytes.as_slice();
     let len = bytes.len();
@@ -209,9 +209,10 @@ fn build_ref(
     finish(writer, wrote, &mut [], written)
 }
 
-/// Writes a table of entries, whose keys and values are of one length each and stand behind one
-/// another, all with the same number. Tells what was written, and copies it to the front of `out`
-/// where that has room for all of it.
+/// Writes a table of entries with one seqno.
+///
+/// The keys and values are concatenated in `store`, each of one length. The table is copied to the
+/// start of `out` if `out` has room for all of it.
 #[unsafe(no_mangle)]
 pub extern "C" fn tool_bench_build(
     alloc: Global,
@@ -240,8 +241,7 @@ pub extern "C" fn tool_bench_build_partitioned(
     code(build(alloc, true, store, key_len, value_len, seqno, out, written))
 }
 
-/// Writes a table as [`tool_bench_build`] does, each entry from where it lies, and copies nothing
-/// out.
+/// Writes a table as [`tool_bench_build`] does, borrowing each entry, and does not copy it out.
 #[unsafe(no_mangle)]
 pub extern "C" fn tool_bench_build_ref(
     alloc: Global,

@@ -14,7 +14,7 @@ use lsm_writers::{FinishedTable, Timestamp, Writer};
 use sst_blocks::{Error, IterItem, SeqNo};
 use std::alloc::Global;
 
-// Whether a table has reached the size at which the next one is begun.
+// Whether a table has reached the size at which the next one begins.
 fn is_full(writer: &Writer, target: u64) -> bool {
     writer.metadata().file_pos.0 >= target
 }
@@ -23,7 +23,7 @@ fn new_writer(alloc: Global, id: u64) -> Result<Writer, Error> {
     Writer::new(alloc, id, 0, Timestamp::from(0))
 }
 
-// Finishes a table, if all was written, where it has entries.
+// Finishes a table that has entries, if all was written.
 fn finish(
     writer: Writer,
     wrote: Result<(), Error>,
@@ -35,7 +35,7 @@ fn finish(
     Ok(())
 }
 
-// Begins the next table where this one has reached its size.
+// Begins the next table if this one has reached its size.
 fn next_table(
     alloc: Global,
     writer: &mut Writer,
@@ -50,7 +50,7 @@ fn next_table(
     Ok(())
 }
 
-// Writes an entry, into the next table where this one has reached its size.
+// Writes an entry, into the next table if this one has reached its size.
 fn write_item(
     alloc: Global,
     writer: &mut Writer,
@@ -94,9 +94,8 @@ fn write_all<I: Iterator<Item = IterItem<Global>>>(
     Ok(out)
 }
 
-// Of each key of several sources the newest version, in tables of about the target's size. It is
-// generic in the sources: a whole concrete stream costs a proof much where it is handed to a
-// function that is generic in streams.
+// The newest version of each key of several sources, in tables of about the target size. Generic in
+// the sources: a whole concrete stream makes a proof expensive.
 fn compact_all<S: Iterator<Item = IterItem<Global>> + Drop>(
     alloc: Global,
     sources: Vec<S>,
@@ -110,7 +109,7 @@ fn compact_all<S: Iterator<Item = IterItem<Global>> + Drop>(
     write_all(alloc, &mut stream, target)
 }
 
-// Of each key of several tables the newest version, in tables of about the target's size.
+// The newest version of each key of several tables, in tables of about the target size.
 fn compacted(alloc: Global, tables: &[Table], target: u64) -> Result<Vec<FinishedTable>, Error> {
     compact_all(alloc, scanners_of(alloc, tables)?, target)
 }
@@ -139,9 +138,11 @@ fn compact_passes(
     Ok(())
 }
 
-/// Copies and opens tables, whose bytes stand behind one another, and compacts them so many times
-/// over: of each key the newest version is written, into tables of about `target` bytes. Tells what
-/// the last pass wrote.
+/// Copies and opens tables, and writes the newest version of each key into tables of about `target`
+/// bytes, in each pass.
+///
+/// The tables are concatenated in `files`, with their lengths in `lens`. `written` is what the last
+/// pass wrote.
 #[unsafe(no_mangle)]
 pub extern "C" fn tool_bench_compact(
     alloc: Global,
@@ -180,7 +181,7 @@ fn compact_and_scan(
     scan_all(alloc, out, digest)
 }
 
-/// Compacts as [`tool_bench_compact`] does, once, and scans what was written.
+/// Compacts as [`tool_bench_compact`] does, once, and scans the new tables.
 #[unsafe(no_mangle)]
 pub extern "C" fn tool_bench_compact_and_scan(
     alloc: Global,

@@ -1,18 +1,20 @@
-//! What is kept of the entries that a workload was given.
+//! A digest of the entries that a workload received.
 ghost use Rattle.std.specs.Prelude.{◌≡◌, IfErr, OnOk};
 ghost use Rattle.sst_entries.specs.Error.{number_of};
 
 use sst_blocks::{EntryRef, Error, InternalValue};
 use std::alloc::Allocator;
 
-/// How many entries there were, how many bytes their keys and values have, and a sum over the ends
-/// of keys and values that depends on the entries' order. All three wrap.
+/// The number of entries, the number of bytes of their keys and values, and a sum.
+///
+/// The sum is over the ends of keys and values, and depends on the order of the entries. All three
+/// wrap.
 #[repr(C)]
 #[derive(Clone, Copy)]
 pub struct Digest {
-    /// How many entries.
+    /// The number of entries.
     pub entries: u64,
-    /// How many bytes of keys and values.
+    /// The number of bytes of keys and values.
     pub bytes: u64,
     /// The sum.
     pub sum: u64,
@@ -28,7 +30,7 @@ fn tail(bytes: &[u8]) -> u64 {
 }
 
 impl Digest {
-    /// The digest of no entries.
+    /// Returns the digest of no entries.
     pub fn empty() -> Digest
         ensures { result ≡ record { entries = 0; bytes = 0; sum = 0 } }
     {
@@ -64,7 +66,7 @@ impl Digest {
     }
 }
 
-// 0, or the number of the refusal.
+// 0, or the error code.
 pub(crate) fn code(outcome: Result<(), Error>) -> u32
     ensures done { OnOk outcome (result ≡ 0) }
     ensures refused { IfErr outcome (λ e. result ≡ number_of e) }

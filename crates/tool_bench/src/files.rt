@@ -1,4 +1,4 @@
-//! Tables that are opened from bytes, one or several behind one another.
+//! Opening tables from bytes, one table or several that are concatenated.
 use crate::digest::code;
 use logpurple::table::{Scanner, Table};
 use sst_blocks::{Checksum, Error, Slice};
@@ -12,7 +12,7 @@ pub(crate) fn open_copy(alloc: Global, file: &[u8]) -> Result<Table, Error> {
     open(alloc, Slice::from(alloc, file)?)
 }
 
-// The tables of files that stand behind one another.
+// The tables of concatenated files.
 pub(crate) fn tables_of(alloc: Global, files: &[u8], lens: &[u64]) -> Result<Vec<Table>, Error> {
     let mut tables = Vec::new(alloc);
     let mut rest = files;
@@ -43,7 +43,7 @@ fn open_times(alloc: Global, file: &[u8], times: u64, last_id: &mut u64) -> Resu
     Ok(())
 }
 
-/// Copies a table's bytes once, and opens it so many times. Tells the id of the last one.
+/// Copies a table's bytes once, and opens it `times` times; `last_id` is the id of the last one.
 #[unsafe(no_mangle)]
 pub extern "C" fn tool_bench_open(
     alloc: Global,

@@ -5,7 +5,7 @@ use logpurple::table::Table;
 use sst_blocks::{Error, SeqNo};
 use std::alloc::Global;
 
-// Reads keys that stand behind one another, each once.
+// Reads each of the concatenated keys once.
 fn get_each(
     table: &Table,
     keys: &[u8],
@@ -43,9 +43,10 @@ fn get_passes(
     Ok(())
 }
 
-/// Copies and opens a table, and reads the newest version of each key so many times over. The keys
-/// are of one length and stand behind one another; an incomplete last one is left out. Tells what
-/// the last pass found.
+/// Copies and opens a table, and reads the newest version of each key, in each pass.
+///
+/// The keys have one length and are concatenated; an incomplete last one is ignored. `digest` is
+/// that of the last pass.
 #[unsafe(no_mangle)]
 pub extern "C" fn tool_bench_get(
     alloc: Global,

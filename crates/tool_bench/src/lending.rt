@@ -1,4 +1,4 @@
-//! The same of entries that are lent where they lie.
+//! The same workloads with borrowed entries.
 ghost use Rattle.std.specs.Prelude.{All, IfOk};
 ghost use Rattle.sst_entries.specs.Stream.{CanDeal, nowhere};
 
@@ -16,7 +16,7 @@ use std::alloc::Global;
 use std::ops::Bound;
 use std::sync::Arc;
 
-// Goes through all that is lent.
+// Iterates over all that is lent.
 fn drain<L: Lending>(source: &mut L, digest: &mut Digest) -> Result<(), Error>
     requires { CanDeal L.advances nowhere L.can_advance L.can_advance source.old }
 {
@@ -28,14 +28,15 @@ fn drain<L: Lending>(source: &mut L, digest: &mut Digest) -> Result<(), Error>
     Ok(())
 }
 
-// Goes through all that a scan lends.
+// Iterates over all that a scan lends.
 pub(crate) fn scan_lent(table: &Table, digest: &mut Digest) -> Result<(), Error> {
     let mut scanner = table.scan()?;
     drain(&mut scanner, digest)
 }
 
-/// Copies and opens a table, and goes so many times over all that its scan lends. Tells what the
-/// last pass lent.
+/// Copies and opens a table, and iterates over all that its scan lends, in each pass.
+///
+/// `digest` is that of the last pass.
 #[unsafe(no_mangle)]
 pub extern "C" fn tool_bench_scan_lent(
     alloc: Global,
@@ -46,8 +47,8 @@ pub extern "C" fn tool_bench_scan_lent(
     code(walk_passes(alloc, file, Walk::Lent, passes, digest))
 }
 
-// The newest version of each key of several sources. It is generic in these, so that none of their
-// parts is looked at.
+// The newest version of each key of several sources. Generic, so that a proof does not unfold their
+// parts.
 fn newest_of<L: Lending + Drop>(
     alloc: Global,
     sources: Vec<L>,
@@ -61,7 +62,7 @@ fn newest_of<L: Lending + Drop>(
     Ok(LendingNewest::new(alloc, merger))
 }
 
-// Goes through what newest versions lend. It is generic in what they are over.
+// Iterates over lent newest versions. Generic in their sources.
 fn drain_newest<L: Lending + Drop>(
     newest: &mut LentNewestOf<L, Global>,
     digest: &mut Digest,
@@ -73,7 +74,7 @@ fn drain_newest<L: Lending + Drop>(
     drain(newest, digest)
 }
 
-// Goes through the newest versions of several tables.
+// Iterates over the newest versions of several tables.
 pub(crate) fn merge_lent(
     alloc: Global,
     tables: &[Table],
@@ -83,8 +84,11 @@ pub(crate) fn merge_lent(
     drain_newest(&mut newest, digest)
 }
 
-/// Copies and opens tables, whose bytes stand behind one another, and goes so many times over the
-/// newest version of each key of all of them, lent. Tells what the last pass lent.
+/// Copies and opens tables, and iterates over the lent newest version of each key of all of them,
+/// in each pass.
+///
+/// The tables are concatenated in `files`, with their lengths in `lens`. `digest` is that of the
+/// last pass.
 #[unsafe(no_mangle)]
 pub extern "C" fn tool_bench_merge_lent(
     alloc: Global,
@@ -96,7 +100,7 @@ pub extern "C" fn tool_bench_merge_lent(
     code(merge_passes(alloc, files, lens, true, passes, digest))
 }
 
-// Goes through the first so many that are lent, or all where there are fewer.
+// Iterates over the first `count` lent entries, or all if there are fewer.
 pub(crate) fn drain_front<L: Lending + Drop>(
     mut source: L,
     count: usize,
@@ -115,9 +119,11 @@ pub(crate) fn drain_front<L: Lending + Drop>(
     Ok(())
 }
 
-/// Copies and opens a table, and goes so many times over the first `count` entries from each of
-/// some keys on, lent. The keys are of one length and stand behind one another; an incomplete last
-/// one is left out. Tells what the last pass lent.
+/// Copies and opens a table, and iterates over the first `count` lent entries from each key on, in
+/// each pass.
+///
+/// The keys have one length and are concatenated; an incomplete last one is ignored. `digest` is
+/// that of the last pass.
 #[unsafe(no_mangle)]
 pub extern "C" fn tool_bench_range_lent(
     alloc: Global,
@@ -131,7 +137,7 @@ pub extern "C" fn tool_bench_range_lent(
     code(range_passes(alloc, file, keys, key_len, count, true, passes, digest))
 }
 
-// Goes through the newest versions of several runs.
+// Iterates over the newest versions of several runs.
 pub(crate) fn read_runs_lent(
     alloc: Global,
     runs: &[Arc<Run<Table>>],
@@ -142,9 +148,11 @@ pub(crate) fn read_runs_lent(
     drain_newest(&mut newest, digest)
 }
 
-/// Copies and opens tables, whose bytes stand behind one another, each as a run of its own, and
-/// goes so many times over the newest version of each key of all runs, lent. Tells what the last
-/// pass lent.
+/// Copies and opens tables, each as a run, and iterates over the lent newest version of each key of
+/// all runs, in each pass.
+///
+/// The tables are concatenated in `files`, with their lengths in `lens`. `digest` is that of the
+/// last pass.
 #[unsafe(no_mangle)]
 pub extern "C" fn tool_bench_range_runs_lent(
     alloc: Global,

@@ -1,15 +1,15 @@
-//! Whole workloads over sorted tables, each behind one call from C: `bench/` at the top of the
-//! repository times them beside other stores.
+//! Workloads over sorted tables, each as one C function: `bench/` at the top of the repository
+//! compares their times with those of other stores.
 //!
-//! Nothing is kept between calls, so a call that reads opens its tables first. What is to be timed
-//! is the difference between a call that does its work and one that does it no time at all. A call
-//! answers 0, or the number of what refused it (`Error::number`); 24 is bytes that are shorter than
-//! the lengths beside them say, and entries that are out of order. What it has counted until a
-//! refusal means nothing.
+//! No state is kept between calls, so a call that reads opens its tables first. To time the work
+//! alone, subtract the time of a call with no passes from one with passes.
 //!
-//! Of this crate's own functions it is proved that they are safe, end, and ask the crates below for
-//! nothing that those do not promise; whether the answers are right, the driver finds by comparing
-//! them with those of the other stores.
+//! A call returns 0 or an error code (`Error::number`). It returns 24 for bytes that are shorter
+//! than their lengths, and for entries that are out of order. After an error the counts are
+//! meaningless.
+//!
+//! It is proved that these functions are safe, terminate, and meet the conditions of the crates
+//! below. The driver tests the results by comparing them with those of the other stores.
 #![tactic(auto)]
 
 mod batches;

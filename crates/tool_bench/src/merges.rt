@@ -1,4 +1,4 @@
-//! The newest versions of what several tables have together.
+//! The newest versions of several tables together.
 ghost use Rattle.std.specs.Prelude.{All};
 ghost use Rattle.std.specs.Iterator.{IsFinite};
 ghost use Rattle.sst_entries.specs.Stream.{CanDeal, nowhere};
@@ -12,8 +12,8 @@ use lsm_sorted::newest_of;
 use sst_blocks::{Error, IterItem};
 use std::alloc::Global;
 
-// Takes the newest versions of several sources. It is generic in these: a whole concrete stream
-// costs a proof much where it is handed to a function that is generic in streams.
+// Takes the newest versions of several sources. Generic in these: a whole concrete stream makes a
+// proof expensive.
 #[tactic(auto, using(sst_entries::proofs::StreamLemmas::can_now))]
 fn drain_newest<S: Iterator<Item = IterItem<Global>> + Drop>(
     alloc: Global,
@@ -43,7 +43,7 @@ fn merge_once(
     }
 }
 
-// Copies and opens tables, and goes so many times through their newest versions, lent or given.
+// Copies and opens tables, and iterates over their newest versions, lent or owned, in each pass.
 pub(crate) fn merge_passes(
     alloc: Global,
     files: &[u8],
@@ -60,8 +60,10 @@ pub(crate) fn merge_passes(
     Ok(())
 }
 
-/// Copies and opens tables, whose bytes stand behind one another, and takes the newest version of
-/// each key of all of them so many times over. Tells what the last pass gave.
+/// Copies and opens tables, and takes the newest version of each key of all of them, in each pass.
+///
+/// The tables are concatenated in `files`, with their lengths in `lens`. `digest` is that of the
+/// last pass.
 #[unsafe(no_mangle)]
 pub extern "C" fn tool_bench_merge(
     alloc: Global,

@@ -4,20 +4,21 @@ use lsm_sorted::{KeyRange, Ranged, Run, optimize_runs};
 use sst_blocks::{Error, Slice};
 use std::alloc::{AllocError, Global};
 
-/// How many runs there are, how many tables they have, and a sum of the tables' numbers that
-/// depends on the run and the place of each, and wraps.
+/// The number of runs, the number of their tables, and a wrapping sum.
+///
+/// The sum is of the tables' numbers, and depends on the run and the index of each table.
 #[repr(C)]
 #[derive(Clone, Copy)]
 pub struct Packed {
-    /// How many runs.
+    /// The number of runs.
     pub runs: u64,
-    /// How many tables.
+    /// The number of tables.
     pub tables: u64,
     /// The sum.
     pub sum: u64,
 }
 
-// What packing needs of a table.
+// The part of a table that packing reads.
 #[derive(Drop)]
 struct Span {
     number: u64,
@@ -122,9 +123,10 @@ fn optimize(
     Ok(())
 }
 
-/// Makes a run for each table, of which the least and the greatest key are given, all of one length
-/// and behind one another, and packs the runs into as few as can be, unless `passes` is 0. Tells
-/// the runs.
+/// Makes a run for each table, and packs the runs into as few as possible, unless `passes` is 0.
+///
+/// `keys` has the least and the greatest key of each table, concatenated, all of one length.
+/// `packed` describes the runs.
 #[unsafe(no_mangle)]
 pub extern "C" fn tool_bench_optimize_runs(
     alloc: Global,

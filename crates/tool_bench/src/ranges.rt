@@ -14,8 +14,8 @@ use std::alloc::Global;
 use std::ops::Bound;
 use std::sync::Arc;
 
-// Takes all that an iterator gives. It is generic in it, so that a caller hands a large one on and
-// has none of its parts to let go.
+// Takes all that an iterator yields. Generic in it, so that a caller passes a large one on and does
+// not drop its parts.
 pub(crate) fn take_all<I: Iterator<Item = IterItem<Global>> + Drop>(
     mut items: I,
     digest: &mut Digest,
@@ -29,8 +29,8 @@ pub(crate) fn take_all<I: Iterator<Item = IterItem<Global>> + Drop>(
     Ok(())
 }
 
-// Takes all that an iterator gives from one end on. It is generic in it, so that its parts are
-// looked at once for both ends.
+// Takes all that an iterator yields from one end. Generic in it, so that a proof unfolds its parts
+// once for both ends.
 pub(crate) fn take_from<I: DoubleEndedIterator<Item = IterItem<Global>> + Drop>(
     end: Direction,
     items: I,
@@ -46,7 +46,7 @@ pub(crate) fn take_from<I: DoubleEndedIterator<Item = IterItem<Global>> + Drop>(
     }
 }
 
-// Takes so many entries from the front, or all where there are fewer.
+// Takes the first `count` entries, or all if there are fewer.
 fn take_front<I: Iterator<Item = IterItem<Global>> + Drop>(
     items: I,
     count: usize,
@@ -66,7 +66,7 @@ fn take_front<I: Iterator<Item = IterItem<Global>> + Drop>(
     Ok(())
 }
 
-// Reads some entries from a key on, lent or given.
+// Reads some entries from a key on, lent or owned.
 fn range_once(
     table: &Table,
     from: Slice,
@@ -82,7 +82,7 @@ fn range_once(
     }
 }
 
-// Reads some entries from each of these keys on, which stand behind one another.
+// Reads some entries from each of the concatenated keys on.
 fn range_each(
     alloc: Global,
     table: &Table,
@@ -103,7 +103,7 @@ fn range_each(
     Ok(())
 }
 
-// Copies and opens a table, and reads so many times from each of these keys on, lent or given.
+// Copies and opens a table, and reads some entries from each key on, lent or owned, in each pass.
 pub(crate) fn range_passes(
     alloc: Global,
     file: &[u8],
@@ -122,9 +122,10 @@ pub(crate) fn range_passes(
     Ok(())
 }
 
-/// Copies and opens a table, and takes so many times over from each of some keys on the first
-/// `count` entries. The keys are of one length and stand behind one another; an incomplete last one
-/// is left out. Tells what the last pass gave.
+/// Copies and opens a table, and takes the first `count` entries from each key on, in each pass.
+///
+/// The keys have one length and are concatenated; an incomplete last one is ignored. `digest` is
+/// that of the last pass.
 #[unsafe(no_mangle)]
 pub extern "C" fn tool_bench_range(
     alloc: Global,
@@ -151,8 +152,8 @@ fn runs_of(alloc: Global, tables: Vec<Table>) -> Result<Vec<Arc<Run<Table>>>, Er
     Ok(runs)
 }
 
-// Takes all newest versions of some sources. It is generic in these: a whole concrete stream costs
-// a proof much where it is handed to a function that is generic in streams.
+// Takes all newest versions of some sources. Generic in these: a whole concrete stream makes a
+// proof expensive.
 pub(crate) fn take_newest<S: Iterator<Item = IterItem<Global>> + Drop>(
     items: NewestOf<S, Global>,
     digest: &mut Digest,
@@ -184,8 +185,8 @@ fn runs_once(
     }
 }
 
-// Copies and opens tables as runs, and goes so many times through their newest versions, lent or
-// given.
+// Copies and opens tables as runs, and iterates over their newest versions, lent or owned, in each
+// pass.
 pub(crate) fn runs_passes(
     alloc: Global,
     files: &[u8],
@@ -202,9 +203,11 @@ pub(crate) fn runs_passes(
     Ok(())
 }
 
-/// Copies and opens tables, whose bytes stand behind one another, each as a run of its own, and
-/// takes the newest version of each key of all runs so many times over. Tells what the last pass
-/// gave.
+/// Copies and opens tables, each as a run, and takes the newest version of each key of all runs, in
+/// each pass.
+///
+/// The tables are concatenated in `files`, with their lengths in `lens`. `digest` is that of the
+/// last pass.
 #[unsafe(no_mangle)]
 pub extern "C" fn tool_bench_range_runs(
     alloc: Global,

@@ -1,6 +1,7 @@
-//! Compaction of several runs by `compact_runs`. It asks for runs whose tables were written of
-//! lists, which bytes that come from outside cannot show; so the lists are handed in and written
-//! here.
+//! Compaction of several runs by `compact_runs`.
+//!
+//! It requires runs of tables that were written from lists, which cannot be shown of bytes from
+//! outside. So the lists are passed in and written here.
 ghost use Rattle.std.specs.Prelude.{◌≡◌, ◌++◌, IfOk, IsPermutation, OnOk, map};
 ghost use Rattle.std.specs.Arc.{arc_value};
 ghost use Rattle.lsm_writers.specs.Writing.{IsWritable};
@@ -19,7 +20,7 @@ use sst_blocks::{Error, InternalValue, SeqNo};
 use std::alloc::Global;
 use std::sync::Arc;
 
-// A list whose keys and values stand behind one another, all entries with the same number.
+// A list of concatenated keys and values, all entries with one seqno.
 fn list_of(
     alloc: Global,
     store: &[u8],
@@ -54,7 +55,7 @@ fn share(item: &InternalValue) -> Result<InternalValue, Error>
     Ok(InternalValue::from_components(key, value, item.key.seqno, item.key.value_type))
 }
 
-// Puts entries behind others.
+// Adds entries after others.
 fn share_behind(all: &mut Vec<InternalValue>, items: &[InternalValue]) -> Result<(), Error>
     ensures { OnOk result (all.new.items ≡ all.old.items ++ items.now) }
 {
@@ -77,14 +78,14 @@ fn run_of(alloc: Global, items: Vec<InternalValue>) -> Result<Arc<Run<Table>>, E
     }
 }
 
-// Sorts entries by key up and number down.
+// Sorts entries by key ascending and seqno descending.
 fn put_in_order(all: &mut Vec<InternalValue>)
     ensures { IsPermutation all.old.items all.new.items }
 {
     all.sort_unstable_by(|x: &InternalValue, y: &InternalValue| x.key.cmp(&y.key));
 }
 
-// Writes the run of a list, and puts its entries behind those of the runs before it.
+// Writes the run of a list, and adds its entries after those of the runs before it.
 fn add_run(
     alloc: Global,
     items: Vec<InternalValue>,
@@ -100,8 +101,8 @@ fn add_run(
     Ok(())
 }
 
-// A run of each of some lists, which stand behind one another and have so many bytes each. The
-// first is numbered by how many there are, and each further one by one less.
+// A run of each of some concatenated lists, whose lengths in bytes are `lens`. The seqno of the
+// first is the number of lists, and that of each further one is one less.
 fn runs_of(
     alloc: Global,
     lists: &[u8],
@@ -132,7 +133,7 @@ fn runs_of(
     }
 }
 
-// Of each key the newest version, in tables of about the target's size.
+// The newest version of each key, in tables of about the target size.
 fn compacted(
     alloc: Global,
     runs: &[Arc<Run<Table>>],
@@ -163,11 +164,13 @@ fn compact_passes(
     Ok(())
 }
 
-/// Writes a table of each of some lists and opens it as a run, and compacts the runs so many times
-/// over by [`compact_runs`]: of each key the newest version is written, into tables of about
-/// `target` bytes. The lists stand behind one another and have so many bytes each; keys and values
-/// are of one length each; the first list is numbered by how many there are, and each further one
-/// by one less. Tells what the last pass wrote.
+/// Writes each list as a table, opens it as a run, and compacts the runs by [`compact_runs`], in
+/// each pass.
+///
+/// The newest version of each key is written into tables of about `target` bytes. The lists are
+/// concatenated in `lists`, with their lengths in bytes in `lens`. Keys have one length, and so
+/// have values. The seqno of the first list is the number of lists, and that of each further one is
+/// one less. `written` is what the last pass wrote.
 #[unsafe(no_mangle)]
 pub extern "C" fn tool_bench_compact_runs(
     alloc: Global,

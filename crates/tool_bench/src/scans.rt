@@ -1,4 +1,4 @@
-//! All entries of one table: by a scan, and by the iterator that has two ends.
+//! All entries of one table: by a scan, and by the iterator from both ends.
 use crate::digest::{Digest, code};
 use crate::files::open_copy;
 use crate::lending::scan_lent;
@@ -8,13 +8,13 @@ use logpurple::table::Table;
 use sst_blocks::Error;
 use std::alloc::Global;
 
-// Takes all that a scan gives.
+// Takes all that a scan yields.
 #[inline(always)]
 pub(crate) fn scan(table: &Table, digest: &mut Digest) -> Result<(), Error> {
     take_all(table.scan()?, digest)
 }
 
-// How a table is gone through.
+// The kinds of iteration over a table.
 #[derive(Clone, Copy)]
 pub(crate) enum Walk {
     Scan,
@@ -32,12 +32,12 @@ fn walk_once(table: &Table, walk: Walk, digest: &mut Digest) -> Result<(), Error
     }
 }
 
-// Takes all that a table's iterator gives from one end on.
+// Takes all that a table's iterator yields from one end.
 fn iterate(table: &Table, end: Direction, digest: &mut Digest) -> Result<(), Error> {
     take_from(end, table.iter()?, digest)
 }
 
-// Copies and opens a table, and goes through it so many times.
+// Copies and opens a table, and iterates over it, in each pass.
 pub(crate) fn walk_passes(
     alloc: Global,
     file: &[u8],
@@ -53,7 +53,9 @@ pub(crate) fn walk_passes(
     Ok(())
 }
 
-/// Copies and opens a table, and scans it so many times over. Tells what the last pass gave.
+/// Copies and opens a table, and scans it, in each pass.
+///
+/// `digest` is that of the last pass.
 #[unsafe(no_mangle)]
 pub extern "C" fn tool_bench_scan(
     alloc: Global,
@@ -64,8 +66,9 @@ pub extern "C" fn tool_bench_scan(
     code(walk_passes(alloc, file, Walk::Scan, passes, digest))
 }
 
-/// Copies and opens a table, and takes all that its iterator gives from the front so many times
-/// over. Tells what the last pass gave.
+/// Copies and opens a table, and takes all that its iterator yields from the front, in each pass.
+///
+/// `digest` is that of the last pass.
 #[unsafe(no_mangle)]
 pub extern "C" fn tool_bench_iter(
     alloc: Global,
@@ -76,8 +79,9 @@ pub extern "C" fn tool_bench_iter(
     code(walk_passes(alloc, file, Walk::Front, passes, digest))
 }
 
-/// Copies and opens a table, and takes all that its iterator gives from the back so many times
-/// over. Tells what the last pass gave, in that order.
+/// Copies and opens a table, and takes all that its iterator yields from the back, in each pass.
+///
+/// `digest` is that of the last pass, in that order.
 #[unsafe(no_mangle)]
 pub extern "C" fn tool_bench_iter_back(
     alloc: Global,

@@ -1,4 +1,4 @@
-//! Closing a store: what is kept of it.
+//! Closing a store, and the state that it leaves.
 ghost use Rattle.std.specs.Prelude.{◌≡◌, [], IfErr, IfOk, List, OnErr, OnOk, Some, false, map};
 ghost use Rattle.std.specs.Arc.{arc_value};
 ghost use Rattle.example_store.specs.Closed.{IsClosed, bytes_by_run};
@@ -13,32 +13,38 @@ use logpurple::table::{Table, TableIds};
 use std::alloc::{Allocator, Global};
 use std::sync::Arc;
 
-/// What is kept of a store that is closed, to be opened from by [`Store::open`].
+/// The state of a closed store, from which [`Store::open`] opens it.
 #[derive(Drop)]
 pub struct Closed<A: Allocator = Global> {
     /// The bytes of the tables, run by run, the newest run first.
     pub files: Vec<Vec<Slice<A>, A>, A>,
     /// The counter of the tables' ids.
     pub ids: TableIds,
-    /// The number of the next write.
+    /// The sequence number of the next write.
     pub next: SeqNo,
     /// The oldest snapshot that is kept.
     pub oldest: SeqNo,
 }
 
 impl<A: Allocator + Clone> Store<A> {
-    /// Flushes, and gives what is to be kept of the store: its tables' bytes, which are shared, and
-    /// its numbers. The store may be used on. Refused as [`Store::flush`]; nothing is lost then.
+    /// Flushes the store, and returns its state: the bytes of its tables, which are shared, and its
+    /// counters.
+    ///
+    /// The store may still be used.
+    ///
+    /// # Errors
+    ///
+    /// Those of [`Store::flush`]. Nothing is lost then.
     pub fn close(&mut self) -> Result<Closed<A>, Error>
-        // What is given is kept of the store as it is now,
+        // The result is the state of the store as it is now.
         ensures closed { IfOk result (λ closed. IsStore self.new × IsClosed self.new closed) }
-        // which tells what it told.
+        // The store reads as the same history.
         ensures story { (ws : List Entry) → IsTold self.old ws → IsTold self.new ws }
         ensures next { self.new.next ≡ self.old.next }
         ensures oldest { self.new.oldest ≡ self.old.oldest }
         ensures limit { self.new.limit ≡ self.old.limit }
         ensures target { self.new.target ≡ self.old.target }
-        // The counter that is given is behind the tables that were made, if some were.
+        // The counter that is returned is after the new tables, if there are any.
         ensures flushed { OnOk result (HasFlushed self.old self.new) }
         ensures err { OnErr result (StaysOrFlushes self.old self.new) }
         ensures refused { IfErr result (λ e. is_memory e ≡ false →
@@ -48,7 +54,7 @@ impl<A: Allocator + Clone> Store<A> {
         self.kept()
     }
 
-    // What is to be kept of a store whose memtable is empty.
+    // The state of a store whose memtable is empty.
     fn kept(&self) -> Result<Closed<A>, Error>
         requires { self.now.recent ≡ [] }
         ensures sound { IsStore self.now }

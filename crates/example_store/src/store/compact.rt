@@ -22,10 +22,14 @@ use std::sync::Arc;
 pub(crate) type Runs<A> = Vec<Arc<Run<Table<A>, A>, A>, A>;
 
 impl<A: Allocator + Clone> Store<A> {
-    /// Puts one run in the place of all, of what readers at the watermark and at later snapshots
-    /// see of them; older snapshots are kept no longer. A watermark above [`Store::snapshot`] is
-    /// taken as that, so the snapshot of all writes is kept always. What is in the memtable stays
-    /// there. Refused as [`compact_to_run`] is; the store then has what it had.
+    /// Replaces all runs by one run of what readers at the watermark and at later snapshots see.
+    ///
+    /// Older snapshots are no longer kept. A watermark above [`Store::snapshot`] counts as that, so
+    /// the snapshot of all writes is always kept. The memtable is not changed.
+    ///
+    /// # Errors
+    ///
+    /// Those of [`compact_to_run`]. The store is not changed then.
     pub fn compact(&mut self, watermark: SeqNo) -> Result<(), Error>
         ensures story { (ws : List Entry) → IsTold self.old ws → IsTold self.new ws }
         ensures oldest { OnOk result
@@ -34,17 +38,18 @@ impl<A: Allocator + Clone> Store<A> {
         ensures limit { self.new.limit ≡ self.old.limit }
         ensures target { self.new.target ≡ self.old.target }
         ensures recent { self.new.recent ≡ self.old.recent }
-        // The counter of ids runs on behind the new run's tables.
+        // The counter of ids is after the new run's tables.
         ensures ids { OnOk result (self.new.ids
             ≡ ids_behind self.old.ids self.old.target (sum_by length self.new.runs)) }
-        // One run is left at most.
+        // At most one run is left.
         ensures few { OnOk result (length self.new.runs ≤ 1) }
         // The runs have what is kept of all that they had, cut by the target.
         ensures made { (lists : List (List (List Entry))) → RunsHoldLists self.old.runs lists →
             OnOk result (AreMadeOf self.old
             (kept_in (rules_by (min watermark self.old.next) true false) lists) self.new.runs) }
         ensures err { OnErr result (self.new ≡ self.old) }
-        // Memory aside, it is refused what writing what is kept of the runs as tables is.
+        // Except for `OutOfMemory`, the error is that of writing what is kept of the runs as
+        // tables.
         ensures refused { (lists : List (List (List Entry))) → RunsHoldLists self.old.runs lists →
             IfErr result (λ e. is_memory e ≡ false →
             tables_fault self.old.ids self.old.target 0
@@ -63,8 +68,11 @@ impl<A: Allocator + Clone> Store<A> {
         Ok(())
     }
 
-    /// Puts the tables of all runs in as few runs as there can be. Refused for want of memory
-    /// alone; the store then has what it had.
+    /// Puts the tables of all runs in as few runs as possible.
+    ///
+    /// # Errors
+    ///
+    /// [`Error::OutOfMemory`] only. The store is not changed then.
     pub fn pack(&mut self) -> Result<(), Error>
         ensures story { (ws : List Entry) → IsTold self.old ws → IsTold self.new ws }
         ensures oldest { self.new.oldest ≡ self.old.oldest }
@@ -77,7 +85,7 @@ impl<A: Allocator + Clone> Store<A> {
         ensures tables { OnOk result (SameTables self.old.runs self.new.runs) }
         ensures list { (lists : List (List (List Entry))) → RunsHoldLists self.old.runs lists →
             OnOk result (HoldUnion self.new.runs (union_in lists)) }
-        // No fewer runs can do.
+        // No fewer runs are possible.
         ensures least { OnOk result (IsLeastSize range_of self.old.runs (length self.new.runs)) }
         ensures err { OnErr result (self.new ≡ self.old) }
         ensures memory { IfErr result (λ e. e ≡ OutOfMemory) }
@@ -88,8 +96,8 @@ impl<A: Allocator + Clone> Store<A> {
     }
 }
 
-// What is kept of some runs, as one run, or none where nothing is kept; and the counter of ids
-// behind its tables.
+// The run of what is kept of some runs, none if nothing is kept; and the counter of ids after its
+// tables.
 pub(crate) fn compacted<A: Allocator + Clone>(
     alloc: &A,
     runs: &[Arc<Run<Table<A>, A>, A>],
@@ -121,8 +129,8 @@ pub(crate) fn compacted<A: Allocator + Clone>(
     Ok((at_most_one(alloc, run)?, left))
 }
 
-// One run that can be shared, or none. It is generic in what a run is, so that none of its parts is
-// looked at.
+// One run, shared, or none. Generic in the type of a run, so that a proof does not unfold its
+// parts.
 fn at_most_one<T: Drop, A: Allocator + Clone>(
     alloc: &A,
     run: Option<T>,
@@ -139,7 +147,7 @@ fn at_most_one<T: Drop, A: Allocator + Clone>(
     Ok(shared)
 }
 
-// Adds a run that can be shared. It is generic in what a run is, as above.
+// Adds a run, shared. Generic in the type of a run, as above.
 pub(crate) fn push_shared<T: Drop, A: Allocator + Clone>(
     shared: &mut Vec<Arc<T, A>, A>,
     alloc: &A,
@@ -153,7 +161,7 @@ pub(crate) fn push_shared<T: Drop, A: Allocator + Clone>(
     Ok(())
 }
 
-// The tables of some runs in the fewest runs.
+// The tables of some runs in as few runs as possible.
 fn packed<A: Allocator + Clone>(
     alloc: &A,
     runs: &[Arc<Run<Table<A>, A>, A>],
@@ -176,7 +184,7 @@ fn packed<A: Allocator + Clone>(
     share_all(alloc, packed)
 }
 
-// Runs that can be shared. It is generic in what a run is, as above.
+// Runs, shared. Generic in the type of a run, as above.
 fn share_all<T: Drop, A: Allocator + Clone>(
     alloc: &A,
     runs: Vec<T, A>,

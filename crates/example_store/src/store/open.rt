@@ -1,4 +1,4 @@
-//! Opening a store from what was kept of one.
+//! Opening a store from the state of a closed one.
 ghost use Rattle.std.specs.Prelude.{◌≡◌, ◌-◌, ◌^◌, ◌<◌, ◌≤◌, ◌⊎◌, [], IfErr, IfOk, IsOk, List, Ok};
 ghost use Rattle.std.specs.Prelude.{false, length, map, true, ℕ};
 ghost use Rattle.std.specs.List.{AllByRecursion};
@@ -27,7 +27,7 @@ use logpurple::table::{Finding, Table, VerifyError};
 use std::alloc::{AllocError, AllocFailed, Allocator};
 use std::sync::Arc;
 
-/// What is wrong with a file of a store.
+/// A fault of a file of a store.
 #[derive(Debug, Drop)]
 pub enum FileFault {
     /// It does not open as a table.
@@ -36,29 +36,30 @@ pub enum FileFault {
     Unsound(Finding),
     /// It has no entry.
     Empty,
-    /// It has an entry that is numbered as the next write, or above.
+    /// It has an entry with a seqno not below that of the next write.
     TooHigh,
     /// It has a weak tombstone.
     Weak,
 }
 
-/// Why a store is not opened. A run has the place that it has among the runs, a file that in its
-/// run.
+/// Why a store does not open.
+///
+/// A run is named by its index, a file by its index in its run.
 #[derive(Debug, Drop)]
 pub enum OpenError {
-    /// Memory is wanted: nothing is said of the files.
+    /// Out of memory, whatever the files hold.
     OutOfMemory,
-    /// The next write would have the number `u64::MAX`, to which no store comes.
+    /// The next write would have the seqno `u64::MAX`, which no store reaches.
     SeqNoOverflow,
     /// The oldest snapshot is above that of all writes.
     OldestTooHigh,
-    /// The run and the place in it of a file at fault.
+    /// A file at fault, by the index of its run and its index in it.
     File(usize, usize, FileFault),
-    /// A run that has no file.
+    /// A run without files.
     NoFile(usize),
-    /// A run whose files do not stand in the order of their keys.
+    /// A run whose files are not in the order of their keys.
     OutOfOrder(usize),
-    /// Two entries that have one key and one number.
+    /// Two entries that have one key and one seqno.
     Repeated,
 }
 
@@ -85,39 +86,46 @@ impl<T: Drop> From<AllocFailed<T>> for OpenError {
 }
 
 impl<A: Allocator + Clone> Store<A> {
-    /// Opens a store from what [`Store::close`] gave, or from files and numbers of any other
-    /// origin: each file is opened and verified, and all are read together. `limit` and `target`
-    /// are as [`Store::new`] takes them. The files' bytes are shared.
+    /// Opens a store from what [`Store::close`] returned, or from files and counters of any other
+    /// origin.
     ///
-    /// Refused with what is wrong first, in this order: [`OpenError::SeqNoOverflow`] where `next`
-    /// is `u64::MAX`, [`OpenError::OldestTooHigh`] where `oldest` is above `next`; run by run, and
-    /// in a run file by file, a file that does not open, stores no list, has no entry, has one that
-    /// no write below `next` made, or a weak tombstone ([`OpenError::File`]), then a run that has
-    /// no file ([`OpenError::NoFile`]), or whose files overlap or descend
-    /// ([`OpenError::OutOfOrder`]); at last [`OpenError::Repeated`] where two entries of all have
-    /// one key and one number. And [`OpenError::OutOfMemory`].
+    /// Each file is opened and verified, and then all are read together. `limit` and `target` are
+    /// those of [`Store::new`]. The files' bytes are shared.
+    ///
+    /// # Errors
+    ///
+    /// The first fault, in this order:
+    ///
+    /// - [`OpenError::SeqNoOverflow`] if `next` is `u64::MAX`;
+    /// - [`OpenError::OldestTooHigh`] if `oldest` is above `next`;
+    /// - run by run, and in a run file by file, [`OpenError::File`] if a file has a [`FileFault`];
+    /// - after the files of each run, [`OpenError::NoFile`] if it has none, or
+    ///   [`OpenError::OutOfOrder`] if they overlap or descend;
+    /// - [`OpenError::Repeated`] if two entries of all have one key and one seqno.
+    ///
+    /// Each step may fail with [`OpenError::OutOfMemory`].
     pub fn open(
         alloc: A,
         limit: usize,
         target: u64,
         closed: &Closed<A>,
     ) -> Result<Store<A>, OpenError>
-        // It has what was kept, and nothing else.
+        // It has what was closed, and nothing else.
         ensures opened { IfOk result (λ store. IsClosed store closed.now) }
         ensures limit { IfOk result (λ store. store.limit ≡ limit) }
         ensures target { IfOk result (λ store. store.target ≡ target) }
-        // Each file stores a list, and these lists are all that its reads rest on.
+        // Each file stores a list, and its reads rest on these lists alone.
         ensures lists { IfOk result (λ store. (lists : List (List (List Entry))) ×
             StoreLists (files_in closed.now) lists × RunsHoldLists store.runs lists) }
         // The snapshot of all writes is kept.
         ensures kept { IfOk result (λ _. closed.now.oldest ≤ closed.now.next) }
-        // What a store told that was closed, it tells again,
+        // It reads as the history that the closed store read as.
         ensures story { (s : Holding) (ws : List Entry) → IsStore s → IsClosed s closed.now →
             IsTold s ws → IfOk result (λ store. IsTold store ws) }
-        // and that is refused for want of memory alone.
+        // Opening a closed store fails with `OutOfMemory` only.
         ensures taken { (s : Holding) → IsStore s → IsClosed s closed.now →
             IfErr result (λ e. e ≡ OutOfMemory) }
-        // A refusal names what is wrong first, want of memory aside.
+        // Except for `OutOfMemory`, the error names the first fault.
         ensures refused { IfErr result (IsOpenFault closed.now) }
     {
         test_numbers(closed.next, closed.oldest)?;
@@ -138,7 +146,7 @@ impl<A: Allocator + Clone> Store<A> {
     }
 }
 
-// Tests that the next write has a number, and that the snapshot of all writes is kept.
+// Tests that the next write has a seqno, and that the snapshot of all writes is kept.
 fn test_numbers(next: SeqNo, oldest: SeqNo) -> Result<(), OpenError>
     ensures room { IfOk result (λ _. next < 2 ^ 64 - 1) }
     ensures kept { IfOk result (λ _. oldest ≤ next) }
@@ -155,7 +163,7 @@ fn test_numbers(next: SeqNo, oldest: SeqNo) -> Result<(), OpenError>
     Ok(())
 }
 
-// The runs of some files, where each may be a store's.
+// The runs of some files, if each may be a store's.
 fn open_runs<A: Allocator + Clone>(
     alloc: &A,
     files: &[Vec<Slice<A>, A>],
@@ -177,7 +185,7 @@ fn open_runs<A: Allocator + Clone>(
     Ok(runs)
 }
 
-// The run of some files, where it may be a store's.
+// The run of some files, if it may be a store's.
 fn open_run<A: Allocator + Clone>(
     alloc: &A,
     files: &[Slice<A>],
@@ -198,7 +206,7 @@ fn open_run<A: Allocator + Clone>(
     run_of_tables(tables, place)
 }
 
-// The run of some tables, where there are some and they stand in order.
+// The run of some tables, if there are any and they are in order.
 fn run_of_tables<A: Allocator + Clone>(
     tables: Vec<Table<A>, A>,
     place: usize,
@@ -219,7 +227,7 @@ fn run_of_tables<A: Allocator + Clone>(
     Ok(run)
 }
 
-// The table of a file, where it may be a store's. Refusals name the place.
+// The table of a file, if it may be a store's. Errors name its index.
 fn open_file<A: Allocator + Clone>(
     alloc: &A,
     bytes: &Slice<A>,
@@ -237,7 +245,7 @@ fn open_file<A: Allocator + Clone>(
     Ok(table)
 }
 
-// Opens a table, whose checksum is compared by nothing.
+// Opens a table. There is no known checksum to compare with its own.
 fn open_table<A: Allocator + Clone>(
     alloc: A,
     bytes: Slice<A>,
@@ -255,7 +263,7 @@ fn open_table<A: Allocator + Clone>(
     }
 }
 
-// Why a table is not opened that was refused.
+// The error for a table that failed to open.
 fn unopened(error: Error, place: (usize, usize)) -> OpenError
     ensures memory { is_memory error ≡ true → result ≡ OutOfMemory }
     ensures named { is_memory error ≡ false → result ≡ File place.0 place.1 (Unopened error) }
@@ -279,7 +287,7 @@ fn test_table<A: Allocator + Clone>(
         AllByRecursion (IsOwn next) es → IfErr result (λ e. e ≡ OutOfMemory) }
     ensures named { IfErr result (NamesFile next table.now.bytes place.0 place.1) }
 {
-    // What it says of itself is so of the list that it stores.
+    // Its metadata describes the list that it stores.
     table.tells_its_list();
     test_entries(table, place)?;
     if table.get_highest_seqno() >= next {
@@ -317,7 +325,7 @@ fn test_entries<A: Allocator + Clone>(
     }
 }
 
-// Tests that no two entries of some runs have one key and one number.
+// Tests that no two entries of some runs have one key and one seqno.
 fn test_order<A: Allocator + Clone>(
     alloc: &A,
     runs: &[Arc<Run<Table<A>, A>, A>],
@@ -335,7 +343,7 @@ fn test_order<A: Allocator + Clone>(
     match are_strict(alloc, runs) {
         Ok(true) => Ok(()),
         Ok(false) => Err(OpenError::Repeated),
-        // Verified tables refuse to be read for nothing else.
+        // Reading verified tables fails for nothing else.
         Err(_) => Err(OpenError::OutOfMemory),
     }
 }

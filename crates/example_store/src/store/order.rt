@@ -1,4 +1,4 @@
-//! Whether the entries of runs come in strict order together.
+//! Testing that the entries of runs are in strict order together.
 ghost use Rattle.std.specs.Prelude.{◌≡◌, ◌<◌, ◌↔◌, All, IfErr, IfOk, IsTrue, List, Some, length};
 ghost use Rattle.std.specs.Prelude.{map};
 ghost use Rattle.std.specs.Arc.{arc_value};
@@ -16,8 +16,13 @@ use logpurple::table::Table;
 use std::alloc::Allocator;
 use std::sync::Arc;
 
-/// Whether the sorted entries of some runs are in strict order: no key is there twice under one
-/// number. Each table is read once. Refused as its tables' scans are, and for want of memory.
+/// Whether the sorted entries of some runs are in strict order: no key has one seqno twice.
+///
+/// Each table is read once.
+///
+/// # Errors
+///
+/// Those of the scans of its tables, and [`Error::OutOfMemory`].
 pub fn are_strict<A: Allocator + Clone>(
     alloc: &A,
     runs: &[Arc<Run<Table<A>, A>, A>],
@@ -69,9 +74,8 @@ fn scanner_of<A: Allocator + Clone>(run: &Arc<Run<Table<A>, A>, A>) -> Result<Ru
     RunScanner::culled(run.clone()?, (None, None))
 }
 
-// Whether the entries of several sources come strictly one after another, sorted together. It is
-// generic in these, so that none of a scanner's parts is looked at. Refused as they are, and for
-// want of memory.
+// Whether the merged entries of several sources are in strict order. Generic, so that a proof does
+// not unfold a scanner's parts. Fails as the sources do, or with `OutOfMemory`.
 fn come_in_order<I: Iterator<Item = IterItem<A>> + Drop, A: Allocator + Clone>(
     alloc: &A,
     sources: Vec<I, A>,
@@ -89,7 +93,7 @@ fn come_in_order<I: Iterator<Item = IterItem<A>> + Drop, A: Allocator + Clone>(
     comes_in_order(entries)
 }
 
-// Whether each entry of a stream comes strictly after the one before it. Refused as the stream is.
+// Whether each entry of a stream is strictly after the one before it. Fails as the stream does.
 fn comes_in_order<I: Iterator<Item = IterItem<A>> + Drop, A: Allocator>(
     items: I,
 ) -> Result<bool, Error>
@@ -109,7 +113,7 @@ fn comes_in_order<I: Iterator<Item = IterItem<A>> + Drop, A: Allocator>(
     Ok(true)
 }
 
-// Whether an entry may come after the last one. It is the last one then.
+// Whether an entry may follow the last one, which it then replaces.
 fn comes_next<A: Allocator>(last: &mut Option<InternalValue<A>>, item: InternalValue<A>) -> bool
     ensures follows { result ≡ may_follow last.old item }
     ensures last { last.new ≡ Some item }

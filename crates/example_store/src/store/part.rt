@@ -17,12 +17,18 @@ use std::alloc::Allocator;
 use std::sync::Arc;
 
 impl<A: Allocator + Clone> Store<A> {
-    /// Puts one run in the place of those from place `from` on up to place `to`, which is not among
-    /// them, of what readers at the watermark and at later snapshots see of them; older snapshots
-    /// are kept no longer, and a watermark above [`Store::snapshot`] is taken as that. The newest
-    /// run has place 0; a place behind the last run is taken as the end, and where `from` is not
-    /// below `to`, no run is compacted. The other runs and the memtable stay, so tombstones do.
-    /// Refused as [`Store::compact`] is.
+    /// Replaces the runs from index `from` up to `to`, exclusive, by one run of what readers at the
+    /// watermark and at later snapshots see.
+    ///
+    /// The newest run has index 0. An index after the last run counts as the end. If `from` is not
+    /// below `to`, no run is compacted. The other runs and the memtable are not changed, so
+    /// tombstones are kept.
+    ///
+    /// Older snapshots are no longer kept. A watermark above [`Store::snapshot`] counts as that.
+    ///
+    /// # Errors
+    ///
+    /// Those of [`Store::compact`]. The store is not changed then.
     pub fn compact_part(&mut self, from: usize, to: usize, watermark: SeqNo) -> Result<(), Error>
         ensures story { (ws : List Entry) → IsTold self.old ws → IsTold self.new ws }
         ensures oldest { OnOk result
@@ -31,13 +37,14 @@ impl<A: Allocator + Clone> Store<A> {
         ensures limit { self.new.limit ≡ self.old.limit }
         ensures target { self.new.target ≡ self.old.target }
         ensures recent { self.new.recent ≡ self.old.recent }
-        // The part has what is kept of all that it had, the other runs are as they were, and the
-        // counter of ids runs on.
+        // The part has what is kept of all that it had, the other runs are unchanged, and the
+        // counter of ids is after the new tables.
         ensures made { (lists : List (List (List Entry))) →
             RunsHoldLists (part_runs from to self.old.runs) lists →
             OnOk result (IsPartKept from to (min watermark self.old.next) lists self.old self.new) }
         ensures err { OnErr result (self.new ≡ self.old) }
-        // Memory aside, it is refused what writing what is kept of the part as tables is.
+        // Except for `OutOfMemory`, the error is that of writing what is kept of the part as
+        // tables.
         ensures refused { (lists : List (List (List Entry))) →
             RunsHoldLists (part_runs from to self.old.runs) lists →
             IfErr result (λ e. is_memory e ≡ false →
@@ -60,7 +67,7 @@ impl<A: Allocator + Clone> Store<A> {
     }
 }
 
-// The runs in front of a part, the part and the runs behind it.
+// The runs before a part, the part, and the runs after it.
 fn cut_out<A: Allocator>(
     runs: &[Arc<Run<Table<A>, A>, A>],
     from: usize,
@@ -79,8 +86,8 @@ fn cut_out<A: Allocator>(
     (front, part, behind)
 }
 
-// Shares runs behind others. It is generic in what a run is, so that none of its parts is looked
-// at.
+// Adds runs, shared, after others. Generic in the type of a run, so that a proof does not unfold
+// its parts.
 fn share_behind<T: Drop, A: Allocator>(
     shared: &mut Vec<Arc<T, A>, A>,
     runs: &[Arc<T, A>],
@@ -95,7 +102,7 @@ fn share_behind<T: Drop, A: Allocator>(
     Ok(())
 }
 
-// Runs side by side, shared.
+// Adjacent runs, shared.
 fn side_by_side<T: Drop, A: Allocator + Clone>(
     alloc: &A,
     front: &[Arc<T, A>],
@@ -111,7 +118,7 @@ fn side_by_side<T: Drop, A: Allocator + Clone>(
     Ok(runs)
 }
 
-// Shares three parts, one behind another, which may be refused each.
+// Adds three parts, shared, one after another; each may fail.
 fn share_three<T: Drop, A: Allocator>(
     shared: &mut Vec<Arc<T, A>, A>,
     front: &[Arc<T, A>],

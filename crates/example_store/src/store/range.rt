@@ -17,26 +17,32 @@ use std::ops::Bound;
 use std::sync::Arc;
 use std::vec::IntoIter;
 
-/// The newest entry of each key that a snapshot sees, from both ends: what [`Store::range`] gives.
+/// The stream that [`Store::range`] returns: the newest version of each key visible at a snapshot,
+/// from both ends.
 pub type Range<A> = NewestOfSourcesAt<IntoIter<IterItem<A>, A>, A>;
 
 impl<A: Allocator + Clone> Store<A> {
-    /// The newest entry of each key within two bounds that a snapshot sees, from both ends; that of
-    /// a key that was deleted last is a tombstone, or is not there. Refused for want of memory
-    /// alone.
+    /// Returns the newest version of each key within two bounds visible at `snapshot`, from both
+    /// ends.
+    ///
+    /// For a key that was deleted last it yields a tombstone, or nothing.
+    ///
+    /// # Errors
+    ///
+    /// [`Error::OutOfMemory`] only.
     pub fn range(
         &self,
         bounds: (Bound<UserKey<A>>, Bound<UserKey<A>>),
         snapshot: SeqNo,
     ) -> Result<Range<A>, Error>
-        // At a snapshot that is kept, what it shows is what the writes say.
+        // At a snapshot that is kept, it shows what the history of writes says.
         ensures told { let gives = ⟦<Range<A> as Iterator>⟧.next_gives in
             let back_gives = ⟦<Range<A> as DoubleEndedIterator>⟧.next_back_gives in
             (ws : List Entry) → IsTold self.now ws → self.now.oldest ≤ snapshot →
             IfOk result (λ s. (es : List Entry) × DealsList gives back_gives es s ×
             (all_shown es ≡ all_shown (newest (numbered_below snapshot
             (within bounds.0 bounds.1 (sort_entries ws)))))) }
-        // At any it deals what the memtable and the tables' lists have.
+        // At any snapshot, it yields the entries of the memtable and of the tables' lists.
         ensures read { let gives = ⟦<Range<A> as Iterator>⟧.next_gives in
             let back_gives = ⟦<Range<A> as DoubleEndedIterator>⟧.next_back_gives in
             (lists : List (List (List Entry))) → RunsHoldLists self.now.runs lists →
@@ -52,8 +58,8 @@ impl<A: Allocator + Clone> Store<A> {
     }
 }
 
-// What runs and one further source have at a snapshot; the source, of what lies within the bounds,
-// may have been refused. It is generic in it, so that none of its parts is looked at.
+// A range at a snapshot over runs and one further source within the bounds, which may have failed.
+// Generic in the source, so that a proof does not unfold its parts.
 fn range_beside<S: DoubleEndedIterator<Item = IterItem<A>> + Drop, A: Allocator + Clone>(
     alloc: &A,
     runs: &[Arc<Run<Table<A>, A>, A>],
@@ -82,7 +88,7 @@ fn range_beside<S: DoubleEndedIterator<Item = IterItem<A>> + Drop, A: Allocator 
     range_sources_at(alloc, runs, sources, bounds, snapshot)
 }
 
-// A list of one source, and an allocator beside it.
+// A list of one source, and an allocator with it.
 fn one_source<S: Drop, A: Allocator + Clone>(
     alloc: &A,
     source: Result<S, Error>,
