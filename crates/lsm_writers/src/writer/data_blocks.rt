@@ -77,11 +77,11 @@ impl<A: Allocator + Clone> DataBlocks<A> {
         })
     }
 
-    /// The entries of the last block, of which the last is that of all blocks.
+    /// Returns the entries of the last block; its last entry is the last of all blocks.
     #[inline]
     pub(crate) fn last_block(&self) -> &BlockBuffer<A>
         ensures last { last_of None result.now ≡ last_of None (joined self.now.chunks) }
-        // Each entry has bytes of its own, so there are fewer than can be counted.
+        // Each entry takes `entry_head_len` bytes or more, so a `u64` can count them.
         ensures few { entry_head_len * length (joined self.now.chunks) < 2 ^ 64 }
     {
         &self.last_block

@@ -81,8 +81,8 @@ pub(crate) fn starts_key(before: Option<EntryRef<'_>>, entry: &EntryRef<'_>) -> 
     }
 }
 
-/// Whether two keys are the same. Their last bytes are compared first: neighbours share their
-/// first bytes and mostly differ there.
+/// Returns whether two keys are the same. The last bytes are compared first, because neighbours
+/// mostly differ there.
 #[inline]
 fn is_same_key(key: &[u8], other: &[u8]) -> bool
     ensures { result ≡ same_key key.now other.now }
@@ -90,7 +90,7 @@ fn is_same_key(key: &[u8], other: &[u8]) -> bool
     key.last() == other.last() && key == other
 }
 
-/// Whether an entry is a value directly after a weak tombstone of its key.
+/// Returns whether an entry is a value directly after a weak tombstone of its key.
 fn is_reclaimable(before: Option<EntryRef<'_>>, entry: &EntryRef<'_>) -> bool
     ensures { let e = entry_of_ref entry.now in
         result ≡ is_reclaimable (option_map entry_of_ref before.entry) e }
