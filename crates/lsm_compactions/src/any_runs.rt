@@ -1,18 +1,6 @@
 //! Compacting several runs of tables that were not verified.
 ghost use Rattle.std.specs.Prelude.{◌≡◌, ◌≢◌, ◌⊎◌, false, IfErr, IfOk, IsErrAnd, List, None, map};
-ghost use Rattle.std.specs.Arc.{arc_value};
-ghost use Rattle.sst_entries.specs.declared.error.Error.TheVariants.{OutOfMemory};
-ghost use Rattle.std.specs.List.{AllByRecursion};
-ghost use Rattle.sst_entries.specs.Error.{is_memory};
-ghost use Rattle.sst_entries.specs.Stream.{ok_results};
-ghost use Rattle.lsm_merge.specs.InPlace.{merge_of};
-ghost use Rattle.lsm_merge.specs.Union.{Ascends, entries_among};
-ghost use Rattle.lsm_lending.specs.LentCompaction.{lent_outs};
-ghost use Rattle.lsm_compactions.specs.Words.{AreCompactable, AreTablesBy, BeginsWith};
-ghost use Rattle.lsm_compactions.specs.Words.{CameInOrder, CameOf, Entry, Faults, FitsBy};
-ghost use Rattle.lsm_compactions.specs.Words.{GoesThrough, HasMade, HaveEntries, IsFreshRun};
-ghost use Rattle.lsm_compactions.specs.Words.{RefusesOf, RunsHoldLists, first_blocks_fault, kept_in};
-ghost use Rattle.lsm_compactions.specs.Words.{scans_of, writes_fault};
+ghost use Rattle.lsm_compactions.specs.Words as spec;
 
 use crate::{NoObserver, compact_any_runs_with};
 use lsm_ranges::Run;
@@ -61,46 +49,50 @@ pub fn compact_any_runs<A: Allocator + Clone>(
     rules: Rules,
     writer: MultiWriter<A>,
 ) -> Result<CompactionOutcome<A>, Error>
-    requires fresh { IsFreshRun writer }
+    requires fresh { spec.IsFreshRun writer }
     // For compactable runs, the tables are those of what is kept of all entries, as the writer cuts
     // them: the entries come in order.
-    ensures tables { AreCompactable (map arc_value runs.now) →
-        (lists : List (List (List Entry))) → RunsHoldLists (map arc_value runs.now) lists →
-        IfOk result (AreTablesBy writer (kept_in rules lists)) }
+    ensures tables { spec.AreCompactable (map spec.arc_value runs.now) →
+        (lists : List (List (List spec.Entry))) →
+        spec.RunsHoldLists (map spec.arc_value runs.now) lists →
+        IfOk result (spec.AreTablesBy writer (spec.kept_in rules lists)) }
     // The error is the writer's first one: reading fails with `OutOfMemory` only.
-    ensures refused { AreCompactable (map arc_value runs.now) →
-        (lists : List (List (List Entry))) → RunsHoldLists (map arc_value runs.now) lists →
-        Faults result (writes_fault writer (kept_in rules lists)) }
+    ensures refused { spec.AreCompactable (map spec.arc_value runs.now) →
+        (lists : List (List (List spec.Entry))) →
+        spec.RunsHoldLists (map spec.arc_value runs.now) lists →
+        spec.Faults result (spec.writes_fault writer (spec.kept_in rules lists)) }
     // If the tables fit and enough ids remain, the only error is `OutOfMemory`.
-    ensures taken { AreCompactable (map arc_value runs.now) →
-        (lists : List (List (List Entry))) → RunsHoldLists (map arc_value runs.now) lists →
-        FitsBy writer (kept_in rules lists) → IfErr result (λ e. e ≡ OutOfMemory) }
+    ensures taken { spec.AreCompactable (map spec.arc_value runs.now) →
+        (lists : List (List (List spec.Entry))) →
+        spec.RunsHoldLists (map spec.arc_value runs.now) lists →
+        spec.FitsBy writer (spec.kept_in rules lists) → IfErr result (λ e. e ≡ spec.OutOfMemory) }
     // For tables of lists that have entries, also if a key has one seqno twice: the tables are
     // those of what is kept. It ends out of order at the first kept entry that may not follow.
-    ensures merged { (lists : List (List (List Entry))) →
-        RunsHoldLists (map arc_value runs.now) lists → AllByRecursion HaveEntries lists →
-        IfOk result (CameInOrder writer (kept_in rules lists)) }
+    ensures merged { (lists : List (List (List spec.Entry))) →
+        spec.RunsHoldLists (map spec.arc_value runs.now) lists →
+        spec.AllByRecursion spec.HaveEntries lists →
+        IfOk result (spec.CameInOrder writer (spec.kept_in rules lists)) }
     // For such tables, except for `OutOfMemory`, the error is the first one of writing these, as
     // long as they come in order.
-    ensures faulted { (lists : List (List (List Entry))) →
-        RunsHoldLists (map arc_value runs.now) lists → AllByRecursion HaveEntries lists →
-        IfErr result (λ e. is_memory e ≡ false →
-        RefusesOf writer (ok_results (kept_in rules lists)) e) }
+    ensures faulted { (lists : List (List (List spec.Entry))) →
+        spec.RunsHoldLists (map spec.arc_value runs.now) lists →
+        spec.AllByRecursion spec.HaveEntries lists → IfErr result (λ e. spec.is_memory e ≡ false →
+        spec.RefusesOf writer (spec.ok_results (spec.kept_in rules lists)) e) }
     // For any tables whose scans come in order in each run, it is the result of writing what is
     // kept of the merged scans, the first error in its position. Or it is the error of the first
     // run whose first data block cannot be loaded.
-    ensures any { let scans = scans_of (map arc_value runs.now) in
-        AllByRecursion (λ rs. Ascends (entries_among rs)) scans →
-        CameOf writer (lent_outs rules (merge_of scans)) result
-        ⊎ IsErrAnd result (BeginsWith (map arc_value runs.now)) }
+    ensures any { let scans = spec.scans_of (map spec.arc_value runs.now) in
+        spec.AllByRecursion (λ rs. spec.Ascends (spec.entries_among rs)) scans →
+        spec.CameOf writer (spec.lent_outs rules (spec.merge_of scans)) result
+        ⊎ IsErrAnd result (spec.BeginsWith (map spec.arc_value runs.now)) }
     // The first data block of each run is loaded before anything is written, in their order. If one
     // cannot be loaded, that is the error, except for `OutOfMemory`.
-    ensures opens { let first = first_blocks_fault (map arc_value runs.now) in first ≢ None →
-        Faults result first }
+    ensures opens { let first = spec.first_blocks_fault (map spec.arc_value runs.now) in
+        first ≢ None → spec.Faults result first }
     // For any tables, those that are made are of a list that can be written.
-    ensures made { IfOk result (HasMade writer) }
+    ensures made { IfOk result (spec.HasMade writer) }
     // No observer stops it.
-    ensures through { IfOk result GoesThrough }
+    ensures through { IfOk result spec.GoesThrough }
 {
     let mut observer = NoObserver;
     let (outcome, _) = compact_any_runs_with(

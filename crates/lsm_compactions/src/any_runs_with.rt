@@ -1,37 +1,7 @@
 //! Compacting several runs of any tables, with a filter, a callback and an observer.
 ghost use Rattle.std.specs.Prelude.{◌≡◌, ◌≢◌, ◌⊎◌, ◌++◌, ◌∷◌, [], All, false, true, Err, IfErr};
 ghost use Rattle.std.specs.Prelude.{IfOk, IsTrue, List, MatchResult, None, Ok, OnErr, OnOk, map};
-ghost use Rattle.std.specs.Arc.{arc_value};
-ghost use Rattle.std.specs.List.{AllByRecursion, AllZip};
-ghost use Rattle.sst_entries.specs.declared.error.Error.{Error};
-ghost use Rattle.sst_entries.specs.declared.error.Error.TheVariants.{OutOfMemory};
-ghost use Rattle.sst_entries.specs.Error.{is_memory};
-ghost use Rattle.sst_entries.specs.Lending.{entry_of_ref};
-ghost use Rattle.sst_entries.specs.Stream.{ok_results};
-ghost use Rattle.lsm_merge.specs.Ends.{R};
-ghost use Rattle.lsm_merge.specs.InPlace.{merge_of};
-ghost use Rattle.lsm_merge.specs.Union.{Ascends, entries_among};
-ghost use Rattle.lsm_lending.specs.LentCompaction.{lent_callback, lent_filter};
-ghost use Rattle.lsm_writers.specs.Tables.{all_written, took, took_fault};
-ghost use Rattle.lsm_writers.specs.Writing.{may_be_written};
-ghost use Rattle.lsm_compactions.specs.declared.any_runs.CompactionOutcome.TheVariants.{
-  OutOfOrder,
-  Stopped,
-};
-ghost use Rattle.lsm_compactions.specs.declared.any_runs_with.Ending.TheVariants.{
-  AtDisorder,
-  AtEnd,
-  AtStop,
-};
-ghost use Rattle.lsm_compactions.specs.Words.{AreCompactable, AreMergeable, AreTablesBy};
-ghost use Rattle.lsm_compactions.specs.Words.{BeginsWith, CameTo, CameUntil, CameUpTo, CanDeal};
-ghost use Rattle.lsm_compactions.specs.Words.{CompactsAs, DealTogether, DealsResults, Entry};
-ghost use Rattle.lsm_compactions.specs.Words.{Faults, FitsKept, FitsThroughout, HasBegun, HasMade};
-ghost use Rattle.lsm_compactions.specs.Words.{HaveEntries, IsCounted, IsFreshRun, IsWritten, RefusesBy};
-ghost use Rattle.lsm_compactions.specs.Words.{RefusesForMemory, RefusesWritten, RunsHoldLists};
-ghost use Rattle.lsm_compactions.specs.Words.{RunsOn, TablesWriting, TellsNext, TookList, WasTold};
-ghost use Rattle.lsm_compactions.specs.Words.{WasToldUntil, WroteUntil, first_blocks_fault};
-ghost use Rattle.lsm_compactions.specs.Words.{joined, nowhere, scans_of, union_in, writes_fault};
+ghost use Rattle.lsm_compactions.specs.Words as spec;
 
 use crate::compact::{Compacted, finished, scanners_of};
 use crate::{CompactionObserver, CompactionOutcome, CompactionProgress};
@@ -65,18 +35,21 @@ fn write_and_tell<O: CompactionObserver, A: Allocator + Clone>(
     progress: &mut CompactionProgress,
     observer: &mut O,
 ) -> Result<bool, Error>
-    requires { let e = entry_of_ref entry.now in
-        IsTrue (may_be_written (all_written writer.old) e.user_key e.seqno) }
-    ensures ok { OnOk result (writer.new ≡ took writer.old (entry_of_ref entry.now)) }
+    requires { let e = spec.entry_of_ref entry.now in
+        IsTrue (spec.may_be_written (spec.all_written writer.old) e.user_key e.seqno) }
+    ensures ok { OnOk result (writer.new ≡ spec.took writer.old (spec.entry_of_ref entry.now)) }
     // After an error the observer was not called.
     ensures still { OnErr result (observer.new ≡ observer.old) }
     ensures listed { OnOk result
-        (all_written writer.new ≡ all_written writer.old ++ entry_of_ref entry.now ∷ []) }
-    ensures refused { Faults result (took_fault writer.old (entry_of_ref entry.now)) }
-    ensures counts { IsCounted progress.old writer.old → HasBegun writer.old →
-        OnOk result (IsCounted progress.new writer.new) }
-    ensures told { IsCounted progress.old writer.old → HasBegun writer.old → IfOk result (λ goes.
-        TellsNext O.says writer.old writer.new observer.old goes observer.new) }
+        (spec.all_written writer.new ≡ spec.all_written writer.old ++ spec.entry_of_ref entry.now
+        ∷ []) }
+    ensures refused { spec.Faults result
+        (spec.took_fault writer.old (spec.entry_of_ref entry.now)) }
+    ensures counts { spec.IsCounted progress.old writer.old → spec.HasBegun writer.old →
+        OnOk result (spec.IsCounted progress.new writer.new) }
+    ensures told { spec.IsCounted progress.old writer.old → spec.HasBegun writer.old →
+        IfOk result (λ goes.
+        spec.TellsNext O.says writer.old writer.new observer.old goes observer.new) }
 {
     let ids = writer.table_ids();
     writer.write_ref(entry)?;
@@ -104,12 +77,12 @@ fn write_while_observed<L: Lending, O: CompactionObserver, A: Allocator + Clone>
     writer: &mut MultiWriter<A>,
     observer: &mut O,
 ) -> Result<Ending, Error>
-    requires fresh { IsFreshRun writer.old }
-    requires can { CanDeal L.advances nowhere L.can_advance L.can_advance source.old }
-    ensures took { OnOk result (TookList writer.old (all_written writer.new) writer.new) }
-    ensures wrote { IfOk result (λ ending. WroteUntil L.advances writer.old source.old O.says
-        observer.old (all_written writer.new) ending source.new observer.new) }
-    ensures refused { IfErr result (λ e. RefusesWritten L.advances writer.old source.old O.says
+    requires fresh { spec.IsFreshRun writer.old }
+    requires can { spec.CanDeal L.advances spec.nowhere L.can_advance L.can_advance source.old }
+    ensures took { OnOk result (spec.TookList writer.old (spec.all_written writer.new) writer.new) }
+    ensures wrote { IfOk result (λ ending. spec.WroteUntil L.advances writer.old source.old O.says
+        observer.old (spec.all_written writer.new) ending source.new observer.new) }
+    ensures refused { IfErr result (λ e. spec.RefusesWritten L.advances writer.old source.old O.says
         observer.old e observer.new) }
 {
     let mut progress = CompactionProgress {
@@ -136,13 +109,14 @@ fn ended<A: Allocator + Clone>(
     writer: MultiWriter<A>,
     ending: Result<Ending, Error>,
 ) -> Result<CompactionOutcome<A>, Error>
-    ensures tables { ending ≡ Ok AtEnd → (w : TablesWriting) (es : List Entry) → IsFreshRun w →
-        RunsOn w → TookList w es writer → IfOk result (AreTablesBy w es) }
-    ensures refused { ending ≡ Ok AtEnd → (w : TablesWriting) (es : List Entry) →
-        TookList w es writer → Faults result (writes_fault w es) }
-    ensures disorder { ending ≡ Ok AtDisorder → result ≡ Ok OutOfOrder }
-    ensures stop { ending ≡ Ok AtStop → result ≡ Ok Stopped }
-    ensures passed { (e : Error) → ending ≡ Err e → result ≡ Err e }
+    ensures tables { ending ≡ Ok spec.AtEnd → (w : spec.TablesWriting) (es : List spec.Entry) →
+        spec.IsFreshRun w →
+        spec.RunsOn w → spec.TookList w es writer → IfOk result (spec.AreTablesBy w es) }
+    ensures refused { ending ≡ Ok spec.AtEnd → (w : spec.TablesWriting) (es : List spec.Entry) →
+        spec.TookList w es writer → spec.Faults result (spec.writes_fault w es) }
+    ensures disorder { ending ≡ Ok spec.AtDisorder → result ≡ Ok spec.OutOfOrder }
+    ensures stop { ending ≡ Ok spec.AtStop → result ≡ Ok spec.Stopped }
+    ensures passed { (e : spec.Error) → ending ≡ Err e → result ≡ Err e }
 {
     match ending {
         Ok(Ending::AtEnd) => {
@@ -177,19 +151,19 @@ fn write_observed<
     mut writer: MultiWriter<A>,
     observer: &mut O,
 ) -> Result<CompactionOutcome<A>, Error>
-    requires fresh { IsFreshRun writer }
-    requires next { RunsOn writer }
-    requires can { CanDeal ⟦<Compacted<L, F, C, A> as Lending>⟧.advances nowhere
+    requires fresh { spec.IsFreshRun writer }
+    requires next { spec.RunsOn writer }
+    requires can { spec.CanDeal ⟦<Compacted<L, F, C, A> as Lending>⟧.advances spec.nowhere
         ⟦<Compacted<L, F, C, A> as Lending>⟧.can_advance
         ⟦<Compacted<L, F, C, A> as Lending>⟧.can_advance source.old }
     ensures written { let next = ⟦<Compacted<L, F, C, A> as Lending>⟧.advances in
         IfOk result (λ r.
-        IsWritten next writer source.old O.says observer.old r source.new observer.new) }
-    ensures made { IfOk result (HasMade writer) }
-    ensures told { IfOk result (λ r. WasTold O.says writer r observer.old observer.new) }
+        spec.IsWritten next writer source.old O.says observer.old r source.new observer.new) }
+    ensures made { IfOk result (spec.HasMade writer) }
+    ensures told { IfOk result (λ r. spec.WasTold O.says writer r observer.old observer.new) }
     ensures refused { let next = ⟦<Compacted<L, F, C, A> as Lending>⟧.advances in
         IfErr result (λ e.
-        RefusesWritten next writer source.old O.says observer.old e observer.new) }
+        spec.RefusesWritten next writer source.old O.says observer.old e observer.new) }
 {
     let ending = write_while_observed(source, &mut writer, observer);
     ended(writer, ending)
@@ -209,23 +183,24 @@ fn compacted_from<
     filter: F,
     callback: C,
 ) -> Result<Compacted<L, F, C, A>, Error>
-    ensures can { All (CanDeal L.advances nowhere L.can_advance L.can_advance) sources.items →
-        IfOk result (CanDeal ⟦<Compacted<L, F, C, A> as Lending>⟧.advances nowhere
+    ensures can { All (spec.CanDeal L.advances spec.nowhere L.can_advance L.can_advance)
+        sources.items →
+        IfOk result (spec.CanDeal ⟦<Compacted<L, F, C, A> as Lending>⟧.advances spec.nowhere
         ⟦<Compacted<L, F, C, A> as Lending>⟧.can_advance
         ⟦<Compacted<L, F, C, A> as Lending>⟧.can_advance) }
     ensures list { let next = ⟦<Compacted<L, F, C, A> as Lending>⟧.advances in
-        (lists : List (List (List Entry))) →
-        DealTogether L.advances nowhere sources.items (map joined lists) →
-        IfOk result (λ s. CompactsAs F.gives C.gets rules filter callback
-        (ok_results (union_in lists)) next s lent_filter lent_callback) }
+        (lists : List (List (List spec.Entry))) →
+        spec.DealTogether L.advances spec.nowhere sources.items (map spec.joined lists) →
+        IfOk result (λ s. spec.CompactsAs F.gives C.gets rules filter callback
+        (spec.ok_results (spec.union_in lists)) next s spec.lent_filter spec.lent_callback) }
     // For any results that come in order from each source, it compacts their merge.
     ensures any { let next = ⟦<Compacted<L, F, C, A> as Lending>⟧.advances in
-        (lists : List (List R)) →
-        AllZip (λ s rs. DealsResults L.advances rs s) sources.items lists →
-        AllByRecursion (λ rs. Ascends (entries_among rs)) lists →
-        IfOk result (λ s. CompactsAs F.gives C.gets rules filter callback (merge_of lists) next s
-        lent_filter lent_callback) }
-    ensures err { IfErr result (λ e. e ≡ OutOfMemory) }
+        (lists : List (List spec.R)) →
+        spec.AllZip (λ s rs. spec.DealsResults L.advances rs s) sources.items lists →
+        spec.AllByRecursion (λ rs. spec.Ascends (spec.entries_among rs)) lists →
+        IfOk result (λ s. spec.CompactsAs F.gives C.gets rules filter callback (spec.merge_of lists)
+        next s spec.lent_filter spec.lent_callback) }
+    ensures err { IfErr result (λ e. e ≡ spec.OutOfMemory) }
 {
     let own = alloc.clone()?;
     let merger = LendingMerger::new(own, sources)?;
@@ -240,25 +215,26 @@ fn compacted_of<F: LentFilter<A> + Drop, C: LentCallback + Drop, A: Allocator + 
     filter: F,
     callback: C,
 ) -> Result<Compacted<RunScanner<A>, F, C, A>, Error>
-    ensures can { IfOk result (CanDeal
-        ⟦<Compacted<RunScanner<A>, F, C, A> as Lending>⟧.advances nowhere
+    ensures can { IfOk result (spec.CanDeal
+        ⟦<Compacted<RunScanner<A>, F, C, A> as Lending>⟧.advances spec.nowhere
         ⟦<Compacted<RunScanner<A>, F, C, A> as Lending>⟧.can_advance
         ⟦<Compacted<RunScanner<A>, F, C, A> as Lending>⟧.can_advance) }
     ensures list { let next = ⟦<Compacted<RunScanner<A>, F, C, A> as Lending>⟧.advances in
-        (able : AreMergeable (map arc_value runs.now)) →
-        IfOk result (λ s. CompactsAs F.gives C.gets rules filter callback
-        (ok_results (union_in able.lists)) next s lent_filter lent_callback) }
-    ensures err { AreMergeable (map arc_value runs.now) → IfErr result (λ e. e ≡ OutOfMemory) }
+        (able : spec.AreMergeable (map spec.arc_value runs.now)) →
+        IfOk result (λ s. spec.CompactsAs F.gives C.gets rules filter callback
+        (spec.ok_results (spec.union_in able.lists)) next s spec.lent_filter spec.lent_callback) }
+    ensures err { spec.AreMergeable (map spec.arc_value runs.now) →
+        IfErr result (λ e. e ≡ spec.OutOfMemory) }
     // For any tables whose scans come in order in each run, it compacts their merge.
     ensures any { let next = ⟦<Compacted<RunScanner<A>, F, C, A> as Lending>⟧.advances in
-        let scans = scans_of (map arc_value runs.now) in
-        AllByRecursion (λ rs. Ascends (entries_among rs)) scans →
-        IfOk result (λ s. CompactsAs F.gives C.gets rules filter callback (merge_of scans) next s
-        lent_filter lent_callback) }
-    ensures told { IfErr result (λ e. is_memory e ≡ false →
-        BeginsWith (map arc_value runs.now) e) }
+        let scans = spec.scans_of (map spec.arc_value runs.now) in
+        spec.AllByRecursion (λ rs. spec.Ascends (spec.entries_among rs)) scans →
+        IfOk result (λ s. spec.CompactsAs F.gives C.gets rules filter callback (spec.merge_of scans)
+        next s spec.lent_filter spec.lent_callback) }
+    ensures told { IfErr result (λ e. spec.is_memory e ≡ false →
+        spec.BeginsWith (map spec.arc_value runs.now) e) }
     // The first data block of each run is loaded.
-    ensures opens { Faults result (first_blocks_fault (map arc_value runs.now)) }
+    ensures opens { spec.Faults result (spec.first_blocks_fault (map spec.arc_value runs.now)) }
 {
     let scanners = scanners_of(alloc.clone()?, runs)?;
     compacted_from(alloc, scanners, rules, filter, callback)
@@ -295,65 +271,69 @@ pub fn compact_any_runs_with<
     callback: C,
     observer: &mut O,
 ) -> Result<(CompactionOutcome<A>, C), Error>
-    requires fresh { IsFreshRun writer }
+    requires fresh { spec.IsFreshRun writer }
     // For compactable runs, the tables are those of what the filter and the rules keep of all
     // entries, as the writer cuts them. The callback got what is then reported; if it was stopped,
     // what was reported until then.
-    ensures kept { AreCompactable (map arc_value runs.now) →
-        (lists : List (List (List Entry))) → RunsHoldLists (map arc_value runs.now) lists →
-        IfOk result (λ r.
-        CameTo F.gives C.gets rules filter callback (union_in lists) writer r.0 r.1) }
+    ensures kept { spec.AreCompactable (map spec.arc_value runs.now) →
+        (lists : List (List (List spec.Entry))) →
+        spec.RunsHoldLists (map spec.arc_value runs.now) lists → IfOk result (λ r.
+        spec.CameTo F.gives C.gets rules filter callback (spec.union_in lists) writer r.0 r.1) }
     // For tables of lists that have entries, also if a key has one seqno twice: the outcome is the
     // tables of all that is kept. Or it ends at the first kept entry that may not follow, or as
     // soon as the observer returns so. The callback got what is reported until then, and the
     // observer was called for what was written.
-    ensures merged { (lists : List (List (List Entry))) →
-        RunsHoldLists (map arc_value runs.now) lists → AllByRecursion HaveEntries lists →
-        IfOk result (λ r. CameUpTo F.gives C.gets rules filter callback
-        (ok_results (union_in lists)) writer O.says observer.old r.0 r.1 observer.new) }
+    ensures merged { (lists : List (List (List spec.Entry))) →
+        spec.RunsHoldLists (map spec.arc_value runs.now) lists →
+        spec.AllByRecursion spec.HaveEntries lists →
+        IfOk result (λ r. spec.CameUpTo F.gives C.gets rules filter callback
+        (spec.ok_results (spec.union_in lists)) writer O.says observer.old r.0 r.1 observer.new) }
     // For any tables whose scans come in order in each run, it is the outcome of their merge, each
     // error in its position. Or it is the error of the first run whose first data block cannot be
     // loaded.
-    ensures any { let scans = scans_of (map arc_value runs.now) in
-        AllByRecursion (λ rs. Ascends (entries_among rs)) scans → MatchResult result
-        (λ r. CameUpTo F.gives C.gets rules filter callback (merge_of scans) writer O.says
+    ensures any { let scans = spec.scans_of (map spec.arc_value runs.now) in
+        spec.AllByRecursion (λ rs. spec.Ascends (spec.entries_among rs)) scans → MatchResult result
+        (λ r. spec.CameUpTo F.gives C.gets rules filter callback (spec.merge_of scans) writer O.says
         observer.old r.0 r.1 observer.new)
-        (λ e. CameUntil F.gives C.gets rules filter callback (merge_of scans) writer O.says
-        observer.old e observer.new ⊎ BeginsWith (map arc_value runs.now) e) }
+        (λ e. spec.CameUntil F.gives C.gets rules filter callback (spec.merge_of scans) writer
+        O.says observer.old e observer.new ⊎ spec.BeginsWith (map spec.arc_value runs.now) e) }
     // Except for `OutOfMemory`, the error is that of the first run whose first data block cannot be
     // loaded, if there is one. The observer is not called then.
-    ensures opens { let first = first_blocks_fault (map arc_value runs.now) in first ≢ None →
-        Faults result first × (observer.new ≡ observer.old) }
+    ensures opens { let first = spec.first_blocks_fault (map spec.arc_value runs.now) in
+        first ≢ None → spec.Faults result first × (observer.new ≡ observer.old) }
     // For any tables, those that are made are of a list that can be written.
-    ensures made { IfOk result (λ r. HasMade writer r.0) }
+    ensures made { IfOk result (λ r. spec.HasMade writer r.0) }
     // The observer was called for each table but the last, in their order. The compaction stops
     // exactly when the observer returns so, at once.
-    ensures told { IfOk result (λ r. WasTold O.says writer r.0 observer.old observer.new) }
+    ensures told { IfOk result (λ r. spec.WasTold O.says writer r.0 observer.old observer.new) }
     // On an error, it was called for the tables that were finished until then.
-    ensures heard { IfErr result (λ _. WasToldUntil O.says writer observer.old observer.new) }
+    ensures heard { IfErr result (λ _. spec.WasToldUntil O.says writer observer.old observer.new) }
     // These are the tables of what was kept until then; after it comes the error, except for
     // `OutOfMemory`.
-    ensures until { (lists : List (List (List Entry))) →
-        RunsHoldLists (map arc_value runs.now) lists → AllByRecursion HaveEntries lists →
-        IfErr result (λ e. CameUntil F.gives C.gets rules filter callback
-        (ok_results (union_in lists)) writer O.says observer.old e observer.new) }
+    ensures until { (lists : List (List (List spec.Entry))) →
+        spec.RunsHoldLists (map spec.arc_value runs.now) lists →
+        spec.AllByRecursion spec.HaveEntries lists →
+        IfErr result (λ e. spec.CameUntil F.gives C.gets rules filter callback
+        (spec.ok_results (spec.union_in lists)) writer O.says observer.old e observer.new) }
     // Except for `OutOfMemory`, the error is the first one, of the filter or of the writer.
-    ensures refused { (lists : List (List (List Entry))) →
-        RunsHoldLists (map arc_value runs.now) lists → AllByRecursion HaveEntries lists →
-        IfErr result (λ e. is_memory e ≡ false →
-        RefusesBy F.gives C.gets rules filter callback (ok_results (union_in lists)) writer e) }
+    ensures refused { (lists : List (List (List spec.Entry))) →
+        spec.RunsHoldLists (map spec.arc_value runs.now) lists →
+        spec.AllByRecursion spec.HaveEntries lists → IfErr result (λ e. spec.is_memory e ≡ false →
+        spec.RefusesBy F.gives C.gets rules filter callback (spec.ok_results (spec.union_in lists))
+        writer e) }
     // If the filter fails with `OutOfMemory` only, and whatever may be kept fits as tables with
     // enough ids left, the compaction fails with `OutOfMemory` only.
-    ensures taken { AreCompactable (map arc_value runs.now) →
-        (lists : List (List (List Entry))) → RunsHoldLists (map arc_value runs.now) lists →
-        RefusesForMemory F.gives → FitsKept writer rules (union_in lists) →
-        IfErr result (λ e. e ≡ OutOfMemory) }
+    ensures taken { spec.AreCompactable (map spec.arc_value runs.now) →
+        (lists : List (List (List spec.Entry))) →
+        spec.RunsHoldLists (map spec.arc_value runs.now) lists →
+        spec.RefusesForMemory F.gives → spec.FitsKept writer rules (spec.union_in lists) →
+        IfErr result (λ e. e ≡ spec.OutOfMemory) }
     // It is enough that what this filter keeps fits, whatever another filter might keep.
-    ensures fits { AreCompactable (map arc_value runs.now) →
-        (lists : List (List (List Entry))) → RunsHoldLists (map arc_value runs.now) lists →
-        RefusesForMemory F.gives →
-        FitsThroughout F.gives C.gets rules filter callback (union_in lists) writer →
-        IfErr result (λ e. e ≡ OutOfMemory) }
+    ensures fits { spec.AreCompactable (map spec.arc_value runs.now) →
+        (lists : List (List (List spec.Entry))) →
+        spec.RunsHoldLists (map spec.arc_value runs.now) lists → spec.RefusesForMemory F.gives →
+        spec.FitsThroughout F.gives C.gets rules filter callback (spec.union_in lists) writer →
+        IfErr result (λ e. e ≡ spec.OutOfMemory) }
 {
     // A list whose tables fit is written whole.
     tables_law();

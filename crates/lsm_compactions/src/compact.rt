@@ -1,21 +1,7 @@
 //! Compacting several runs into new tables.
 ghost use Rattle.std.specs.Prelude.{◌≡◌, ◌<◌, All, Err, IfErr, IfOk, List, OnOk, Some, false};
 ghost use Rattle.std.specs.Prelude.{length, map};
-ghost use Rattle.std.specs.Arc.{arc_value};
-ghost use Rattle.std.specs.List.{AllZip};
-ghost use Rattle.sst_entries.specs.Error.{is_memory};
-ghost use Rattle.sst_entries.specs.Stream.{first};
-ghost use Rattle.sst_entries.specs.declared.error.Error.TheVariants.{OutOfMemory};
-ghost use Rattle.lsm_runs.specs.RunScan.{tables_scan};
-ghost use Rattle.lsm_compactions.specs.ReadsCompacted.{PointsStay, RangesStay, SideBySide};
-ghost use Rattle.lsm_compactions.specs.ReadsCompacted.{StayStrict, StayWritable};
-ghost use Rattle.lsm_compactions.specs.Words.{AreCompactable, AreMergeable, AreWrittenBy};
-ghost use Rattle.lsm_compactions.specs.Words.{BeginsWith, CanDeal, DealTogether, DealsList};
-ghost use Rattle.lsm_compactions.specs.Words.{DealsResults, DealsWritable, Entry, Faults, FitsBy};
-ghost use Rattle.lsm_compactions.specs.Words.{HaveEntries, HoldLists, IsFreshRun, RunsHoldLists};
-ghost use Rattle.lsm_compactions.specs.Words.{RunsOn, TablesWriting, TookList, first_block_fault};
-ghost use Rattle.lsm_compactions.specs.Words.{first_blocks_fault, joined, kept_in, nowhere};
-ghost use Rattle.lsm_compactions.specs.Words.{rules_by, scans_of, writes_fault};
+ghost use Rattle.lsm_compactions.specs.Words as spec;
 
 use lsm_lending::LendingMerger;
 use lsm_lending::compaction::lending::LendingCompaction;
@@ -31,21 +17,23 @@ use std::sync::Arc;
 
 // The scanner of a whole run.
 fn scanner_of<A: Allocator + Clone>(run: &Arc<Run<Table<A>, A>, A>) -> Result<RunScanner<A>, Error>
-    requires { 0 < length (arc_value run.now) }
+    requires { 0 < length (spec.arc_value run.now) }
     // For tables of lists that have entries, it yields these lists, one after another.
     ensures list { let gives = ⟦<RunScanner<A> as Iterator>⟧.next_gives in
-        (lists : List (List Entry)) → HoldLists (arc_value run.now) lists → HaveEntries lists →
-        IfOk result (DealsList gives nowhere (joined lists)) }
-    ensures refused { (lists : List (List Entry)) → HoldLists (arc_value run.now) lists →
-        HaveEntries lists → IfErr result (λ e. e ≡ OutOfMemory) }
+        (lists : List (List spec.Entry)) → spec.HoldLists (spec.arc_value run.now) lists →
+        spec.HaveEntries lists →
+        IfOk result (spec.DealsList gives spec.nowhere (spec.joined lists)) }
+    ensures refused { (lists : List (List spec.Entry)) →
+        spec.HoldLists (spec.arc_value run.now) lists →
+        spec.HaveEntries lists → IfErr result (λ e. e ≡ spec.OutOfMemory) }
     // For any tables, it yields the results of their scans up to the first error, or the call fails
     // with that error.
-    ensures any { IfOk result (DealsResults ⟦<RunScanner<A> as Iterator>⟧.next_gives
-        (tables_scan (arc_value run.now))) }
-    ensures told { IfErr result (λ e. is_memory e ≡ false →
-        first (tables_scan (arc_value run.now)) ≡ Some (Err e)) }
+    ensures any { IfOk result (spec.DealsResults ⟦<RunScanner<A> as Iterator>⟧.next_gives
+        (spec.tables_scan (spec.arc_value run.now))) }
+    ensures told { IfErr result (λ e. spec.is_memory e ≡ false →
+        spec.first (spec.tables_scan (spec.arc_value run.now)) ≡ Some (Err e)) }
     // It loads the first data block.
-    ensures opens { Faults result (first_block_fault (arc_value run.now)) }
+    ensures opens { spec.Faults result (spec.first_block_fault (spec.arc_value run.now)) }
 {
     RunScanner::culled(run.clone()?, (None, None))
 }
@@ -57,18 +45,20 @@ pub(crate) fn scanners_of<A: Allocator + Clone>(
 ) -> Result<Vec<RunScanner<A>, A>, Error>
     // They yield together the entries of each run.
     ensures list { let gives = ⟦<RunScanner<A> as Iterator>⟧.next_gives in
-        (able : AreMergeable (map arc_value runs.now)) →
-        IfOk result (λ v. DealTogether gives nowhere v.items (map joined able.lists)) }
-    ensures err { AreMergeable (map arc_value runs.now) → IfErr result (λ e. e ≡ OutOfMemory) }
+        (able : spec.AreMergeable (map spec.arc_value runs.now)) →
+        IfOk result (λ v. spec.DealTogether gives spec.nowhere v.items
+        (map spec.joined able.lists)) }
+    ensures err { spec.AreMergeable (map spec.arc_value runs.now) →
+        IfErr result (λ e. e ≡ spec.OutOfMemory) }
     // For any tables, each yields the results of its scan. Else, except for `OutOfMemory`, the
     // error is that of the first run whose first data block cannot be loaded.
     ensures any { let gives = ⟦<RunScanner<A> as Iterator>⟧.next_gives in
-        IfOk result (λ v. AllZip (λ s rs. DealsResults gives rs s) v.items
-        (scans_of (map arc_value runs.now))) }
-    ensures told { IfErr result (λ e. is_memory e ≡ false →
-        BeginsWith (map arc_value runs.now) e) }
+        IfOk result (λ v. spec.AllZip (λ s rs. spec.DealsResults gives rs s) v.items
+        (spec.scans_of (map spec.arc_value runs.now))) }
+    ensures told { IfErr result (λ e. spec.is_memory e ≡ false →
+        spec.BeginsWith (map spec.arc_value runs.now) e) }
     // It loads the first data block of each run, in their order.
-    ensures opens { Faults result (first_blocks_fault (map arc_value runs.now)) }
+    ensures opens { spec.Faults result (spec.first_blocks_fault (map spec.arc_value runs.now)) }
 {
     let mut scanners = Vec::new(alloc);
     for run in runs {
@@ -93,16 +83,16 @@ fn kept_from<L: Lending + Drop, A: Allocator + Clone>(
     sources: Vec<L, A>,
     rules: Rules,
 ) -> Result<Kept<L, A>, Error>
-    ensures can { All (CanDeal L.advances nowhere L.can_advance L.can_advance) sources.items →
-        IfOk result (CanDeal ⟦<Kept<L, A> as Lending>⟧.advances
-        nowhere ⟦<Kept<L, A> as Lending>⟧.can_advance
+    ensures can { All (spec.CanDeal L.advances spec.nowhere L.can_advance L.can_advance)
+        sources.items → IfOk result (spec.CanDeal ⟦<Kept<L, A> as Lending>⟧.advances
+        spec.nowhere ⟦<Kept<L, A> as Lending>⟧.can_advance
         ⟦<Kept<L, A> as Lending>⟧.can_advance) }
     ensures list { let advances =
         ⟦<Kept<L, A> as Lending>⟧.advances in
-        (lists : List (List (List Entry))) →
-        DealTogether L.advances nowhere sources.items (map joined lists) →
-        IfOk result (DealsList advances nowhere (kept_in rules lists)) }
-    ensures err { IfErr result (λ e. e ≡ OutOfMemory) }
+        (lists : List (List (List spec.Entry))) →
+        spec.DealTogether L.advances spec.nowhere sources.items (map spec.joined lists) →
+        IfOk result (spec.DealsList advances spec.nowhere (spec.kept_in rules lists)) }
+    ensures err { IfErr result (λ e. e ≡ spec.OutOfMemory) }
 {
     let own = alloc.clone()?;
     let merger = LendingMerger::new(own, sources)?;
@@ -115,15 +105,16 @@ fn kept_of<A: Allocator + Clone>(
     runs: &[Arc<Run<Table<A>, A>, A>],
     rules: Rules,
 ) -> Result<Kept<RunScanner<A>, A>, Error>
-    ensures can { IfOk result (CanDeal
-        ⟦<Kept<RunScanner<A>, A> as Lending>⟧.advances nowhere
+    ensures can { IfOk result (spec.CanDeal
+        ⟦<Kept<RunScanner<A>, A> as Lending>⟧.advances spec.nowhere
         ⟦<Kept<RunScanner<A>, A> as Lending>⟧.can_advance
         ⟦<Kept<RunScanner<A>, A> as Lending>⟧.can_advance) }
     ensures list { let advances =
         ⟦<Kept<RunScanner<A>, A> as Lending>⟧.advances in
-        (able : AreMergeable (map arc_value runs.now)) →
-        IfOk result (DealsList advances nowhere (kept_in rules able.lists)) }
-    ensures err { AreMergeable (map arc_value runs.now) → IfErr result (λ e. e ≡ OutOfMemory) }
+        (able : spec.AreMergeable (map spec.arc_value runs.now)) →
+        IfOk result (spec.DealsList advances spec.nowhere (spec.kept_in rules able.lists)) }
+    ensures err { spec.AreMergeable (map spec.arc_value runs.now) →
+        IfErr result (λ e. e ≡ spec.OutOfMemory) }
 {
     let scanners = scanners_of(alloc.clone()?, runs)?;
     kept_from(alloc, scanners, rules)
@@ -134,14 +125,15 @@ fn write_each<L: Lending, A: Allocator + Clone>(
     source: &mut L,
     writer: &mut MultiWriter<A>,
 ) -> Result<(), Error>
-    requires fresh { IsFreshRun writer.old }
-    requires can { CanDeal L.advances nowhere L.can_advance L.can_advance source.old }
-    requires deals { DealsWritable L.advances source.old }
-    ensures took { (d : DealsWritable L.advances source.old) →
-        OnOk result (TookList writer.old d.list writer.new) }
+    requires fresh { spec.IsFreshRun writer.old }
+    requires can { spec.CanDeal L.advances spec.nowhere L.can_advance L.can_advance source.old }
+    requires deals { spec.DealsWritable L.advances source.old }
+    ensures took { (d : spec.DealsWritable L.advances source.old) →
+        OnOk result (spec.TookList writer.old d.list writer.new) }
     // The source fails with `OutOfMemory` only.
-    ensures refused { (d : DealsWritable L.advances source.old) →
-        IfErr result (λ e. is_memory e ≡ false → writes_fault writer.old d.list ≡ Some e) }
+    ensures refused { (d : spec.DealsWritable L.advances source.old) →
+        IfErr result (λ e. spec.is_memory e ≡ false →
+        spec.writes_fault writer.old d.list ≡ Some e) }
 {
     while source.advance()? {
         if let Some(entry) = source.entry() {
@@ -156,10 +148,11 @@ fn write_each<L: Lending, A: Allocator + Clone>(
 pub(crate) fn finished<A: Allocator + Clone>(
     writer: MultiWriter<A>,
 ) -> Result<(Vec<FinishedTable<A>, A>, TableIds), Error>
-    ensures written { (w : TablesWriting) (es : List Entry) → IsFreshRun w → RunsOn w →
-        TookList w es writer → IfOk result (λ r. AreWrittenBy w es r.0.items r.1) }
-    ensures refused { (w : TablesWriting) (es : List Entry) → TookList w es writer →
-        Faults result (writes_fault w es) }
+    ensures written { (w : spec.TablesWriting) (es : List spec.Entry) → spec.IsFreshRun w →
+        spec.RunsOn w →
+        spec.TookList w es writer → IfOk result (λ r. spec.AreWrittenBy w es r.0.items r.1) }
+    ensures refused { (w : spec.TablesWriting) (es : List spec.Entry) → spec.TookList w es writer →
+        spec.Faults result (spec.writes_fault w es) }
 {
     let left = writer.table_ids();
     let tables = writer.finish()?;
@@ -171,16 +164,16 @@ fn write_all<L: Lending + Drop, A: Allocator + Clone>(
     mut source: Kept<L, A>,
     mut writer: MultiWriter<A>,
 ) -> Result<(Vec<FinishedTable<A>, A>, TableIds), Error>
-    requires fresh { IsFreshRun writer }
-    requires next { RunsOn writer }
-    requires can { CanDeal ⟦<Kept<L, A> as Lending>⟧.advances nowhere
+    requires fresh { spec.IsFreshRun writer }
+    requires next { spec.RunsOn writer }
+    requires can { spec.CanDeal ⟦<Kept<L, A> as Lending>⟧.advances spec.nowhere
         ⟦<Kept<L, A> as Lending>⟧.can_advance ⟦<Kept<L, A> as Lending>⟧.can_advance source }
-    requires deals { DealsWritable ⟦<Kept<L, A> as Lending>⟧.advances source }
-    ensures written { (d : DealsWritable ⟦<Kept<L, A> as Lending>⟧.advances source) →
-        IfOk result (λ r. AreWrittenBy writer d.list r.0.items r.1) }
+    requires deals { spec.DealsWritable ⟦<Kept<L, A> as Lending>⟧.advances source }
+    ensures written { (d : spec.DealsWritable ⟦<Kept<L, A> as Lending>⟧.advances source) →
+        IfOk result (λ r. spec.AreWrittenBy writer d.list r.0.items r.1) }
     // The source fails with `OutOfMemory` only.
-    ensures refused { (d : DealsWritable ⟦<Kept<L, A> as Lending>⟧.advances source) →
-        Faults result (writes_fault writer d.list) }
+    ensures refused { (d : spec.DealsWritable ⟦<Kept<L, A> as Lending>⟧.advances source) →
+        spec.Faults result (spec.writes_fault writer d.list) }
 {
     let took = write_each(&mut source, &mut writer);
     drop(source);
@@ -216,20 +209,23 @@ pub fn compact_runs<A: Allocator + Clone>(
     zero_seqnos: bool,
     writer: MultiWriter<A>,
 ) -> Result<(Vec<FinishedTable<A>, A>, TableIds), Error>
-    requires fresh { IsFreshRun writer }
-    requires able { AreCompactable (map arc_value runs.now) }
+    requires fresh { spec.IsFreshRun writer }
+    requires able { spec.AreCompactable (map spec.arc_value runs.now) }
     // The tables are those of what is kept of all entries, as the writer cuts them.
-    ensures tables { let rules = rules_by gc_seqno_threshold evict_tombstones zero_seqnos in
-        (lists : List (List (List Entry))) → RunsHoldLists (map arc_value runs.now) lists →
-        IfOk result (λ r. AreWrittenBy writer (kept_in rules lists) r.0.items r.1) }
+    ensures tables { let rules = spec.rules_by gc_seqno_threshold evict_tombstones zero_seqnos in
+        (lists : List (List (List spec.Entry))) →
+        spec.RunsHoldLists (map spec.arc_value runs.now) lists →
+        IfOk result (λ r. spec.AreWrittenBy writer (spec.kept_in rules lists) r.0.items r.1) }
     // The error is the writer's first one: reading fails with `OutOfMemory` only.
-    ensures refused { let rules = rules_by gc_seqno_threshold evict_tombstones zero_seqnos in
-        (lists : List (List (List Entry))) → RunsHoldLists (map arc_value runs.now) lists →
-        Faults result (writes_fault writer (kept_in rules lists)) }
+    ensures refused { let rules = spec.rules_by gc_seqno_threshold evict_tombstones zero_seqnos in
+        (lists : List (List (List spec.Entry))) →
+        spec.RunsHoldLists (map spec.arc_value runs.now) lists →
+        spec.Faults result (spec.writes_fault writer (spec.kept_in rules lists)) }
     // If the tables fit and enough ids remain, the only error is `OutOfMemory`.
-    ensures taken { let rules = rules_by gc_seqno_threshold evict_tombstones zero_seqnos in
-        (lists : List (List (List Entry))) → RunsHoldLists (map arc_value runs.now) lists →
-        FitsBy writer (kept_in rules lists) → IfErr result (λ e. e ≡ OutOfMemory) }
+    ensures taken { let rules = spec.rules_by gc_seqno_threshold evict_tombstones zero_seqnos in
+        (lists : List (List (List spec.Entry))) →
+        spec.RunsHoldLists (map spec.arc_value runs.now) lists →
+        spec.FitsBy writer (spec.kept_in rules lists) → IfErr result (λ e. e ≡ spec.OutOfMemory) }
 {
     // A list whose tables fit is written whole.
     tables_law();
@@ -258,11 +254,11 @@ pub fn compact_runs<A: Allocator + Clone>(
 /// This holds wherever the new runs are among the others; the last clause is for adjacent runs. The
 /// call does nothing: its contract states the law.
 pub fn compaction_law()
-    ensures points { PointsStay }
-    ensures ranges { RangesStay }
-    ensures strict { StayStrict }
-    ensures writable { StayWritable }
-    ensures side_by_side { SideBySide }
+    ensures points { spec.PointsStay }
+    ensures ranges { spec.RangesStay }
+    ensures strict { spec.StayStrict }
+    ensures writable { spec.StayWritable }
+    ensures side_by_side { spec.SideBySide }
 {
     // The law for a part that is compacted.
     read_law();

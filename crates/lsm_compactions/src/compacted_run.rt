@@ -1,13 +1,7 @@
 //! Compacting several runs into one.
 ghost use Rattle.std.specs.Prelude.{◌≡◌, ◌∷◌, ◌+◌, ◌<◌, ◌^◌, ℕ, [], List, Option, IfErr, IfOk};
 ghost use Rattle.std.specs.Prelude.{IfSome, MatchOption, length, map};
-ghost use Rattle.std.specs.Arc.{arc_value};
-ghost use Rattle.std.specs.Option.{option_map_or};
-ghost use Rattle.sst_entries.specs.declared.error.Error.TheVariants.{OutOfMemory};
-ghost use Rattle.lsm_compactions.specs.Words.{AreCompactable, AreCutOf, AreWritten, Entry, Faults};
-ghost use Rattle.lsm_compactions.specs.Words.{FitsAsTables, IsRunOfList, IsWritable, RunsHoldLists};
-ghost use Rattle.lsm_compactions.specs.Words.{highest_seqno, ids_behind, kept_in};
-ghost use Rattle.lsm_compactions.specs.Words.{run_label, tables_fault};
+ghost use Rattle.lsm_compactions.specs.Words as spec;
 
 use crate::compact_runs;
 use crate::written_run::open_tables;
@@ -25,19 +19,19 @@ fn run_of_tables<A: Allocator + Clone>(
     alloc: A,
     tables: Vec<FinishedTable<A>, A>,
 ) -> Result<Option<Run<Table<A>, A>>, Error>
-    ensures run { (ids : Option ℕ) (target moment : ℕ) (es : List Entry) (left : Option ℕ) →
-        AreWritten ids target moment es tables.items left →
-        IfOk result (λ r. MatchOption r (es ≡ []) (λ run. IsRunOfList es 0 run)) }
-    ensures cut { (ids : Option ℕ) (target moment : ℕ) (es : List Entry) (left : Option ℕ) →
-        AreWritten ids target moment es tables.items left →
+    ensures run { (ids : Option ℕ) (target moment : ℕ) (es : List spec.Entry) (left : Option ℕ) →
+        spec.AreWritten ids target moment es tables.items left →
+        IfOk result (λ r. MatchOption r (es ≡ []) (λ run. spec.IsRunOfList es 0 run)) }
+    ensures cut { (ids : Option ℕ) (target moment : ℕ) (es : List spec.Entry) (left : Option ℕ) →
+        spec.AreWritten ids target moment es tables.items left →
         IfOk result (λ r. IfSome r (λ run.
-        AreCutOf (run_label ids target moment) target es 0 run)) }
-    ensures ids { (ids : Option ℕ) (target moment : ℕ) (es : List Entry) (left : Option ℕ) →
-        AreWritten ids target moment es tables.items left →
-        IfOk result (λ r. left ≡ ids_behind ids target (option_map_or length r 0)) }
-    ensures taken { (ids : Option ℕ) (target moment : ℕ) (es : List Entry) (left : Option ℕ) →
-        AreWritten ids target moment es tables.items left → highest_seqno es + 0 < 2 ^ 64 →
-        IfErr result (λ e. e ≡ OutOfMemory) }
+        spec.AreCutOf (spec.run_label ids target moment) target es 0 run)) }
+    ensures ids { (ids : Option ℕ) (target moment : ℕ) (es : List spec.Entry) (left : Option ℕ) →
+        spec.AreWritten ids target moment es tables.items left →
+        IfOk result (λ r. left ≡ spec.ids_behind ids target (spec.option_map_or length r 0)) }
+    ensures taken { (ids : Option ℕ) (target moment : ℕ) (es : List spec.Entry) (left : Option ℕ) →
+        spec.AreWritten ids target moment es tables.items left →
+        spec.highest_seqno es + 0 < 2 ^ 64 → IfErr result (λ e. e ≡ spec.OutOfMemory) }
 {
     let opened = open_tables(alloc, tables, 0)?;
     Ok(Run::new(opened))
@@ -63,35 +57,38 @@ pub fn compact_to_run<A: Allocator + Clone>(
     target_size: u64,
     created_at: Timestamp,
 ) -> Result<(Option<Run<Table<A>, A>>, TableIds), Error>
-    requires { AreCompactable (map arc_value runs.now) }
+    requires { spec.AreCompactable (map spec.arc_value runs.now) }
     // The tables hold what is kept of all entries, one after another, and are in order.
-    ensures run { (lists : List (List (List Entry))) →
-        RunsHoldLists (map arc_value runs.now) lists →
-        let left = kept_in rules lists in
-        IfOk result (λ r. MatchOption r.0 (left ≡ []) (λ run. IsRunOfList left 0 run)) }
+    ensures run { (lists : List (List (List spec.Entry))) →
+        spec.RunsHoldLists (map spec.arc_value runs.now) lists →
+        let left = spec.kept_in rules lists in
+        IfOk result (λ r. MatchOption r.0 (left ≡ []) (λ run. spec.IsRunOfList left 0 run)) }
     // The entries that are kept are cut by the target size, and the tables' ids are consecutive.
-    ensures cut { (lists : List (List (List Entry))) →
-        RunsHoldLists (map arc_value runs.now) lists →
+    ensures cut { (lists : List (List (List spec.Entry))) →
+        spec.RunsHoldLists (map spec.arc_value runs.now) lists →
         IfOk result (λ r. IfSome r.0 (λ run.
-        AreCutOf (run_label ids target_size created_at) target_size (kept_in rules lists) 0 run)) }
+        spec.AreCutOf (spec.run_label ids target_size created_at) target_size
+        (spec.kept_in rules lists) 0 run)) }
     ensures ids { IfOk result (λ r.
-        r.1 ≡ ids_behind ids target_size (option_map_or length r.0 0)) }
+        r.1 ≡ spec.ids_behind ids target_size (spec.option_map_or length r.0 0)) }
     // The run may be compacted again.
-    ensures able { IfOk result (λ r. IfSome r.0 (λ run. AreCompactable (run ∷ []))) }
+    ensures able { IfOk result (λ r. IfSome r.0 (λ run. spec.AreCompactable (run ∷ []))) }
     // The entries that are kept can be written again: no key has one seqno twice, and each seqno is
     // below the largest.
-    ensures writable { (lists : List (List (List Entry))) →
-        RunsHoldLists (map arc_value runs.now) lists →
-        IfOk result (λ _. IsWritable (kept_in rules lists)) }
+    ensures writable { (lists : List (List (List spec.Entry))) →
+        spec.RunsHoldLists (map spec.arc_value runs.now) lists →
+        IfOk result (λ _. spec.IsWritable (spec.kept_in rules lists)) }
     // Except for `OutOfMemory`, the error is the first one: of the counter, of the kept entries in
     // order, of the last table.
-    ensures refused { (lists : List (List (List Entry))) →
-        RunsHoldLists (map arc_value runs.now) lists →
-        Faults result (tables_fault ids target_size created_at (kept_in rules lists)) }
+    ensures refused { (lists : List (List (List spec.Entry))) →
+        spec.RunsHoldLists (map spec.arc_value runs.now) lists →
+        spec.Faults result (spec.tables_fault ids target_size created_at
+        (spec.kept_in rules lists)) }
     // If the tables fit and enough ids remain, the only error is `OutOfMemory`.
-    ensures taken { (lists : List (List (List Entry))) →
-        RunsHoldLists (map arc_value runs.now) lists →
-        FitsAsTables ids target_size (kept_in rules lists) → IfErr result (λ e. e ≡ OutOfMemory) }
+    ensures taken { (lists : List (List (List spec.Entry))) →
+        spec.RunsHoldLists (map spec.arc_value runs.now) lists →
+        spec.FitsAsTables ids target_size (spec.kept_in rules lists) →
+        IfErr result (λ e. e ≡ spec.OutOfMemory) }
 {
     let own = alloc.clone()?;
     let writer = MultiWriter::new(alloc.clone()?, ids, target_size, 0, created_at)?;

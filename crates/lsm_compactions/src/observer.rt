@@ -1,6 +1,6 @@
 //! Observing the progress of a compaction.
 ghost use Rattle.std.specs.Prelude.{◌≡◌, Bool, true};
-ghost use Rattle.lsm_compactions.specs.declared.observer.CompactionProgress.{CompactionProgress};
+ghost use Rattle.lsm_compactions.specs.Words as spec;
 
 /// The progress of a compaction at the end of a table that another one follows.
 ///
@@ -16,7 +16,7 @@ pub struct CompactionProgress {
 /// An observer of a compaction, which may stop it between two tables.
 pub trait CompactionObserver {
     // One call: the observer before it, the progress, whether to go on, and the observer after it.
-    ghost says: { Self → CompactionProgress → Bool → Self → Type 0 };
+    ghost says: { Self → spec.CompactionProgress → Bool → Self → Type 0 };
 
     /// Is called when a table is finished and another one begins; returns whether to go on.
     fn goes_on(&mut self, progress: CompactionProgress) -> bool

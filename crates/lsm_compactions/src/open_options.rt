@@ -1,10 +1,6 @@
 //! Opening finished tables.
 ghost use Rattle.std.specs.Prelude.{IfOk, List};
-ghost use Rattle.lsm_formats.specs.declared.label.Label.{Label};
-ghost use Rattle.lsm_formats.specs.declared.options.Options.{Options};
-ghost use Rattle.lsm_compactions.specs.Words.{AreFinished, AreOpenedBy, Entry, Faults, Gives};
-ghost use Rattle.lsm_compactions.specs.Words.{IsOpenedBy, IsTableWith, OpenTable, StoresList};
-ghost use Rattle.lsm_compactions.specs.Words.{joined, opens_fault, recovered_told};
+ghost use Rattle.lsm_compactions.specs.Words as spec;
 
 use lsm_formats::TreeId;
 use lsm_readers::Table;
@@ -58,18 +54,18 @@ impl OpenOptions {
         alloc: A,
         table: &FinishedTable<A>,
     ) -> Result<Table<A>, Error>
-        ensures told { Gives (λ (t : OpenTable). t.parts) result
-            (recovered_told table.now.bytes self.now.global_seqno self.now.pin_filter
+        ensures told { spec.Gives (λ (t : spec.OpenTable). t.parts) result
+            (spec.recovered_told table.now.bytes self.now.global_seqno self.now.pin_filter
             self.now.pin_index) }
         // It has the bytes and the checksum, and was opened with these options.
-        ensures opened { IfOk result (IsOpenedBy self.now table.now) }
+        ensures opened { IfOk result (spec.IsOpenedBy self.now table.now) }
         // A table that was written from a list stores it, so the contracts of reads hold.
-        ensures stored { (label : Label) (options : Options) (es : List Entry) →
-            IsTableWith label options es table.now.id table.now.checksum.0 table.now.bytes →
-            IfOk result (λ t. StoresList t.bytes es) }
-        ensures refused { (label : Label) (options : Options) (es : List Entry) →
-            IsTableWith label options es table.now.id table.now.checksum.0 table.now.bytes →
-            Faults result (opens_fault options es self.now.global_seqno) }
+        ensures stored { (label : spec.Label) (options : spec.Options) (es : List spec.Entry) →
+            spec.IsTableWith label options es table.now.id table.now.checksum.0 table.now.bytes →
+            IfOk result (λ t. spec.StoresList t.bytes es) }
+        ensures refused { (label : spec.Label) (options : spec.Options) (es : List spec.Entry) →
+            spec.IsTableWith label options es table.now.id table.now.checksum.0 table.now.bytes →
+            spec.Faults result (spec.opens_fault options es self.now.global_seqno) }
     {
         let bytes = table.bytes.clone()?;
         // Its length is that of a slice.
@@ -95,10 +91,10 @@ pub(crate) fn open_all<A: Allocator + Clone>(
     tables: &[FinishedTable<A>],
     how: &OpenOptions,
 ) -> Result<Vec<Table<A>, A>, Error>
-    ensures opened { IfOk result (λ v. AreOpenedBy how.now tables.now v.items) }
-    ensures refused { (options : Options) (label : Label) (lists : List (List Entry)) →
-        AreFinished options label lists tables.now →
-        Faults result (opens_fault options (joined lists) how.now.global_seqno) }
+    ensures opened { IfOk result (λ v. spec.AreOpenedBy how.now tables.now v.items) }
+    ensures refused { (options : spec.Options) (label : spec.Label)
+        (lists : List (List spec.Entry)) → spec.AreFinished options label lists tables.now →
+        spec.Faults result (spec.opens_fault options (spec.joined lists) how.now.global_seqno) }
 {
     let how = *how;
     let mut opened = Vec::new(alloc.clone()?);

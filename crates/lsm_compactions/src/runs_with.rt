@@ -1,15 +1,7 @@
 //! Runs of tables that the caller's writer makes, returned with the finished tables.
 ghost use Rattle.std.specs.Prelude.{◌≡◌, ◌∷◌, ◌+◌, ◌^◌, ◌<◌, [], IfErr, IfOk, IfSome, List};
 ghost use Rattle.std.specs.Prelude.{MatchOption, map};
-ghost use Rattle.std.specs.Arc.{arc_value};
-ghost use Rattle.sst_entries.specs.declared.error.Error.TheVariants.{OutOfMemory};
-ghost use Rattle.std.specs.List.{AllByRecursion};
-ghost use Rattle.lsm_compactions.specs.Words.{AreCompactable, AreTablesBy, AreWrittenBy};
-ghost use Rattle.lsm_compactions.specs.Words.{CameInOrder, Entry, Faults, FitsBy, GoesThrough};
-ghost use Rattle.lsm_compactions.specs.Words.{HasMade, HasRunBy, HaveEntries, IsFreshRun, IsRunBy};
-ghost use Rattle.lsm_compactions.specs.Words.{IsRunOfList, IsWritable, RunsHoldLists};
-ghost use Rattle.lsm_compactions.specs.Words.{TablesWriting, highest_seqno, kept_in, lift};
-ghost use Rattle.lsm_compactions.specs.Words.{opens_fault, run_with_fault};
+ghost use Rattle.lsm_compactions.specs.Words as spec;
 
 use crate::open_options::open_all;
 use crate::written_run::write_by;
@@ -43,26 +35,28 @@ pub fn write_run_with<A: Allocator + Clone>(
     items: Vec<InternalValue<A>, A>,
     how: &OpenOptions,
 ) -> Result<(Vec<FinishedTable<A>, A>, Option<Run<Table<A>, A>>, TableIds), Error>
-    requires fresh { IsFreshRun writer }
-    requires list { IsWritable items.items }
+    requires fresh { spec.IsFreshRun writer }
+    requires list { spec.IsWritable items.items }
     // The finished tables are those of the list, as the writer cuts it.
-    ensures tables { IfOk result (λ r. AreWrittenBy writer items.items r.0.items r.2) }
+    ensures tables { IfOk result (λ r. spec.AreWrittenBy writer items.items r.0.items r.2) }
     // The run has exactly these, opened with the options `how`, in their order.
-    ensures opened { IfOk result (λ r. IsRunBy how.now r.0.items r.1) }
+    ensures opened { IfOk result (λ r. spec.IsRunBy how.now r.0.items r.1) }
     // Together they hold the list, one after another, and are in order.
     ensures run { IfOk result (λ r. MatchOption r.1 (items.items ≡ [])
-        (λ run. IsRunOfList items.items how.now.global_seqno run)) }
+        (λ run. spec.IsRunOfList items.items how.now.global_seqno run)) }
     // If the list, the global seqno applied, can be written, the run may be compacted.
-    ensures able { IsWritable (lift items.items how.now.global_seqno) →
-        IfOk result (λ r. IfSome r.1 (λ run. AreCompactable (run ∷ []))) }
+    ensures able { spec.IsWritable (spec.lift items.items how.now.global_seqno) →
+        IfOk result (λ r. IfSome r.1 (λ run. spec.AreCompactable (run ∷ []))) }
     // Except for `OutOfMemory`, the error is the writer's first one, or else an index restart
     // interval other than 1, or else a seqno that is too large.
-    ensures refused { Faults result (run_with_fault writer items.items how.now.global_seqno) }
+    ensures refused { spec.Faults result
+        (spec.run_with_fault writer items.items how.now.global_seqno) }
     // With an interval of 1, if the tables fit, enough ids remain and no seqno is too large, the
     // only error is `OutOfMemory`.
     ensures taken { writer.present.options.index_block_restart_interval ≡ 1 →
-        FitsBy writer items.items → highest_seqno items.items + how.now.global_seqno < 2 ^ 64 →
-        IfErr result (λ e. e ≡ OutOfMemory) }
+        spec.FitsBy writer items.items →
+        spec.highest_seqno items.items + how.now.global_seqno < 2 ^ 64 →
+        IfErr result (λ e. e ≡ spec.OutOfMemory) }
 {
     let own = alloc.clone()?;
     let (tables, left) = write_by(writer, items)?;
@@ -76,9 +70,10 @@ fn open_outcome<A: Allocator + Clone>(
     outcome: &CompactionOutcome<A>,
     how: &OpenOptions,
 ) -> Result<Option<Run<Table<A>, A>>, Error>
-    ensures opened { IfOk result (HasRunBy how.now outcome.now) }
-    ensures refused { (w : TablesWriting) (es : List Entry) → AreTablesBy w es outcome.now →
-        Faults result (opens_fault w.present.options es how.now.global_seqno) }
+    ensures opened { IfOk result (spec.HasRunBy how.now outcome.now) }
+    ensures refused { (w : spec.TablesWriting) (es : List spec.Entry) →
+        spec.AreTablesBy w es outcome.now →
+        spec.Faults result (spec.opens_fault w.present.options es how.now.global_seqno) }
 {
     match outcome {
         CompactionOutcome::Tables(tables, _) => Ok(Run::new(open_all(alloc, tables, how)?)),
@@ -102,42 +97,49 @@ pub fn compact_to_run_with<A: Allocator + Clone>(
     writer: MultiWriter<A>,
     how: &OpenOptions,
 ) -> Result<(CompactionOutcome<A>, Option<Run<Table<A>, A>>), Error>
-    requires fresh { IsFreshRun writer }
+    requires fresh { spec.IsFreshRun writer }
     // For compactable runs, the finished tables are those of what is kept, as the writer cuts it.
     // For any tables, they are those of a list that can be written.
-    ensures tables { AreCompactable (map arc_value runs.now) →
-        (lists : List (List (List Entry))) → RunsHoldLists (map arc_value runs.now) lists →
-        IfOk result (λ r. AreTablesBy writer (kept_in rules lists) r.0) }
-    ensures made { IfOk result (λ r. HasMade writer r.0) }
+    ensures tables { spec.AreCompactable (map spec.arc_value runs.now) →
+        (lists : List (List (List spec.Entry))) →
+        spec.RunsHoldLists (map spec.arc_value runs.now) lists →
+        IfOk result (λ r. spec.AreTablesBy writer (spec.kept_in rules lists) r.0) }
+    ensures made { IfOk result (λ r. spec.HasMade writer r.0) }
     // For tables of lists that have entries, also if a key has one seqno twice: they are those of
     // what is kept. It ends out of order at the first kept entry that may not follow.
-    ensures merged { (lists : List (List (List Entry))) →
-        RunsHoldLists (map arc_value runs.now) lists → AllByRecursion HaveEntries lists →
-        IfOk result (λ r. CameInOrder writer (kept_in rules lists) r.0) }
+    ensures merged { (lists : List (List (List spec.Entry))) →
+        spec.RunsHoldLists (map spec.arc_value runs.now) lists →
+        spec.AllByRecursion spec.HaveEntries lists →
+        IfOk result (λ r. spec.CameInOrder writer (spec.kept_in rules lists) r.0) }
     // No observer stops it.
-    ensures through { IfOk result (λ r. GoesThrough r.0) }
+    ensures through { IfOk result (λ r. spec.GoesThrough r.0) }
     // The run has exactly these, opened with the options `how`, in their order.
-    ensures opened { IfOk result (λ r. HasRunBy how.now r.0 r.1) }
+    ensures opened { IfOk result (λ r. spec.HasRunBy how.now r.0 r.1) }
     // Together they hold what is kept, one after another, and are in order.
-    ensures run { AreCompactable (map arc_value runs.now) →
-        (lists : List (List (List Entry))) → RunsHoldLists (map arc_value runs.now) lists →
-        let left = kept_in rules lists in IfOk result (λ r. MatchOption r.1 (left ≡ [])
-        (λ run. IsRunOfList left how.now.global_seqno run)) }
+    ensures run { spec.AreCompactable (map spec.arc_value runs.now) →
+        (lists : List (List (List spec.Entry))) →
+        spec.RunsHoldLists (map spec.arc_value runs.now) lists →
+        let left = spec.kept_in rules lists in IfOk result (λ r. MatchOption r.1 (left ≡ [])
+        (λ run. spec.IsRunOfList left how.now.global_seqno run)) }
     // Without a global seqno, the run may be compacted again, whatever the tables held.
     ensures able { how.now.global_seqno ≡ 0 →
-        IfOk result (λ r. IfSome r.1 (λ run. AreCompactable (run ∷ []))) }
+        IfOk result (λ r. IfSome r.1 (λ run. spec.AreCompactable (run ∷ []))) }
     // Except for `OutOfMemory`, the error is the writer's first one, or else an index restart
     // interval other than 1, or else a seqno that is too large.
-    ensures refused { AreCompactable (map arc_value runs.now) →
-        (lists : List (List (List Entry))) → RunsHoldLists (map arc_value runs.now) lists →
-        Faults result (run_with_fault writer (kept_in rules lists) how.now.global_seqno) }
+    ensures refused { spec.AreCompactable (map spec.arc_value runs.now) →
+        (lists : List (List (List spec.Entry))) →
+        spec.RunsHoldLists (map spec.arc_value runs.now) lists →
+        spec.Faults result (spec.run_with_fault writer (spec.kept_in rules lists)
+        how.now.global_seqno) }
     // With an interval of 1, if the tables of what is kept fit, enough ids remain and no seqno is
     // too large, the only error is `OutOfMemory`.
-    ensures taken { AreCompactable (map arc_value runs.now) →
-        (lists : List (List (List Entry))) → RunsHoldLists (map arc_value runs.now) lists →
-        let left = kept_in rules lists in
-        writer.present.options.index_block_restart_interval ≡ 1 → FitsBy writer left →
-        highest_seqno left + how.now.global_seqno < 2 ^ 64 → IfErr result (λ e. e ≡ OutOfMemory) }
+    ensures taken { spec.AreCompactable (map spec.arc_value runs.now) →
+        (lists : List (List (List spec.Entry))) →
+        spec.RunsHoldLists (map spec.arc_value runs.now) lists →
+        let left = spec.kept_in rules lists in
+        writer.present.options.index_block_restart_interval ≡ 1 → spec.FitsBy writer left →
+        spec.highest_seqno left + how.now.global_seqno < 2 ^ 64 →
+        IfErr result (λ e. e ≡ spec.OutOfMemory) }
 {
     let own = alloc.clone()?;
     let outcome = compact_any_runs(own, runs, rules, writer)?;

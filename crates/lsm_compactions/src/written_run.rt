@@ -1,19 +1,7 @@
 //! A list that is written as tables, which are opened and put in a run.
 ghost use Rattle.std.specs.Prelude.{◌≡◌, ◌∷◌, ◌+◌, ◌^◌, ◌<◌, [], length, List, IfErr, IfOk, IfSome};
 ghost use Rattle.std.specs.Prelude.{MatchOption, OnOk, Some, false};
-ghost use Rattle.std.specs.List.{AllByRecursion};
-ghost use Rattle.std.specs.Option.{option_map_or};
-ghost use Rattle.sst_entries.specs.Error.{is_memory};
-ghost use Rattle.sst_entries.specs.declared.error.Error.TheVariants.{OutOfMemory};
-ghost use Rattle.lsm_formats.specs.declared.label.Label.{Label};
-ghost use Rattle.lsm_compactions.specs.Words.{AreCompactable, AreCutOf, AreFinished, AreOpened};
-ghost use Rattle.lsm_compactions.specs.Words.{AreWritten, AreWrittenBy, Entry, Faults};
-ghost use Rattle.lsm_compactions.specs.Words.{FitsAsTables, FitsBy, IsFreshRun, IsOpenedOf};
-ghost use Rattle.lsm_compactions.specs.Words.{IsRunOfList, IsTableOf, IsWritable, RunsOn, TookList};
-ghost use Rattle.lsm_compactions.specs.Words.{chain_fault, default_options, highest_seqno};
-ghost use Rattle.lsm_compactions.specs.Words.{ids_behind};
-ghost use Rattle.lsm_compactions.specs.Words.{joined, lift, number_fault, run_label, tables_fault};
-ghost use Rattle.lsm_compactions.specs.Words.{writes_fault};
+ghost use Rattle.lsm_compactions.specs.Words as spec;
 
 use crate::compact::finished;
 use lsm_formats::Timestamp;
@@ -28,11 +16,11 @@ fn write_items<A: Allocator + Clone>(
     writer: &mut MultiWriter<A>,
     items: Vec<InternalValue<A>, A>,
 ) -> Result<(), Error>
-    requires fresh { IsFreshRun writer.old }
-    requires list { IsWritable items.items }
-    ensures took { OnOk result (TookList writer.old items.items writer.new) }
-    ensures refused { IfErr result (λ e. is_memory e ≡ false →
-        writes_fault writer.old items.items ≡ Some e) }
+    requires fresh { spec.IsFreshRun writer.old }
+    requires list { spec.IsWritable items.items }
+    ensures took { OnOk result (spec.TookList writer.old items.items writer.new) }
+    ensures refused { IfErr result (λ e. spec.is_memory e ≡ false →
+        spec.writes_fault writer.old items.items ≡ Some e) }
 {
     for item in items {
         writer.write(item)?;
@@ -45,12 +33,12 @@ pub(crate) fn write_by<A: Allocator + Clone>(
     mut writer: MultiWriter<A>,
     items: Vec<InternalValue<A>, A>,
 ) -> Result<(Vec<FinishedTable<A>, A>, TableIds), Error>
-    requires fresh { IsFreshRun writer }
-    requires next { RunsOn writer }
-    requires list { IsWritable items.items }
-    ensures written { IfOk result (λ r. AreWrittenBy writer items.items r.0.items r.1) }
-    ensures refused { Faults result (writes_fault writer items.items) }
-    ensures taken { FitsBy writer items.items → IfErr result (λ e. e ≡ OutOfMemory) }
+    requires fresh { spec.IsFreshRun writer }
+    requires next { spec.RunsOn writer }
+    requires list { spec.IsWritable items.items }
+    ensures written { IfOk result (λ r. spec.AreWrittenBy writer items.items r.0.items r.1) }
+    ensures refused { spec.Faults result (spec.writes_fault writer items.items) }
+    ensures taken { spec.FitsBy writer items.items → IfErr result (λ e. e ≡ spec.OutOfMemory) }
 {
     // A list whose tables fit is written whole.
     tables_law();
@@ -70,12 +58,13 @@ fn write_tables<A: Allocator + Clone>(
     created_at: Timestamp,
     items: Vec<InternalValue<A>, A>,
 ) -> Result<(Vec<FinishedTable<A>, A>, TableIds), Error>
-    requires { IsWritable items.items }
+    requires { spec.IsWritable items.items }
     ensures written { IfOk result (λ r.
-        AreWritten ids target_size created_at items.items r.0.items r.1) }
-    ensures refused { Faults result (tables_fault ids target_size created_at items.items) }
-    ensures taken { FitsAsTables ids target_size items.items →
-        IfErr result (λ e. e ≡ OutOfMemory) }
+        spec.AreWritten ids target_size created_at items.items r.0.items r.1) }
+    ensures refused { spec.Faults result
+        (spec.tables_fault ids target_size created_at items.items) }
+    ensures taken { spec.FitsAsTables ids target_size items.items →
+        IfErr result (λ e. e ≡ spec.OutOfMemory) }
 {
     let writer = MultiWriter::new(alloc, ids, target_size, 0, created_at)?;
     write_by(writer, items)
@@ -87,12 +76,12 @@ fn open_table<A: Allocator + Clone>(
     table: FinishedTable<A>,
     global_seqno: SeqNo,
 ) -> Result<Table<A>, Error>
-    ensures opened { (label : Label) (es : List Entry) →
-        IsTableOf label es table.id table.checksum.0 table.bytes →
-        IfOk result (λ t. IsOpenedOf label es global_seqno t) }
-    ensures refused { (label : Label) (es : List Entry) →
-        IsTableOf label es table.id table.checksum.0 table.bytes →
-        Faults result (number_fault es global_seqno) }
+    ensures opened { (label : spec.Label) (es : List spec.Entry) →
+        spec.IsTableOf label es table.id table.checksum.0 table.bytes →
+        IfOk result (λ t. spec.IsOpenedOf label es global_seqno t) }
+    ensures refused { (label : spec.Label) (es : List spec.Entry) →
+        spec.IsTableOf label es table.id table.checksum.0 table.bytes →
+        spec.Faults result (spec.number_fault es global_seqno) }
 {
     let (bytes, checksum) = (table.bytes, table.checksum);
     let opened = Table::recover(alloc, bytes, checksum, global_seqno, 0, true, true)?;
@@ -106,16 +95,16 @@ pub(crate) fn open_tables<A: Allocator + Clone>(
     tables: Vec<FinishedTable<A>, A>,
     global_seqno: SeqNo,
 ) -> Result<Vec<Table<A>, A>, Error>
-    ensures opened { (label : Label) (lists : List (List Entry)) →
-        AreFinished default_options label lists tables.items →
-        IfOk result (λ v. AreOpened label lists global_seqno v.items) }
-    ensures refused { (label : Label) (lists : List (List Entry)) →
-        AreFinished default_options label lists tables.items →
-        Faults result (number_fault (joined lists) global_seqno) }
-    ensures taken { (label : Label) (lists : List (List Entry)) →
-        AreFinished default_options label lists tables.items →
-        AllByRecursion (λ es. highest_seqno es + global_seqno < 2 ^ 64) lists →
-        IfErr result (λ e. e ≡ OutOfMemory) }
+    ensures opened { (label : spec.Label) (lists : List (List spec.Entry)) →
+        spec.AreFinished spec.default_options label lists tables.items →
+        IfOk result (λ v. spec.AreOpened label lists global_seqno v.items) }
+    ensures refused { (label : spec.Label) (lists : List (List spec.Entry)) →
+        spec.AreFinished spec.default_options label lists tables.items →
+        spec.Faults result (spec.number_fault (spec.joined lists) global_seqno) }
+    ensures taken { (label : spec.Label) (lists : List (List spec.Entry)) →
+        spec.AreFinished spec.default_options label lists tables.items →
+        spec.AllByRecursion (λ es. spec.highest_seqno es + global_seqno < 2 ^ 64) lists →
+        IfErr result (λ e. e ≡ spec.OutOfMemory) }
 {
     let mut opened = Vec::new(alloc.clone()?);
     for table in tables {
@@ -143,28 +132,29 @@ pub fn write_run<A: Allocator + Clone>(
     items: Vec<InternalValue<A>, A>,
     global_seqno: SeqNo,
 ) -> Result<(Option<Run<Table<A>, A>>, TableIds), Error>
-    requires { IsWritable items.items }
+    requires { spec.IsWritable items.items }
     // The tables hold the list, one after another, and are in order.
     ensures run { IfOk result (λ r. MatchOption r.0 (items.items ≡ [])
-        (λ run. IsRunOfList items.items global_seqno run)) }
+        (λ run. spec.IsRunOfList items.items global_seqno run)) }
     // The list is cut by the target size, and the tables' ids are consecutive.
     ensures cut { IfOk result (λ r. IfSome r.0 (λ run.
-        AreCutOf (run_label ids target_size created_at) target_size items.items global_seqno run)) }
+        spec.AreCutOf (spec.run_label ids target_size created_at) target_size items.items
+        global_seqno run)) }
     ensures ids { IfOk result (λ r.
-        r.1 ≡ ids_behind ids target_size (option_map_or length r.0 0)) }
+        r.1 ≡ spec.ids_behind ids target_size (spec.option_map_or length r.0 0)) }
     // If the list, the global seqno applied, can be written, as when each seqno stays below the
     // largest, the run may be compacted.
-    ensures able { IsWritable (lift items.items global_seqno) →
-        IfOk result (λ r. IfSome r.0 (λ run. AreCompactable (run ∷ []))) }
+    ensures able { spec.IsWritable (spec.lift items.items global_seqno) →
+        IfOk result (λ r. IfSome r.0 (λ run. spec.AreCompactable (run ∷ []))) }
     // Except for `OutOfMemory`, the error is the first one: of the counter, of the entries in
     // order, of the last table, of the seqnos.
-    ensures refused { Faults result
-        (chain_fault ids target_size created_at items.items global_seqno) }
+    ensures refused { spec.Faults result
+        (spec.chain_fault ids target_size created_at items.items global_seqno) }
     // If the tables fit, enough ids remain and no seqno is too large, the only error is
     // `OutOfMemory`.
-    ensures taken { FitsAsTables ids target_size items.items →
-        highest_seqno items.items + global_seqno < 2 ^ 64 →
-        IfErr result (λ e. e ≡ OutOfMemory) }
+    ensures taken { spec.FitsAsTables ids target_size items.items →
+        spec.highest_seqno items.items + global_seqno < 2 ^ 64 →
+        IfErr result (λ e. e ≡ spec.OutOfMemory) }
 {
     let (tables, left) = write_tables(alloc.clone()?, ids, target_size, created_at, items)?;
     let opened = open_tables(alloc, tables, global_seqno)?;

@@ -1,2 +1,3 @@
 pub mod RunParts
 pub mod Tables
+pub mod Words

@@ -1,6 +1,6 @@
 //! Bounds that own their keys.
 ghost use Rattle.std.specs.Prelude.{◌≡◌, IfOk};
-ghost use Rattle.lsm_ranges.specs.KeyRange.{key_bound};
+ghost use Rattle.lsm_run_parts.specs.Words as spec;
 
 use sst_blocks::UserKey;
 use std::alloc::{AllocError, Allocator};
@@ -8,7 +8,7 @@ use std::ops::Bound;
 
 /// Borrows the key of a bound as bytes.
 pub(crate) fn edge<A: Allocator>(bound: &Bound<UserKey<A>>) -> Bound<&[u8]>
-    ensures { key_bound result ≡ bound.now }
+    ensures { spec.key_bound result ≡ bound.now }
 {
     match bound {
         Bound::Included(key) => Bound::Included(key.as_slice()),

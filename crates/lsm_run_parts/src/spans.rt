@@ -1,8 +1,6 @@
 //! Spans of runs: consecutive tables, by the first and the last index.
 ghost use Rattle.std.specs.Prelude.{◌≡◌, ◌+◌, ◌<◌, ◌≤◌, ◌==◌, ◌||◌, IfSome, length};
-ghost use Rattle.lsm_ranges.specs.Run.{ArePlacesOf, IsInOrder, overlap_indexes};
-ghost use Rattle.lsm_run_parts.specs.RunParts.{ends_given, range_of, ranges_of};
-ghost use Rattle.lsm_run_parts.specs.Tables.{place_taken};
+ghost use Rattle.lsm_run_parts.specs.Words as spec;
 
 use crate::bounds::edge;
 use lsm_ranges::Run;
@@ -20,9 +18,9 @@ pub fn places_within<A: Allocator>(
     run: &Run<Table<A>, A>,
     range: &(Bound<UserKey<A>>, Bound<UserKey<A>>),
 ) -> Option<(usize, usize)>
-    ensures found { IsInOrder range_of run.now →
-        result ≡ overlap_indexes range.now.0 range.now.1 (ranges_of run.now) }
-    ensures within { IfSome result (λ ends. ArePlacesOf run.now ends) }
+    ensures found { spec.IsInOrder spec.range_of run.now →
+        result ≡ spec.overlap_indexes range.now.0 range.now.1 (spec.ranges_of run.now) }
+    ensures within { IfSome result (λ ends. spec.ArePlacesOf run.now ends) }
 {
     run.range_overlap_indexes(edge(&range.0), edge(&range.1))
 }
@@ -33,7 +31,7 @@ pub fn ends_in<A: Allocator>(
     span: (Option<usize>, Option<usize>),
 ) -> (usize, usize)
     requires { 0 < length tables.now }
-    ensures { result ≡ ends_given tables.now span }
+    ensures { result ≡ spec.ends_given tables.now span }
 {
     (span.0.unwrap_or(0), span.1.unwrap_or(tables.len() - 1))
 }
@@ -56,7 +54,7 @@ pub fn place_behind<T>(tables: &[T], place: usize) -> usize
 /// The index at an end of the range from `lo` to `hi`, and the range that is left.
 pub(crate) fn place_at_end(lo: usize, hi: usize, at: Direction) -> (usize, usize, usize)
     requires { lo < hi }
-    ensures is { result ≡ place_taken at lo hi }
+    ensures is { result ≡ spec.place_taken at lo hi }
     ensures within { (lo ≤ result.0) × (result.0 < hi) }
     ensures fewer { result.2 + lo + 1 ≡ hi + result.1 }
     ensures order { result.1 ≤ result.2 }

@@ -1,14 +1,6 @@
 //! The unopened tables of a run.
 ghost use Rattle.std.specs.Prelude.{◌≡◌, ◌+◌, ◌<◌, Some, IfOk, IfErr, length, slice_get};
-ghost use Rattle.std.specs.Arc.{arc_value};
-ghost use Rattle.sst_entries.specs.declared.error.Error.TheVariants.{OutOfMemory};
-ghost use Rattle.lsm_ranges.specs.Run.{ArePlacesOf};
-ghost use Rattle.lsm_readers.specs.Ranges.{IsRangeOf};
-ghost use Rattle.lsm_readers.specs.Table.{OpenTable};
-ghost use Rattle.lsm_iters.specs.Range.{range_remains};
-ghost use Rattle.lsm_walks.specs.Parts.{LoadGives};
-ghost use Rattle.lsm_run_parts.specs.RunParts.{span_part_at, span_of, span_parts};
-ghost use Rattle.lsm_run_parts.specs.Tables.{EndsTables, KeepsTables, coming_tables, opened_tables};
+ghost use Rattle.lsm_run_parts.specs.Words as spec;
 
 use crate::bounds::share;
 use crate::spans::{is_end, place_at_end, place_behind};
@@ -62,10 +54,11 @@ fn reader_at<A: Allocator + Clone>(
     range: &(Bound<UserKey<A>>, Bound<UserKey<A>>),
 ) -> Result<Iter<A>, Error>
     requires { place < length tables.now }
-    ensures ok { let span = span_of ends range.now.0 range.now.1 in
-        (t : OpenTable) → slice_get tables.now place ≡ Some t → let p = span_part_at span place t in
-        IfOk result (λ reader. IsRangeOf p.table p.low p.high reader) }
-    ensures err { IfErr result (λ e. e ≡ OutOfMemory) }
+    ensures ok { let span = spec.span_of ends range.now.0 range.now.1 in
+        (t : spec.OpenTable) → slice_get tables.now place ≡ Some t →
+        let p = spec.span_part_at span place t in
+        IfOk result (λ reader. spec.IsRangeOf p.table p.low p.high reader) }
+    ensures err { IfErr result (λ e. e ≡ spec.OutOfMemory) }
 {
     let table = &tables[place];
     if is_end(place, ends) {
@@ -82,9 +75,9 @@ impl<A: Allocator> Unopened<A> {
         range: (Bound<UserKey<A>>, Bound<UserKey<A>>),
         ends: (usize, usize),
     ) -> Unopened<A>
-        requires { ArePlacesOf (arc_value run) ends }
-        ensures { let span = span_of ends range.0 range.1 in
-            result ≡ record { parts = span_parts span (arc_value run); opened = 0 } }
+        requires { spec.ArePlacesOf (spec.arc_value run) ends }
+        ensures { let span = spec.span_of ends range.0 range.1 in
+            result ≡ record { parts = spec.span_parts span (spec.arc_value run); opened = 0 } }
     {
         let hi = place_behind(run.as_slice(), ends.1);
         Unopened {
@@ -108,11 +101,11 @@ impl<A: Allocator> Unopened<A> {
 impl<A: Allocator + Clone> Parts for Unopened<A> {
     type Part = Iter<A>;
 
-    ghost coming = { coming_tables };
+    ghost coming = { spec.coming_tables };
 
-    ghost keeps = { KeepsTables };
+    ghost keeps = { spec.KeepsTables };
 
-    ghost ends = { EndsTables };
+    ghost ends = { spec.EndsTables };
 
     /// Opens the table at an end, and counts it.
     ///
@@ -121,9 +114,9 @@ impl<A: Allocator + Clone> Parts for Unopened<A> {
     /// [`Error::OutOfMemory`]. Nothing is counted then, and no table is left.
     #[inline(never)]
     fn load(&mut self, at: Direction) -> Option<Result<Iter<A>, Error>>
-        ensures gives { let remains = range_remains {A = A} in
-            LoadGives remains coming_tables KeepsTables at self.old result self.new }
-        ensures counted { self.new.opened ≡ opened_tables result + self.old.opened }
+        ensures gives { let remains = spec.range_remains {A = A} in
+            spec.LoadGives remains spec.coming_tables spec.KeepsTables at self.old result self.new }
+        ensures counted { self.new.opened ≡ spec.opened_tables result + self.old.opened }
     {
         if self.lo == self.hi {
             return None;

@@ -2,7 +2,7 @@
 -- file imports them from one module.
 pub use Rattle.sst_entries.specs.Entry.{Entry}
 pub use Rattle.sst_entries.specs.Error.{Faults, FaultsFirst, Gives, is_memory}
-pub use Rattle.sst_entries.specs.Lending.{came}
+pub use Rattle.sst_entries.specs.Lending.{came, entry_of_ref}
 pub use Rattle.sst_entries.specs.Point.{point, within}
 pub use Rattle.sst_entries.specs.Stream.{CanDeal, Lowers, back_of, first, front_of, nowhere}
 pub use Rattle.sst_blocks.specs.Opened.{none_opened}
@@ -12,7 +12,7 @@ pub use Rattle.lsm_formats.specs.Facts.{highest_seqno}
 pub use Rattle.lsm_formats.specs.Options.{default_options}
 pub use Rattle.lsm_merge.specs.InPlace.{merge_of}
 pub use Rattle.lsm_merge.specs.Union.{Ascends, entries_among, item_cmp, newest}
-pub use Rattle.lsm_ranges.specs.Run.{ArePlacesOf, IsInOrder, overlap_indexes}
+pub use Rattle.lsm_ranges.specs.Run.{ArePlacesOf, IsInOrder, overlap_indexes, table_of_key}
 pub use Rattle.lsm_readers.specs.Answer.{lift}
 pub use Rattle.lsm_readers.specs.Read.{DoesRead, Opens}
 pub use Rattle.lsm_readers.specs.Table.{OpenTable}
@@ -28,15 +28,28 @@ pub use Rattle.lsm_runs.specs.RunLists.{DealTogether, DealWithin, DealsList, Hol
 pub use Rattle.lsm_runs.specs.RunLists.{RunsHoldLists, single, span_list}
 pub use Rattle.lsm_runs.specs.RunScan.{BeginsNext, BeginsScan, IsScanOf, RunScansNext, ScansItem}
 pub use Rattle.lsm_runs.specs.RunScan.{early_scan_fault, lent_of_run, lent_of_scan, over_scan}
-pub use Rattle.lsm_runs.specs.RunScan.{run_scan_size, scan_fault}
-pub use Rattle.lsm_runs.specs.RunScan.{tables_between, tables_scan}
+pub use Rattle.lsm_runs.specs.RunScan.{run_scan_size, scan_fault, tables_between, tables_scan}
 pub use Rattle.lsm_runs.specs.SpansRead.{IsOverSourcesBelow, IsOverSpans, IsOverSpansBelow}
 pub use Rattle.lsm_runs.specs.SpansRead.{spans_within, with_readers}
-pub use Rattle.lsm_runs.specs.SeveralRuns.{LoadsEach, is_older, loads_together}
-pub use Rattle.lsm_runs.specs.SeveralRuns.{run_read, run_read_behind, runs_read, runs_read_by_age}
-pub use Rattle.lsm_runs.specs.SeveralRuns.{runs_told, union_in, worth_asking}
+pub use Rattle.lsm_runs.specs.SeveralRuns.{LoadsEach, is_older, loads_together, run_read}
+pub use Rattle.lsm_runs.specs.SeveralRuns.{run_read_behind, runs_read, runs_read_by_age, runs_told}
+pub use Rattle.lsm_runs.specs.SeveralRuns.{union_in, worth_asking}
 pub use Rattle.lsm_runs.specs.LentRun.{OpensNext, ReaderLends, RunLends, Stands, lent_of_reader}
 pub use Rattle.lsm_runs.specs.LentRun.{over_run}
 pub use Rattle.lsm_sorted.specs.LentBelow.{LendsBelow, MayLendBelow, lent_below, lent_passes}
 pub use Rattle.lsm_sorted.specs.LentBelow.{only_below}
 pub use Rattle.lsm_runs.specs.LentNewestRuns.{LendsNewest, LendsResults, runs_told_within}
+pub use Rattle.std.specs.Arc.{arc_value}
+pub use Rattle.std.specs.Iterator.{IsFinite, at_most}
+pub use Rattle.std.specs.List.{AllByRecursion, AllZip}
+pub use Rattle.std.specs.Option.{option_and_then, option_map}
+pub use Rattle.sst_entries.specs.declared.error.Error.{Error}
+pub use Rattle.sst_entries.specs.declared.error.Error.TheVariants.{OutOfMemory}
+pub use Rattle.sst_entries.specs.declared.stream.Direction.TheVariants.{Front}
+pub use Rattle.sst_filters.specs.KeyHash.{hash_of}
+pub use Rattle.sst_blocks.specs.Asked.{told_map}
+pub use Rattle.lsm_walks.specs.Walks.{WalkTakes}
+pub use Rattle.lsm_iters.specs.Range.{range_remains}
+pub use Rattle.lsm_iters.specs.Steps.{without_lent}
+pub use Rattle.lsm_run_parts.specs.Tables.{KeepsTables, coming_tables}
+pub use Rattle.lsm_runs.specs.RunPlaces.{IsThere, place_in, placed_in_run, placed_in_runs}

@@ -1,15 +1,6 @@
 //! One step of a lending reader of a run, from the front.
 ghost use Rattle.std.specs.Prelude.{◌≡◌, None, Some, IfOk, Result, is_some};
-ghost use Rattle.std.specs.Option.{option_map};
-ghost use Rattle.sst_entries.specs.Lending.{entry_of_ref};
-ghost use Rattle.sst_entries.specs.declared.stream.Direction.TheVariants.{Front};
-ghost use Rattle.sst_entries.specs.declared.error.Error.{Error};
-ghost use Rattle.lsm_iters.specs.Range.{range_remains};
-ghost use Rattle.lsm_iters.specs.Steps.{without_lent};
-ghost use Rattle.lsm_walks.specs.Walks.{WalkTakes};
-ghost use Rattle.lsm_run_parts.specs.Tables.{KeepsTables, coming_tables};
-ghost use Rattle.lsm_runs.specs.Words.{Entry, OpensNext, ReaderLends, Stands, came};
-ghost use Rattle.lsm_runs.specs.Words.{lent_of_reader, over_run, run_of};
+ghost use Rattle.lsm_runs.specs.Words as spec;
 
 use lsm_iters::Iter;
 use lsm_run_parts::Unopened;
@@ -25,8 +16,9 @@ pub(crate) type RunWalk<A> = Walk<Unopened<A>, Iter<A>>;
 // Advances to the next entry of a table, if one is open; returns whether there is one.
 #[inline]
 fn advance_in<A: Allocator + Clone>(part: &mut Option<Iter<A>>) -> Result<bool, Error>
-    ensures lends { ReaderLends part.old (came result (lent_of_reader part.new)) part.new }
-    ensures more { IfOk result (λ more. more ≡ is_some (lent_of_reader part.new)) }
+    ensures lends { spec.ReaderLends part.old (spec.came result (spec.lent_of_reader part.new))
+        part.new }
+    ensures more { IfOk result (λ more. more ≡ is_some (spec.lent_of_reader part.new)) }
 {
     match part {
         Some(part) => part.advance(),
@@ -52,9 +44,9 @@ fn let_go<T: Drop>(part: &mut Option<T>)
 // table moves to the front, so that only the front table ever lends.
 fn advance_last<A: Allocator + Clone>(walk: &mut RunWalk<A>) -> Result<bool, Error>
     ensures is { walk.new ≡ record walk.old { front = walk.new.front; back = walk.old.front } }
-    ensures lends { ReaderLends walk.old.back (came result (lent_of_reader walk.new.front))
-        walk.new.front }
-    ensures more { IfOk result (λ more. more ≡ is_some (lent_of_reader walk.new.front)) }
+    ensures lends { spec.ReaderLends walk.old.back
+        (spec.came result (spec.lent_of_reader walk.new.front)) walk.new.front }
+    ensures more { IfOk result (λ more. more ≡ is_some (spec.lent_of_reader walk.new.front)) }
 {
     mem::swap(&mut walk.front, &mut walk.back);
     advance_in(&mut walk.front)
@@ -63,7 +55,7 @@ fn advance_last<A: Allocator + Clone>(walk: &mut RunWalk<A>) -> Result<bool, Err
 /// The entry lent from a table, if one is open.
 #[inline(always)]
 pub(crate) fn entry_in<A: Allocator + Clone>(part: &Option<Iter<A>>) -> Option<EntryRef<'_>>
-    ensures { option_map entry_of_ref result ≡ lent_of_reader part.now }
+    ensures { spec.option_map spec.entry_of_ref result ≡ spec.lent_of_reader part.now }
 {
     match part {
         Some(part) => part.entry(),
@@ -74,7 +66,7 @@ pub(crate) fn entry_in<A: Allocator + Clone>(part: &Option<Iter<A>>) -> Option<E
 /// Lends nothing from a table, if one is open, until it advances.
 #[inline(always)]
 pub(crate) fn unlend_in<A: Allocator + Clone>(part: &mut Option<Iter<A>>)
-    ensures { part.new ≡ option_map without_lent part.old }
+    ensures { part.new ≡ spec.option_map spec.without_lent part.old }
 {
     if let Some(part) = part {
         part.unlend();
@@ -85,7 +77,7 @@ pub(crate) fn unlend_in<A: Allocator + Clone>(part: &mut Option<Iter<A>>)
 // for a reader is made once a table, not once an entry.
 #[inline(never)]
 fn open_next<A: Allocator + Clone>(walk: &mut RunWalk<A>) -> Option<Result<(), Error>>
-    ensures { OpensNext walk.old result walk.new }
+    ensures { spec.OpensNext walk.old result walk.new }
 {
     match walk.parts.load(Direction::Front) {
         Some(Ok(reader)) => {
@@ -101,11 +93,11 @@ fn open_next<A: Allocator + Clone>(walk: &mut RunWalk<A>) -> Option<Result<(), E
 /// yet. Opening the next table drops the current one, with the entry lent from it.
 #[inline]
 pub(crate) fn step<A: Allocator + Clone>(walk: &mut RunWalk<A>) -> Result<bool, Error>
-    ensures takes { WalkTakes range_remains coming_tables KeepsTables Front walk.old
-        (came result (lent_of_reader walk.new.front)) walk.new }
-    ensures there { (x : Result Entry Error) → Stands walk.old.front x →
-        came result (lent_of_reader walk.new.front) ≡ Some x }
-    ensures more { IfOk result (λ more. more ≡ is_some (lent_of_reader walk.new.front)) }
+    ensures takes { spec.WalkTakes spec.range_remains spec.coming_tables spec.KeepsTables spec.Front
+        walk.old (spec.came result (spec.lent_of_reader walk.new.front)) walk.new }
+    ensures there { (x : Result spec.Entry spec.Error) → spec.Stands walk.old.front x →
+        spec.came result (spec.lent_of_reader walk.new.front) ≡ Some x }
+    ensures more { IfOk result (λ more. more ≡ is_some (spec.lent_of_reader walk.new.front)) }
 {
     loop {
         if advance_in(&mut walk.front)? {
@@ -121,7 +113,7 @@ pub(crate) fn step<A: Allocator + Clone>(walk: &mut RunWalk<A>) -> Result<bool, 
 
 /// Drops what is lent and what is left.
 pub(crate) fn end<A: Allocator + Clone>(walk: &mut RunWalk<A>)
-    ensures { run_of walk.new ≡ over_run (run_of walk.old) }
+    ensures { spec.run_of walk.new ≡ spec.over_run (spec.run_of walk.old) }
 {
     walk.parts.end();
     let_go(&mut walk.front);

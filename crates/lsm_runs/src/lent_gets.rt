@@ -1,17 +1,7 @@
 //! Point reads of several runs that borrow the entry from its table.
 ghost use Rattle.std.specs.Prelude.{◌≡◌, ◌⊎◌, [], IfOk, IfSome, IsOk, List, None, Ok, Option, length};
 ghost use Rattle.std.specs.Prelude.{is_some, map, slice_get, true};
-ghost use Rattle.std.specs.Arc.{arc_value};
-ghost use Rattle.std.specs.List.{AllByRecursion};
-ghost use Rattle.std.specs.Option.{option_and_then, option_map};
-ghost use Rattle.sst_blocks.specs.Asked.{told_map};
-ghost use Rattle.sst_entries.specs.Lending.{entry_of_ref};
-ghost use Rattle.sst_filters.specs.KeyHash.{hash_of};
-ghost use Rattle.lsm_runs.specs.Words.{DoesRead, Entry, FaultsFirst, Gives, IsInOrder, LoadsEach};
-ghost use Rattle.lsm_runs.specs.Words.{Opens, RunsHoldLists, leading_of, none_opened, point};
-ghost use Rattle.lsm_runs.specs.Words.{range_of, run_read, runs_read, runs_told, union_in};
-ghost use Rattle.lsm_ranges.specs.Run.{table_of_key};
-ghost use Rattle.lsm_runs.specs.RunPlaces.{IsThere, place_in, placed_in_run, placed_in_runs};
+ghost use Rattle.lsm_runs.specs.Words as spec;
 
 use crate::runs::together;
 use lsm_ranges::Run;
@@ -34,8 +24,8 @@ pub struct RunPlace {
 // The index of the one table of a run whose range has the key.
 #[tactic(auto, using(crate::proofs::RunPlaces::index_of_key))]
 fn index_of_key<A: Allocator + Clone>(run: &Run<Table<A>, A>, key: &[u8]) -> Option<usize>
-    ensures { IsInOrder range_of run.now → option_and_then (slice_get run.now) result
-        ≡ table_of_key range_of key.now run.now }
+    ensures { spec.IsInOrder spec.range_of run.now → spec.option_and_then (slice_get run.now) result
+        ≡ spec.table_of_key spec.range_of key.now run.now }
 {
     let (index, _) = run.range_overlap_indexes(Bound::Included(key), Bound::Included(key))?;
     Some(index)
@@ -47,7 +37,7 @@ fn found_in(
     table: usize,
     found: Result<Option<EntryPlace>, Error>,
 ) -> Result<Option<RunPlace>, Error>
-    ensures { result ≡ told_map (option_map (place_in run table)) found }
+    ensures { result ≡ spec.told_map (spec.option_map (spec.place_in run table)) found }
 {
     match found {
         Ok(Some(place)) => Ok(Some(RunPlace { run, table, place })),
@@ -65,14 +55,14 @@ fn place_in_run<A: Allocator + Clone>(
     seqno: SeqNo,
     key_hash: u64,
 ) -> (Result<Option<RunPlace>, Error>, Opened)
-    requires { key_hash ≡ hash_of key.now }
-    ensures read { IsInOrder range_of run.now →
-        DoesRead (told_map (option_and_then (placed_in_run run.now)) result.0)
-        (run_read key.now seqno run.now) none_opened result.1 }
+    requires { key_hash ≡ spec.hash_of key.now }
+    ensures read { spec.IsInOrder spec.range_of run.now →
+        spec.DoesRead (spec.told_map (spec.option_and_then (spec.placed_in_run run.now)) result.0)
+        (spec.run_read key.now seqno run.now) spec.none_opened result.1 }
     ensures number { IfOk result.0 (λ found. IfSome found (λ p. p.run ≡ number)) }
     ensures there { IfOk result.0 (λ found. IfSome found (λ p.
-        is_some (placed_in_run run.now p) ≡ true)) }
-    ensures few { LoadsEach 1 result.1 }
+        is_some (spec.placed_in_run run.now p) ≡ true)) }
+    ensures few { spec.LoadsEach 1 result.1 }
 {
     let Some(index) = index_of_key(run, key) else {
         return (Ok(None), Opened::none());
@@ -92,8 +82,8 @@ pub fn entry_in_runs<'a, A: Allocator + Clone>(
     runs: &'a [Arc<Run<Table<A>, A>, A>],
     place: &RunPlace,
 ) -> Option<EntryRef<'a>>
-    ensures { option_map entry_of_ref result
-        ≡ placed_in_runs (map arc_value runs.now) place.now }
+    ensures { spec.option_map spec.entry_of_ref result
+        ≡ spec.placed_in_runs (map spec.arc_value runs.now) place.now }
 {
     let run = runs.get(place.run)?;
     let table = run.as_slice().get(place.table)?;
@@ -105,8 +95,8 @@ fn found_entry<'a, A: Allocator + Clone>(
     runs: &'a [Arc<Run<Table<A>, A>, A>],
     found: &Option<RunPlace>,
 ) -> Option<EntryRef<'a>>
-    ensures { option_map entry_of_ref result
-        ≡ option_and_then (placed_in_runs (map arc_value runs.now)) found.now }
+    ensures { spec.option_map spec.entry_of_ref result
+        ≡ spec.option_and_then (spec.placed_in_runs (map spec.arc_value runs.now)) found.now }
 {
     match found {
         Some(place) => entry_in_runs(runs, place),
@@ -122,8 +112,9 @@ fn leading_place<A: Allocator + Clone>(
     first: Option<RunPlace>,
     second: Option<RunPlace>,
 ) -> Option<RunPlace>
-    ensures leads { let entry = option_and_then (placed_in_runs (map arc_value runs.now)) in
-        entry result ≡ leading_of (entry first) (entry second) }
+    ensures leads { let entry = spec.option_and_then
+        (spec.placed_in_runs (map spec.arc_value runs.now)) in
+        entry result ≡ spec.leading_of (entry first) (entry second) }
     ensures one { (result ≡ first) ⊎ (result ≡ second) }
 {
     let Some(before) = found_entry(runs, &first) else {
@@ -152,31 +143,38 @@ pub fn place_in_runs_counted<A: Allocator + Clone>(
 ) -> (Result<Option<RunPlace>, Error>, Opened)
     // For runs in order, it is the result of reading the runs' tables, whatever their bytes, except
     // for `OutOfMemory`.
-    ensures told { AllByRecursion (IsInOrder range_of) (map arc_value runs.now) →
-        Gives (option_and_then (placed_in_runs (map arc_value runs.now))) result.0
-        (runs_told key.now seqno None (map arc_value runs.now)) }
+    ensures told { spec.AllByRecursion (spec.IsInOrder spec.range_of)
+        (map spec.arc_value runs.now) →
+        spec.Gives (spec.option_and_then (spec.placed_in_runs (map spec.arc_value runs.now)))
+        result.0 (spec.runs_told key.now seqno None (map spec.arc_value runs.now)) }
     // For tables of lists, it is the first match in the sorted entries of all lists, global seqnos
     // applied.
-    ensures list { (lists : List (List (List Entry))) →
-        RunsHoldLists (map arc_value runs.now) lists →
-        Gives (option_and_then (placed_in_runs (map arc_value runs.now))) result.0
-        (Ok (point (union_in lists) key.now seqno)) }
+    ensures list { (lists : List (List (List spec.Entry))) →
+        spec.RunsHoldLists (map spec.arc_value runs.now) lists →
+        spec.Gives (spec.option_and_then (spec.placed_in_runs (map spec.arc_value runs.now)))
+        result.0 (Ok (spec.point (spec.union_in lists) key.now seqno)) }
     // The blocks loaded are those of reading the runs' tables, up to the first error.
-    ensures opened { AllByRecursion (IsInOrder range_of) (map arc_value runs.now) →
-        let read = runs_read key.now seqno None (map arc_value runs.now) in
-        Opens result.0 read.loads none_opened result.1 }
+    ensures opened { spec.AllByRecursion (spec.IsInOrder spec.range_of)
+        (map spec.arc_value runs.now) →
+        let read = spec.runs_read key.now seqno None (map spec.arc_value runs.now) in
+        spec.Opens result.0 read.loads spec.none_opened result.1 }
     // An error of the first block loaded that is found before any allocation takes precedence over
     // `OutOfMemory`.
-    ensures early { AllByRecursion (IsInOrder range_of) (map arc_value runs.now) →
-        FaultsFirst result.0 (runs_read key.now seqno None (map arc_value runs.now)).early }
+    ensures early { spec.AllByRecursion (spec.IsInOrder spec.range_of)
+        (map spec.arc_value runs.now) →
+        spec.FaultsFirst result.0
+        (spec.runs_read key.now seqno None (map spec.arc_value runs.now)).early }
     // It does not fail if it loads no block, as when there are no runs.
-    ensures calm { AllByRecursion (IsInOrder range_of) (map arc_value runs.now) →
-        (runs_read key.now seqno None (map arc_value runs.now)).loads ≡ [] → IsOk result.0 }
+    ensures calm { spec.AllByRecursion (spec.IsInOrder spec.range_of)
+        (map spec.arc_value runs.now) →
+        (spec.runs_read key.now seqno None (map spec.arc_value runs.now)).loads ≡ [] →
+        IsOk result.0 }
     // For any runs and any bytes, also on an error: at most one data block, one index block and one
     // filter block a run.
-    ensures few { LoadsEach (length runs.now) result.1 }
+    ensures few { spec.LoadsEach (length runs.now) result.1 }
     // If a position was found, an entry is stored there.
-    ensures there { IfOk result.0 (λ found. IfSome found (IsThere (map arc_value runs.now))) }
+    ensures there { IfOk result.0
+        (λ found. IfSome found (spec.IsThere (map spec.arc_value runs.now))) }
 {
     let mut found = None;
     let mut opened = Opened::none();
@@ -206,24 +204,29 @@ pub fn place_in_runs<A: Allocator + Clone>(
 ) -> Result<Option<RunPlace>, Error>
     // For runs in order, it is the result of reading the runs' tables, whatever their bytes, except
     // for `OutOfMemory`.
-    ensures told { AllByRecursion (IsInOrder range_of) (map arc_value runs.now) →
-        Gives (option_and_then (placed_in_runs (map arc_value runs.now))) result
-        (runs_told key.now seqno None (map arc_value runs.now)) }
+    ensures told { spec.AllByRecursion (spec.IsInOrder spec.range_of)
+        (map spec.arc_value runs.now) →
+        spec.Gives (spec.option_and_then (spec.placed_in_runs (map spec.arc_value runs.now))) result
+        (spec.runs_told key.now seqno None (map spec.arc_value runs.now)) }
     // For tables of lists, it is the first match in the sorted entries of all lists, global seqnos
     // applied.
-    ensures list { (lists : List (List (List Entry))) →
-        RunsHoldLists (map arc_value runs.now) lists →
-        Gives (option_and_then (placed_in_runs (map arc_value runs.now))) result
-        (Ok (point (union_in lists) key.now seqno)) }
+    ensures list { (lists : List (List (List spec.Entry))) →
+        spec.RunsHoldLists (map spec.arc_value runs.now) lists →
+        spec.Gives (spec.option_and_then (spec.placed_in_runs (map spec.arc_value runs.now))) result
+        (Ok (spec.point (spec.union_in lists) key.now seqno)) }
     // An error of the first block loaded that is found before any allocation takes precedence over
     // `OutOfMemory`.
-    ensures early { AllByRecursion (IsInOrder range_of) (map arc_value runs.now) →
-        FaultsFirst result (runs_read key.now seqno None (map arc_value runs.now)).early }
+    ensures early { spec.AllByRecursion (spec.IsInOrder spec.range_of)
+        (map spec.arc_value runs.now) →
+        spec.FaultsFirst result
+        (spec.runs_read key.now seqno None (map spec.arc_value runs.now)).early }
     // It does not fail if it loads no block, as when there are no runs.
-    ensures calm { AllByRecursion (IsInOrder range_of) (map arc_value runs.now) →
-        (runs_read key.now seqno None (map arc_value runs.now)).loads ≡ [] → IsOk result }
+    ensures calm { spec.AllByRecursion (spec.IsInOrder spec.range_of)
+        (map spec.arc_value runs.now) →
+        (spec.runs_read key.now seqno None (map spec.arc_value runs.now)).loads ≡ [] → IsOk result }
     // If a position was found, an entry is stored there.
-    ensures there { IfOk result (λ found. IfSome found (IsThere (map arc_value runs.now))) }
+    ensures there { IfOk result
+        (λ found. IfSome found (spec.IsThere (map spec.arc_value runs.now))) }
 {
     place_in_runs_counted(runs, key, seqno).0
 }
@@ -233,8 +236,9 @@ fn borrowed<'a, A: Allocator + Clone>(
     runs: &'a [Arc<Run<Table<A>, A>, A>],
     found: Result<Option<RunPlace>, Error>,
 ) -> Result<Option<EntryRef<'a>>, Error>
-    ensures { told_map (option_map entry_of_ref) result
-        ≡ told_map (option_and_then (placed_in_runs (map arc_value runs.now))) found }
+    ensures { spec.told_map (spec.option_map spec.entry_of_ref) result
+        ≡ spec.told_map (spec.option_and_then (spec.placed_in_runs (map spec.arc_value runs.now)))
+        found }
 {
     match found {
         Ok(found) => Ok(found_entry(runs, &found)),
@@ -254,28 +258,34 @@ pub fn get_runs_ref_counted<'a, A: Allocator + Clone>(
 ) -> (Result<Option<EntryRef<'a>>, Error>, Opened)
     // For runs in order, it is the result of reading the runs' tables, whatever their bytes, except
     // for `OutOfMemory`.
-    ensures told { AllByRecursion (IsInOrder range_of) (map arc_value runs.now) →
-        Gives (option_map entry_of_ref) result.0
-        (runs_told key.now seqno None (map arc_value runs.now)) }
+    ensures told { spec.AllByRecursion (spec.IsInOrder spec.range_of)
+        (map spec.arc_value runs.now) → spec.Gives (spec.option_map spec.entry_of_ref) result.0
+        (spec.runs_told key.now seqno None (map spec.arc_value runs.now)) }
     // For tables of lists, it is the first match in the sorted entries of all lists, global seqnos
     // applied.
-    ensures list { (lists : List (List (List Entry))) →
-        RunsHoldLists (map arc_value runs.now) lists →
-        Gives (option_map entry_of_ref) result.0 (Ok (point (union_in lists) key.now seqno)) }
+    ensures list { (lists : List (List (List spec.Entry))) →
+        spec.RunsHoldLists (map spec.arc_value runs.now) lists →
+        spec.Gives (spec.option_map spec.entry_of_ref) result.0
+        (Ok (spec.point (spec.union_in lists) key.now seqno)) }
     // The blocks loaded are those of reading the runs' tables, up to the first error.
-    ensures opened { AllByRecursion (IsInOrder range_of) (map arc_value runs.now) →
-        let read = runs_read key.now seqno None (map arc_value runs.now) in
-        Opens result.0 read.loads none_opened result.1 }
+    ensures opened { spec.AllByRecursion (spec.IsInOrder spec.range_of)
+        (map spec.arc_value runs.now) →
+        let read = spec.runs_read key.now seqno None (map spec.arc_value runs.now) in
+        spec.Opens result.0 read.loads spec.none_opened result.1 }
     // An error of the first block loaded that is found before any allocation takes precedence over
     // `OutOfMemory`.
-    ensures early { AllByRecursion (IsInOrder range_of) (map arc_value runs.now) →
-        FaultsFirst result.0 (runs_read key.now seqno None (map arc_value runs.now)).early }
+    ensures early { spec.AllByRecursion (spec.IsInOrder spec.range_of)
+        (map spec.arc_value runs.now) →
+        spec.FaultsFirst result.0
+        (spec.runs_read key.now seqno None (map spec.arc_value runs.now)).early }
     // It does not fail if it loads no block, as when there are no runs.
-    ensures calm { AllByRecursion (IsInOrder range_of) (map arc_value runs.now) →
-        (runs_read key.now seqno None (map arc_value runs.now)).loads ≡ [] → IsOk result.0 }
+    ensures calm { spec.AllByRecursion (spec.IsInOrder spec.range_of)
+        (map spec.arc_value runs.now) →
+        (spec.runs_read key.now seqno None (map spec.arc_value runs.now)).loads ≡ [] →
+        IsOk result.0 }
     // For any runs and any bytes, also on an error: at most one data block, one index block and one
     // filter block a run.
-    ensures few { LoadsEach (length runs.now) result.1 }
+    ensures few { spec.LoadsEach (length runs.now) result.1 }
 {
     let (found, opened) = place_in_runs_counted(runs, key, seqno);
     (borrowed(runs, found), opened)
@@ -296,21 +306,25 @@ pub fn get_runs_ref<'a, A: Allocator + Clone>(
 ) -> Result<Option<EntryRef<'a>>, Error>
     // For runs in order, it is the result of reading the runs' tables, whatever their bytes, except
     // for `OutOfMemory`.
-    ensures told { AllByRecursion (IsInOrder range_of) (map arc_value runs.now) →
-        Gives (option_map entry_of_ref) result
-        (runs_told key.now seqno None (map arc_value runs.now)) }
+    ensures told { spec.AllByRecursion (spec.IsInOrder spec.range_of)
+        (map spec.arc_value runs.now) → spec.Gives (spec.option_map spec.entry_of_ref) result
+        (spec.runs_told key.now seqno None (map spec.arc_value runs.now)) }
     // For tables of lists, it is the first match in the sorted entries of all lists, global seqnos
     // applied.
-    ensures list { (lists : List (List (List Entry))) →
-        RunsHoldLists (map arc_value runs.now) lists →
-        Gives (option_map entry_of_ref) result (Ok (point (union_in lists) key.now seqno)) }
+    ensures list { (lists : List (List (List spec.Entry))) →
+        spec.RunsHoldLists (map spec.arc_value runs.now) lists →
+        spec.Gives (spec.option_map spec.entry_of_ref) result
+        (Ok (spec.point (spec.union_in lists) key.now seqno)) }
     // An error of the first block loaded that is found before any allocation takes precedence over
     // `OutOfMemory`.
-    ensures early { AllByRecursion (IsInOrder range_of) (map arc_value runs.now) →
-        FaultsFirst result (runs_read key.now seqno None (map arc_value runs.now)).early }
+    ensures early { spec.AllByRecursion (spec.IsInOrder spec.range_of)
+        (map spec.arc_value runs.now) →
+        spec.FaultsFirst result
+        (spec.runs_read key.now seqno None (map spec.arc_value runs.now)).early }
     // It does not fail if it loads no block, as when there are no runs.
-    ensures calm { AllByRecursion (IsInOrder range_of) (map arc_value runs.now) →
-        (runs_read key.now seqno None (map arc_value runs.now)).loads ≡ [] → IsOk result }
+    ensures calm { spec.AllByRecursion (spec.IsInOrder spec.range_of)
+        (map spec.arc_value runs.now) →
+        (spec.runs_read key.now seqno None (map spec.arc_value runs.now)).loads ≡ [] → IsOk result }
 {
     get_runs_ref_counted(runs, key, seqno).0
 }

@@ -1,12 +1,6 @@
 //! Several runs as one lending stream.
 ghost use Rattle.std.specs.Prelude.{◌≡◌, ◌<◌, ℕ, [], All, IfErr, IfOk, List, None, map};
-ghost use Rattle.std.specs.Arc.{arc_value};
-ghost use Rattle.std.specs.List.{AllByRecursion};
-ghost use Rattle.sst_entries.specs.declared.error.Error.TheVariants.{OutOfMemory};
-ghost use Rattle.lsm_runs.specs.Words.{Ascends, CanDeal, DealsList, Entry, IsInOrder, LendsNewest};
-ghost use Rattle.lsm_runs.specs.Words.{LendsResults, RunsHoldLists, below_told, entries_among};
-ghost use Rattle.lsm_runs.specs.Words.{merge_of, newest, newest_results, nowhere, numbered_below};
-ghost use Rattle.lsm_runs.specs.Words.{range_of, runs_told_within, union_in, within};
+ghost use Rattle.lsm_runs.specs.Words as spec;
 
 use crate::RunReader;
 use crate::runs::readers_within;
@@ -33,13 +27,14 @@ fn lent_stream<L: Lending + Drop, A: Allocator + Clone>(
     sources: Vec<L, A>,
 ) -> Result<LentNewestOf<L, A>, Error>
     ensures none { IfOk result (λ s. ⟦<LentNewestOf<L, A> as Lending>⟧.lent s ≡ None) }
-    ensures deals { IfOk result (LendsNewest L.advances sources.items
+    ensures deals { IfOk result (spec.LendsNewest L.advances sources.items
         ⟦<LentNewestOf<L, A> as Lending>⟧.advances) }
-    ensures can { All (CanDeal L.advances nowhere L.can_advance L.can_advance) sources.items →
-        IfOk result (CanDeal ⟦<LentNewestOf<L, A> as Lending>⟧.advances nowhere
+    ensures can { All (spec.CanDeal L.advances spec.nowhere L.can_advance L.can_advance)
+        sources.items →
+        IfOk result (spec.CanDeal ⟦<LentNewestOf<L, A> as Lending>⟧.advances spec.nowhere
         ⟦<LentNewestOf<L, A> as Lending>⟧.can_advance
         ⟦<LentNewestOf<L, A> as Lending>⟧.can_advance) }
-    ensures err { IfErr result (λ e. e ≡ OutOfMemory) }
+    ensures err { IfErr result (λ e. e ≡ spec.OutOfMemory) }
 {
     let merger = LendingMerger::new(alloc.clone()?, sources)?;
     Ok(LendingNewest::new(alloc, merger))
@@ -65,31 +60,34 @@ pub fn lend_runs_at<A: Allocator + Clone>(
     // For tables of lists in runs in order, it lends the newest versions below `seqno` of all
     // lists' entries within the bounds, global seqnos applied.
     ensures list { let advances = ⟦<LentNewestOfRunsAt<A> as Lending>⟧.advances in
-        (lists : List (List (List Entry))) → RunsHoldLists (map arc_value runs.now) lists →
-        let found = newest (numbered_below seqno (within range.0 range.1 (union_in lists))) in
-        IfOk result (λ s. DealsList advances nowhere found s) }
+        (lists : List (List (List spec.Entry))) →
+        spec.RunsHoldLists (map spec.arc_value runs.now) lists →
+        let found = spec.newest
+        (spec.numbered_below seqno (spec.within range.0 range.1 (spec.union_in lists))) in
+        IfOk result (λ s. spec.DealsList advances spec.nowhere found s) }
     // If every seqno is below `seqno`, it lends the newest versions of all entries within the
     // bounds.
     ensures whole { let advances = ⟦<LentNewestOfRunsAt<A> as Lending>⟧.advances in
-        (lists : List (List (List Entry))) → RunsHoldLists (map arc_value runs.now) lists →
-        All (λ e. e.seqno < seqno) (union_in lists) →
-        let found = newest (within range.0 range.1 (union_in lists)) in
-        IfOk result (λ s. DealsList advances nowhere found s) }
+        (lists : List (List (List spec.Entry))) →
+        spec.RunsHoldLists (map spec.arc_value runs.now) lists →
+        All (λ e. e.seqno < seqno) (spec.union_in lists) →
+        let found = spec.newest (spec.within range.0 range.1 (spec.union_in lists)) in
+        IfOk result (λ s. spec.DealsList advances spec.nowhere found s) }
     // For any tables in runs in order, whatever their bytes, whose entries within the bounds come
     // in order up to each run's first error. It lends the newest of these results below `seqno`,
     // merged up to the first error, which comes last.
     ensures places { let advances = ⟦<LentNewestOfRunsAt<A> as Lending>⟧.advances in
-        let told = runs_told_within range.0 range.1 (map arc_value runs.now) in
-        AllByRecursion (IsInOrder range_of) (map arc_value runs.now) →
-        AllByRecursion (λ rs. Ascends (entries_among rs)) told →
-        let found = newest_results (merge_of (map (below_told seqno) told)) in
-        IfOk result (LendsResults advances found) }
+        let told = spec.runs_told_within range.0 range.1 (map spec.arc_value runs.now) in
+        spec.AllByRecursion (spec.IsInOrder spec.range_of) (map spec.arc_value runs.now) →
+        spec.AllByRecursion (λ rs. spec.Ascends (spec.entries_among rs)) told →
+        let found = spec.newest_results (spec.merge_of (map (spec.below_told seqno) told)) in
+        IfOk result (spec.LendsResults advances found) }
     // It may be called any number of times, whatever the tables' bytes.
-    ensures can { IfOk result (CanDeal ⟦<LentNewestOfRunsAt<A> as Lending>⟧.advances nowhere
-        ⟦<LentNewestOfRunsAt<A> as Lending>⟧.can_advance
+    ensures can { IfOk result (spec.CanDeal ⟦<LentNewestOfRunsAt<A> as Lending>⟧.advances
+        spec.nowhere ⟦<LentNewestOfRunsAt<A> as Lending>⟧.can_advance
         ⟦<LentNewestOfRunsAt<A> as Lending>⟧.can_advance) }
     ensures advance { IfOk result ⟦<LentNewestOfRunsAt<A> as Lending>⟧.can_advance }
-    ensures err { IfErr result (λ e. e ≡ OutOfMemory) }
+    ensures err { IfErr result (λ e. e ≡ spec.OutOfMemory) }
 {
     let readers = readers_within(alloc.clone()?, runs, range)?;
     let below = each_below(alloc.clone()?, readers, seqno)?;

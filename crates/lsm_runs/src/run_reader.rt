@@ -1,14 +1,7 @@
 //! Reading the tables of a run one after another, from both ends.
 ghost use Rattle.std.specs.Prelude.{◌≡◌, ◌-◌, ◌+◌, ℕ, [], None, Some, List, IfOk, IfSome, IsOk};
 ghost use Rattle.std.specs.Prelude.{MatchOption, length, map};
-ghost use Rattle.std.specs.Arc.{arc_value};
-ghost use Rattle.std.specs.Iterator.{at_most};
-ghost use Rattle.lsm_runs.specs.Words.{ArePlacesOf, DealsEnding, DealsList, Entry, HoldLists};
-ghost use Rattle.lsm_runs.specs.Words.{IsInOrder, IsRunOf, OpensAtMost, RunGives};
-ghost use Rattle.lsm_runs.specs.Words.{RunLends, back_of, back_tables, ends_given, front_of};
-ghost use Rattle.lsm_runs.specs.Words.{front_tables, joined, lent_of_reader};
-ghost use Rattle.lsm_runs.specs.Words.{overlap_indexes, run_left, run_size, span_list, span_of};
-ghost use Rattle.lsm_runs.specs.Words.{tables_at, taken_at, within};
+ghost use Rattle.lsm_runs.specs.Words as spec;
 
 use crate::lending_reader::{RunWalk, end, entry_in, step, unlend_in};
 use lsm_ranges::{Ranged, Run};
@@ -55,66 +48,67 @@ impl<A: Allocator + Clone> RunReader<A> {
     ) -> Result<Option<RunReader<A>>, Error>
         // For a run in order, the span is that of the tables whose ranges reach past both bounds.
         ensures span { let range_of = ⟦<Table<A> as Ranged>⟧.range in
-            let tables = arc_value run in IsInOrder range_of tables →
-            let found = overlap_indexes range.0 range.1 (map range_of tables) in
+            let tables = spec.arc_value run in spec.IsInOrder range_of tables →
+            let found = spec.overlap_indexes range.0 range.1 (map range_of tables) in
             IfOk result (λ r. MatchOption r (found ≡ None) (λ reader. (ends : ℕ × ℕ) ×
-            (found ≡ Some ends) × IsRunOf tables (span_of ends range.0 range.1) reader)) }
+            (found ≡ Some ends) × spec.IsRunOf tables (spec.span_of ends range.0 range.1) reader)) }
         // For any other run, it is some span within it.
-        ensures is { let tables = arc_value run in IfOk result (λ r. IfSome r (λ reader.
-            (ends : ℕ × ℕ) × ArePlacesOf tables ends ×
-            IsRunOf tables (span_of ends range.0 range.1) reader)) }
+        ensures is { let tables = spec.arc_value run in IfOk result (λ r. IfSome r (λ reader.
+            (ends : ℕ × ℕ) × spec.ArePlacesOf tables ends ×
+            spec.IsRunOf tables (spec.span_of ends range.0 range.1) reader)) }
         ensures deals { let gives = ⟦<RunReader<A> as Iterator>⟧.next_gives in
             let back_gives = ⟦<RunReader<A> as DoubleEndedIterator>⟧.next_back_gives in
-            IfOk result (λ r. IfSome r (λ reader. DealsEnding gives back_gives
-            (λ _. Unit {0}) (λ _. Unit {0}) reader (run_left reader))) }
+            IfOk result (λ r. IfSome r (λ reader. spec.DealsEnding gives back_gives
+            (λ _. Unit {0}) (λ _. Unit {0}) reader (spec.run_left reader))) }
         // For tables of lists in a run in order, it yields the part of all lists within the bounds,
         // global seqnos applied; without a reader there is none.
         ensures list { let gives = ⟦<RunReader<A> as Iterator>⟧.next_gives in
             let back_gives = ⟦<RunReader<A> as DoubleEndedIterator>⟧.next_back_gives in
-            let tables = arc_value run in IsInOrder ⟦<Table<A> as Ranged>⟧.range tables →
-            (lists : List (List Entry)) → HoldLists tables lists →
-            let found = within range.0 range.1 (joined lists) in
+            let tables = spec.arc_value run in spec.IsInOrder ⟦<Table<A> as Ranged>⟧.range tables →
+            (lists : List (List spec.Entry)) → spec.HoldLists tables lists →
+            let found = spec.within range.0 range.1 (spec.joined lists) in
             IfOk result (λ r. MatchOption r (found ≡ [])
-            (λ reader. DealsList gives back_gives found reader)) }
+            (λ reader. spec.DealsList gives back_gives found reader)) }
         // For a run in order, it opens at most as many tables as have a range that reaches past
         // both bounds.
         ensures few { let gives = ⟦<RunReader<A> as Iterator>⟧.next_gives in
             let back_gives = ⟦<RunReader<A> as DoubleEndedIterator>⟧.next_back_gives in
             let range_of = ⟦<Table<A> as Ranged>⟧.range in
-            let tables = arc_value run in IsInOrder range_of tables → (ends : ℕ × ℕ) →
-            overlap_indexes range.0 range.1 (map range_of tables) ≡ Some ends → IfOk result (λ r.
-            IfSome r (OpensAtMost gives back_gives (ends.1 + 1 - ends.0))) }
+            let tables = spec.arc_value run in spec.IsInOrder range_of tables → (ends : ℕ × ℕ) →
+            spec.overlap_indexes range.0 range.1 (map range_of tables) ≡ Some ends →
+            IfOk result (λ r. IfSome r (spec.OpensAtMost gives back_gives (ends.1 + 1 - ends.0))) }
         // For any other run, at most as many as it has.
         ensures most { let gives = ⟦<RunReader<A> as Iterator>⟧.next_gives in
             let back_gives = ⟦<RunReader<A> as DoubleEndedIterator>⟧.next_back_gives in
-            let tables = arc_value run in
-            IfOk result (λ r. IfSome r (OpensAtMost gives back_gives (length tables))) }
+            let tables = spec.arc_value run in
+            IfOk result (λ r. IfSome r (spec.OpensAtMost gives back_gives (length tables))) }
         // Except for `OutOfMemory`, it lends what it yields at the front, up to the first error,
         // also with calls at the back in between.
         ensures lends { let advances = ⟦<RunReader<A> as Lending>⟧.advances in
             let may = ⟦<RunReader<A> as Lending>⟧.can_advance in
             let back_gives = ⟦<RunReader<A> as DoubleEndedIterator>⟧.next_back_gives in
             IfOk result (λ r. IfSome r (λ reader.
-            DealsEnding advances back_gives may may reader (run_left reader))) }
+            spec.DealsEnding advances back_gives may may reader (spec.run_left reader))) }
         // For tables of lists in a run in order, it lends exactly the entries within the bounds.
         ensures lends_list { let advances = ⟦<RunReader<A> as Lending>⟧.advances in
             let back_gives = ⟦<RunReader<A> as DoubleEndedIterator>⟧.next_back_gives in
-            let tables = arc_value run in IsInOrder ⟦<Table<A> as Ranged>⟧.range tables →
-            (lists : List (List Entry)) → HoldLists tables lists →
-            let found = within range.0 range.1 (joined lists) in
+            let tables = spec.arc_value run in spec.IsInOrder ⟦<Table<A> as Ranged>⟧.range tables →
+            (lists : List (List spec.Entry)) → spec.HoldLists tables lists →
+            let found = spec.within range.0 range.1 (spec.joined lists) in
             IfOk result (λ r. MatchOption r (found ≡ [])
-            (λ reader. DealsList advances back_gives found reader)) }
+            (λ reader. spec.DealsList advances back_gives found reader)) }
         // It opens no more tables for lending.
         ensures lends_few { let advances = ⟦<RunReader<A> as Lending>⟧.advances in
             let back_gives = ⟦<RunReader<A> as DoubleEndedIterator>⟧.next_back_gives in
             let range_of = ⟦<Table<A> as Ranged>⟧.range in
-            let tables = arc_value run in IsInOrder range_of tables → (ends : ℕ × ℕ) →
-            overlap_indexes range.0 range.1 (map range_of tables) ≡ Some ends → IfOk result (λ r.
-            IfSome r (OpensAtMost advances back_gives (ends.1 + 1 - ends.0))) }
+            let tables = spec.arc_value run in spec.IsInOrder range_of tables → (ends : ℕ × ℕ) →
+            spec.overlap_indexes range.0 range.1 (map range_of tables) ≡ Some ends →
+            IfOk result (λ r.
+            IfSome r (spec.OpensAtMost advances back_gives (ends.1 + 1 - ends.0))) }
         ensures lends_most { let advances = ⟦<RunReader<A> as Lending>⟧.advances in
             let back_gives = ⟦<RunReader<A> as DoubleEndedIterator>⟧.next_back_gives in
-            let tables = arc_value run in
-            IfOk result (λ r. IfSome r (OpensAtMost advances back_gives (length tables))) }
+            let tables = spec.arc_value run in
+            IfOk result (λ r. IfSome r (spec.OpensAtMost advances back_gives (length tables))) }
         ensures ok { IsOk result }
     {
         match places_within(&run, &range) {
@@ -134,42 +128,45 @@ impl<A: Allocator + Clone> RunReader<A> {
         range: (Bound<UserKey<A>>, Bound<UserKey<A>>),
         span: (Option<usize>, Option<usize>),
     ) -> Result<RunReader<A>, Error>
-        requires { ArePlacesOf (arc_value run) (ends_given (arc_value run) span) }
-        ensures is { let tables = arc_value run in
-            let ends = ends_given tables span in
-            IfOk result (λ reader. IsRunOf tables (span_of ends range.0 range.1) reader) }
+        requires { spec.ArePlacesOf (spec.arc_value run)
+            (spec.ends_given (spec.arc_value run) span) }
+        ensures is { let tables = spec.arc_value run in
+            let ends = spec.ends_given tables span in
+            IfOk result (λ reader. spec.IsRunOf tables (spec.span_of ends range.0 range.1) reader) }
         // For every list of ends, it yields the results of its tables, up to the first error.
         ensures deals { let gives = ⟦<RunReader<A> as Iterator>⟧.next_gives in
             let back_gives = ⟦<RunReader<A> as DoubleEndedIterator>⟧.next_back_gives in
-            IfOk result (λ reader. DealsEnding gives back_gives (λ _. Unit {0}) (λ _. Unit {0})
-            reader (run_left reader)) }
+            IfOk result (λ reader. spec.DealsEnding gives back_gives (λ _. Unit {0}) (λ _. Unit {0})
+            reader (spec.run_left reader)) }
         // For tables of lists, it yields the span's entries, global seqnos applied: of the first
         // and the last list within the bounds, of those between all.
         ensures list { let gives = ⟦<RunReader<A> as Iterator>⟧.next_gives in
             let back_gives = ⟦<RunReader<A> as DoubleEndedIterator>⟧.next_back_gives in
-            let tables = arc_value run in let ends = ends_given tables span in
-            (lists : List (List Entry)) → HoldLists tables lists → IfOk result
-            (DealsList gives back_gives (span_list (span_of ends range.0 range.1) lists)) }
+            let tables = spec.arc_value run in let ends = spec.ends_given tables span in
+            (lists : List (List spec.Entry)) → spec.HoldLists tables lists → IfOk result
+            (spec.DealsList gives back_gives
+            (spec.span_list (spec.span_of ends range.0 range.1) lists)) }
         // It lends the same from the front, also with calls at the back in between.
         ensures lends { let advances = ⟦<RunReader<A> as Lending>⟧.advances in
             let back_gives = ⟦<RunReader<A> as DoubleEndedIterator>⟧.next_back_gives in
             let may = ⟦<RunReader<A> as Lending>⟧.can_advance in
             IfOk result (λ reader.
-            DealsEnding advances back_gives may may reader (run_left reader)) }
+            spec.DealsEnding advances back_gives may may reader (spec.run_left reader)) }
         ensures lends_list { let advances = ⟦<RunReader<A> as Lending>⟧.advances in
             let back_gives = ⟦<RunReader<A> as DoubleEndedIterator>⟧.next_back_gives in
-            let tables = arc_value run in let ends = ends_given tables span in
-            (lists : List (List Entry)) → HoldLists tables lists → IfOk result
-            (DealsList advances back_gives (span_list (span_of ends range.0 range.1) lists)) }
+            let tables = spec.arc_value run in let ends = spec.ends_given tables span in
+            (lists : List (List spec.Entry)) → spec.HoldLists tables lists → IfOk result
+            (spec.DealsList advances back_gives
+            (spec.span_list (spec.span_of ends range.0 range.1) lists)) }
         // It opens at most as many tables as the span has.
         ensures few { let gives = ⟦<RunReader<A> as Iterator>⟧.next_gives in
             let back_gives = ⟦<RunReader<A> as DoubleEndedIterator>⟧.next_back_gives in
-            let ends = ends_given (arc_value run) span in
-            IfOk result (λ reader. OpensAtMost gives back_gives (ends.1 + 1 - ends.0) reader) }
+            let ends = spec.ends_given (spec.arc_value run) span in
+            IfOk result (λ reader. spec.OpensAtMost gives back_gives (ends.1 + 1 - ends.0) reader) }
         ensures lends_few { let advances = ⟦<RunReader<A> as Lending>⟧.advances in
             let back_gives = ⟦<RunReader<A> as DoubleEndedIterator>⟧.next_back_gives in
-            let ends = ends_given (arc_value run) span in
-            IfOk result (OpensAtMost advances back_gives (ends.1 + 1 - ends.0)) }
+            let ends = spec.ends_given (spec.arc_value run) span in
+            IfOk result (spec.OpensAtMost advances back_gives (ends.1 + 1 - ends.0)) }
         ensures ok { IsOk result }
     {
         let ends = ends_in(run.as_slice(), span);
@@ -182,8 +179,8 @@ impl<A: Allocator + Clone> RunReader<A> {
         range: (Bound<UserKey<A>>, Bound<UserKey<A>>),
         ends: (usize, usize),
     ) -> RunReader<A>
-        requires { ArePlacesOf (arc_value run) ends }
-        ensures { IsRunOf (arc_value run) (span_of ends range.0 range.1) result }
+        requires { spec.ArePlacesOf (spec.arc_value run) ends }
+        ensures { spec.IsRunOf (spec.arc_value run) (spec.span_of ends range.0 range.1) result }
     {
         RunReader {
             walk: Walk::new(Unopened::new(run, range, ends)),
@@ -200,7 +197,7 @@ impl<A: Allocator + Clone> RunReader<A> {
     /// The result of a call at an end.
     #[inline(always)]
     fn answer(&mut self, at: Direction) -> Option<IterItem<A>>
-        ensures { RunGives (taken_at at) (tables_at at) self.old result self.new }
+        ensures { spec.RunGives (spec.taken_at at) (spec.tables_at at) self.old result self.new }
     {
         let answer = self.walk.step(at);
         unlend_in(&mut self.walk.front);
@@ -213,9 +210,9 @@ impl<A: Allocator + Clone> Iterator for RunReader<A> {
 
     ghost can_next = { λ _. Unit {0} };
 
-    ghost next_gives = { RunGives front_of front_tables };
+    ghost next_gives = { spec.RunGives spec.front_of spec.front_tables };
 
-    ghost remaining = { λ s. at_most (run_size s) };
+    ghost remaining = { λ s. spec.at_most (spec.run_size s) };
 
     fn next(&mut self) -> Option<IterItem<A>> {
         self.answer(Direction::Front)
@@ -225,7 +222,7 @@ impl<A: Allocator + Clone> Iterator for RunReader<A> {
 impl<A: Allocator + Clone> DoubleEndedIterator for RunReader<A> {
     ghost can_next_back = { λ _. Unit {0} };
 
-    ghost next_back_gives = { RunGives back_of back_tables };
+    ghost next_back_gives = { spec.RunGives spec.back_of spec.back_tables };
 
     fn next_back(&mut self) -> Option<IterItem<A>> {
         self.answer(Direction::Back)
@@ -235,11 +232,11 @@ impl<A: Allocator + Clone> DoubleEndedIterator for RunReader<A> {
 impl<A: Allocator + Clone> Lending for RunReader<A> {
     ghost can_advance = { λ _. Unit {0} };
 
-    ghost advances = { RunLends };
+    ghost advances = { spec.RunLends };
 
-    ghost lent = { λ s. lent_of_reader s.front };
+    ghost lent = { λ s. spec.lent_of_reader s.front };
 
-    ghost left = { run_size };
+    ghost left = { spec.run_size };
 
     #[inline]
     fn advance(&mut self) -> Result<bool, Error> {

@@ -1,17 +1,7 @@
 //! Reading the tables of a run whole, one after another.
 ghost use Rattle.std.specs.Prelude.{◌≡◌, ◌<◌, Err, IfErr, IfOk, List, Some, false, true, length};
 ghost use Rattle.std.specs.Prelude.{is_some, slice_get};
-ghost use Rattle.std.specs.Arc.{arc_value};
-ghost use Rattle.std.specs.Iterator.{at_most};
-ghost use Rattle.std.specs.List.{AllByRecursion};
-ghost use Rattle.lsm_runs.specs.Words.{ArePlacesOf, BeginsNext, BeginsScan, DealsEnding};
-ghost use Rattle.lsm_runs.specs.Words.{DealsList, Entry, Faults, FaultsFirst, HoldLists};
-ghost use Rattle.lsm_runs.specs.Words.{IsScanOf, OpenTable, RunScansNext, ScansItem};
-ghost use Rattle.lsm_runs.specs.Words.{came, early_scan_fault, ends_given, first, is_memory};
-ghost use Rattle.lsm_runs.specs.Words.{joined, lent_of_run, lent_of_scan, nowhere, over_scan};
-ghost use Rattle.lsm_runs.specs.Words.{run_scan_size, scan_fault, tables_between};
-ghost use Rattle.lsm_runs.specs.Words.{tables_scan};
-ghost use Rattle.sst_entries.specs.declared.error.Error.TheVariants.{OutOfMemory};
+ghost use Rattle.lsm_runs.specs.Words as spec;
 
 use lsm_ranges::Run;
 use lsm_readers::{Scanner, Table};
@@ -54,12 +44,12 @@ impl<A: Allocator> Model for RunScanner<A> {
 // The scanner of the table at an index.
 fn scan_at<A: Allocator + Clone>(tables: &[Table<A>], place: usize) -> Result<Scanner<A>, Error>
     requires { place < length tables.now }
-    ensures begins { (t : OpenTable) → slice_get tables.now place ≡ Some t →
-        BeginsScan t result }
-    ensures refused { (t : OpenTable) → slice_get tables.now place ≡ Some t →
-        Faults result (scan_fault t) }
-    ensures early { (t : OpenTable) → slice_get tables.now place ≡ Some t →
-        FaultsFirst result (early_scan_fault t) }
+    ensures begins { (t : spec.OpenTable) → slice_get tables.now place ≡ Some t →
+        spec.BeginsScan t result }
+    ensures refused { (t : spec.OpenTable) → slice_get tables.now place ≡ Some t →
+        spec.Faults result (spec.scan_fault t) }
+    ensures early { (t : spec.OpenTable) → slice_get tables.now place ≡ Some t →
+        spec.FaultsFirst result (spec.early_scan_fault t) }
 {
     tables[place].scan()
 }
@@ -67,8 +57,9 @@ fn scan_at<A: Allocator + Clone>(tables: &[Table<A>], place: usize) -> Result<Sc
 // Advances to the next entry of a table, if one is open; returns whether there is one.
 #[inline]
 fn advance_in<A: Allocator + Clone>(reader: &mut Option<Scanner<A>>) -> Result<bool, Error>
-    ensures goes { ScansItem reader.old (came result (lent_of_scan reader.new)) reader.new }
-    ensures more { IfOk result (λ more. more ≡ is_some (lent_of_scan reader.new)) }
+    ensures goes { spec.ScansItem reader.old (spec.came result (spec.lent_of_scan reader.new))
+        reader.new }
+    ensures more { IfOk result (λ more. more ≡ is_some (spec.lent_of_scan reader.new)) }
 {
     match reader {
         Some(reader) => reader.advance(),
@@ -79,10 +70,10 @@ fn advance_in<A: Allocator + Clone>(reader: &mut Option<Scanner<A>>) -> Result<b
 // Shares the entry that a table lends.
 #[inline]
 fn share_in<A: Allocator + Clone>(reader: &mut Option<Scanner<A>>) -> IterItem<A>
-    requires { is_some (lent_of_scan reader.old) ≡ true }
+    requires { is_some (spec.lent_of_scan reader.old) ≡ true }
     ensures ok { IfOk result (λ e.
-        (lent_of_scan reader.old ≡ Some e) × (reader.new ≡ reader.old)) }
-    ensures err { IfErr result (λ e. e ≡ OutOfMemory) }
+        (spec.lent_of_scan reader.old ≡ Some e) × (reader.new ≡ reader.old)) }
+    ensures err { IfErr result (λ e. e ≡ spec.OutOfMemory) }
 {
     match reader {
         Some(reader) => reader.share(),
@@ -104,42 +95,51 @@ impl<A: Allocator + Clone> RunScanner<A> {
         run: Arc<Run<Table<A>, A>, A>,
         span: (Option<usize>, Option<usize>),
     ) -> Result<RunScanner<A>, Error>
-        requires { ArePlacesOf (arc_value run) (ends_given (arc_value run) span) }
-        ensures is { let tables = arc_value run in
-            IfOk result (λ s. IsScanOf tables (ends_given tables span) s) }
+        requires { spec.ArePlacesOf (spec.arc_value run)
+            (spec.ends_given (spec.arc_value run) span) }
+        ensures is { let tables = spec.arc_value run in
+            IfOk result (λ s. spec.IsScanOf tables (spec.ends_given tables span) s) }
         // Except for `OutOfMemory`, it yields the results of the tables' scans, up to the first
         // error, and then nothing.
         ensures deals { let gives = ⟦<RunScanner<A> as Iterator>⟧.next_gives in
-            let tables = arc_value run in
-            let left = tables_scan (tables_between tables (ends_given tables span)) in IfOk result
-            (λ s. DealsEnding gives nowhere (λ _. Unit {0}) (λ _. Unit {0}) s left) }
+            let tables = spec.arc_value run in
+            let left = spec.tables_scan (spec.tables_between tables (spec.ends_given tables span))
+            in IfOk result
+            (λ s. spec.DealsEnding gives spec.nowhere (λ _. Unit {0}) (λ _. Unit {0}) s left) }
         // For tables of lists that each have an entry, it yields these lists one after another,
         // global seqnos applied.
         ensures list { let gives = ⟦<RunScanner<A> as Iterator>⟧.next_gives in
-            let tables = tables_between (arc_value run) (ends_given (arc_value run) span) in
-            (lists : List (List Entry)) → AllByRecursion (λ es. 0 < length es) lists →
-            HoldLists tables lists → IfOk result (DealsList gives nowhere (joined lists)) }
+            let tables = spec.tables_between (spec.arc_value run)
+            (spec.ends_given (spec.arc_value run) span) in
+            (lists : List (List spec.Entry)) → spec.AllByRecursion (λ es. 0 < length es) lists →
+            spec.HoldLists tables lists →
+            IfOk result (spec.DealsList gives spec.nowhere (spec.joined lists)) }
         // It lends what it yields.
         ensures lends { let advances = ⟦<RunScanner<A> as Lending>⟧.advances in
-            let tables = arc_value run in
-            let left = tables_scan (tables_between tables (ends_given tables span)) in IfOk result
-            (λ s. DealsEnding advances nowhere (λ _. Unit {0}) (λ _. Unit {0}) s left) }
+            let tables = spec.arc_value run in
+            let left = spec.tables_scan (spec.tables_between tables (spec.ends_given tables span))
+            in IfOk result
+            (λ s. spec.DealsEnding advances spec.nowhere (λ _. Unit {0}) (λ _. Unit {0}) s left) }
         ensures lends_list { let advances = ⟦<RunScanner<A> as Lending>⟧.advances in
-            let tables = tables_between (arc_value run) (ends_given (arc_value run) span) in
-            (lists : List (List Entry)) → AllByRecursion (λ es. 0 < length es) lists →
-            HoldLists tables lists → IfOk result (DealsList advances nowhere (joined lists)) }
+            let tables = spec.tables_between (spec.arc_value run)
+            (spec.ends_given (spec.arc_value run) span) in
+            (lists : List (List spec.Entry)) → spec.AllByRecursion (λ es. 0 < length es) lists →
+            spec.HoldLists tables lists →
+            IfOk result (spec.DealsList advances spec.nowhere (spec.joined lists)) }
         // Except for `OutOfMemory`, it fails exactly with the error of beginning the first table's
         // scan.
-        ensures refused { let tables = arc_value run in (t : OpenTable) →
-            slice_get tables (ends_given tables span).0 ≡ Some t → Faults result (scan_fault t) }
+        ensures refused { let tables = spec.arc_value run in (t : spec.OpenTable) →
+            slice_get tables (spec.ends_given tables span).0 ≡ Some t →
+            spec.Faults result (spec.scan_fault t) }
         // An error that is found before any allocation takes precedence over `OutOfMemory`.
-        ensures early { let tables = arc_value run in (t : OpenTable) →
-            slice_get tables (ends_given tables span).0 ≡ Some t →
-            FaultsFirst result (early_scan_fault t) }
+        ensures early { let tables = spec.arc_value run in (t : spec.OpenTable) →
+            slice_get tables (spec.ends_given tables span).0 ≡ Some t →
+            spec.FaultsFirst result (spec.early_scan_fault t) }
         // Except for `OutOfMemory`, the error is the first result of the scans.
-        ensures told { let tables = arc_value run in
-            let left = tables_scan (tables_between tables (ends_given tables span)) in
-            IfErr result (λ e. is_memory e ≡ false → first left ≡ Some (Err e)) }
+        ensures told { let tables = spec.arc_value run in
+            let left = spec.tables_scan
+            (spec.tables_between tables (spec.ends_given tables span)) in
+            IfErr result (λ e. spec.is_memory e ≡ false → spec.first left ≡ Some (Err e)) }
     {
         let (lo, hi) = ends_in(run.as_slice(), span);
         let reader = scan_at(run.as_slice(), lo)?;
@@ -154,7 +154,7 @@ impl<A: Allocator + Clone> RunScanner<A> {
 
     /// Opens the next table, if one is left.
     fn next_table(&mut self) -> Option<Result<Scanner<A>, Error>>
-        ensures { BeginsNext self.old result self.new }
+        ensures { spec.BeginsNext self.old result self.new }
     {
         if self.lo == self.hi {
             return None;
@@ -166,7 +166,7 @@ impl<A: Allocator + Clone> RunScanner<A> {
 
     /// Drops what is left.
     fn end(&mut self)
-        ensures { self.new ≡ over_scan self.old }
+        ensures { self.new ≡ spec.over_scan self.old }
     {
         self.lo = self.hi;
         self.lo_reader = None;
@@ -176,10 +176,10 @@ impl<A: Allocator + Clone> RunScanner<A> {
     /// yet.
     #[inline]
     fn step(&mut self) -> Result<bool, Error>
-        ensures ok { IfOk result (λ more. (more ≡ is_some (lent_of_run self.new)) ×
-            RunScansNext self.old (came result (lent_of_run self.new)) self.new) }
+        ensures ok { IfOk result (λ more. (more ≡ is_some (spec.lent_of_run self.new)) ×
+            spec.RunScansNext self.old (spec.came result (spec.lent_of_run self.new)) self.new) }
         ensures err { IfErr result (λ e.
-            RunScansNext self.old (Some (Err e)) (over_scan self.new)) }
+            spec.RunScansNext self.old (Some (Err e)) (spec.over_scan self.new)) }
     {
         loop {
             if advance_in(&mut self.lo_reader)? {
@@ -200,9 +200,11 @@ impl<A: Allocator + Clone> RunScanner<A> {
     /// [`Error::OutOfMemory`] only. The scanner is exhausted then.
     #[inline]
     pub fn share(&mut self) -> IterItem<A>
-        requires { is_some (lent_of_run self.old) ≡ true }
-        ensures ok { IfOk result (λ e. (lent_of_run self.old ≡ Some e) × (self.new ≡ self.old)) }
-        ensures err { IfErr result (λ e. (e ≡ OutOfMemory) × (self.new ≡ over_scan self.old)) }
+        requires { is_some (spec.lent_of_run self.old) ≡ true }
+        ensures ok { IfOk result (λ e. (spec.lent_of_run self.old ≡ Some e)
+            × (self.new ≡ self.old)) }
+        ensures err { IfErr result
+            (λ e. (e ≡ spec.OutOfMemory) × (self.new ≡ spec.over_scan self.old)) }
     {
         match share_in(&mut self.lo_reader) {
             Ok(item) => Ok(item),
@@ -217,11 +219,11 @@ impl<A: Allocator + Clone> RunScanner<A> {
 impl<A: Allocator + Clone> Lending for RunScanner<A> {
     ghost can_advance = { λ _. Unit {0} };
 
-    ghost advances = { RunScansNext };
+    ghost advances = { spec.RunScansNext };
 
-    ghost lent = { lent_of_run };
+    ghost lent = { spec.lent_of_run };
 
-    ghost left = { run_scan_size };
+    ghost left = { spec.run_scan_size };
 
     #[inline]
     fn advance(&mut self) -> Result<bool, Error> {
@@ -248,9 +250,9 @@ impl<A: Allocator + Clone> Iterator for RunScanner<A> {
 
     ghost can_next = { λ _. Unit {0} };
 
-    ghost next_gives = { RunScansNext };
+    ghost next_gives = { spec.RunScansNext };
 
-    ghost remaining = { λ s. at_most (run_scan_size s) };
+    ghost remaining = { λ s. spec.at_most (spec.run_scan_size s) };
 
     fn next(&mut self) -> Option<IterItem<A>> {
         match self.advance() {

@@ -1,20 +1,7 @@
 //! Reading several runs as one.
 ghost use Rattle.std.specs.Prelude.{◌≡◌, ◌<◌, ℕ, [], All, IfErr, IfOk, IsOk, List, MatchOption};
 ghost use Rattle.std.specs.Prelude.{None, Ok, Option, Some, length, map};
-ghost use Rattle.std.specs.Arc.{arc_value};
-ghost use Rattle.std.specs.List.{AllByRecursion, AllZip};
-ghost use Rattle.sst_entries.specs.declared.error.Error.TheVariants.{OutOfMemory};
-ghost use Rattle.sst_filters.specs.KeyHash.{hash_of};
-ghost use Rattle.lsm_runs.specs.Words.{AnswersNewest, CanAskNewest, CanDeal, DealTogether};
-ghost use Rattle.lsm_runs.specs.Words.{DealsList, DealsNewest, DoesRead, Entry, FaultsFirst, Gives};
-ghost use Rattle.lsm_runs.specs.Words.{HoldLists, IsInOrder, IsNewestOf, IsOverSpans};
-ghost use Rattle.lsm_runs.specs.Words.{IsOverSpansBelow, IsRunOf, LoadsEach, Opens};
-ghost use Rattle.lsm_runs.specs.Words.{RunsHoldLists, is_older, joined};
-ghost use Rattle.lsm_runs.specs.Words.{loads_together, newest, none_opened};
-ghost use Rattle.lsm_runs.specs.Words.{numbered_below};
-ghost use Rattle.lsm_runs.specs.Words.{overlap_indexes, point, range_of, run_read};
-ghost use Rattle.lsm_runs.specs.Words.{run_read_behind, runs_read, runs_read_by_age, runs_told};
-ghost use Rattle.lsm_runs.specs.Words.{span_of, spans_within, union_in, within};
+ghost use Rattle.lsm_runs.specs.Words as spec;
 
 use crate::RunReader;
 use lsm_merge::Merger;
@@ -46,23 +33,26 @@ fn reader_of<A: Allocator + Clone>(
     // there is none.
     ensures list { let gives = ⟦<RunReader<A> as Iterator>⟧.next_gives in
         let back_gives = ⟦<RunReader<A> as DoubleEndedIterator>⟧.next_back_gives in
-        (lists : List (List Entry)) →
-        IsInOrder range_of (arc_value run.now) × HoldLists (arc_value run.now) lists →
-        let found = within range.now.0 range.now.1 (joined lists) in IfOk result (λ r.
-        MatchOption r (found ≡ []) (λ reader. DealsList gives back_gives found reader)) }
+        (lists : List (List spec.Entry)) →
+        spec.IsInOrder spec.range_of (spec.arc_value run.now)
+        × spec.HoldLists (spec.arc_value run.now) lists →
+        let found = spec.within range.now.0 range.now.1 (spec.joined lists) in IfOk result (λ r.
+        MatchOption r (found ≡ []) (λ reader. spec.DealsList gives back_gives found reader)) }
     ensures lends { let advances = ⟦<RunReader<A> as Lending>⟧.advances in
         let back_gives = ⟦<RunReader<A> as DoubleEndedIterator>⟧.next_back_gives in
-        (lists : List (List Entry)) →
-        IsInOrder range_of (arc_value run.now) × HoldLists (arc_value run.now) lists →
-        let found = within range.now.0 range.now.1 (joined lists) in IfOk result (λ r.
-        MatchOption r (found ≡ []) (λ reader. DealsList advances back_gives found reader)) }
+        (lists : List (List spec.Entry)) →
+        spec.IsInOrder spec.range_of (spec.arc_value run.now)
+        × spec.HoldLists (spec.arc_value run.now) lists →
+        let found = spec.within range.now.0 range.now.1 (spec.joined lists) in IfOk result (λ r.
+        MatchOption r (found ≡ []) (λ reader. spec.DealsList advances back_gives found reader)) }
     // For any tables in a run in order, it is the reader of the span of those whose ranges reach
     // past both bounds.
-    ensures span { let tables = arc_value run.now in IsInOrder range_of tables →
-        let found = overlap_indexes range.now.0 range.now.1 (map range_of tables) in
+    ensures span { let tables = spec.arc_value run.now in spec.IsInOrder spec.range_of tables →
+        let found = spec.overlap_indexes range.now.0 range.now.1 (map spec.range_of tables) in
         IfOk result (λ r. MatchOption r (found ≡ None) (λ reader. (ends : ℕ × ℕ) ×
-        (found ≡ Some ends) × IsRunOf tables (span_of ends range.now.0 range.now.1) reader)) }
-    ensures err { IfErr result (λ e. e ≡ OutOfMemory) }
+        (found ≡ Some ends) × spec.IsRunOf tables (spec.span_of ends range.now.0 range.now.1)
+        reader)) }
+    ensures err { IfErr result (λ e. e ≡ spec.OutOfMemory) }
 {
     let bounds = (share(&range.0)?, share(&range.1)?);
     RunReader::new(run.clone()?, bounds)
@@ -78,19 +68,22 @@ fn readers_of<A: Allocator + Clone>(
     // bounds.
     ensures list { let gives = ⟦<RunReader<A> as Iterator>⟧.next_gives in
         let back_gives = ⟦<RunReader<A> as DoubleEndedIterator>⟧.next_back_gives in
-        (lists : List (List (List Entry))) → RunsHoldLists (map arc_value runs.now) lists →
-        let found = map (λ ls. within range.now.0 range.now.1 (joined ls)) lists in
-        IfOk result (λ v. DealTogether gives back_gives v.items found) }
+        (lists : List (List (List spec.Entry))) →
+        spec.RunsHoldLists (map spec.arc_value runs.now) lists →
+        let found = map (λ ls. spec.within range.now.0 range.now.1 (spec.joined ls)) lists in
+        IfOk result (λ v. spec.DealTogether gives back_gives v.items found) }
     ensures lends { let advances = ⟦<RunReader<A> as Lending>⟧.advances in
         let back_gives = ⟦<RunReader<A> as DoubleEndedIterator>⟧.next_back_gives in
-        (lists : List (List (List Entry))) → RunsHoldLists (map arc_value runs.now) lists →
-        let found = map (λ ls. within range.now.0 range.now.1 (joined ls)) lists in
-        IfOk result (λ v. DealTogether advances back_gives v.items found) }
+        (lists : List (List (List spec.Entry))) →
+        spec.RunsHoldLists (map spec.arc_value runs.now) lists →
+        let found = map (λ ls. spec.within range.now.0 range.now.1 (spec.joined ls)) lists in
+        IfOk result (λ v. spec.DealTogether advances back_gives v.items found) }
     // For any tables in runs in order, they are the readers of the spans.
-    ensures spans { AllByRecursion (IsInOrder range_of) (map arc_value runs.now) →
-        IfOk result (λ v. AllZip (λ reader span. IsRunOf span.0 span.1 reader) v.items
-        (spans_within range.now.0 range.now.1 (map arc_value runs.now))) }
-    ensures err { IfErr result (λ e. e ≡ OutOfMemory) }
+    ensures spans { spec.AllByRecursion (spec.IsInOrder spec.range_of)
+        (map spec.arc_value runs.now) →
+        IfOk result (λ v. spec.AllZip (λ reader span. spec.IsRunOf span.0 span.1 reader) v.items
+        (spec.spans_within range.now.0 range.now.1 (map spec.arc_value runs.now))) }
+    ensures err { IfErr result (λ e. e ≡ spec.OutOfMemory) }
 {
     let mut readers = Vec::with_capacity(alloc, runs.len())?;
     for run in runs {
@@ -110,18 +103,21 @@ pub(crate) fn readers_within<A: Allocator + Clone>(
 ) -> Result<Vec<RunReader<A>, A>, Error>
     ensures list { let gives = ⟦<RunReader<A> as Iterator>⟧.next_gives in
         let back_gives = ⟦<RunReader<A> as DoubleEndedIterator>⟧.next_back_gives in
-        (lists : List (List (List Entry))) → RunsHoldLists (map arc_value runs.now) lists →
-        let found = map (λ ls. within range.0 range.1 (joined ls)) lists in
-        IfOk result (λ v. DealTogether gives back_gives v.items found) }
+        (lists : List (List (List spec.Entry))) →
+        spec.RunsHoldLists (map spec.arc_value runs.now) lists →
+        let found = map (λ ls. spec.within range.0 range.1 (spec.joined ls)) lists in
+        IfOk result (λ v. spec.DealTogether gives back_gives v.items found) }
     ensures lends { let advances = ⟦<RunReader<A> as Lending>⟧.advances in
         let back_gives = ⟦<RunReader<A> as DoubleEndedIterator>⟧.next_back_gives in
-        (lists : List (List (List Entry))) → RunsHoldLists (map arc_value runs.now) lists →
-        let found = map (λ ls. within range.0 range.1 (joined ls)) lists in
-        IfOk result (λ v. DealTogether advances back_gives v.items found) }
-    ensures spans { AllByRecursion (IsInOrder range_of) (map arc_value runs.now) →
-        IfOk result (λ v. AllZip (λ reader span. IsRunOf span.0 span.1 reader) v.items
-        (spans_within range.0 range.1 (map arc_value runs.now))) }
-    ensures err { IfErr result (λ e. e ≡ OutOfMemory) }
+        (lists : List (List (List spec.Entry))) →
+        spec.RunsHoldLists (map spec.arc_value runs.now) lists →
+        let found = map (λ ls. spec.within range.0 range.1 (spec.joined ls)) lists in
+        IfOk result (λ v. spec.DealTogether advances back_gives v.items found) }
+    ensures spans { spec.AllByRecursion (spec.IsInOrder spec.range_of)
+        (map spec.arc_value runs.now) →
+        IfOk result (λ v. spec.AllZip (λ reader span. spec.IsRunOf span.0 span.1 reader) v.items
+        (spec.spans_within range.0 range.1 (map spec.arc_value runs.now))) }
+    ensures err { IfErr result (λ e. e ≡ spec.OutOfMemory) }
 {
     readers_of(alloc, runs, &range)
 }
@@ -132,20 +128,20 @@ pub(crate) fn newest_stream<I: DoubleEndedIterator<Item = IterItem<A>>, A: Alloc
     alloc: A,
     sources: Vec<I, A>,
 ) -> Result<NewestOf<I, A>, Error>
-    ensures starts { IfOk result (IsNewestOf sources.items) }
-    ensures deals { IfOk result (DealsNewest I.next_gives I.next_back_gives sources.items
+    ensures starts { IfOk result (spec.IsNewestOf sources.items) }
+    ensures deals { IfOk result (spec.DealsNewest I.next_gives I.next_back_gives sources.items
         ⟦<NewestOf<I, A> as Iterator>⟧.next_gives
         ⟦<NewestOf<I, A> as DoubleEndedIterator>⟧.next_back_gives) }
-    ensures past { IfOk result (AnswersNewest I.next_gives I.next_back_gives sources.items
+    ensures past { IfOk result (spec.AnswersNewest I.next_gives I.next_back_gives sources.items
         ⟦<NewestOf<I, A> as Iterator>⟧.next_gives
         ⟦<NewestOf<I, A> as DoubleEndedIterator>⟧.next_back_gives) }
-    ensures can { IfOk result (CanAskNewest I.next_gives I.next_back_gives I.can_next
+    ensures can { IfOk result (spec.CanAskNewest I.next_gives I.next_back_gives I.can_next
         I.can_next_back I.remaining sources.items
         ⟦<NewestOf<I, A> as Iterator>⟧.next_gives
         ⟦<NewestOf<I, A> as DoubleEndedIterator>⟧.next_back_gives
         ⟦<NewestOf<I, A> as Iterator>⟧.can_next
         ⟦<NewestOf<I, A> as DoubleEndedIterator>⟧.can_next_back) }
-    ensures err { IfErr result (λ e. e ≡ OutOfMemory) }
+    ensures err { IfErr result (λ e. e ≡ spec.OutOfMemory) }
 {
     let stream = newest_of(alloc, sources)?;
     newest_from_both_ends(&stream);
@@ -169,19 +165,21 @@ pub fn range_runs<A: Allocator + Clone>(
     // of all lists' entries within the bounds, global seqnos applied.
     ensures list { let gives = ⟦<NewestOfRuns<A> as Iterator>⟧.next_gives in
         let back_gives = ⟦<NewestOfRuns<A> as DoubleEndedIterator>⟧.next_back_gives in
-        (lists : List (List (List Entry))) → RunsHoldLists (map arc_value runs.now) lists →
-        let found = newest (within range.0 range.1 (union_in lists)) in
-        IfOk result (λ s. DealsList gives back_gives found s) }
+        (lists : List (List (List spec.Entry))) →
+        spec.RunsHoldLists (map spec.arc_value runs.now) lists →
+        let found = spec.newest (spec.within range.0 range.1 (spec.union_in lists)) in
+        IfOk result (λ s. spec.DealsList gives back_gives found s) }
     // For any tables in runs in order, it is a stream over the readers of the spans within the
     // bounds. An error of a reader, `OutOfMemory` too, takes the place of all entries that no step
     // has taken yet. After it, only an entry already read at the other end is yielded.
     ensures steps { let gives = ⟦<NewestOfRuns<A> as Iterator>⟧.next_gives in
         let back_gives = ⟦<NewestOfRuns<A> as DoubleEndedIterator>⟧.next_back_gives in
-        AllByRecursion (IsInOrder range_of) (map arc_value runs.now) → IfOk result
-        (IsOverSpans gives back_gives range.0 range.1 (map arc_value runs.now)) }
+        spec.AllByRecursion (spec.IsInOrder spec.range_of) (map spec.arc_value runs.now) →
+        IfOk result
+        (spec.IsOverSpans gives back_gives range.0 range.1 (map spec.arc_value runs.now)) }
     // Both ends may be called any number of times, whatever the tables' bytes.
     ensures can { IfOk result (λ s.
-        CanDeal ⟦<NewestOfRuns<A> as Iterator>⟧.next_gives
+        spec.CanDeal ⟦<NewestOfRuns<A> as Iterator>⟧.next_gives
         ⟦<NewestOfRuns<A> as DoubleEndedIterator>⟧.next_back_gives
         ⟦<NewestOfRuns<A> as Iterator>⟧.can_next
         ⟦<NewestOfRuns<A> as DoubleEndedIterator>⟧.can_next_back s) }
@@ -189,7 +187,7 @@ pub fn range_runs<A: Allocator + Clone>(
     ensures next { IfOk result (λ s. ⟦<NewestOfRuns<A> as Iterator>⟧.can_next s) }
     ensures next_back { IfOk result (λ s.
         ⟦<NewestOfRuns<A> as DoubleEndedIterator>⟧.can_next_back s) }
-    ensures err { IfErr result (λ e. e ≡ OutOfMemory) }
+    ensures err { IfErr result (λ e. e ≡ spec.OutOfMemory) }
 {
     let readers = readers_within(alloc.clone()?, runs, range)?;
     newest_stream(alloc, readers)
@@ -215,29 +213,32 @@ pub fn range_runs_at<A: Allocator + Clone>(
     // below `seqno` of all lists' entries within the bounds, global seqnos applied.
     ensures list { let gives = ⟦<NewestOfRunsAt<A> as Iterator>⟧.next_gives in
         let back_gives = ⟦<NewestOfRunsAt<A> as DoubleEndedIterator>⟧.next_back_gives in
-        (lists : List (List (List Entry))) → RunsHoldLists (map arc_value runs.now) lists →
-        let found = newest (numbered_below seqno (within range.0 range.1 (union_in lists))) in
-        IfOk result (λ s. DealsList gives back_gives found s) }
+        (lists : List (List (List spec.Entry))) →
+        spec.RunsHoldLists (map spec.arc_value runs.now) lists →
+        let found = spec.newest
+        (spec.numbered_below seqno (spec.within range.0 range.1 (spec.union_in lists))) in
+        IfOk result (λ s. spec.DealsList gives back_gives found s) }
     // If every seqno is below `seqno`, it yields what `range_runs` yields.
     ensures whole { let gives = ⟦<NewestOfRunsAt<A> as Iterator>⟧.next_gives in
         let back_gives = ⟦<NewestOfRunsAt<A> as DoubleEndedIterator>⟧.next_back_gives in
-        (lists : List (List (List Entry))) → RunsHoldLists (map arc_value runs.now) lists →
-        All (λ e. e.seqno < seqno) (union_in lists) →
-        let found = newest (within range.0 range.1 (union_in lists)) in
-        IfOk result (λ s. DealsList gives back_gives found s) }
+        (lists : List (List (List spec.Entry))) →
+        spec.RunsHoldLists (map spec.arc_value runs.now) lists →
+        All (λ e. e.seqno < seqno) (spec.union_in lists) →
+        let found = spec.newest (spec.within range.0 range.1 (spec.union_in lists)) in
+        IfOk result (λ s. spec.DealsList gives back_gives found s) }
     // For any tables in runs in order, it is a stream over the readers of the spans within the
     // bounds, each below `seqno`. An error of a reader, `OutOfMemory` too, takes the place of all
     // entries that no step has taken yet. After it, only an entry already read at the other end is
     // yielded.
-    ensures steps { AllByRecursion (IsInOrder range_of) (map arc_value runs.now) → IfOk result
-        (IsOverSpansBelow ⟦<Below<RunReader<A>> as Iterator>⟧.next_gives
+    ensures steps { spec.AllByRecursion (spec.IsInOrder spec.range_of) (map spec.arc_value runs.now)
+        → IfOk result (spec.IsOverSpansBelow ⟦<Below<RunReader<A>> as Iterator>⟧.next_gives
         ⟦<Below<RunReader<A>> as DoubleEndedIterator>⟧.next_back_gives
         ⟦<NewestOfRunsAt<A> as Iterator>⟧.next_gives
         ⟦<NewestOfRunsAt<A> as DoubleEndedIterator>⟧.next_back_gives
-        range.0 range.1 seqno (map arc_value runs.now)) }
+        range.0 range.1 seqno (map spec.arc_value runs.now)) }
     // Both ends may be called any number of times, whatever the tables' bytes.
     ensures can { IfOk result (λ s.
-        CanDeal ⟦<NewestOfRunsAt<A> as Iterator>⟧.next_gives
+        spec.CanDeal ⟦<NewestOfRunsAt<A> as Iterator>⟧.next_gives
         ⟦<NewestOfRunsAt<A> as DoubleEndedIterator>⟧.next_back_gives
         ⟦<NewestOfRunsAt<A> as Iterator>⟧.can_next
         ⟦<NewestOfRunsAt<A> as DoubleEndedIterator>⟧.can_next_back s) }
@@ -245,7 +246,7 @@ pub fn range_runs_at<A: Allocator + Clone>(
     ensures next { IfOk result (λ s. ⟦<NewestOfRunsAt<A> as Iterator>⟧.can_next s) }
     ensures next_back { IfOk result (λ s.
         ⟦<NewestOfRunsAt<A> as DoubleEndedIterator>⟧.can_next_back s) }
-    ensures err { IfErr result (λ e. e ≡ OutOfMemory) }
+    ensures err { IfErr result (λ e. e ≡ spec.OutOfMemory) }
 {
     let within = readers_within(alloc.clone()?, runs, range)?;
     let sources = each_below(alloc.clone()?, within, seqno)?;
@@ -260,10 +261,10 @@ fn get_run_counted<A: Allocator + Clone>(
     seqno: SeqNo,
     key_hash: u64,
 ) -> (Result<Option<InternalValue<A>>, Error>, Opened)
-    requires { key_hash ≡ hash_of key.now }
-    ensures read { IsInOrder range_of run.now →
-        DoesRead result.0 (run_read key.now seqno run.now) none_opened result.1 }
-    ensures few { LoadsEach 1 result.1 }
+    requires { key_hash ≡ spec.hash_of key.now }
+    ensures read { spec.IsInOrder spec.range_of run.now →
+        spec.DoesRead result.0 (spec.run_read key.now seqno run.now) spec.none_opened result.1 }
+    ensures few { spec.LoadsEach 1 result.1 }
 {
     match run.get_for_key(key) {
         Some(table) => table.get_counted(key, seqno, key_hash),
@@ -273,7 +274,7 @@ fn get_run_counted<A: Allocator + Clone>(
 
 /// The sum of two counts of loads.
 pub(crate) fn together(first: Opened, second: Opened) -> Opened
-    ensures { result ≡ loads_together first second }
+    ensures { result ≡ spec.loads_together first second }
 {
     Opened {
         data_loads: first.data_loads.saturating_add(second.data_loads),
@@ -285,7 +286,7 @@ pub(crate) fn together(first: Opened, second: Opened) -> Opened
 
 // Whether every seqno of a table is below that of what was found.
 fn is_older<A: Allocator>(table: &Table<A>, found: &Option<InternalValue<A>>) -> bool
-    ensures { result ≡ is_older found.now table.now }
+    ensures { result ≡ spec.is_older found.now table.now }
 {
     match found {
         Some(entry) => table.get_highest_seqno() < entry.key.seqno,
@@ -302,10 +303,10 @@ fn get_run_behind_counted<A: Allocator + Clone>(
     key_hash: u64,
     found: &Option<InternalValue<A>>,
 ) -> (Result<Option<InternalValue<A>>, Error>, Opened)
-    requires { key_hash ≡ hash_of key.now }
-    ensures read { IsInOrder range_of run.now → DoesRead result.0
-        (run_read_behind key.now seqno found.now run.now) none_opened result.1 }
-    ensures few { LoadsEach 1 result.1 }
+    requires { key_hash ≡ spec.hash_of key.now }
+    ensures read { spec.IsInOrder spec.range_of run.now → spec.DoesRead result.0
+        (spec.run_read_behind key.now seqno found.now run.now) spec.none_opened result.1 }
+    ensures few { spec.LoadsEach 1 result.1 }
 {
     let Some(table) = run.get_for_key(key) else {
         return (Ok(None), Opened::none());
@@ -328,28 +329,34 @@ pub fn get_runs_counted<A: Allocator + Clone>(
 ) -> (Result<Option<InternalValue<A>>, Error>, Opened)
     // For runs in order, it is the result of reading the runs' tables, whatever their bytes, except
     // for `OutOfMemory`.
-    ensures told { AllByRecursion (IsInOrder range_of) (map arc_value runs.now) →
-        Gives (λ (x : Option Entry). x) result.0
-        (runs_told key.now seqno None (map arc_value runs.now)) }
+    ensures told { spec.AllByRecursion (spec.IsInOrder spec.range_of)
+        (map spec.arc_value runs.now) → spec.Gives (λ (x : Option spec.Entry). x) result.0
+        (spec.runs_told key.now seqno None (map spec.arc_value runs.now)) }
     // For tables of lists, it is the first match in the sorted entries of all lists, global seqnos
     // applied.
-    ensures list { (lists : List (List (List Entry))) →
-        RunsHoldLists (map arc_value runs.now) lists →
-        Gives (λ (x : Option Entry). x) result.0 (Ok (point (union_in lists) key.now seqno)) }
+    ensures list { (lists : List (List (List spec.Entry))) →
+        spec.RunsHoldLists (map spec.arc_value runs.now) lists →
+        spec.Gives (λ (x : Option spec.Entry). x) result.0
+        (Ok (spec.point (spec.union_in lists) key.now seqno)) }
     // The blocks loaded are those of reading the runs' tables, up to the first error.
-    ensures opened { AllByRecursion (IsInOrder range_of) (map arc_value runs.now) →
-        let read = runs_read key.now seqno None (map arc_value runs.now) in
-        Opens result.0 read.loads none_opened result.1 }
+    ensures opened { spec.AllByRecursion (spec.IsInOrder spec.range_of)
+        (map spec.arc_value runs.now) →
+        let read = spec.runs_read key.now seqno None (map spec.arc_value runs.now) in
+        spec.Opens result.0 read.loads spec.none_opened result.1 }
     // An error of the first block loaded that is found before any allocation takes precedence over
     // `OutOfMemory`.
-    ensures early { AllByRecursion (IsInOrder range_of) (map arc_value runs.now) →
-        FaultsFirst result.0 (runs_read key.now seqno None (map arc_value runs.now)).early }
+    ensures early { spec.AllByRecursion (spec.IsInOrder spec.range_of)
+        (map spec.arc_value runs.now) →
+        spec.FaultsFirst result.0
+        (spec.runs_read key.now seqno None (map spec.arc_value runs.now)).early }
     // It does not fail if it loads no block, as when there are no runs.
-    ensures calm { AllByRecursion (IsInOrder range_of) (map arc_value runs.now) →
-        (runs_read key.now seqno None (map arc_value runs.now)).loads ≡ [] → IsOk result.0 }
+    ensures calm { spec.AllByRecursion (spec.IsInOrder spec.range_of)
+        (map spec.arc_value runs.now) →
+        (spec.runs_read key.now seqno None (map spec.arc_value runs.now)).loads ≡ [] →
+        IsOk result.0 }
     // For any runs and any bytes, also on an error: at most one data block, one index block and one
     // filter block a run.
-    ensures few { LoadsEach (length runs.now) result.1 }
+    ensures few { spec.LoadsEach (length runs.now) result.1 }
 {
     let mut found = None;
     let mut opened = Opened::none();
@@ -379,21 +386,25 @@ pub fn get_runs<A: Allocator + Clone>(
 ) -> Result<Option<InternalValue<A>>, Error>
     // For runs in order, it is the result of reading the runs' tables, whatever their bytes, except
     // for `OutOfMemory`.
-    ensures told { AllByRecursion (IsInOrder range_of) (map arc_value runs.now) →
-        Gives (λ (x : Option Entry). x) result
-        (runs_told key.now seqno None (map arc_value runs.now)) }
+    ensures told { spec.AllByRecursion (spec.IsInOrder spec.range_of)
+        (map spec.arc_value runs.now) → spec.Gives (λ (x : Option spec.Entry). x) result
+        (spec.runs_told key.now seqno None (map spec.arc_value runs.now)) }
     // For tables of lists, it is the first match in the sorted entries of all lists, global seqnos
     // applied.
-    ensures list { (lists : List (List (List Entry))) →
-        RunsHoldLists (map arc_value runs.now) lists →
-        Gives (λ (x : Option Entry). x) result (Ok (point (union_in lists) key.now seqno)) }
+    ensures list { (lists : List (List (List spec.Entry))) →
+        spec.RunsHoldLists (map spec.arc_value runs.now) lists →
+        spec.Gives (λ (x : Option spec.Entry). x) result
+        (Ok (spec.point (spec.union_in lists) key.now seqno)) }
     // An error of the first block loaded that is found before any allocation takes precedence over
     // `OutOfMemory`.
-    ensures early { AllByRecursion (IsInOrder range_of) (map arc_value runs.now) →
-        FaultsFirst result (runs_read key.now seqno None (map arc_value runs.now)).early }
+    ensures early { spec.AllByRecursion (spec.IsInOrder spec.range_of)
+        (map spec.arc_value runs.now) →
+        spec.FaultsFirst result
+        (spec.runs_read key.now seqno None (map spec.arc_value runs.now)).early }
     // It does not fail if it loads no block, as when there are no runs.
-    ensures calm { AllByRecursion (IsInOrder range_of) (map arc_value runs.now) →
-        (runs_read key.now seqno None (map arc_value runs.now)).loads ≡ [] → IsOk result }
+    ensures calm { spec.AllByRecursion (spec.IsInOrder spec.range_of)
+        (map spec.arc_value runs.now) →
+        (spec.runs_read key.now seqno None (map spec.arc_value runs.now)).loads ≡ [] → IsOk result }
 {
     get_runs_counted(runs, key, seqno).0
 }
@@ -410,31 +421,36 @@ pub fn get_runs_by_age_counted<A: Allocator + Clone>(
 ) -> (Result<Option<InternalValue<A>>, Error>, Opened)
     // For runs in order, it is the result of reading the tables that are not skipped, whatever
     // their bytes, except for `OutOfMemory`.
-    ensures told { AllByRecursion (IsInOrder range_of) (map arc_value runs.now) →
-        let read = runs_read_by_age key.now seqno None (map arc_value runs.now) in
-        Gives (λ (x : Option Entry). x) result.0 read.told }
+    ensures told { spec.AllByRecursion (spec.IsInOrder spec.range_of)
+        (map spec.arc_value runs.now) →
+        let read = spec.runs_read_by_age key.now seqno None (map spec.arc_value runs.now) in
+        spec.Gives (λ (x : Option spec.Entry). x) result.0 read.told }
     // For tables of lists, it is the first match in the sorted entries of all lists, global seqnos
     // applied.
-    ensures list { (lists : List (List (List Entry))) →
-        RunsHoldLists (map arc_value runs.now) lists →
-        Gives (λ (x : Option Entry). x) result.0 (Ok (point (union_in lists) key.now seqno)) }
+    ensures list { (lists : List (List (List spec.Entry))) →
+        spec.RunsHoldLists (map spec.arc_value runs.now) lists →
+        spec.Gives (λ (x : Option spec.Entry). x) result.0
+        (Ok (spec.point (spec.union_in lists) key.now seqno)) }
     // The blocks loaded are those of reading the tables that are not skipped, up to the first
     // error.
-    ensures opened { AllByRecursion (IsInOrder range_of) (map arc_value runs.now) →
-        let read = runs_read_by_age key.now seqno None (map arc_value runs.now) in
-        Opens result.0 read.loads none_opened result.1 }
+    ensures opened { spec.AllByRecursion (spec.IsInOrder spec.range_of)
+        (map spec.arc_value runs.now) →
+        let read = spec.runs_read_by_age key.now seqno None (map spec.arc_value runs.now) in
+        spec.Opens result.0 read.loads spec.none_opened result.1 }
     // An error of the first block loaded that is found before any allocation takes precedence over
     // `OutOfMemory`.
-    ensures early { AllByRecursion (IsInOrder range_of) (map arc_value runs.now) →
-        let read = runs_read_by_age key.now seqno None (map arc_value runs.now) in
-        FaultsFirst result.0 read.early }
+    ensures early { spec.AllByRecursion (spec.IsInOrder spec.range_of)
+        (map spec.arc_value runs.now) →
+        let read = spec.runs_read_by_age key.now seqno None (map spec.arc_value runs.now) in
+        spec.FaultsFirst result.0 read.early }
     // It does not fail if it loads no block, as when there are no runs.
-    ensures calm { AllByRecursion (IsInOrder range_of) (map arc_value runs.now) →
-        let read = runs_read_by_age key.now seqno None (map arc_value runs.now) in
+    ensures calm { spec.AllByRecursion (spec.IsInOrder spec.range_of)
+        (map spec.arc_value runs.now) →
+        let read = spec.runs_read_by_age key.now seqno None (map spec.arc_value runs.now) in
         read.loads ≡ [] → IsOk result.0 }
     // For any runs and any bytes, also on an error: at most one data block, one index block and one
     // filter block a run.
-    ensures few { LoadsEach (length runs.now) result.1 }
+    ensures few { spec.LoadsEach (length runs.now) result.1 }
 {
     let mut best = None;
     let mut loads = Opened::none();
@@ -466,22 +482,26 @@ pub fn get_runs_by_age<A: Allocator + Clone>(
 ) -> Result<Option<InternalValue<A>>, Error>
     // For runs in order, it is the result of reading the tables that are not skipped, whatever
     // their bytes, except for `OutOfMemory`.
-    ensures told { AllByRecursion (IsInOrder range_of) (map arc_value runs.now) →
-        let read = runs_read_by_age key.now seqno None (map arc_value runs.now) in
-        Gives (λ (x : Option Entry). x) result read.told }
+    ensures told { spec.AllByRecursion (spec.IsInOrder spec.range_of)
+        (map spec.arc_value runs.now) →
+        let read = spec.runs_read_by_age key.now seqno None (map spec.arc_value runs.now) in
+        spec.Gives (λ (x : Option spec.Entry). x) result read.told }
     // For tables of lists, it is the first match in the sorted entries of all lists, global seqnos
     // applied.
-    ensures list { (lists : List (List (List Entry))) →
-        RunsHoldLists (map arc_value runs.now) lists →
-        Gives (λ (x : Option Entry). x) result (Ok (point (union_in lists) key.now seqno)) }
+    ensures list { (lists : List (List (List spec.Entry))) →
+        spec.RunsHoldLists (map spec.arc_value runs.now) lists →
+        spec.Gives (λ (x : Option spec.Entry). x) result
+        (Ok (spec.point (spec.union_in lists) key.now seqno)) }
     // An error of the first block loaded that is found before any allocation takes precedence over
     // `OutOfMemory`.
-    ensures early { AllByRecursion (IsInOrder range_of) (map arc_value runs.now) →
-        let read = runs_read_by_age key.now seqno None (map arc_value runs.now) in
-        FaultsFirst result read.early }
+    ensures early { spec.AllByRecursion (spec.IsInOrder spec.range_of)
+        (map spec.arc_value runs.now) →
+        let read = spec.runs_read_by_age key.now seqno None (map spec.arc_value runs.now) in
+        spec.FaultsFirst result read.early }
     // It does not fail if it loads no block, as when there are no runs.
-    ensures calm { AllByRecursion (IsInOrder range_of) (map arc_value runs.now) →
-        let read = runs_read_by_age key.now seqno None (map arc_value runs.now) in
+    ensures calm { spec.AllByRecursion (spec.IsInOrder spec.range_of)
+        (map spec.arc_value runs.now) →
+        let read = spec.runs_read_by_age key.now seqno None (map spec.arc_value runs.now) in
         read.loads ≡ [] → IsOk result }
 {
     get_runs_by_age_counted(runs, key, seqno).0

@@ -1,12 +1,6 @@
 //! Reading several runs and further sources, such as a memtable, as one.
 ghost use Rattle.std.specs.Prelude.{◌≡◌, ◌++◌, ◌<◌, All, IfErr, IfOk, List, map};
-ghost use Rattle.std.specs.Arc.{arc_value};
-ghost use Rattle.std.specs.Iterator.{IsFinite};
-ghost use Rattle.std.specs.List.{AllByRecursion};
-ghost use Rattle.sst_entries.specs.declared.error.Error.TheVariants.{OutOfMemory};
-ghost use Rattle.lsm_runs.specs.Words.{CanDeal, DealWithin, DealsList, Entry, IsInOrder};
-ghost use Rattle.lsm_runs.specs.Words.{IsOverSourcesBelow, RunsHoldLists, newest, numbered_below};
-ghost use Rattle.lsm_runs.specs.Words.{range_of, single, union_in, with_readers, within};
+ghost use Rattle.lsm_runs.specs.Words as spec;
 
 use crate::RunReader;
 use crate::runs::{newest_stream, readers_within};
@@ -30,8 +24,8 @@ fn all_sources<R: Drop, S: Drop, A: Allocator>(
     further: Vec<S, A>,
     readers: Vec<R, A>,
 ) -> Result<Vec<Either<R, S>, A>, Error>
-    ensures of { IfOk result (λ v. v.items ≡ with_readers further.items readers.items) }
-    ensures err { IfErr result (λ e. e ≡ OutOfMemory) }
+    ensures of { IfOk result (λ v. v.items ≡ spec.with_readers further.items readers.items) }
+    ensures err { IfErr result (λ e. e ≡ spec.OutOfMemory) }
 {
     let sources = further
         .into_iter()
@@ -64,48 +58,52 @@ pub fn range_sources_at<S: DoubleEndedIterator<Item = IterItem<A>> + Drop, A: Al
     // these lists within the bounds.
     ensures list { let gives = ⟦<NewestOfSourcesAt<S, A> as Iterator>⟧.next_gives in
         let back_gives = ⟦<NewestOfSourcesAt<S, A> as DoubleEndedIterator>⟧.next_back_gives in
-        (lists : List (List (List Entry))) → RunsHoldLists (map arc_value runs.now) lists →
-        (further : List (List Entry)) →
-        DealWithin S.next_gives S.next_back_gives range.0 range.1 sources.items further →
-        let all = union_in (map single further ++ lists) in
-        let found = newest (numbered_below seqno (within range.0 range.1 all)) in
-        IfOk result (λ s. DealsList gives back_gives found s) }
+        (lists : List (List (List spec.Entry))) →
+        spec.RunsHoldLists (map spec.arc_value runs.now) lists →
+        (further : List (List spec.Entry)) →
+        spec.DealWithin S.next_gives S.next_back_gives range.0 range.1 sources.items further →
+        let all = spec.union_in (map spec.single further ++ lists) in
+        let found = spec.newest (spec.numbered_below seqno (spec.within range.0 range.1 all)) in
+        IfOk result (λ s. spec.DealsList gives back_gives found s) }
     // If every seqno is below `seqno`, it yields the newest versions of all entries within the
     // bounds.
     ensures whole { let gives = ⟦<NewestOfSourcesAt<S, A> as Iterator>⟧.next_gives in
         let back_gives = ⟦<NewestOfSourcesAt<S, A> as DoubleEndedIterator>⟧.next_back_gives in
-        (lists : List (List (List Entry))) → RunsHoldLists (map arc_value runs.now) lists →
-        (further : List (List Entry)) →
-        DealWithin S.next_gives S.next_back_gives range.0 range.1 sources.items further →
-        let all = union_in (map single further ++ lists) in
-        All (λ e. e.seqno < seqno) all → let found = newest (within range.0 range.1 all) in
-        IfOk result (λ s. DealsList gives back_gives found s) }
+        (lists : List (List (List spec.Entry))) →
+        spec.RunsHoldLists (map spec.arc_value runs.now) lists →
+        (further : List (List spec.Entry)) →
+        spec.DealWithin S.next_gives S.next_back_gives range.0 range.1 sources.items further →
+        let all = spec.union_in (map spec.single further ++ lists) in
+        All (λ e. e.seqno < seqno) all →
+        let found = spec.newest (spec.within range.0 range.1 all) in
+        IfOk result (λ s. spec.DealsList gives back_gives found s) }
     // For any tables in runs in order, it is a stream over the sources, whatever they yield, and
     // then the readers of the spans within the bounds, each below `seqno`. An error of one of them,
     // `OutOfMemory` too, takes the place of all entries that no step has taken yet. After it, only
     // an entry already read at the other end is yielded.
-    ensures steps { AllByRecursion (IsInOrder range_of) (map arc_value runs.now) → IfOk result
-        (IsOverSourcesBelow ⟦<Below<Either<RunReader<A>, S>> as Iterator>⟧.next_gives
+    ensures steps { spec.AllByRecursion (spec.IsInOrder spec.range_of) (map spec.arc_value runs.now)
+        → IfOk result
+        (spec.IsOverSourcesBelow ⟦<Below<Either<RunReader<A>, S>> as Iterator>⟧.next_gives
         ⟦<Below<Either<RunReader<A>, S>> as DoubleEndedIterator>⟧.next_back_gives
         ⟦<NewestOfSourcesAt<S, A> as Iterator>⟧.next_gives
         ⟦<NewestOfSourcesAt<S, A> as DoubleEndedIterator>⟧.next_back_gives
-        range.0 range.1 seqno (map arc_value runs.now) sources.items) }
+        range.0 range.1 seqno (map spec.arc_value runs.now) sources.items) }
     // If the sources are finite and both their ends may be called, both ends may be called any
     // number of times, whatever the tables' bytes.
-    ensures can { All (CanDeal S.next_gives S.next_back_gives S.can_next S.can_next_back)
-        sources.items → All (λ s. IsFinite (S.remaining s)) sources.items →
-        IfOk result (λ s. CanDeal ⟦<NewestOfSourcesAt<S, A> as Iterator>⟧.next_gives
+    ensures can { All (spec.CanDeal S.next_gives S.next_back_gives S.can_next S.can_next_back)
+        sources.items → All (λ s. spec.IsFinite (S.remaining s)) sources.items →
+        IfOk result (λ s. spec.CanDeal ⟦<NewestOfSourcesAt<S, A> as Iterator>⟧.next_gives
         ⟦<NewestOfSourcesAt<S, A> as DoubleEndedIterator>⟧.next_back_gives
         ⟦<NewestOfSourcesAt<S, A> as Iterator>⟧.can_next
         ⟦<NewestOfSourcesAt<S, A> as DoubleEndedIterator>⟧.can_next_back s) }
     // So a `for` may iterate over it, from the front or from the back.
-    ensures next { All (CanDeal S.next_gives S.next_back_gives S.can_next S.can_next_back)
-        sources.items → All (λ s. IsFinite (S.remaining s)) sources.items →
+    ensures next { All (spec.CanDeal S.next_gives S.next_back_gives S.can_next S.can_next_back)
+        sources.items → All (λ s. spec.IsFinite (S.remaining s)) sources.items →
         IfOk result (λ s. ⟦<NewestOfSourcesAt<S, A> as Iterator>⟧.can_next s) }
-    ensures next_back { All (CanDeal S.next_gives S.next_back_gives S.can_next S.can_next_back)
-        sources.items → All (λ s. IsFinite (S.remaining s)) sources.items →
+    ensures next_back { All (spec.CanDeal S.next_gives S.next_back_gives S.can_next S.can_next_back)
+        sources.items → All (λ s. spec.IsFinite (S.remaining s)) sources.items →
         IfOk result (λ s. ⟦<NewestOfSourcesAt<S, A> as DoubleEndedIterator>⟧.can_next_back s) }
-    ensures err { IfErr result (λ e. e ≡ OutOfMemory) }
+    ensures err { IfErr result (λ e. e ≡ spec.OutOfMemory) }
 {
     let readers = readers_within(alloc.clone()?, runs, range)?;
     let all = all_sources(alloc.clone()?, sources, readers)?;
