@@ -14,14 +14,10 @@
 
 ghost use Rattle.std.specs.Prelude.{◌≡◌, ◌-◌, ◌^◌, ◌≤◌, [], IfErr, IfOk, List, MatchOption, Some};
 ghost use Rattle.std.specs.Prelude.{false, length, map, min, true, ℕ};
+ghost use Rattle.logpurple.specs.Words as spec;
 ghost use Rattle.std.specs.Arc.{arc_value};
 ghost use Rattle.std.specs.Iterator.{IsFinite};
 ghost use Rattle.std.specs.Option.{option_map_or};
-ghost use Rattle.logpurple.specs.Words.{AreCompactable, DealsList, Entry, IsRunOfList, IsWritable};
-ghost use Rattle.logpurple.specs.Words.{OutOfMemory, RunsHoldLists, StoresList, ids_behind};
-ghost use Rattle.logpurple.specs.Words.{is_memory, kept_in, label_of, newest, numbered_below};
-ghost use Rattle.logpurple.specs.Words.{opening_fault, point, rules_by, seen, tables_fault};
-ghost use Rattle.logpurple.specs.Words.{union_in};
 
 mod chain;
 mod compacted;
@@ -59,10 +55,10 @@ pub fn find<A: Allocator + Clone>(
     key: &[u8],
     seqno: SeqNo,
 ) -> Result<Option<InternalValue<A>>, Error>
-    ensures found { (es : List Entry) → StoresList table.now.bytes es →
-        table.now.global_seqno ≡ 0 → IfOk result (λ found. found ≡ point es key.now seqno) }
-    ensures memory { (es : List Entry) → StoresList table.now.bytes es →
-        IfErr result (λ e. e ≡ OutOfMemory) }
+    ensures found { (es : List spec.Entry) → spec.StoresList table.now.bytes es →
+        table.now.global_seqno ≡ 0 → IfOk result (λ found. found ≡ spec.point es key.now seqno) }
+    ensures memory { (es : List spec.Entry) → spec.StoresList table.now.bytes es →
+        IfErr result (λ e. e ≡ spec.OutOfMemory) }
 {
     table.get_by_key(key, seqno)
 }
@@ -79,11 +75,11 @@ pub fn write_and_find<A: Allocator + Clone>(
     key: &[u8],
     seqno: SeqNo,
 ) -> Result<Option<Option<InternalValue<A>>>, Error>
-    requires { IsWritable items.items }
+    requires { spec.IsWritable items.items }
     ensures found { IfOk result (λ r. MatchOption r (items.items ≡ [])
-        (λ found. found ≡ point items.items key.now seqno)) }
-    ensures refused { IfErr result (λ e. is_memory e ≡ false →
-        opening_fault (label_of 1 0 0) items.items 0 ≡ Some e) }
+        (λ found. found ≡ spec.point items.items key.now seqno)) }
+    ensures refused { IfErr result (λ e. spec.is_memory e ≡ false →
+        spec.opening_fault (spec.label_of 1 0 0) items.items 0 ≡ Some e) }
 {
     match write_and_open(alloc, 1, Timestamp::from(0), items, 0)? {
         None => Ok(None),
@@ -105,8 +101,8 @@ pub fn verify_and_find<A: Allocator + Clone>(
     seqno: SeqNo,
 ) -> Result<Option<InternalValue<A>>, VerifyError>
     requires { table.now.global_seqno ≡ 0 }
-    ensures { IfOk result (λ found. (es : List Entry) × StoresList table.now.bytes es ×
-        (found ≡ point es key.now seqno)) }
+    ensures { IfOk result (λ found. (es : List spec.Entry) × spec.StoresList table.now.bytes es ×
+        (found ≡ spec.point es key.now seqno)) }
 {
     table.verify()?;
     match table.get_by_key(key, seqno) {
@@ -130,18 +126,19 @@ pub fn compact_below<A: Allocator + Clone>(
     ids: TableIds,
     target: u64,
 ) -> Result<(Option<Run<Table<A>, A>>, TableIds), Error>
-    requires { AreCompactable (map arc_value runs.now) }
-    ensures seen { (lists : List (List (List Entry))) →
-        RunsHoldLists (map arc_value runs.now) lists →
-        IfOk result (λ r. (es : List Entry) ×
-        MatchOption r.0 (es ≡ []) (λ run. IsRunOfList es 0 run) ×
+    requires { spec.AreCompactable (map arc_value runs.now) }
+    ensures seen { (lists : List (List (List spec.Entry))) →
+        spec.RunsHoldLists (map arc_value runs.now) lists →
+        IfOk result (λ r. (es : List spec.Entry) ×
+        MatchOption r.0 (es ≡ []) (λ run. spec.IsRunOfList es 0 run) ×
         ((key : List ℕ) (bound : ℕ) → watermark ≤ bound →
-        seen es key bound ≡ seen (union_in lists) key bound)) }
-    ensures ids { IfOk result (λ r. r.1 ≡ ids_behind ids target (option_map_or length r.0 0)) }
-    ensures refused { (lists : List (List (List Entry))) →
-        RunsHoldLists (map arc_value runs.now) lists →
-        IfErr result (λ e. is_memory e ≡ false →
-        tables_fault ids target 0 (kept_in (rules_by watermark true false) lists) ≡ Some e) }
+        spec.seen es key bound ≡ spec.seen (spec.union_in lists) key bound)) }
+    ensures ids { IfOk result (λ r. r.1 ≡ spec.ids_behind ids target (option_map_or length r.0 0)) }
+    ensures refused { (lists : List (List (List spec.Entry))) →
+        spec.RunsHoldLists (map arc_value runs.now) lists →
+        IfErr result (λ e. spec.is_memory e ≡ false →
+        spec.tables_fault ids target 0 (spec.kept_in (spec.rules_by watermark true false) lists)
+        ≡ Some e) }
 {
     let rules = Rules {
         watermark,
@@ -163,12 +160,13 @@ pub fn count_below<A: Allocator + Clone>(
     runs: &[Arc<Run<Table<A>, A>, A>],
     seqno: SeqNo,
 ) -> Result<u64, Error>
-    ensures exact { (lists : List (List (List Entry))) →
-        RunsHoldLists (map arc_value runs.now) lists →
-        let found = newest (numbered_below seqno (union_in lists)) in
+    ensures exact { (lists : List (List (List spec.Entry))) →
+        spec.RunsHoldLists (map arc_value runs.now) lists →
+        let found = spec.newest (spec.numbered_below seqno (spec.union_in lists)) in
         IfOk result (λ count. count ≡ min (length found) (2 ^ 64 - 1)) }
-    ensures memory { (lists : List (List (List Entry))) →
-        RunsHoldLists (map arc_value runs.now) lists → IfErr result (λ e. e ≡ OutOfMemory) }
+    ensures memory { (lists : List (List (List spec.Entry))) →
+        spec.RunsHoldLists (map arc_value runs.now) lists →
+        IfErr result (λ e. e ≡ spec.OutOfMemory) }
 {
     let all = (Bound::Unbounded, Bound::Unbounded);
     count_newest(range_runs_at(alloc, runs, all, seqno)?)
@@ -183,12 +181,12 @@ fn count_newest<S: DoubleEndedIterator<Item = IterItem<A>> + Drop, A: Allocator>
     requires finite { IsFinite (⟦<NewestOf<S, A> as Iterator>⟧.remaining items) }
     ensures exact { let gives = ⟦<NewestOf<S, A> as Iterator>⟧.next_gives in
         let back_gives = ⟦<NewestOf<S, A> as DoubleEndedIterator>⟧.next_back_gives in
-        (es : List Entry) → DealsList gives back_gives es items →
+        (es : List spec.Entry) → spec.DealsList gives back_gives es items →
         IfOk result (λ count. count ≡ min (length es) (2 ^ 64 - 1)) }
     ensures memory { let gives = ⟦<NewestOf<S, A> as Iterator>⟧.next_gives in
         let back_gives = ⟦<NewestOf<S, A> as DoubleEndedIterator>⟧.next_back_gives in
-        (es : List Entry) → DealsList gives back_gives es items →
-        IfErr result (λ e. e ≡ OutOfMemory) }
+        (es : List spec.Entry) → spec.DealsList gives back_gives es items →
+        IfErr result (λ e. e ≡ spec.OutOfMemory) }
 {
     count(items)
 }
@@ -199,10 +197,12 @@ fn count<I: DoubleEndedIterator<Item = IterItem<A>> + Drop, A: Allocator>(
 ) -> Result<u64, Error>
     requires can { I.can_next items }
     requires finite { IsFinite (I.remaining items) }
-    ensures exact { (es : List Entry) → DealsList I.next_gives I.next_back_gives es items →
+    ensures exact { (es : List spec.Entry) →
+        spec.DealsList I.next_gives I.next_back_gives es items →
         IfOk result (λ count. count ≡ min (length es) (2 ^ 64 - 1)) }
-    ensures memory { (es : List Entry) → DealsList I.next_gives I.next_back_gives es items →
-        IfErr result (λ e. e ≡ OutOfMemory) }
+    ensures memory { (es : List spec.Entry) →
+        spec.DealsList I.next_gives I.next_back_gives es items →
+        IfErr result (λ e. e ≡ spec.OutOfMemory) }
 {
     let mut count = 0u64;
     for item in items {

@@ -1,14 +1,9 @@
 //! Compacting a part of several runs, and reading the runs before and after.
 ghost use Rattle.std.specs.Prelude.{◌≡◌, ◌∷◌, ◌++◌, ◌⊎◌, [], IfErr, IfOk, List, MatchOption, OnOk};
 ghost use Rattle.std.specs.Prelude.{map};
+ghost use Rattle.logpurple.specs.Words as spec;
 ghost use Rattle.std.specs.Arc.{arc_value};
-ghost use Rattle.sst_entries.specs.Strict.{IsStrict};
-ghost use Rattle.sst_entries.specs.declared.error.Error.TheVariants.{OutOfMemory};
-ghost use Rattle.lsm_sorted.specs.ReadLaw.{AllNewer, IsPlain};
-ghost use Rattle.lsm_compactions.specs.ReadsCompacted.{joined_in};
-ghost use Rattle.logpurple.specs.Words.{AreCompactable, CanDeal, Entry, Faults, FitsAsTables};
-ghost use Rattle.logpurple.specs.Words.{HoldSides, ReadsKept, ReadsOf, RunsHoldLists, ShowAlike};
-ghost use Rattle.logpurple.specs.Words.{kept_in, tables_fault, union_in};
+ghost use Rattle.lsm_sorted.specs.ReadLaw.{IsPlain};
 
 use crate::Reads;
 use crate::reads::read_runs;
@@ -29,7 +24,7 @@ fn share_behind<A: Allocator>(
 ) -> Result<(), Error>
     ensures runs { OnOk result (map arc_value shared.new.items
         ≡ map arc_value shared.old.items ++ map arc_value runs.now) }
-    ensures err { IfErr result (λ e. e ≡ OutOfMemory) }
+    ensures err { IfErr result (λ e. e ≡ spec.OutOfMemory) }
 {
     for run in runs {
         shared.push(run.clone()?)?;
@@ -46,7 +41,7 @@ fn side_by_side<A: Allocator + Clone>(
 ) -> Result<Vec<Arc<Run<Table<A>, A>, A>, A>, Error>
     ensures runs { IfOk result (λ v. map arc_value v.items
         ≡ map arc_value front.now ++ (map arc_value part.now ++ map arc_value behind.now)) }
-    ensures err { IfErr result (λ e. e ≡ OutOfMemory) }
+    ensures err { IfErr result (λ e. e ≡ spec.OutOfMemory) }
 {
     let mut runs = Vec::new(alloc.clone()?);
     share_behind(&mut runs, front)?;
@@ -67,17 +62,19 @@ fn read_side_by_side<A: Allocator + Clone>(
 ) -> Result<Reads<A>, Error>
     ensures list { let gives = ⟦<NewestOfRuns<A> as Iterator>⟧.next_gives in
         let back_gives = ⟦<NewestOfRuns<A> as DoubleEndedIterator>⟧.next_back_gives in
-        (fs ps bs : List (List (List Entry))) → HoldSides (map arc_value front.now)
+        (fs ps bs : List (List (List spec.Entry))) → spec.HoldSides (map arc_value front.now)
         (map arc_value part.now) (map arc_value behind.now) fs ps bs → IfOk result
-        (ReadsOf gives back_gives key.now seqno range.0 range.1 (union_in (fs ++ (ps ++ bs)))) }
+        (spec.ReadsOf gives back_gives key.now seqno range.0 range.1
+        (spec.union_in (fs ++ (ps ++ bs)))) }
     ensures can { IfOk result (λ read.
-        CanDeal ⟦<NewestOfRuns<A> as Iterator>⟧.next_gives
+        spec.CanDeal ⟦<NewestOfRuns<A> as Iterator>⟧.next_gives
         ⟦<NewestOfRuns<A> as DoubleEndedIterator>⟧.next_back_gives
         ⟦<NewestOfRuns<A> as Iterator>⟧.can_next
         ⟦<NewestOfRuns<A> as DoubleEndedIterator>⟧.can_next_back read.1) }
-    ensures taken { (fs ps bs : List (List (List Entry))) → HoldSides (map arc_value front.now)
+    ensures taken { (fs ps bs : List (List (List spec.Entry))) →
+        spec.HoldSides (map arc_value front.now)
         (map arc_value part.now) (map arc_value behind.now) fs ps bs →
-        IfErr result (λ e. e ≡ OutOfMemory) }
+        IfErr result (λ e. e ≡ spec.OutOfMemory) }
 {
     let runs = side_by_side(alloc, front, part, behind)?;
     read_runs(alloc, &runs, key, seqno, range)
@@ -96,17 +93,18 @@ fn read_within<A: Allocator + Clone>(
     ensures list { let gives = ⟦<NewestOfRuns<A> as Iterator>⟧.next_gives in
         let back_gives = ⟦<NewestOfRuns<A> as DoubleEndedIterator>⟧.next_back_gives in
         let low = range.now.0 in let high = range.now.1 in
-        (fs ps bs : List (List (List Entry))) → HoldSides (map arc_value front.now)
+        (fs ps bs : List (List (List spec.Entry))) → spec.HoldSides (map arc_value front.now)
         (map arc_value part.now) (map arc_value behind.now) fs ps bs → IfOk result
-        (ReadsOf gives back_gives key.now seqno low high (union_in (fs ++ (ps ++ bs)))) }
+        (spec.ReadsOf gives back_gives key.now seqno low high (spec.union_in (fs ++ (ps ++ bs)))) }
     ensures can { IfOk result (λ read.
-        CanDeal ⟦<NewestOfRuns<A> as Iterator>⟧.next_gives
+        spec.CanDeal ⟦<NewestOfRuns<A> as Iterator>⟧.next_gives
         ⟦<NewestOfRuns<A> as DoubleEndedIterator>⟧.next_back_gives
         ⟦<NewestOfRuns<A> as Iterator>⟧.can_next
         ⟦<NewestOfRuns<A> as DoubleEndedIterator>⟧.can_next_back read.1) }
-    ensures taken { (fs ps bs : List (List (List Entry))) → HoldSides (map arc_value front.now)
+    ensures taken { (fs ps bs : List (List (List spec.Entry))) →
+        spec.HoldSides (map arc_value front.now)
         (map arc_value part.now) (map arc_value behind.now) fs ps bs →
-        IfErr result (λ e. e ≡ OutOfMemory) }
+        IfErr result (λ e. e ≡ spec.OutOfMemory) }
 {
     let bounds = (share(&range.0)?, share(&range.1)?);
     read_side_by_side(alloc, front, part, behind, key, seqno, bounds)
@@ -119,7 +117,7 @@ fn shared_alone<A: Allocator + Clone>(
 ) -> Result<Vec<Arc<Run<Table<A>, A>, A>, A>, Error>
     ensures runs { IfOk result (λ v.
         MatchOption run (v.items ≡ []) (λ r. map arc_value v.items ≡ r ∷ [])) }
-    ensures err { IfErr result (λ e. e ≡ OutOfMemory) }
+    ensures err { IfErr result (λ e. e ≡ spec.OutOfMemory) }
 {
     let mut runs = Vec::new(alloc.clone()?);
     match run {
@@ -140,14 +138,19 @@ fn compact_part<A: Allocator + Clone>(
     target_size: u64,
     created_at: Timestamp,
 ) -> Result<Vec<Arc<Run<Table<A>, A>, A>, A>, Error>
-    requires { AreCompactable (map arc_value part.now) }
-    ensures made { (ps : List (List (List Entry))) → RunsHoldLists (map arc_value part.now) ps →
-        IfOk result (λ v. (made : List (List (List Entry)))
-        × (joined_in made ≡ kept_in rules ps) × RunsHoldLists (map arc_value v.items) made) }
-    ensures refused { (ps : List (List (List Entry))) → RunsHoldLists (map arc_value part.now) ps →
-        Faults result (tables_fault ids target_size created_at (kept_in rules ps)) }
-    ensures taken { (ps : List (List (List Entry))) → RunsHoldLists (map arc_value part.now) ps →
-        FitsAsTables ids target_size (kept_in rules ps) → IfErr result (λ e. e ≡ OutOfMemory) }
+    requires { spec.AreCompactable (map arc_value part.now) }
+    ensures made { (ps : List (List (List spec.Entry))) →
+        spec.RunsHoldLists (map arc_value part.now) ps →
+        IfOk result (λ v. (made : List (List (List spec.Entry)))
+        × (spec.joined_in made ≡ spec.kept_in rules ps) × spec.RunsHoldLists (map arc_value v.items)
+        made) }
+    ensures refused { (ps : List (List (List spec.Entry))) →
+        spec.RunsHoldLists (map arc_value part.now) ps →
+        spec.Faults result (spec.tables_fault ids target_size created_at (spec.kept_in rules ps)) }
+    ensures taken { (ps : List (List (List spec.Entry))) →
+        spec.RunsHoldLists (map arc_value part.now) ps →
+        spec.FitsAsTables ids target_size (spec.kept_in rules ps) →
+        IfErr result (λ e. e ≡ spec.OutOfMemory) }
 {
     let (run, _) = compact_to_run(alloc.clone()?, part, rules, ids, target_size, created_at)?;
     shared_alone(alloc, run)
@@ -167,23 +170,26 @@ fn read_compacted<A: Allocator + Clone>(
     seqno: SeqNo,
     range: (Bound<UserKey<A>>, Bound<UserKey<A>>),
 ) -> Result<Reads<A>, Error>
-    requires { AreCompactable (map arc_value part.now) }
+    requires { spec.AreCompactable (map arc_value part.now) }
     ensures list { let gives = ⟦<NewestOfRuns<A> as Iterator>⟧.next_gives in
         let back_gives = ⟦<NewestOfRuns<A> as DoubleEndedIterator>⟧.next_back_gives in
-        (fs ps bs : List (List (List Entry))) → HoldSides (map arc_value front.now)
+        (fs ps bs : List (List (List spec.Entry))) → spec.HoldSides (map arc_value front.now)
         (map arc_value part.now) (map arc_value behind.now) fs ps bs → IfOk result
-        (ReadsKept gives back_gives key.now seqno range.0 range.1 rules fs ps bs) }
+        (spec.ReadsKept gives back_gives key.now seqno range.0 range.1 rules fs ps bs) }
     ensures can { IfOk result (λ read.
-        CanDeal ⟦<NewestOfRuns<A> as Iterator>⟧.next_gives
+        spec.CanDeal ⟦<NewestOfRuns<A> as Iterator>⟧.next_gives
         ⟦<NewestOfRuns<A> as DoubleEndedIterator>⟧.next_back_gives
         ⟦<NewestOfRuns<A> as Iterator>⟧.can_next
         ⟦<NewestOfRuns<A> as DoubleEndedIterator>⟧.can_next_back read.1) }
-    ensures refused { (fs ps bs : List (List (List Entry))) → HoldSides (map arc_value front.now)
+    ensures refused { (fs ps bs : List (List (List spec.Entry))) →
+        spec.HoldSides (map arc_value front.now)
         (map arc_value part.now) (map arc_value behind.now) fs ps bs →
-        Faults result (tables_fault ids target_size created_at (kept_in rules ps)) }
-    ensures taken { (fs ps bs : List (List (List Entry))) → HoldSides (map arc_value front.now)
+        spec.Faults result (spec.tables_fault ids target_size created_at (spec.kept_in rules ps)) }
+    ensures taken { (fs ps bs : List (List (List spec.Entry))) →
+        spec.HoldSides (map arc_value front.now)
         (map arc_value part.now) (map arc_value behind.now) fs ps bs →
-        FitsAsTables ids target_size (kept_in rules ps) → IfErr result (λ e. e ≡ OutOfMemory) }
+        spec.FitsAsTables ids target_size (spec.kept_in rules ps) →
+        IfErr result (λ e. e ≡ spec.OutOfMemory) }
 {
     let made = compact_part(alloc, part, rules, ids, target_size, created_at)?;
     read_side_by_side(alloc, front, &made, behind, key, seqno, range)
@@ -220,45 +226,50 @@ pub fn compact_part_back<A: Allocator + Clone>(
     seqno: SeqNo,
     range: (Bound<UserKey<A>>, Bound<UserKey<A>>),
 ) -> Result<(Reads<A>, Reads<A>), Error>
-    requires { AreCompactable (map arc_value part.now) }
+    requires { spec.AreCompactable (map arc_value part.now) }
     // The reads before are those of all lists together.
     ensures before { let gives = ⟦<NewestOfRuns<A> as Iterator>⟧.next_gives in
         let back_gives = ⟦<NewestOfRuns<A> as DoubleEndedIterator>⟧.next_back_gives in
-        (fs ps bs : List (List (List Entry))) → HoldSides (map arc_value front.now)
+        (fs ps bs : List (List (List spec.Entry))) → spec.HoldSides (map arc_value front.now)
         (map arc_value part.now) (map arc_value behind.now) fs ps bs → IfOk result (λ r.
-        ReadsOf gives back_gives key.now seqno range.0 range.1 (union_in (fs ++ (ps ++ bs))) r.0) }
+        spec.ReadsOf gives back_gives key.now seqno range.0 range.1
+        (spec.union_in (fs ++ (ps ++ bs))) r.0) }
     // The reads after are those of what is kept of the part's lists, and of the others.
     ensures after { let gives = ⟦<NewestOfRuns<A> as Iterator>⟧.next_gives in
         let back_gives = ⟦<NewestOfRuns<A> as DoubleEndedIterator>⟧.next_back_gives in
-        (fs ps bs : List (List (List Entry))) → HoldSides (map arc_value front.now)
+        (fs ps bs : List (List (List spec.Entry))) → spec.HoldSides (map arc_value front.now)
         (map arc_value part.now) (map arc_value behind.now) fs ps bs → IfOk result (λ r.
-        ReadsKept gives back_gives key.now seqno range.0 range.1 rules fs ps bs r.1) }
+        spec.ReadsKept gives back_gives key.now seqno range.0 range.1 rules fs ps bs r.1) }
     // Both show the same under the conditions of the law: point reads for a bound of the watermark
     // or above, ranges always.
     ensures alike { let gives = ⟦<NewestOfRuns<A> as Iterator>⟧.next_gives in
         let back_gives = ⟦<NewestOfRuns<A> as DoubleEndedIterator>⟧.next_back_gives in
-        (fs ps bs : List (List (List Entry))) → HoldSides (map arc_value front.now)
+        (fs ps bs : List (List (List spec.Entry))) → spec.HoldSides (map arc_value front.now)
         (map arc_value part.now) (map arc_value behind.now) fs ps bs →
-        IsStrict (union_in (fs ++ (ps ++ bs))) →
-        IsPlain rules (union_in ps) ⊎ AllNewer (union_in ps) (union_in (fs ++ bs)) →
-        IfOk result (λ r. ShowAlike gives back_gives key.now seqno range.0 range.1
+        spec.IsStrict (spec.union_in (fs ++ (ps ++ bs))) →
+        IsPlain rules (spec.union_in ps) ⊎ spec.AllNewer (spec.union_in ps)
+        (spec.union_in (fs ++ bs)) →
+        IfOk result (λ r. spec.ShowAlike gives back_gives key.now seqno range.0 range.1
         rules.watermark r.0 r.1) }
     // Both ends of both ranges may be called any number of times.
     ensures can { let can =
-        CanDeal ⟦<NewestOfRuns<A> as Iterator>⟧.next_gives
+        spec.CanDeal ⟦<NewestOfRuns<A> as Iterator>⟧.next_gives
         ⟦<NewestOfRuns<A> as DoubleEndedIterator>⟧.next_back_gives
         ⟦<NewestOfRuns<A> as Iterator>⟧.can_next
         ⟦<NewestOfRuns<A> as DoubleEndedIterator>⟧.can_next_back in
         IfOk result (λ r. can r.0.1 × can r.1.1) }
     // Except for `OutOfMemory`, the error is the first one of writing what is kept: reading does
     // not fail.
-    ensures refused { (fs ps bs : List (List (List Entry))) → HoldSides (map arc_value front.now)
+    ensures refused { (fs ps bs : List (List (List spec.Entry))) →
+        spec.HoldSides (map arc_value front.now)
         (map arc_value part.now) (map arc_value behind.now) fs ps bs →
-        Faults result (tables_fault ids target_size created_at (kept_in rules ps)) }
+        spec.Faults result (spec.tables_fault ids target_size created_at (spec.kept_in rules ps)) }
     // If the tables of what is kept fit and enough ids remain, the only error is `OutOfMemory`.
-    ensures taken { (fs ps bs : List (List (List Entry))) → HoldSides (map arc_value front.now)
+    ensures taken { (fs ps bs : List (List (List spec.Entry))) →
+        spec.HoldSides (map arc_value front.now)
         (map arc_value part.now) (map arc_value behind.now) fs ps bs →
-        FitsAsTables ids target_size (kept_in rules ps) → IfErr result (λ e. e ≡ OutOfMemory) }
+        spec.FitsAsTables ids target_size (spec.kept_in rules ps) →
+        IfErr result (λ e. e ≡ spec.OutOfMemory) }
 {
     compaction_law();
     let before = read_within(&alloc, front, part, behind, key, seqno, &range)?;

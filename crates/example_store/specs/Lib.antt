@@ -4,3 +4,4 @@ pub mod Ids
 pub mod Closed
 pub mod Faulty
 pub mod Part
+pub mod Words

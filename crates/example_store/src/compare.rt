@@ -1,6 +1,6 @@
 //! Comparing a store at a snapshot with a plain map.
-ghost use Rattle.std.specs.Iterator.{IsFinite};
 ghost use Rattle.std.specs.Prelude.{IfOk};
+ghost use Rattle.example_store.specs.Words as spec;
 
 use crate::store::Store;
 use logpurple::block::{Direction, Error, InternalValue, IterItem, SeqNo, Slice};
@@ -109,7 +109,7 @@ fn compare_each<I: Iterator<Item = IterItem<A>> + Drop, A: Allocator>(
     rows: &[(u32, u32)],
 ) -> Result<Count, Error>
     requires can { I.can_next items }
-    requires finite { IsFinite (I.remaining items) }
+    requires finite { spec.IsFinite (I.remaining items) }
 {
     let mut count = Count { all: 0, wrong: 0 };
     for item in items {
@@ -129,7 +129,7 @@ fn compare_from<I: DoubleEndedIterator<Item = IterItem<A>> + Drop, A: Allocator>
 ) -> Result<Count, Error>
     requires can { I.can_next items }
     requires can_back { I.can_next_back items }
-    requires finite { IsFinite (I.remaining items) }
+    requires finite { spec.IsFinite (I.remaining items) }
 {
     match end {
         Direction::Front => compare_each(items, rows),
@@ -148,7 +148,7 @@ fn compare_newest<S: DoubleEndedIterator<Item = IterItem<A>> + Drop, A: Allocato
     requires can_back { IfOk items (λ s.
         ⟦<NewestOf<S, A> as DoubleEndedIterator>⟧.can_next_back s) }
     requires finite { IfOk items (λ s.
-        IsFinite (⟦<NewestOf<S, A> as Iterator>⟧.remaining s)) }
+        spec.IsFinite (⟦<NewestOf<S, A> as Iterator>⟧.remaining s)) }
 {
     compare_from(end, items?, rows)
 }
@@ -164,7 +164,7 @@ fn compare_below<S: DoubleEndedIterator<Item = IterItem<A>> + Drop, A: Allocator
     requires can_back { IfOk items (λ s.
         ⟦<NewestOf<Below<S>, A> as DoubleEndedIterator>⟧.can_next_back s) }
     requires finite { IfOk items (λ s.
-        IsFinite (⟦<NewestOf<Below<S>, A> as Iterator>⟧.remaining s)) }
+        spec.IsFinite (⟦<NewestOf<Below<S>, A> as Iterator>⟧.remaining s)) }
 {
     compare_newest(end, items, rows)
 }

@@ -1,12 +1,8 @@
 //! The entries that are in no table yet.
 ghost use Rattle.std.specs.Prelude.{◌≡◌, ◌<◌, ◌≤◌, ◌&&◌, [], length, not, IfErr, IfOk, List, Ok};
 ghost use Rattle.std.specs.Prelude.{None, OnErr, OnOk, Option};
-ghost use Rattle.std.specs.Iterator.{IsFinite};
-ghost use Rattle.std.specs.List.{AllByRecursion};
-ghost use Rattle.example_store.specs.Recent.{IsPut};
-ghost use Rattle.logpurple.specs.Words.{CanDeal, DealsList, Entry, Gives, IsStrict};
-ghost use Rattle.logpurple.specs.Words.{OutOfMemory, front_length, is_before, is_from, is_to};
-ghost use Rattle.logpurple.specs.Words.{ok_results, point, read_place, within};
+ghost use Rattle.example_store.specs.Words as spec;
+ghost use Rattle.logpurple.specs.Words.{OutOfMemory};
 
 use logpurple::block::{Error, InternalValue, IterItem, SeqNo, UserKey};
 use std::alloc::{Allocator, Global};
@@ -63,9 +59,9 @@ impl<A: Allocator + Clone> Memtable<A> {
     ///
     /// [`Error::OutOfMemory`] only. Nothing is added then.
     pub fn insert(&mut self, item: InternalValue<A>) -> Result<(), Error>
-        requires newest { AllByRecursion (λ (e : Entry). e.seqno < item.seqno) self.old }
+        requires newest { spec.AllByRecursion (λ (e : spec.Entry). e.seqno < item.seqno) self.old }
         // It is inserted in order, and a read finds it before the others.
-        ensures put { OnOk result (IsPut item self.old self.new) }
+        ensures put { OnOk result (spec.IsPut item self.old self.new) }
         ensures err { OnErr result (self.new ≡ self.old) }
         ensures memory { IfErr result (λ e. e ≡ OutOfMemory) }
     {
@@ -80,7 +76,8 @@ impl<A: Allocator + Clone> Memtable<A> {
     ///
     /// [`Error::OutOfMemory`] only.
     pub fn get(&self, key: &[u8], seqno: SeqNo) -> Result<Option<InternalValue<A>>, Error>
-        ensures { Gives (λ (x : Option Entry). x) result (Ok (point self.now key.now seqno)) }
+        ensures { spec.Gives (λ (x : Option spec.Entry). x) result
+            (Ok (spec.point self.now key.now seqno)) }
     {
         let place = count_up_to(&self.items, key, seqno);
         let Some(item) = self.items.get(place) else {
@@ -99,7 +96,7 @@ impl<A: Allocator + Clone> Memtable<A> {
     /// [`Error::OutOfMemory`] only.
     pub fn share(&self, alloc: &A) -> Result<Vec<InternalValue<A>, A>, Error>
         ensures items { IfOk result (λ shared. shared.items ≡ self.now) }
-        ensures strict { IsStrict self.now }
+        ensures strict { spec.IsStrict self.now }
         ensures memory { IfErr result (λ e. e ≡ OutOfMemory) }
     {
         let items = self.items.as_slice();
@@ -118,17 +115,17 @@ impl<A: Allocator + Clone> Memtable<A> {
     ) -> Result<IntoIter<IterItem<A>, A>, Error>
         ensures list { let gives = ⟦<IntoIter<IterItem<A>, A> as Iterator>⟧.next_gives in
             let back_gives = ⟦<IntoIter<IterItem<A>, A> as DoubleEndedIterator>⟧.next_back_gives in
-            IfOk result (DealsList gives back_gives
-            (within bounds.now.0 bounds.now.1 self.now)) }
-        ensures strict { IsStrict self.now }
+            IfOk result (spec.DealsList gives back_gives
+            (spec.within bounds.now.0 bounds.now.1 self.now)) }
+        ensures strict { spec.IsStrict self.now }
         // Both ends may be called, and it ends.
-        ensures can { IfOk result (CanDeal
+        ensures can { IfOk result (spec.CanDeal
             ⟦<IntoIter<IterItem<A>, A> as Iterator>⟧.next_gives
             ⟦<IntoIter<IterItem<A>, A> as DoubleEndedIterator>⟧.next_back_gives
             ⟦<IntoIter<IterItem<A>, A> as Iterator>⟧.can_next
             ⟦<IntoIter<IterItem<A>, A> as DoubleEndedIterator>⟧.can_next_back) }
         ensures ends { IfOk result (λ s.
-            IsFinite (⟦<IntoIter<IterItem<A>, A> as Iterator>⟧.remaining s)) }
+            spec.IsFinite (⟦<IntoIter<IterItem<A>, A> as Iterator>⟧.remaining s)) }
         ensures memory { IfErr result (λ e. e ≡ OutOfMemory) }
     {
         let found = items_within(alloc, &self.items, bounds)?;
@@ -138,8 +135,8 @@ impl<A: Allocator + Clone> Memtable<A> {
 
 // The number of entries of a sorted list before an entry.
 fn count_before<A: Allocator>(items: &[InternalValue<A>], item: &InternalValue<A>) -> usize
-    ensures exact { IsStrict items.now →
-        result ≡ front_length (λ e. is_before e item.now) items.now }
+    ensures exact { spec.IsStrict items.now →
+        result ≡ spec.front_length (λ e. spec.is_before e item.now) items.now }
     ensures within { result ≤ length items.now }
 {
     items.partition_point(|other| item.may_follow(Some(other)))
@@ -147,8 +144,9 @@ fn count_before<A: Allocator>(items: &[InternalValue<A>], item: &InternalValue<A
 
 // The number of entries of a sorted list that are not after a key and a seqno.
 fn count_up_to<A: Allocator>(items: &[InternalValue<A>], key: &[u8], seqno: SeqNo) -> usize
-    ensures exact { IsStrict items.now →
-        result ≡ front_length (λ e. not (is_before (read_place key.now seqno) e)) items.now }
+    ensures exact { spec.IsStrict items.now →
+        result ≡ spec.front_length (λ e. not (spec.is_before (spec.read_place key.now seqno) e))
+        items.now }
     ensures within { result ≤ length items.now }
 {
     items.partition_point(|item| {
@@ -166,7 +164,7 @@ fn items_within<A: Allocator + Clone>(
     bounds: &(Bound<UserKey<A>>, Bound<UserKey<A>>),
 ) -> Result<Vec<IterItem<A>, A>, Error>
     ensures items { IfOk result (λ found.
-        found.items ≡ ok_results (within bounds.now.0 bounds.now.1 items.now)) }
+        found.items ≡ spec.ok_results (spec.within bounds.now.0 bounds.now.1 items.now)) }
     ensures memory { IfErr result (λ e. e ≡ OutOfMemory) }
 {
     let mut found = Vec::new(alloc.clone()?);
@@ -181,13 +179,13 @@ fn items_within<A: Allocator + Clone>(
 
 // Whether a key is within two bounds.
 fn is_within<A: Allocator>(bounds: &(Bound<UserKey<A>>, Bound<UserKey<A>>), key: &[u8]) -> bool
-    ensures { result ≡ (is_from bounds.now.0 key.now && is_to bounds.now.1 key.now) }
+    ensures { result ≡ (spec.is_from bounds.now.0 key.now && spec.is_to bounds.now.1 key.now) }
 {
     is_from(&bounds.0, key) && is_to(&bounds.1, key)
 }
 
 fn is_from<A: Allocator>(low: &Bound<UserKey<A>>, key: &[u8]) -> bool
-    ensures { result ≡ is_from low.now key.now }
+    ensures { result ≡ spec.is_from low.now key.now }
 {
     match low {
         Bound::Included(low) => !key.cmp(low.as_slice()).is_lt(),
@@ -197,7 +195,7 @@ fn is_from<A: Allocator>(low: &Bound<UserKey<A>>, key: &[u8]) -> bool
 }
 
 fn is_to<A: Allocator>(high: &Bound<UserKey<A>>, key: &[u8]) -> bool
-    ensures { result ≡ is_to high.now key.now }
+    ensures { result ≡ spec.is_to high.now key.now }
 {
     match high {
         Bound::Included(high) => !high.as_slice().cmp(key).is_lt(),

@@ -2,15 +2,8 @@
 ghost use Rattle.std.specs.Prelude.{◌≡◌, ◌+◌, ◌-◌, ◌^◌, ◌<◌, ◌≤◌, [], ◌∷◌, ◌++◌, map, Err, IfErr};
 ghost use Rattle.std.specs.Prelude.{IfOk, IfSome, List, MatchOption, None, Ok, OnErr, OnOk};
 ghost use Rattle.std.specs.Prelude.{Option, Some, false, length, ℕ};
-ghost use Rattle.std.specs.Arc.{arc_value};
-ghost use Rattle.std.specs.Option.{option_map};
-ghost use Rattle.example_store.specs.Ids.{HasFlushed, IsTakenIn, StaysOrFlushes};
-ghost use Rattle.example_store.specs.Recent.{IsPut};
-ghost use Rattle.example_store.specs.Story.{AreNumbered, IsOwnRun, IsTold, put_fault, value_in};
-ghost use Rattle.logpurple.specs.Words.{AreCutOf, Entry, Gives, HasList, IsStrict, IsWritable};
-ghost use Rattle.logpurple.specs.Words.{OutOfMemory, Refuses, RunsHoldLists, Tombstone, Value};
-ghost use Rattle.logpurple.specs.Words.{entry, ids_behind, is_memory, is_weak, is_weak_kind};
-ghost use Rattle.logpurple.specs.Words.{point, run_label, shown, tables_fault, union_in};
+ghost use Rattle.example_store.specs.Words as spec;
+ghost use Rattle.logpurple.specs.Words.{OutOfMemory};
 
 mod close;
 mod compact;
@@ -78,7 +71,7 @@ impl<A: Allocator + Clone> Store<A> {
     ///
     /// [`Error::OutOfMemory`] only.
     pub fn new(alloc: A, limit: usize, target: u64) -> Result<Store<A>, Error>
-        ensures story { IfOk result (λ store. IsTold store []) }
+        ensures story { IfOk result (λ store. spec.IsTold store []) }
         ensures next { IfOk result (λ store. store.next ≡ 0) }
         ensures oldest { IfOk result (λ store. store.oldest ≡ 0) }
         ensures limit { IfOk result (λ store. store.limit ≡ limit) }
@@ -130,9 +123,11 @@ impl<A: Allocator + Clone> Store<A> {
     ///
     /// Nothing is written then, and nothing is lost.
     pub fn put(&mut self, key: &[u8], value: &[u8]) -> Result<(), Error>
-        ensures written { (ws : List Entry) → IsTold self.old ws →
-            OnOk result (IsTold self.new (entry key.now value.now self.old.next Value ∷ ws)) }
-        ensures kept { (ws : List Entry) → IsTold self.old ws → OnErr result (IsTold self.new ws) }
+        ensures written { (ws : List spec.Entry) → spec.IsTold self.old ws →
+            OnOk result (spec.IsTold self.new
+            (spec.entry key.now value.now self.old.next spec.Value ∷ ws)) }
+        ensures kept { (ws : List spec.Entry) → spec.IsTold self.old ws →
+            OnErr result (spec.IsTold self.new ws) }
         ensures next { OnOk result (self.new.next ≡ self.old.next + 1) }
         ensures stays { OnErr result (self.new.next ≡ self.old.next) }
         ensures oldest { self.new.oldest ≡ self.old.oldest }
@@ -140,19 +135,21 @@ impl<A: Allocator + Clone> Store<A> {
         ensures target { self.new.target ≡ self.old.target }
         // The entry is added to those of the memtable; a full memtable is flushed before.
         ensures taken { OnOk result
-            (IsTakenIn (entry key.now value.now self.old.next Value) self.old self.new) }
-        ensures err { OnErr result (StaysOrFlushes self.old self.new) }
+            (spec.IsTakenIn (spec.entry key.now value.now self.old.next spec.Value) self.old
+            self.new) }
+        ensures err { OnErr result (spec.StaysOrFlushes self.old self.new) }
         // No table is made if there is room.
         ensures waits { length self.old.recent < self.old.limit → self.new.runs ≡ self.old.runs }
         ensures room { length self.old.recent < self.old.limit →
             OnErr result (self.new ≡ self.old) }
         // An error of the write itself is found before anything is changed.
-        ensures fault { (e : Error) → put_fault self.old.next key.now value.now ≡ Some e →
+        ensures fault { (e : Error) → spec.put_fault self.old.next key.now value.now ≡ Some e →
             (result ≡ Err e) × (self.new ≡ self.old) }
         // Otherwise, except for `OutOfMemory`, the error is that of flushing a full memtable.
-        ensures refused { put_fault self.old.next key.now value.now ≡ None →
-            IfErr result (λ e. is_memory e ≡ false → (self.old.limit ≤ length self.old.recent) ×
-            (tables_fault self.old.ids self.old.target 0 self.old.recent ≡ Some e)) }
+        ensures refused { spec.put_fault self.old.next key.now value.now ≡ None →
+            IfErr result (λ e. spec.is_memory e ≡ false →
+            (self.old.limit ≤ length self.old.recent) ×
+            (spec.tables_fault self.old.ids self.old.target 0 self.old.recent ≡ Some e)) }
     {
         self.write(key, value, ValueType::Value)
     }
@@ -163,50 +160,57 @@ impl<A: Allocator + Clone> Store<A> {
     ///
     /// Those of [`Store::put`].
     pub fn delete(&mut self, key: &[u8]) -> Result<(), Error>
-        ensures written { (ws : List Entry) → IsTold self.old ws →
-            OnOk result (IsTold self.new (entry key.now [] self.old.next Tombstone ∷ ws)) }
-        ensures kept { (ws : List Entry) → IsTold self.old ws → OnErr result (IsTold self.new ws) }
+        ensures written { (ws : List spec.Entry) → spec.IsTold self.old ws →
+            OnOk result (spec.IsTold self.new
+            (spec.entry key.now [] self.old.next spec.Tombstone ∷ ws)) }
+        ensures kept { (ws : List spec.Entry) → spec.IsTold self.old ws →
+            OnErr result (spec.IsTold self.new ws) }
         ensures next { OnOk result (self.new.next ≡ self.old.next + 1) }
         ensures stays { OnErr result (self.new.next ≡ self.old.next) }
         ensures oldest { self.new.oldest ≡ self.old.oldest }
         ensures limit { self.new.limit ≡ self.old.limit }
         ensures target { self.new.target ≡ self.old.target }
         ensures taken { OnOk result
-            (IsTakenIn (entry key.now [] self.old.next Tombstone) self.old self.new) }
-        ensures err { OnErr result (StaysOrFlushes self.old self.new) }
+            (spec.IsTakenIn (spec.entry key.now [] self.old.next spec.Tombstone) self.old
+            self.new) }
+        ensures err { OnErr result (spec.StaysOrFlushes self.old self.new) }
         ensures waits { length self.old.recent < self.old.limit → self.new.runs ≡ self.old.runs }
         ensures room { length self.old.recent < self.old.limit →
             OnErr result (self.new ≡ self.old) }
-        ensures fault { (e : Error) → put_fault self.old.next key.now [] ≡ Some e →
+        ensures fault { (e : Error) → spec.put_fault self.old.next key.now [] ≡ Some e →
             (result ≡ Err e) × (self.new ≡ self.old) }
-        ensures refused { put_fault self.old.next key.now [] ≡ None →
-            IfErr result (λ e. is_memory e ≡ false → (self.old.limit ≤ length self.old.recent) ×
-            (tables_fault self.old.ids self.old.target 0 self.old.recent ≡ Some e)) }
+        ensures refused { spec.put_fault self.old.next key.now [] ≡ None →
+            IfErr result (λ e. spec.is_memory e ≡ false →
+            (self.old.limit ≤ length self.old.recent) ×
+            (spec.tables_fault self.old.ids self.old.target 0 self.old.recent ≡ Some e)) }
     {
         self.write(key, b"", ValueType::Tombstone)
     }
 
     fn write(&mut self, key: &[u8], value: &[u8], kind: ValueType) -> Result<(), Error>
-        requires kind { is_weak_kind kind ≡ false }
-        ensures written { (ws : List Entry) → IsTold self.old ws →
-            OnOk result (IsTold self.new (entry key.now value.now self.old.next kind ∷ ws)) }
-        ensures kept { (ws : List Entry) → IsTold self.old ws → OnErr result (IsTold self.new ws) }
+        requires kind { spec.is_weak_kind kind ≡ false }
+        ensures written { (ws : List spec.Entry) → spec.IsTold self.old ws →
+            OnOk result (spec.IsTold self.new
+            (spec.entry key.now value.now self.old.next kind ∷ ws)) }
+        ensures kept { (ws : List spec.Entry) → spec.IsTold self.old ws →
+            OnErr result (spec.IsTold self.new ws) }
         ensures next { OnOk result (self.new.next ≡ self.old.next + 1) }
         ensures stays { OnErr result (self.new.next ≡ self.old.next) }
         ensures oldest { self.new.oldest ≡ self.old.oldest }
         ensures limit { self.new.limit ≡ self.old.limit }
         ensures target { self.new.target ≡ self.old.target }
         ensures taken { OnOk result
-            (IsTakenIn (entry key.now value.now self.old.next kind) self.old self.new) }
-        ensures err { OnErr result (StaysOrFlushes self.old self.new) }
+            (spec.IsTakenIn (spec.entry key.now value.now self.old.next kind) self.old self.new) }
+        ensures err { OnErr result (spec.StaysOrFlushes self.old self.new) }
         ensures waits { length self.old.recent < self.old.limit → self.new.runs ≡ self.old.runs }
         ensures room { length self.old.recent < self.old.limit →
             OnErr result (self.new ≡ self.old) }
-        ensures fault { (e : Error) → put_fault self.old.next key.now value.now ≡ Some e →
+        ensures fault { (e : Error) → spec.put_fault self.old.next key.now value.now ≡ Some e →
             (result ≡ Err e) × (self.new ≡ self.old) }
-        ensures refused { put_fault self.old.next key.now value.now ≡ None →
-            IfErr result (λ e. is_memory e ≡ false → (self.old.limit ≤ length self.old.recent) ×
-            (tables_fault self.old.ids self.old.target 0 self.old.recent ≡ Some e)) }
+        ensures refused { spec.put_fault self.old.next key.now value.now ≡ None →
+            IfErr result (λ e. spec.is_memory e ≡ false →
+            (self.old.limit ≤ length self.old.recent) ×
+            (spec.tables_fault self.old.ids self.old.target 0 self.old.recent ≡ Some e)) }
     {
         check_write(self.next, key, value)?;
         self.make_room()?;
@@ -216,18 +220,18 @@ impl<A: Allocator + Clone> Store<A> {
 
     // Flushes a memtable that is full.
     fn make_room(&mut self) -> Result<(), Error>
-        ensures story { (ws : List Entry) → IsTold self.old ws → IsTold self.new ws }
+        ensures story { (ws : List spec.Entry) → spec.IsTold self.old ws → spec.IsTold self.new ws }
         ensures next { self.new.next ≡ self.old.next }
         ensures oldest { self.new.oldest ≡ self.old.oldest }
         ensures limit { self.new.limit ≡ self.old.limit }
         ensures target { self.new.target ≡ self.old.target }
         ensures waits { length self.old.recent < self.old.limit → self.new ≡ self.old }
         ensures flushed { self.old.limit ≤ length self.old.recent →
-            OnOk result (HasFlushed self.old self.new × (self.new.recent ≡ [])) }
+            OnOk result (spec.HasFlushed self.old self.new × (self.new.recent ≡ [])) }
         ensures err { OnErr result (self.new ≡ self.old) }
-        ensures refused { IfErr result (λ e. is_memory e ≡ false →
+        ensures refused { IfErr result (λ e. spec.is_memory e ≡ false →
             (self.old.limit ≤ length self.old.recent) ×
-            (tables_fault self.old.ids self.old.target 0 self.old.recent ≡ Some e)) }
+            (spec.tables_fault self.old.ids self.old.target 0 self.old.recent ≡ Some e)) }
     {
         if self.memtable.len() < self.limit {
             return Ok(());
@@ -238,11 +242,11 @@ impl<A: Allocator + Clone> Store<A> {
     // Adds an entry with the next seqno.
     fn add(&mut self, item: InternalValue<A>) -> Result<(), Error>
         requires number { item.seqno ≡ self.old.next }
-        requires kind { is_weak item ≡ false }
+        requires kind { spec.is_weak item ≡ false }
         requires room { self.old.next < 2 ^ 64 - 2 }
-        ensures written { (ws : List Entry) → IsTold self.old ws →
-            OnOk result (IsTold self.new (item ∷ ws)) }
-        ensures put { OnOk result (IsPut item self.old.recent self.new.recent) }
+        ensures written { (ws : List spec.Entry) → spec.IsTold self.old ws →
+            OnOk result (spec.IsTold self.new (item ∷ ws)) }
+        ensures put { OnOk result (spec.IsPut item self.old.recent self.new.recent) }
         ensures next { OnOk result (self.new.next ≡ self.old.next + 1) }
         ensures oldest { self.new.oldest ≡ self.old.oldest }
         ensures limit { self.new.limit ≡ self.old.limit }
@@ -264,18 +268,18 @@ impl<A: Allocator + Clone> Store<A> {
     /// Those of [`write_run`]: no id is left for a table, or a section is too large;
     /// [`Error::OutOfMemory`]. The store is not changed then.
     pub fn flush(&mut self) -> Result<(), Error>
-        ensures story { (ws : List Entry) → IsTold self.old ws → IsTold self.new ws }
+        ensures story { (ws : List spec.Entry) → spec.IsTold self.old ws → spec.IsTold self.new ws }
         ensures emptied { OnOk result (self.new.recent ≡ []) }
         ensures next { self.new.next ≡ self.old.next }
         ensures oldest { self.new.oldest ≡ self.old.oldest }
         ensures limit { self.new.limit ≡ self.old.limit }
         ensures target { self.new.target ≡ self.old.target }
         // The tables are cut by the target, and the counter of ids is after them, if there are any.
-        ensures flushed { OnOk result (HasFlushed self.old self.new) }
+        ensures flushed { OnOk result (spec.HasFlushed self.old self.new) }
         ensures err { OnErr result (self.new ≡ self.old) }
         // Except for `OutOfMemory`, the error is that of writing the entries as tables.
-        ensures refused { IfErr result (λ e. is_memory e ≡ false →
-            tables_fault self.old.ids self.old.target 0 self.old.recent ≡ Some e) }
+        ensures refused { IfErr result (λ e. spec.is_memory e ≡ false →
+            spec.tables_fault self.old.ids self.old.target 0 self.old.recent ≡ Some e) }
     {
         let items = self.memtable.share(&self.alloc)?;
         let (run, ids) = run_of(&self.alloc, self.ids, self.target, items)?;
@@ -288,19 +292,20 @@ impl<A: Allocator + Clone> Store<A> {
     // Replaces the memtable's entries by a run of them, before the other runs. After an error the
     // store is not changed.
     fn put_in_front(&mut self, run: Arc<Run<Table<A>, A>, A>, ids: TableIds) -> Result<(), Error>
-        requires list { HasList self.old.recent (arc_value run) }
-        requires strict { IsStrict self.old.recent }
-        requires own { IsOwnRun self.old.next (arc_value run) }
-        requires cut { AreCutOf (run_label self.old.ids self.old.target 0) self.old.target
-            self.old.recent 0 (arc_value run) }
-        requires ids { ids ≡ ids_behind self.old.ids self.old.target (length (arc_value run)) }
-        ensures story { (ws : List Entry) → IsTold self.old ws → IsTold self.new ws }
+        requires list { spec.HasList self.old.recent (spec.arc_value run) }
+        requires strict { spec.IsStrict self.old.recent }
+        requires own { spec.IsOwnRun self.old.next (spec.arc_value run) }
+        requires cut { spec.AreCutOf (spec.run_label self.old.ids self.old.target 0) self.old.target
+            self.old.recent 0 (spec.arc_value run) }
+        requires ids { ids ≡ spec.ids_behind self.old.ids self.old.target
+            (length (spec.arc_value run)) }
+        ensures story { (ws : List spec.Entry) → spec.IsTold self.old ws → spec.IsTold self.new ws }
         ensures emptied { OnOk result (self.new.recent ≡ []) }
         ensures next { self.new.next ≡ self.old.next }
         ensures oldest { self.new.oldest ≡ self.old.oldest }
         ensures limit { self.new.limit ≡ self.old.limit }
         ensures target { self.new.target ≡ self.old.target }
-        ensures flushed { OnOk result (HasFlushed self.old self.new) }
+        ensures flushed { OnOk result (spec.HasFlushed self.old self.new) }
         ensures err { OnErr result (self.new ≡ self.old) }
         ensures memory { IfErr result (λ e. e ≡ OutOfMemory) }
     {
@@ -322,12 +327,13 @@ impl<A: Allocator + Clone> Store<A> {
     /// [`Error::OutOfMemory`] only.
     pub fn get(&self, key: &[u8], snapshot: SeqNo) -> Result<Option<Slice<A>>, Error>
         // At a snapshot that is kept, it is the value in the history of writes.
-        ensures told { (ws : List Entry) → IsTold self.now ws → self.now.oldest ≤ snapshot →
-            IfOk result (λ value. value ≡ value_in ws key.now snapshot) }
+        ensures told { (ws : List spec.Entry) → spec.IsTold self.now ws →
+            self.now.oldest ≤ snapshot →
+            IfOk result (λ value. value ≡ spec.value_in ws key.now snapshot) }
         // At any snapshot, it is the value in the entries of the memtable and of the tables' lists.
-        ensures read { (lists : List (List (List Entry))) → RunsHoldLists self.now.runs lists →
-            IfOk result (λ value.
-            value ≡ value_in (self.now.recent ++ union_in lists) key.now snapshot) }
+        ensures read { (lists : List (List (List spec.Entry))) →
+            spec.RunsHoldLists self.now.runs lists → IfOk result (λ value.
+            value ≡ spec.value_in (self.now.recent ++ spec.union_in lists) key.now snapshot) }
         ensures memory { IfErr result (λ e. e ≡ OutOfMemory) }
     {
         let found = find_in(&self.memtable, &self.runs, key, snapshot)?;
@@ -338,7 +344,7 @@ impl<A: Allocator + Clone> Store<A> {
 // Tests a write with the next seqno. Fails if its key or its value is longer than a table takes, or
 // if no seqno is left.
 fn check_write(next: SeqNo, key: &[u8], value: &[u8]) -> Result<(), Error>
-    ensures { Refuses result (put_fault next key.now value.now) }
+    ensures { spec.Refuses result (spec.put_fault next key.now value.now) }
 {
     if key.len() > 1_048_576 {
         return Err(Error::KeyTooLong);
@@ -360,7 +366,7 @@ fn entry_of<A: Allocator + Clone>(
     seqno: SeqNo,
     kind: ValueType,
 ) -> Result<InternalValue<A>, Error>
-    ensures ok { IfOk result (λ item. item ≡ entry key.now value.now seqno kind) }
+    ensures ok { IfOk result (λ item. item ≡ spec.entry key.now value.now seqno kind) }
     ensures memory { IfErr result (λ e. e ≡ OutOfMemory) }
 {
     let key = slice_of(alloc, key)?;
@@ -384,20 +390,20 @@ fn run_of<A: Allocator + Clone>(
     target: u64,
     items: Vec<InternalValue<A>, A>,
 ) -> Result<(Option<Arc<Run<Table<A>, A>, A>>, TableIds), Error>
-    requires { IsWritable items.items }
+    requires { spec.IsWritable items.items }
     ensures run { IfOk result (λ r. MatchOption r.0 (items.items ≡ [])
-        (λ run. HasList items.items (arc_value run))) }
+        (λ run. spec.HasList items.items (spec.arc_value run))) }
     // It has the store's own entries, if the list has.
-    ensures own { (from to : ℕ) → AreNumbered from to items.items →
-        IfOk result (λ r. IfSome r.0 (λ run. IsOwnRun to (arc_value run))) }
+    ensures own { (from to : ℕ) → spec.AreNumbered from to items.items →
+        IfOk result (λ r. IfSome r.0 (λ run. spec.IsOwnRun to (spec.arc_value run))) }
     // It is cut by the target.
     ensures cut { IfOk result (λ r. IfSome r.0 (λ run.
-        AreCutOf (run_label ids target 0) target items.items 0 (arc_value run))) }
+        spec.AreCutOf (spec.run_label ids target 0) target items.items 0 (spec.arc_value run))) }
     // The counter is after its tables.
     ensures ids { IfOk result (λ r. IfSome r.0 (λ run.
-        r.1 ≡ ids_behind ids target (length (arc_value run)))) }
-    ensures refused { IfErr result (λ e. is_memory e ≡ false →
-        tables_fault ids target 0 items.items ≡ Some e) }
+        r.1 ≡ spec.ids_behind ids target (length (spec.arc_value run)))) }
+    ensures refused { IfErr result (λ e. spec.is_memory e ≡ false →
+        spec.tables_fault ids target 0 items.items ≡ Some e) }
 {
     let created_at = Timestamp::from(0);
     let (run, left) = write_run(alloc.clone()?, ids, target, created_at, items, 0)?;
@@ -410,7 +416,7 @@ fn share_run<T: Drop, A: Allocator + Clone>(
     alloc: &A,
     run: Option<T>,
 ) -> Result<Option<Arc<T, A>>, Error>
-    ensures ok { IfOk result (λ shared. option_map arc_value shared ≡ run) }
+    ensures ok { IfOk result (λ shared. spec.option_map spec.arc_value shared ≡ run) }
     ensures memory { IfErr result (λ e. e ≡ OutOfMemory) }
 {
     match run {
@@ -426,9 +432,10 @@ fn find_in<A: Allocator + Clone>(
     key: &[u8],
     seqno: SeqNo,
 ) -> Result<Option<InternalValue<A>>, Error>
-    ensures { (lists : List (List (List Entry))) → RunsHoldLists (map arc_value runs.now) lists →
-        Gives (λ (x : Option Entry). x) result
-        (Ok (point (memtable.now ++ union_in lists) key.now seqno)) }
+    ensures { (lists : List (List (List spec.Entry))) →
+        spec.RunsHoldLists (map spec.arc_value runs.now) lists →
+        spec.Gives (λ (x : Option spec.Entry). x) result
+        (Ok (spec.point (memtable.now ++ spec.union_in lists) key.now seqno)) }
 {
     if let Some(item) = memtable.get(key, seqno)? {
         return Ok(Some(item));
@@ -438,7 +445,7 @@ fn find_in<A: Allocator + Clone>(
 
 // The value of an entry that is no tombstone.
 fn value_of<A: Allocator>(found: Option<InternalValue<A>>) -> Option<Slice<A>>
-    ensures { result ≡ option_map (λ v. v.1) (shown found) }
+    ensures { result ≡ spec.option_map (λ v. v.1) (spec.shown found) }
 {
     let Some(item) = found else {
         return None;

@@ -1,10 +1,6 @@
 //! A list that is written as a table and opened.
 ghost use Rattle.std.specs.Prelude.{◌≡◌, [], IfOk, IfSome, MatchOption};
-ghost use Rattle.sst_entries.specs.Error.{Faults};
-ghost use Rattle.lsm_formats.specs.Options.{label_of};
-ghost use Rattle.lsm_writers.specs.Writing.{IsWritable};
-ghost use Rattle.lsm_readers.specs.Stored.{StoresList};
-ghost use Rattle.lsm_compactions.specs.Written.{IsOpened, opening_fault};
+ghost use Rattle.logpurple.specs.Words as spec;
 
 use lsm_readers::Table;
 use lsm_writers::{TableId, Timestamp, write_list};
@@ -23,15 +19,16 @@ pub fn write_and_open<A: Allocator + Clone>(
     items: Vec<InternalValue<A>, A>,
     global_seqno: SeqNo,
 ) -> Result<Option<Table<A>>, Error>
-    requires { IsWritable items.items }
+    requires { spec.IsWritable items.items }
     ensures table { IfOk result (λ t. MatchOption t (items.items ≡ [])
-        (λ table. IsOpened (label_of id 0 created_at) items.items global_seqno table)) }
+        (λ table. spec.IsOpened (spec.label_of id 0 created_at) items.items global_seqno table)) }
     // Its bytes store the list, so that what is promised of reads holds of it,
-    ensures stored { IfOk result (λ t. IfSome t (λ table. StoresList table.bytes items.items)) }
+    ensures stored { IfOk result
+        (λ t. IfSome t (λ table. spec.StoresList table.bytes items.items)) }
     // with the global number.
     ensures global { IfOk result (λ t. IfSome t (λ table. table.global_seqno ≡ global_seqno)) }
-    ensures refused { Faults result
-        (opening_fault (label_of id 0 created_at) items.items global_seqno) }
+    ensures refused { spec.Faults result
+        (spec.opening_fault (spec.label_of id 0 created_at) items.items global_seqno) }
 {
     match write_list(alloc.clone()?, id, 0, created_at, items)? {
         None => Ok(None),

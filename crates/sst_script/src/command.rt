@@ -1,18 +1,7 @@
 //! Parsing a line of a script.
 ghost use Rattle.std.specs.Prelude.{◌≡◌, ◌==◌, ◌<◌, ℕ, Bool, List, [], ◌∷◌, length, None, Some};
 ghost use Rattle.std.specs.Prelude.{IfSome, IfNone, codes};
-ghost use Rattle.std.specs.Option.{SomeIff, option_copied};
-ghost use Rattle.std.specs.Char.{is_ascii_graphic};
-ghost use Rattle.std.specs.List.{list_all, position};
-ghost use Rattle.std.specs.Str.Parse.{digits_value};
-ghost use Rattle.std.specs.declared.ops.Bound.{Bound};
-ghost use Rattle.sst_entries.specs.declared.value_type.ValueType.{ValueType};
-ghost use Rattle.lsm_ranges.specs.KeyRange.{key_bound};
-ghost use Rattle.sst_script.specs.declared.command.Command.{Command};
-ghost use Rattle.sst_script.specs.Command.{words_of, words_behind, StandsFor, AddsEntry};
-ghost use Rattle.sst_script.specs.Command.{CompactsBy, Limits, ReadsKey, ReadsRange, AskFor};
-ghost use Rattle.sst_script.specs.Command.{setting_words};
-ghost use Rattle.sst_script.specs.Text.{letter_of, IsNumber};
+ghost use Rattle.sst_script.specs.Words as spec;
 
 use sst_entries::{SeqNo, ValueType};
 use std::ops::Bound;
@@ -51,8 +40,9 @@ pub enum Command<'a> {
 
 /// Parses a line; returns `None` if it is no command.
 pub fn parse_command(line: &[u8]) -> Option<Command<'_>>
-    ensures form { IfSome result (λ command. AskFor (words_of line.now) command) }
-    ensures none { IfNone result ((command : Command) → ¬ AskFor (words_of line.now) command) }
+    ensures form { IfSome result (λ command. spec.AskFor (spec.words_of line.now) command) }
+    ensures none { IfNone result ((command : spec.Command) →
+        ¬ spec.AskFor (spec.words_of line.now) command) }
 {
     let (name, rest) = split_word(line);
     match rest {
@@ -69,9 +59,11 @@ pub fn parse_command(line: &[u8]) -> Option<Command<'_>>
 
 // Parses the words after `entry `: a key, a number, a kind and a value.
 fn parse_entry(words: &[u8]) -> Option<Command<'_>>
-    ensures form { IfSome result (λ command. AskFor (codes "entry" ∷ words_of words.now) command) }
-    ensures none { IfNone result ((key : List ℕ) (seqno : ℕ) (kind : ValueType) (value : List ℕ) →
-        ¬ AddsEntry (codes "entry" ∷ words_of words.now) key seqno kind value) }
+    ensures form { IfSome result (λ command. spec.AskFor (codes "entry" ∷ spec.words_of words.now)
+        command) }
+    ensures none { IfNone result
+        ((key : List ℕ) (seqno : ℕ) (kind : spec.ValueType) (value : List ℕ) →
+        ¬ spec.AddsEntry (codes "entry" ∷ spec.words_of words.now) key seqno kind value) }
 {
     let (key, rest) = split_word(words);
     let (seqno, rest) = split_word(rest?);
@@ -86,9 +78,10 @@ fn parse_entry(words: &[u8]) -> Option<Command<'_>>
 
 // Parses the words after `get `: a key and a bound.
 fn parse_get(words: &[u8]) -> Option<Command<'_>>
-    ensures form { IfSome result (λ command. AskFor (codes "get" ∷ words_of words.now) command) }
+    ensures form { IfSome result (λ command. spec.AskFor (codes "get" ∷ spec.words_of words.now)
+        command) }
     ensures none { IfNone result ((key : List ℕ) (bound : ℕ) →
-        ¬ ReadsKey (codes "get" ∷ words_of words.now) key bound) }
+        ¬ spec.ReadsKey (codes "get" ∷ spec.words_of words.now) key bound) }
 {
     let (key, bound) = split_word(words);
     Some(Command::Get {
@@ -99,9 +92,10 @@ fn parse_get(words: &[u8]) -> Option<Command<'_>>
 
 // Parses the words after `range `: two bounds.
 fn parse_range(words: &[u8]) -> Option<Command<'_>>
-    ensures form { IfSome result (λ command. AskFor (codes "range" ∷ words_of words.now) command) }
-    ensures none { IfNone result ((low high : Bound (List ℕ)) →
-        ¬ ReadsRange (codes "range" ∷ words_of words.now) low high) }
+    ensures form { IfSome result (λ command. spec.AskFor (codes "range" ∷ spec.words_of words.now)
+        command) }
+    ensures none { IfNone result ((low high : spec.Bound (List ℕ)) →
+        ¬ spec.ReadsRange (codes "range" ∷ spec.words_of words.now) low high) }
 {
     let (low, high) = split_word(words);
     Some(Command::Range {
@@ -113,8 +107,8 @@ fn parse_range(words: &[u8]) -> Option<Command<'_>>
 // Parses a bound: `*` for none, else `=` before a key that is included, or `!` before one that is
 // not.
 fn parse_bound(word: &[u8]) -> Option<Bound<&[u8]>>
-    ensures bound { IfSome result (λ bound. Limits word.now (key_bound bound)) }
-    ensures none { IfNone result ((bound : Bound (List ℕ)) → ¬ Limits word.now bound) }
+    ensures bound { IfSome result (λ bound. spec.Limits word.now (spec.key_bound bound)) }
+    ensures none { IfNone result ((bound : spec.Bound (List ℕ)) → ¬ spec.Limits word.now bound) }
 {
     match word {
         b"*" => Some(Bound::Unbounded),
@@ -127,9 +121,9 @@ fn parse_bound(word: &[u8]) -> Option<Bound<&[u8]>>
 // Parses the words after `compact `: a watermark, and its settings.
 fn parse_compact(words: &[u8]) -> Option<Command<'_>>
     ensures form { IfSome result (λ command.
-        AskFor (codes "compact" ∷ words_of words.now) command) }
+        spec.AskFor (codes "compact" ∷ spec.words_of words.now) command) }
     ensures none { IfNone result ((watermark : ℕ) (evict zero : Bool) →
-        ¬ CompactsBy (codes "compact" ∷ words_of words.now) watermark evict zero) }
+        ¬ spec.CompactsBy (codes "compact" ∷ spec.words_of words.now) watermark evict zero) }
 {
     let (watermark, settings) = split_word(words);
     let watermark = parse_number(watermark)?;
@@ -144,9 +138,9 @@ fn parse_compact(words: &[u8]) -> Option<Command<'_>>
 // Whether tombstones are evicted and whether seqnos become 0, each by its word, in this order.
 fn parse_settings(settings: Option<&[u8]>) -> Option<(bool, bool)>
     ensures words { IfSome result (λ told.
-        words_behind (option_copied settings.entry) ≡ setting_words told.0 told.1) }
+        spec.words_behind (spec.option_copied settings.entry) ≡ spec.setting_words told.0 told.1) }
     ensures none { IfNone result ((evict zero : Bool) →
-        ¬ (words_behind (option_copied settings.entry) ≡ setting_words evict zero)) }
+        ¬ (spec.words_behind (spec.option_copied settings.entry) ≡ spec.setting_words evict zero)) }
 {
     match settings {
         None => Some((false, false)),
@@ -159,7 +153,8 @@ fn parse_settings(settings: Option<&[u8]>) -> Option<(bool, bool)>
 
 // The first word, and the text after the space that follows it.
 fn split_word(line: &[u8]) -> (&[u8], Option<&[u8]>)
-    ensures { words_of line.now ≡ result.0.now ∷ words_behind (option_copied result.1) }
+    ensures { spec.words_of line.now ≡ result.0.now ∷ spec.words_behind
+        (spec.option_copied result.1) }
 {
     match find_space(line) {
         Some(at) => (&line[..at], Some(&line[at + 1..])),
@@ -168,7 +163,7 @@ fn split_word(line: &[u8]) -> (&[u8], Option<&[u8]>)
 }
 
 fn find_space(line: &[u8]) -> Option<usize>
-    ensures first { result ≡ position (λ byte. byte == 32) line.now }
+    ensures first { result ≡ spec.position (λ byte. byte == 32) line.now }
     ensures within { IfSome result (λ at. at < length line.now) }
 {
     line.iter().position(|byte| *byte == b' ')
@@ -176,8 +171,8 @@ fn find_space(line: &[u8]) -> Option<usize>
 
 // The text of a word of visible bytes; `-` means no bytes.
 fn parse_text(word: &[u8]) -> Option<&[u8]>
-    ensures text { IfSome result (λ text. StandsFor word.now text.now) }
-    ensures none { IfNone result ((text : List ℕ) → ¬ StandsFor word.now text) }
+    ensures text { IfSome result (λ text. spec.StandsFor word.now text.now) }
+    ensures none { IfNone result ((text : List ℕ) → ¬ spec.StandsFor word.now text) }
 {
     if word.is_empty() || !is_visible(word) {
         return None;
@@ -190,14 +185,14 @@ fn parse_text(word: &[u8]) -> Option<&[u8]>
 }
 
 fn is_visible(word: &[u8]) -> bool
-    ensures { result ≡ list_all is_ascii_graphic word.now }
+    ensures { result ≡ spec.list_all spec.is_ascii_graphic word.now }
 {
     word.iter().all(|byte| byte.is_ascii_graphic())
 }
 
 // A decimal number without leading zeros.
 fn parse_number(word: &[u8]) -> Option<u64>
-    ensures { SomeIff result (IsNumber word.now) (digits_value 10 word.now) }
+    ensures { spec.SomeIff result (spec.IsNumber word.now) (spec.digits_value 10 word.now) }
 {
     if let [b'+', ..] | [b'0', _, ..] = word {
         return None;
@@ -210,8 +205,9 @@ fn parse_number(word: &[u8]) -> Option<u64>
 
 // The letter of a kind.
 fn parse_kind(word: &[u8]) -> Option<ValueType>
-    ensures letter { IfSome result (λ kind. word.now ≡ letter_of kind ∷ []) }
-    ensures all { (kind : ValueType) → word.now ≡ letter_of kind ∷ [] → result ≡ Some kind }
+    ensures letter { IfSome result (λ kind. word.now ≡ spec.letter_of kind ∷ []) }
+    ensures all { (kind : spec.ValueType) → word.now ≡ spec.letter_of kind ∷ [] →
+        result ≡ Some kind }
 {
     match word {
         b"V" => Some(ValueType::Value),

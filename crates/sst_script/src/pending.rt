@@ -1,13 +1,7 @@
 //! The pending entries, which the next run is written from.
 ghost use Rattle.std.specs.Prelude.{◌≡◌, ◌↔◌, [], ◌∷◌, ◌++◌, length, IsTrue, IfErr, IfOk, IfSome};
 ghost use Rattle.std.specs.Prelude.{OnErr, OnOk, MatchOption};
-ghost use Rattle.std.specs.Option.{option_map_or};
-ghost use Rattle.sst_entries.specs.Entry.{entry};
-ghost use Rattle.sst_entries.specs.Error.{Faults};
-ghost use Rattle.lsm_writers.specs.Writing.{IsWritable, may_be_written};
-ghost use Rattle.lsm_compactions.specs.Chain.{AreCutOf, IsRunOfList, ids_behind, run_label};
-ghost use Rattle.lsm_compactions.specs.Chain.{tables_fault};
-ghost use Rattle.sst_script.specs.Script.{entry_failure, target_size};
+ghost use Rattle.sst_script.specs.Words as spec;
 
 use crate::Failure;
 use lsm_compactions::write_run;
@@ -60,14 +54,14 @@ impl<A: Allocator + Clone> Pending<A> {
     /// The entries.
     pub(crate) fn items(&self) -> &[InternalValue<A>]
         ensures items { result.now ≡ self.now }
-        ensures writable { IsWritable result.now }
+        ensures writable { spec.IsWritable result.now }
     {
         &self.items
     }
 
     /// Whether an entry of this key and seqno may be next.
     fn can_follow(&self, key: &[u8], seqno: SeqNo) -> bool
-        ensures { result ≡ may_be_written self.now key.now seqno }
+        ensures { result ≡ spec.may_be_written self.now key.now seqno }
     {
         seqno < SeqNo::MAX
             && match self.items.last() {
@@ -95,9 +89,10 @@ impl<A: Allocator + Clone> Pending<A> {
         kind: ValueType,
         value: &[u8],
     ) -> Result<(), Failure>
-        ensures ok { OnOk result (self.new ≡ self.old ++ entry key.now value.now seqno kind ∷ []) }
-        ensures order { OnOk result (IsTrue (may_be_written self.old key.now seqno)) }
-        ensures refused { IfErr result (λ e. e ≡ entry_failure self.old key.now seqno) }
+        ensures ok { OnOk result (self.new ≡ self.old ++ spec.entry key.now value.now seqno kind
+            ∷ []) }
+        ensures order { OnOk result (IsTrue (spec.may_be_written self.old key.now seqno)) }
+        ensures refused { IfErr result (λ e. e ≡ spec.entry_failure self.old key.now seqno) }
         ensures err { OnErr result (self.new ≡ self.old) }
     {
         if !self.can_follow(key, seqno) {
@@ -130,12 +125,12 @@ impl<A: Allocator + Clone> Pending<A> {
         ids: TableIds,
     ) -> Result<(Option<Run<Table<A>, A>>, TableIds), Error>
         ensures run { IfOk result (λ r. MatchOption r.0 (self ≡ [])
-            (λ run. IsRunOfList self 0 run)) }
+            (λ run. spec.IsRunOfList self 0 run)) }
         ensures cut { IfOk result (λ r. IfSome r.0 (λ run.
-            AreCutOf (run_label ids target_size 0) target_size self 0 run)) }
+            spec.AreCutOf (spec.run_label ids spec.target_size 0) spec.target_size self 0 run)) }
         ensures ids { IfOk result (λ r.
-            r.1 ≡ ids_behind ids target_size (option_map_or length r.0 0)) }
-        ensures refused { Faults result (tables_fault ids target_size 0 self) }
+            r.1 ≡ spec.ids_behind ids spec.target_size (spec.option_map_or length r.0 0)) }
+        ensures refused { spec.Faults result (spec.tables_fault ids spec.target_size 0 self) }
     {
         write_run(alloc, ids, TARGET_SIZE, Timestamp::from(0), self.items, 0)
     }

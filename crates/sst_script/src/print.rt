@@ -1,11 +1,6 @@
 //! The text of results, and of why a script ends.
 ghost use Rattle.std.specs.Prelude.{◌≡◌, [], ◌∷◌, ◌++◌};
-ghost use Rattle.std.specs.Fmt.{decimal};
-ghost use Rattle.sst_script.specs.Answer.{answer_lines, entry_line, entry_lines, none_line};
-ghost use Rattle.sst_script.specs.Answer.{refusal_line};
-ghost use Rattle.sst_script.specs.Shown.{ShowsText};
-ghost use Rattle.sst_script.specs.Stop.{stop_line};
-ghost use Rattle.sst_script.specs.Text.{letter_of, printed};
+ghost use Rattle.sst_script.specs.Words as spec;
 
 use crate::stop::Stop;
 use crate::write::write_text;
@@ -31,8 +26,8 @@ pub enum Answer<A: Allocator> {
 
 /// Prints a result; if writing fails, a prefix of it.
 pub fn print_answer<W: Write, A: Allocator>(output: &mut W, answer: &Answer<A>) -> Result<()>
-    ensures { ShowsText (W.contents output.old) (W.contents output.new) result
-        (answer_lines answer.now) }
+    ensures { spec.ShowsText (W.contents output.old) (W.contents output.new) result
+        (spec.answer_lines answer.now) }
 {
     match answer {
         Answer::Silent => Ok(()),
@@ -45,15 +40,15 @@ pub fn print_answer<W: Write, A: Allocator>(output: &mut W, answer: &Answer<A>) 
 }
 
 fn print_none<W: Write>(output: &mut W) -> Result<()>
-    ensures { ShowsText (W.contents output.old) (W.contents output.new) result none_line }
+    ensures { spec.ShowsText (W.contents output.old) (W.contents output.new) result spec.none_line }
 {
     write_text(output, b"none\n")
 }
 
 // Prints a line of a word and a number.
 fn print_counted<W: Write>(output: &mut W, word: &[u8], count: u64) -> Result<()>
-    ensures { ShowsText (W.contents output.old) (W.contents output.new) result
-        (word.now ++ decimal count ++ 10 ∷ []) }
+    ensures { spec.ShowsText (W.contents output.old) (W.contents output.new) result
+        (word.now ++ spec.decimal count ++ 10 ∷ []) }
 {
     write_text(output, word)?;
     write_text(output, Buffer::new().format(count).as_bytes())?;
@@ -62,8 +57,8 @@ fn print_counted<W: Write>(output: &mut W, word: &[u8], count: u64) -> Result<()
 
 // Prints each entry on a line of its own.
 fn print_entries<W: Write, A: Allocator>(output: &mut W, items: &[InternalValue<A>]) -> Result<()>
-    ensures { ShowsText (W.contents output.old) (W.contents output.new) result
-        (entry_lines items.now) }
+    ensures { spec.ShowsText (W.contents output.old) (W.contents output.new) result
+        (spec.entry_lines items.now) }
 {
     if items.is_empty() {
         return print_none(output);
@@ -76,15 +71,16 @@ fn print_entries<W: Write, A: Allocator>(output: &mut W, items: &[InternalValue<
 
 /// Prints the line of an error code; if writing fails, a prefix of it.
 pub fn print_refusal<W: Write>(output: &mut W, number: u8) -> Result<()>
-    ensures { ShowsText (W.contents output.old) (W.contents output.new) result
-        (refusal_line number) }
+    ensures { spec.ShowsText (W.contents output.old) (W.contents output.new) result
+        (spec.refusal_line number) }
 {
     print_counted(output, b"refused ", u64::from(number))
 }
 
 /// Prints the line of why a script ends; if writing fails, a prefix of it.
 pub fn print_stop<W: Write>(errors: &mut W, stop: Stop) -> Result<()>
-    ensures { ShowsText (W.contents errors.old) (W.contents errors.new) result (stop_line stop) }
+    ensures { spec.ShowsText (W.contents errors.old) (W.contents errors.new) result
+        (spec.stop_line stop) }
 {
     match stop {
         Stop::Line(number) => print_counted(errors, b"sst: line ", number),
@@ -95,8 +91,8 @@ pub fn print_stop<W: Write>(errors: &mut W, stop: Stop) -> Result<()>
 
 // Prints a key, a seqno, a kind and a value.
 fn print_entry<W: Write, A: Allocator>(output: &mut W, item: &InternalValue<A>) -> Result<()>
-    ensures { ShowsText (W.contents output.old) (W.contents output.new) result
-        (entry_line item.now) }
+    ensures { spec.ShowsText (W.contents output.old) (W.contents output.new) result
+        (spec.entry_line item.now) }
 {
     write_text(output, printed(item.key.user_key.as_slice()))?;
     write_text(output, b" ")?;
@@ -108,14 +104,14 @@ fn print_entry<W: Write, A: Allocator>(output: &mut W, item: &InternalValue<A>) 
 
 // The printed form of bytes: `-` for none.
 fn printed(bytes: &[u8]) -> &[u8]
-    ensures { result.now ≡ printed bytes.now }
+    ensures { result.now ≡ spec.printed bytes.now }
 {
     if bytes.is_empty() { b"-" } else { bytes }
 }
 
 // The letter of a kind.
 fn letter_of(kind: ValueType) -> u8
-    ensures { result ≡ letter_of kind }
+    ensures { result ≡ spec.letter_of kind }
 {
     match kind {
         ValueType::Value => b'V',

@@ -1,13 +1,7 @@
 //! Reading the runs that a script has written.
 ghost use Rattle.std.specs.Prelude.{◌≡◌, ◌+◌, ◌-◌, ◌<◌, ◌^◌, Bool, IfErr, IfOk, List, Option, Ok};
 ghost use Rattle.std.specs.Prelude.{◌∷◌, [], map};
-ghost use Rattle.std.specs.Arc.{arc_value};
-ghost use Rattle.std.specs.Iterator.{IsFinite};
-ghost use Rattle.std.specs.Vec.{vec_items};
-ghost use Rattle.sst_entries.specs.declared.error.Error.TheVariants.{OutOfMemory};
-ghost use Rattle.sst_script.specs.Runs.{ForRuns, has_entry, repeats, union};
-ghost use Rattle.sst_script.specs.Words.{DealsList, Entry, Gives, IsWritable, key_bound, newest};
-ghost use Rattle.sst_script.specs.Words.{nowhere, point, within};
+ghost use Rattle.sst_script.specs.Words as spec;
 
 use lsm_ranges::Run;
 use lsm_readers::Table;
@@ -24,8 +18,9 @@ pub(crate) fn newest_answer<A: Allocator + Clone>(
     key: &[u8],
     bound: SeqNo,
 ) -> Result<Option<InternalValue<A>>, Error>
-    ensures { ForRuns (map arc_value runs.now) (λ rs.
-        Gives (λ (found : Option Entry). found) result (Ok (point (union rs) key.now bound))) }
+    ensures { spec.ForRuns (map spec.arc_value runs.now) (λ rs.
+        spec.Gives (λ (found : Option spec.Entry). found) result
+        (Ok (spec.point (spec.union rs) key.now bound))) }
 {
     get_runs(runs, key, bound)
 }
@@ -37,9 +32,9 @@ pub(crate) fn newest_entries<A: Allocator + Clone>(
     low: Bound<&[u8]>,
     high: Bound<&[u8]>,
 ) -> Result<Vec<InternalValue<A>, A>, Error>
-    ensures { let from = key_bound low.entry in let to = key_bound high.entry in
-        ForRuns (map arc_value runs.now) (λ rs.
-        Gives vec_items result (Ok (newest (within from to (union rs))))) }
+    ensures { let from = spec.key_bound low.entry in let to = spec.key_bound high.entry in
+        spec.ForRuns (map spec.arc_value runs.now) (λ rs.
+        spec.Gives spec.vec_items result (Ok (spec.newest (spec.within from to (spec.union rs))))) }
 {
     let bounds = (owned(&alloc, low)?, owned(&alloc, high)?);
     let stream = range_runs(alloc.clone()?, runs, bounds)?;
@@ -53,17 +48,18 @@ fn collect_newest<A: Allocator, S: Iterator<Item = IterItem<A>>>(
     stream: NewestOf<S, A>,
 ) -> Result<Vec<InternalValue<A>, A>, Error>
     requires can { ⟦<NewestOf<S, A> as Iterator>⟧.can_next stream }
-    requires ends { IsFinite (⟦<NewestOf<S, A> as Iterator>⟧.remaining stream) }
+    requires ends { spec.IsFinite (⟦<NewestOf<S, A> as Iterator>⟧.remaining stream) }
     ensures { let gives = ⟦<NewestOf<S, A> as Iterator>⟧.next_gives in
-        (es : List Entry) → DealsList gives nowhere es stream → Gives vec_items result (Ok es) }
+        (es : List spec.Entry) → spec.DealsList gives spec.nowhere es stream →
+        spec.Gives spec.vec_items result (Ok es) }
 {
     collect(alloc, stream)
 }
 
 // The bound with an owned key.
 fn owned<A: Allocator + Clone>(alloc: &A, bound: Bound<&[u8]>) -> Result<Bound<UserKey<A>>, Error>
-    ensures ok { IfOk result (λ b. b ≡ key_bound bound.entry) }
-    ensures err { IfErr result (λ e. e ≡ OutOfMemory) }
+    ensures ok { IfOk result (λ b. b ≡ spec.key_bound bound.entry) }
+    ensures err { IfErr result (λ e. e ≡ spec.OutOfMemory) }
 {
     match bound {
         Bound::Included(key) => Ok(Bound::Included(Slice::from(alloc.clone()?, key)?)),
@@ -78,9 +74,9 @@ fn collect<A: Allocator, I: Iterator<Item = IterItem<A>>>(
     stream: I,
 ) -> Result<Vec<InternalValue<A>, A>, Error>
     requires can { I.can_next stream }
-    requires ends { IsFinite (I.remaining stream) }
-    ensures { (es : List Entry) → DealsList I.next_gives nowhere es stream →
-        Gives vec_items result (Ok es) }
+    requires ends { spec.IsFinite (I.remaining stream) }
+    ensures { (es : List spec.Entry) → spec.DealsList I.next_gives spec.nowhere es stream →
+        spec.Gives spec.vec_items result (Ok es) }
 {
     let mut items = Vec::new(alloc);
     for item in stream {
@@ -94,8 +90,8 @@ pub(crate) fn share<A: Allocator + Clone>(
     alloc: &A,
     run: Run<Table<A>, A>,
 ) -> Result<Arc<Run<Table<A>, A>, A>, Error>
-    ensures ok { IfOk result (λ shared. arc_value shared ≡ run) }
-    ensures err { IfErr result (λ e. e ≡ OutOfMemory) }
+    ensures ok { IfOk result (λ shared. spec.arc_value shared ≡ run) }
+    ensures err { IfErr result (λ e. e ≡ spec.OutOfMemory) }
 {
     Ok(Arc::new(alloc.clone()?, run)?)
 }
@@ -105,8 +101,8 @@ pub(crate) fn share_one<A: Allocator + Clone>(
     alloc: &A,
     run: Run<Table<A>, A>,
 ) -> Result<Vec<Arc<Run<Table<A>, A>, A>, A>, Error>
-    ensures ok { IfOk result (λ runs. map arc_value runs.items ≡ run ∷ []) }
-    ensures err { IfErr result (λ e. e ≡ OutOfMemory) }
+    ensures ok { IfOk result (λ runs. map spec.arc_value runs.items ≡ run ∷ []) }
+    ensures err { IfErr result (λ e. e ≡ spec.OutOfMemory) }
 {
     let shared = share(alloc, run)?;
     let mut runs = Vec::new(alloc.clone()?);
@@ -119,8 +115,8 @@ pub(crate) fn share_all<A: Allocator + Clone>(
     alloc: A,
     runs: Vec<Run<Table<A>, A>, A>,
 ) -> Result<Vec<Arc<Run<Table<A>, A>, A>, A>, Error>
-    ensures ok { IfOk result (λ shared. map arc_value shared.items ≡ runs.items) }
-    ensures err { IfErr result (λ e. e ≡ OutOfMemory) }
+    ensures ok { IfOk result (λ shared. map spec.arc_value shared.items ≡ runs.items) }
+    ensures err { IfErr result (λ e. e ≡ spec.OutOfMemory) }
 {
     let mut shared = Vec::new(alloc.clone()?);
     for run in runs {
@@ -135,9 +131,9 @@ pub(crate) fn is_repeated<A: Allocator + Clone>(
     runs: &[Arc<Run<Table<A>, A>, A>],
     items: &[InternalValue<A>],
 ) -> Result<bool, Error>
-    requires { IsWritable items.now }
-    ensures { ForRuns (map arc_value runs.now) (λ rs.
-        Gives (λ (held : Bool). held) result (Ok (repeats rs items.now))) }
+    requires { spec.IsWritable items.now }
+    ensures { spec.ForRuns (map spec.arc_value runs.now) (λ rs.
+        spec.Gives (λ (held : Bool). held) result (Ok (spec.repeats rs items.now))) }
 {
     for item in items {
         if has_entry(runs, item.key.user_key.as_slice(), item.key.seqno)? {
@@ -155,8 +151,9 @@ fn has_entry<A: Allocator + Clone>(
     seqno: SeqNo,
 ) -> Result<bool, Error>
     requires { seqno < 2 ^ 64 - 1 }
-    ensures { ForRuns (map arc_value runs.now) (λ rs.
-        Gives (λ (held : Bool). held) result (Ok (has_entry (union rs) key.now seqno))) }
+    ensures { spec.ForRuns (map spec.arc_value runs.now) (λ rs.
+        spec.Gives (λ (held : Bool). held) result
+        (Ok (spec.has_entry (spec.union rs) key.now seqno))) }
 {
     let found = get_runs_ref(runs, key, seqno + 1)?;
     Ok(found.is_some_and(|entry| entry.seqno == seqno))

@@ -1,18 +1,7 @@
 //! Running a script.
 ghost use Rattle.std.specs.Prelude.{◌≡◌, ◌⊎◌, [], ⊤, ℕ, List, Option, Some, Result, IfOk, IfErr};
 ghost use Rattle.std.specs.Prelude.{map};
-ghost use Rattle.std.specs.Arc.{arc_value};
-ghost use Rattle.std.specs.Io.BufRead.{strip_last};
-ghost use Rattle.sst_script.specs.Shown.{ShowsText};
-ghost use Rattle.sst_script.specs.declared.stop.Stop.TheVariants.{Input, Line, Output};
-ghost use Rattle.sst_script.specs.declared.stop.Stop.{Stop};
-ghost use Rattle.sst_script.specs.Answering.{LineEnds, PrintEnds, Reports, ScriptEnds};
-ghost use Rattle.sst_script.specs.Answering.{outcome_text, status_of};
-ghost use Rattle.sst_script.specs.Lines.{ReadsLine};
-ghost use Rattle.sst_script.specs.Runs.{ForRuns, HasRuns};
-ghost use Rattle.lsm_compactions.specs.Compacted.{AreCompactable};
-ghost use Rattle.sst_script.specs.Script.{store, kept_by, CompactsRuns, Executes, PacksRuns};
-ghost use Rattle.sst_script.specs.Script.{WritesPending};
+ghost use Rattle.sst_script.specs.Words as spec;
 
 use crate::pending::{Pending, TARGET_SIZE};
 use crate::runs::{is_repeated, newest_answer, newest_entries, share, share_all, share_one};
@@ -52,9 +41,10 @@ pub fn run_script<A: Allocator + Clone, R: Read + Drop, W: Write, E: Write>(
     errors: &mut E,
 ) -> u8
     ensures status { (result ≡ 0) ⊎ (result ≡ 2) }
-    ensures ended { (ended : Result ⊤ Stop) × (result ≡ status_of ended)
-        × ScriptEnds A (R.remaining input) (W.contents output.old) (W.contents output.new) ended
-        × Reports (E.contents errors.old) (E.contents errors.new) ended }
+    ensures ended { (ended : Result ⊤ spec.Stop) × (result ≡ spec.status_of ended)
+        × spec.ScriptEnds A (R.remaining input) (W.contents output.old) (W.contents output.new)
+        ended
+        × spec.Reports (E.contents errors.old) (E.contents errors.new) ended }
     ensures silent { result ≡ 0 → errors.new ≡ errors.old }
 {
     match answer_script(alloc, input, output) {
@@ -72,7 +62,7 @@ fn answer_script<A: Allocator + Clone, R: Read + Drop, W: Write>(
     input: R,
     output: &mut W,
 ) -> Result<(), Stop>
-    ensures { ScriptEnds A (R.remaining input)
+    ensures { spec.ScriptEnds A (R.remaining input)
         (W.contents output.old) (W.contents output.new) result }
 {
     let mut script = Script::new(alloc.clone()?)?;
@@ -89,9 +79,9 @@ fn answer_script<A: Allocator + Clone, R: Read + Drop, W: Write>(
 
 // Reads the next line, without its end; `false` if there is none.
 fn read_line<R: BufRead, A: Allocator>(input: &mut R, line: &mut Vec<u8, A>) -> Result<bool, Stop>
-    ensures read { IfOk result (ReadsLine
+    ensures read { IfOk result (spec.ReadsLine
         (R.remaining input.old) (R.remaining input.new) line.new.items) }
-    ensures failed { IfErr result (λ stop. stop ≡ Input) }
+    ensures failed { IfErr result (λ stop. stop ≡ spec.Input) }
 {
     line.clear();
     let length = input.read_until(b'\n', line).map_err(|_| Stop::Input)?;
@@ -101,7 +91,7 @@ fn read_line<R: BufRead, A: Allocator>(input: &mut R, line: &mut Vec<u8, A>) -> 
 
 // Removes the end of a line, which the last line may lack.
 fn strip_end<A: Allocator>(line: &mut Vec<u8, A>)
-    ensures { line.new.items ≡ strip_last 10 line.old.items }
+    ensures { line.new.items ≡ spec.strip_last 10 line.old.items }
 {
     if line.last() == Some(&b'\n') {
         line.pop();
@@ -114,7 +104,7 @@ fn print_outcome<W: Write, A: Allocator>(
     number: u64,
     outcome: &Result<Answer<A>, Failure>,
 ) -> Result<(), Stop>
-    ensures { PrintEnds number (outcome_text outcome.now)
+    ensures { spec.PrintEnds number (spec.outcome_text outcome.now)
         (W.contents output.old) (W.contents output.new) result }
 {
     match outcome {
@@ -127,9 +117,9 @@ fn print_outcome<W: Write, A: Allocator>(
 // Flushes the output after printing, so that none of it waits for the next input.
 fn pass_on<W: Write>(printed: io::Result<()>, output: &mut W) -> Result<(), Stop>
     ensures shown { (before : Option (List ℕ)) (text : List ℕ) →
-        ShowsText before (W.contents output.old) printed text →
-        ShowsText before (W.contents output.new) result text }
-    ensures stop { IfErr result (λ stop. stop ≡ Output) }
+        spec.ShowsText before (W.contents output.old) printed text →
+        spec.ShowsText before (W.contents output.new) result text }
+    ensures stop { IfErr result (λ stop. stop ≡ spec.Output) }
 {
     match printed {
         Ok(()) => output.flush().map_err(|_| Stop::Output),
@@ -167,14 +157,14 @@ impl<A: Allocator + Clone> Script<A> {
         line: &[u8],
         output: &mut W,
     ) -> Result<(), Stop>
-        requires { AreCompactable (map arc_value self.old.runs.items) }
-        ensures able { AreCompactable (map arc_value self.new.runs.items) }
-        ensures stops { IfErr result (λ stop. (stop ≡ Line number) ⊎ (stop ≡ Output)) }
-        ensures ended { ForRuns (map arc_value self.old.runs.items) (λ before.
-            HasRuns (map arc_value self.new.runs.items) (λ after.
-            LineEnds A number line.now
-            (store self.old.pending before self.old.ids)
-            (store self.new.pending after self.new.ids)
+        requires { spec.AreCompactable (map spec.arc_value self.old.runs.items) }
+        ensures able { spec.AreCompactable (map spec.arc_value self.new.runs.items) }
+        ensures stops { IfErr result (λ stop. (stop ≡ spec.Line number) ⊎ (stop ≡ spec.Output)) }
+        ensures ended { spec.ForRuns (map spec.arc_value self.old.runs.items) (λ before.
+            spec.HasRuns (map spec.arc_value self.new.runs.items) (λ after.
+            spec.LineEnds A number line.now
+            (spec.store self.old.pending before self.old.ids)
+            (spec.store self.new.pending after self.new.ids)
             (W.contents output.old) (W.contents output.new) result)) }
     {
         if line.is_empty() {
@@ -185,13 +175,13 @@ impl<A: Allocator + Clone> Script<A> {
     }
 
     fn execute(&mut self, command: Command<'_>) -> Result<Answer<A>, Failure>
-        requires { AreCompactable (map arc_value self.old.runs.items) }
-        ensures able { AreCompactable (map arc_value self.new.runs.items) }
-        ensures done { ForRuns (map arc_value self.old.runs.items) (λ before.
-            HasRuns (map arc_value self.new.runs.items) (λ after.
-            Executes command.entry
-            (store self.old.pending before self.old.ids) result
-            (store self.new.pending after self.new.ids))) }
+        requires { spec.AreCompactable (map spec.arc_value self.old.runs.items) }
+        ensures able { spec.AreCompactable (map spec.arc_value self.new.runs.items) }
+        ensures done { spec.ForRuns (map spec.arc_value self.old.runs.items) (λ before.
+            spec.HasRuns (map spec.arc_value self.new.runs.items) (λ after.
+            spec.Executes command.entry
+            (spec.store self.old.pending before self.old.ids) result
+            (spec.store self.new.pending after self.new.ids))) }
     {
         match command {
             Command::Entry {
@@ -228,13 +218,13 @@ impl<A: Allocator + Clone> Script<A> {
     // Writes the pending entries as a run, and returns the number of its tables. After an error the
     // runs and the next id are unchanged; the caller clears the pending entries.
     fn write_table(&mut self) -> Result<u64, Failure>
-        requires { AreCompactable (map arc_value self.old.runs.items) }
-        ensures able { AreCompactable (map arc_value self.new.runs.items) }
-        ensures done { ForRuns (map arc_value self.old.runs.items) (λ before.
-            HasRuns (map arc_value self.new.runs.items) (λ after.
-            WritesPending
-            (store self.old.pending before self.old.ids) result
-            (store [] after self.new.ids))) }
+        requires { spec.AreCompactable (map spec.arc_value self.old.runs.items) }
+        ensures able { spec.AreCompactable (map spec.arc_value self.new.runs.items) }
+        ensures done { spec.ForRuns (map spec.arc_value self.old.runs.items) (λ before.
+            spec.HasRuns (map spec.arc_value self.new.runs.items) (λ after.
+            spec.WritesPending
+            (spec.store self.old.pending before self.old.ids) result
+            (spec.store [] after self.new.ids))) }
     {
         if is_repeated(&self.runs, self.pending.items())? {
             return Err(Failure::BadLine);
@@ -257,14 +247,14 @@ impl<A: Allocator + Clone> Script<A> {
     // Replaces all runs by the run of what is kept of them, none if nothing is kept, and returns
     // the number of its tables. After an error the runs and the next id are unchanged.
     fn compact(&mut self, watermark: SeqNo, evict: bool, zero: bool) -> Result<u64, Failure>
-        requires { AreCompactable (map arc_value self.old.runs.items) }
-        ensures able { AreCompactable (map arc_value self.new.runs.items) }
-        ensures done { ForRuns (map arc_value self.old.runs.items) (λ before.
-            HasRuns (map arc_value self.new.runs.items) (λ after.
-            CompactsRuns
-            (store self.old.pending before self.old.ids)
-            (kept_by watermark evict zero before) result
-            (store self.new.pending after self.new.ids))) }
+        requires { spec.AreCompactable (map spec.arc_value self.old.runs.items) }
+        ensures able { spec.AreCompactable (map spec.arc_value self.new.runs.items) }
+        ensures done { spec.ForRuns (map spec.arc_value self.old.runs.items) (λ before.
+            spec.HasRuns (map spec.arc_value self.new.runs.items) (λ after.
+            spec.CompactsRuns
+            (spec.store self.old.pending before self.old.ids)
+            (spec.kept_by watermark evict zero before) result
+            (spec.store self.new.pending after self.new.ids))) }
     {
         let rules = Rules {
             watermark,
@@ -293,13 +283,13 @@ impl<A: Allocator + Clone> Script<A> {
     // Puts the tables of all runs in as few runs as possible, and returns their number. Fails with
     // `OutOfMemory` only; the runs are unchanged then.
     fn pack(&mut self) -> Result<u64, Failure>
-        requires { AreCompactable (map arc_value self.old.runs.items) }
-        ensures able { AreCompactable (map arc_value self.new.runs.items) }
-        ensures done { ForRuns (map arc_value self.old.runs.items) (λ before.
-            HasRuns (map arc_value self.new.runs.items) (λ after.
-            PacksRuns
-            (store self.old.pending before self.old.ids) result
-            (store self.new.pending after self.new.ids))) }
+        requires { spec.AreCompactable (map spec.arc_value self.old.runs.items) }
+        ensures able { spec.AreCompactable (map spec.arc_value self.new.runs.items) }
+        ensures done { spec.ForRuns (map spec.arc_value self.old.runs.items) (λ before.
+            spec.HasRuns (map spec.arc_value self.new.runs.items) (λ after.
+            spec.PacksRuns
+            (spec.store self.old.pending before self.old.ids) result
+            (spec.store self.new.pending after self.new.ids))) }
     {
         let packed = pack_runs(self.alloc.clone()?, &self.runs)?;
         self.runs = share_all(self.alloc.clone()?, packed)?;

@@ -1,10 +1,7 @@
 //! Closing a store, and the state that it leaves.
 ghost use Rattle.std.specs.Prelude.{◌≡◌, [], IfErr, IfOk, List, OnErr, OnOk, Some, false, map};
-ghost use Rattle.std.specs.Arc.{arc_value};
-ghost use Rattle.example_store.specs.Closed.{IsClosed, bytes_by_run};
-ghost use Rattle.example_store.specs.Ids.{HasFlushed, StaysOrFlushes};
-ghost use Rattle.example_store.specs.Story.{IsStore, IsTold};
-ghost use Rattle.logpurple.specs.Words.{Entry, OpenTable, OutOfMemory, is_memory, tables_fault};
+ghost use Rattle.example_store.specs.Words as spec;
+ghost use Rattle.logpurple.specs.Words.{OutOfMemory};
 
 use crate::store::Store;
 use logpurple::block::{Error, SeqNo, Slice};
@@ -37,18 +34,19 @@ impl<A: Allocator + Clone> Store<A> {
     /// Those of [`Store::flush`]. Nothing is lost then.
     pub fn close(&mut self) -> Result<Closed<A>, Error>
         // The result is the state of the store as it is now.
-        ensures closed { IfOk result (λ closed. IsStore self.new × IsClosed self.new closed) }
+        ensures closed { IfOk result (λ closed. spec.IsStore self.new
+            × spec.IsClosed self.new closed) }
         // The store reads as the same history.
-        ensures story { (ws : List Entry) → IsTold self.old ws → IsTold self.new ws }
+        ensures story { (ws : List spec.Entry) → spec.IsTold self.old ws → spec.IsTold self.new ws }
         ensures next { self.new.next ≡ self.old.next }
         ensures oldest { self.new.oldest ≡ self.old.oldest }
         ensures limit { self.new.limit ≡ self.old.limit }
         ensures target { self.new.target ≡ self.old.target }
         // The counter that is returned is after the new tables, if there are any.
-        ensures flushed { OnOk result (HasFlushed self.old self.new) }
-        ensures err { OnErr result (StaysOrFlushes self.old self.new) }
-        ensures refused { IfErr result (λ e. is_memory e ≡ false →
-            tables_fault self.old.ids self.old.target 0 self.old.recent ≡ Some e) }
+        ensures flushed { OnOk result (spec.HasFlushed self.old self.new) }
+        ensures err { OnErr result (spec.StaysOrFlushes self.old self.new) }
+        ensures refused { IfErr result (λ e. spec.is_memory e ≡ false →
+            spec.tables_fault self.old.ids self.old.target 0 self.old.recent ≡ Some e) }
     {
         self.flush()?;
         self.kept()
@@ -57,8 +55,8 @@ impl<A: Allocator + Clone> Store<A> {
     // The state of a store whose memtable is empty.
     fn kept(&self) -> Result<Closed<A>, Error>
         requires { self.now.recent ≡ [] }
-        ensures sound { IsStore self.now }
-        ensures closed { IfOk result (IsClosed self.now) }
+        ensures sound { spec.IsStore self.now }
+        ensures closed { IfOk result (spec.IsClosed self.now) }
         ensures memory { IfErr result (λ e. e ≡ OutOfMemory) }
     {
         let files = files_of(&self.alloc, &self.runs)?;
@@ -77,7 +75,7 @@ fn files_of<A: Allocator + Clone>(
     runs: &[Arc<Run<Table<A>, A>, A>],
 ) -> Result<Vec<Vec<Slice<A>, A>, A>, Error>
     ensures files { IfOk result (λ files.
-        map (λ run. run.items) files.items ≡ bytes_by_run (map arc_value runs.now)) }
+        map (λ run. run.items) files.items ≡ spec.bytes_by_run (map spec.arc_value runs.now)) }
     ensures memory { IfErr result (λ e. e ≡ OutOfMemory) }
 {
     let mut files = Vec::new(alloc.clone()?);
@@ -90,7 +88,7 @@ fn files_of<A: Allocator + Clone>(
 // The bytes of some tables, shared.
 fn bytes_of<A: Allocator + Clone>(alloc: &A, tables: &[Table<A>]) -> Result<Vec<Slice<A>, A>, Error>
     ensures files { IfOk result (λ files.
-        files.items ≡ map (λ (t : OpenTable). t.bytes) tables.now) }
+        files.items ≡ map (λ (t : spec.OpenTable). t.bytes) tables.now) }
     ensures memory { IfErr result (λ e. e ≡ OutOfMemory) }
 {
     let mut files = Vec::new(alloc.clone()?);

@@ -1,14 +1,8 @@
 //! Compacting and packing the runs of a store.
 ghost use Rattle.std.specs.Prelude.{◌≡◌, ◌+◌, ◌≤◌, [], ◌∷◌, ◌++◌, IfErr, IfOk, List, OnErr, OnOk};
 ghost use Rattle.std.specs.Prelude.{Some, false, length, map, max, min, sum_by, true, ℕ};
-ghost use Rattle.std.specs.Arc.{arc_value};
-ghost use Rattle.std.specs.List.{AllByRecursion};
-ghost use Rattle.example_store.specs.Ids.{AreMadeOf};
-ghost use Rattle.example_store.specs.Story.{IsOwnRun, IsTold, option_list};
-ghost use Rattle.logpurple.specs.Words.{AreCompactable, AreCutOf, AreInOrder, Entry, HaveAll};
-ghost use Rattle.logpurple.specs.Words.{HoldUnion, IsLeastSize, OutOfMemory, RunsHoldLists};
-ghost use Rattle.logpurple.specs.Words.{SameTables, ids_behind, is_memory, kept_in, range_of};
-ghost use Rattle.logpurple.specs.Words.{rules_by, run_label, tables_fault, union_in};
+ghost use Rattle.example_store.specs.Words as spec;
+ghost use Rattle.logpurple.specs.Words.{OutOfMemory};
 
 use crate::store::Store;
 use logpurple::block::{Error, SeqNo};
@@ -31,7 +25,7 @@ impl<A: Allocator + Clone> Store<A> {
     ///
     /// Those of [`compact_to_run`]. The store is not changed then.
     pub fn compact(&mut self, watermark: SeqNo) -> Result<(), Error>
-        ensures story { (ws : List Entry) → IsTold self.old ws → IsTold self.new ws }
+        ensures story { (ws : List spec.Entry) → spec.IsTold self.old ws → spec.IsTold self.new ws }
         ensures oldest { OnOk result
             (self.new.oldest ≡ max self.old.oldest (min watermark self.old.next)) }
         ensures next { self.new.next ≡ self.old.next }
@@ -40,20 +34,22 @@ impl<A: Allocator + Clone> Store<A> {
         ensures recent { self.new.recent ≡ self.old.recent }
         // The counter of ids is after the new run's tables.
         ensures ids { OnOk result (self.new.ids
-            ≡ ids_behind self.old.ids self.old.target (sum_by length self.new.runs)) }
+            ≡ spec.ids_behind self.old.ids self.old.target (sum_by length self.new.runs)) }
         // At most one run is left.
         ensures few { OnOk result (length self.new.runs ≤ 1) }
         // The runs have what is kept of all that they had, cut by the target.
-        ensures made { (lists : List (List (List Entry))) → RunsHoldLists self.old.runs lists →
-            OnOk result (AreMadeOf self.old
-            (kept_in (rules_by (min watermark self.old.next) true false) lists) self.new.runs) }
+        ensures made { (lists : List (List (List spec.Entry))) →
+            spec.RunsHoldLists self.old.runs lists → OnOk result (spec.AreMadeOf self.old
+            (spec.kept_in (spec.rules_by (min watermark self.old.next) true false) lists)
+            self.new.runs) }
         ensures err { OnErr result (self.new ≡ self.old) }
         // Except for `OutOfMemory`, the error is that of writing what is kept of the runs as
         // tables.
-        ensures refused { (lists : List (List (List Entry))) → RunsHoldLists self.old.runs lists →
-            IfErr result (λ e. is_memory e ≡ false →
-            tables_fault self.old.ids self.old.target 0
-            (kept_in (rules_by (min watermark self.old.next) true false) lists) ≡ Some e) }
+        ensures refused { (lists : List (List (List spec.Entry))) →
+            spec.RunsHoldLists self.old.runs lists → IfErr result (λ e. spec.is_memory e ≡ false →
+            spec.tables_fault self.old.ids self.old.target 0
+            (spec.kept_in (spec.rules_by (min watermark self.old.next) true false) lists)
+            ≡ Some e) }
     {
         let watermark = watermark.min(self.next);
         let rules = Rules {
@@ -74,7 +70,7 @@ impl<A: Allocator + Clone> Store<A> {
     ///
     /// [`Error::OutOfMemory`] only. The store is not changed then.
     pub fn pack(&mut self) -> Result<(), Error>
-        ensures story { (ws : List Entry) → IsTold self.old ws → IsTold self.new ws }
+        ensures story { (ws : List spec.Entry) → spec.IsTold self.old ws → spec.IsTold self.new ws }
         ensures oldest { self.new.oldest ≡ self.old.oldest }
         ensures next { self.new.next ≡ self.old.next }
         ensures limit { self.new.limit ≡ self.old.limit }
@@ -82,11 +78,13 @@ impl<A: Allocator + Clone> Store<A> {
         ensures ids { self.new.ids ≡ self.old.ids }
         ensures recent { self.new.recent ≡ self.old.recent }
         // They have the same tables, and hold the same entries.
-        ensures tables { OnOk result (SameTables self.old.runs self.new.runs) }
-        ensures list { (lists : List (List (List Entry))) → RunsHoldLists self.old.runs lists →
-            OnOk result (HoldUnion self.new.runs (union_in lists)) }
+        ensures tables { OnOk result (spec.SameTables self.old.runs self.new.runs) }
+        ensures list { (lists : List (List (List spec.Entry))) →
+            spec.RunsHoldLists self.old.runs lists →
+            OnOk result (spec.HoldUnion self.new.runs (spec.union_in lists)) }
         // No fewer runs are possible.
-        ensures least { OnOk result (IsLeastSize range_of self.old.runs (length self.new.runs)) }
+        ensures least { OnOk result
+            (spec.IsLeastSize spec.range_of self.old.runs (length self.new.runs)) }
         ensures err { OnErr result (self.new ≡ self.old) }
         ensures memory { IfErr result (λ e. e ≡ OutOfMemory) }
     {
@@ -105,24 +103,26 @@ pub(crate) fn compacted<A: Allocator + Clone>(
     ids: TableIds,
     target: u64,
 ) -> Result<(Runs<A>, TableIds), Error>
-    requires { AreCompactable (map arc_value runs.now) }
-    ensures kept { (lists : List (List (List Entry))) →
-        RunsHoldLists (map arc_value runs.now) lists →
-        IfOk result (λ r. HaveAll (kept_in rules lists) (map arc_value r.0.items)) }
+    requires { spec.AreCompactable (map spec.arc_value runs.now) }
+    ensures kept { (lists : List (List (List spec.Entry))) →
+        spec.RunsHoldLists (map spec.arc_value runs.now) lists →
+        IfOk result (λ r. spec.HaveAll (spec.kept_in rules lists) (map spec.arc_value r.0.items)) }
     ensures few { IfOk result (λ r. length r.0.items ≤ 1) }
-    ensures cut { (lists : List (List (List Entry))) →
-        RunsHoldLists (map arc_value runs.now) lists →
-        IfOk result (λ r. AllByRecursion (AreCutOf (run_label ids target 0) target
-        (kept_in rules lists) 0) (map arc_value r.0.items)) }
+    ensures cut { (lists : List (List (List spec.Entry))) →
+        spec.RunsHoldLists (map spec.arc_value runs.now) lists →
+        IfOk result (λ r. spec.AllByRecursion (spec.AreCutOf (spec.run_label ids target 0) target
+        (spec.kept_in rules lists) 0) (map spec.arc_value r.0.items)) }
     ensures ids { IfOk result (λ r.
-        r.1 ≡ ids_behind ids target (sum_by length (map arc_value r.0.items))) }
-    ensures able { IfOk result (λ r. AreCompactable (map arc_value r.0.items)) }
-    ensures own { (bound : ℕ) → AllByRecursion (IsOwnRun bound) (map arc_value runs.now) →
-        IfOk result (λ r. AllByRecursion (IsOwnRun bound) (map arc_value r.0.items)) }
-    ensures refused { (lists : List (List (List Entry))) →
-        RunsHoldLists (map arc_value runs.now) lists →
-        IfErr result (λ e. is_memory e ≡ false →
-        tables_fault ids target 0 (kept_in rules lists) ≡ Some e) }
+        r.1 ≡ spec.ids_behind ids target (sum_by length (map spec.arc_value r.0.items))) }
+    ensures able { IfOk result (λ r. spec.AreCompactable (map spec.arc_value r.0.items)) }
+    ensures own { (bound : ℕ) →
+        spec.AllByRecursion (spec.IsOwnRun bound) (map spec.arc_value runs.now) →
+        IfOk result (λ r. spec.AllByRecursion (spec.IsOwnRun bound)
+        (map spec.arc_value r.0.items)) }
+    ensures refused { (lists : List (List (List spec.Entry))) →
+        spec.RunsHoldLists (map spec.arc_value runs.now) lists →
+        IfErr result (λ e. spec.is_memory e ≡ false →
+        spec.tables_fault ids target 0 (spec.kept_in rules lists) ≡ Some e) }
 {
     let created_at = Timestamp::from(0);
     let (run, left) = compact_to_run(alloc.clone()?, runs, rules, ids, target, created_at)?;
@@ -135,7 +135,7 @@ fn at_most_one<T: Drop, A: Allocator + Clone>(
     alloc: &A,
     run: Option<T>,
 ) -> Result<Vec<Arc<T, A>, A>, Error>
-    ensures ok { IfOk result (λ shared. map arc_value shared.items ≡ option_list run) }
+    ensures ok { IfOk result (λ shared. map spec.arc_value shared.items ≡ spec.option_list run) }
     ensures few { IfOk result (λ shared. length shared.items ≤ 1) }
     ensures memory { IfErr result (λ e. e ≡ OutOfMemory) }
 {
@@ -153,8 +153,8 @@ pub(crate) fn push_shared<T: Drop, A: Allocator + Clone>(
     alloc: &A,
     run: T,
 ) -> Result<(), AllocError>
-    ensures pushed { OnOk result (map arc_value shared.new.items
-        ≡ map arc_value shared.old.items ++ run ∷ []) }
+    ensures pushed { OnOk result (map spec.arc_value shared.new.items
+        ≡ map spec.arc_value shared.old.items ++ run ∷ []) }
     ensures one { OnOk result (length shared.new.items ≡ length shared.old.items + 1) }
 {
     shared.push(Arc::new(alloc.clone()?, run)?)?;
@@ -167,17 +167,21 @@ fn packed<A: Allocator + Clone>(
     runs: &[Arc<Run<Table<A>, A>, A>],
 ) -> Result<Runs<A>, Error>
     ensures tables { IfOk result (λ packed.
-        SameTables (map arc_value runs.now) (map arc_value packed.items)) }
-    ensures list { (lists : List (List (List Entry))) →
-        RunsHoldLists (map arc_value runs.now) lists →
-        IfOk result (λ packed. HoldUnion (map arc_value packed.items) (union_in lists)) }
-    ensures able { AreCompactable (map arc_value runs.now) →
-        IfOk result (λ packed. AreCompactable (map arc_value packed.items)) }
-    ensures own { (bound : ℕ) → AreInOrder range_of (map arc_value runs.now) →
-        AllByRecursion (IsOwnRun bound) (map arc_value runs.now) →
-        IfOk result (λ packed. AllByRecursion (IsOwnRun bound) (map arc_value packed.items)) }
-    ensures least { IfOk result (λ packed. AreInOrder range_of (map arc_value runs.now) →
-        IsLeastSize range_of (map arc_value runs.now) (length (map arc_value packed.items))) }
+        spec.SameTables (map spec.arc_value runs.now) (map spec.arc_value packed.items)) }
+    ensures list { (lists : List (List (List spec.Entry))) →
+        spec.RunsHoldLists (map spec.arc_value runs.now) lists →
+        IfOk result (λ packed. spec.HoldUnion (map spec.arc_value packed.items)
+        (spec.union_in lists)) }
+    ensures able { spec.AreCompactable (map spec.arc_value runs.now) →
+        IfOk result (λ packed. spec.AreCompactable (map spec.arc_value packed.items)) }
+    ensures own { (bound : ℕ) → spec.AreInOrder spec.range_of (map spec.arc_value runs.now) →
+        spec.AllByRecursion (spec.IsOwnRun bound) (map spec.arc_value runs.now) →
+        IfOk result (λ packed. spec.AllByRecursion (spec.IsOwnRun bound)
+        (map spec.arc_value packed.items)) }
+    ensures least { IfOk result
+        (λ packed. spec.AreInOrder spec.range_of (map spec.arc_value runs.now) →
+        spec.IsLeastSize spec.range_of (map spec.arc_value runs.now)
+        (length (map spec.arc_value packed.items))) }
     ensures memory { IfErr result (λ e. e ≡ OutOfMemory) }
 {
     let packed = pack_runs(alloc.clone()?, runs)?;
@@ -189,7 +193,7 @@ fn share_all<T: Drop, A: Allocator + Clone>(
     alloc: &A,
     runs: Vec<T, A>,
 ) -> Result<Vec<Arc<T, A>, A>, Error>
-    ensures ok { IfOk result (λ shared. map arc_value shared.items ≡ runs.items) }
+    ensures ok { IfOk result (λ shared. map spec.arc_value shared.items ≡ runs.items) }
     ensures memory { IfErr result (λ e. e ≡ OutOfMemory) }
 {
     let mut shared = Vec::new(alloc.clone()?);

@@ -1,21 +1,8 @@
 //! Opening a store from the state of a closed one.
 ghost use Rattle.std.specs.Prelude.{◌≡◌, ◌-◌, ◌^◌, ◌<◌, ◌≤◌, ◌⊎◌, [], IfErr, IfOk, IsOk, List, Ok};
 ghost use Rattle.std.specs.Prelude.{false, length, map, true, ℕ};
-ghost use Rattle.std.specs.List.{AllByRecursion};
-ghost use Rattle.std.specs.Arc.{arc_value};
-ghost use Rattle.example_store.specs.Closed.{IsClosed, StoreLists, bytes_by_run, files_in};
-ghost use Rattle.example_store.specs.Story.{Holding, IsOwn, IsOwnRun, IsOwnTable, IsStore, IsTold};
-ghost use Rattle.example_store.specs.Faulty.{IsFirstFault, IsOpenFault, NamesFile, NamesInRun};
-ghost use Rattle.example_store.specs.declared.store.open.FileFault.TheVariants.{Unopened};
-ghost use Rattle.example_store.specs.declared.store.open.OpenError.TheVariants.{File, NoFile};
-ghost use Rattle.example_store.specs.declared.store.open.OpenError.TheVariants.{OldestTooHigh};
+ghost use Rattle.example_store.specs.Words as spec;
 ghost use Rattle.example_store.specs.declared.store.open.OpenError.TheVariants.{OutOfMemory};
-ghost use Rattle.example_store.specs.declared.store.open.OpenError.TheVariants.{OutOfOrder};
-ghost use Rattle.example_store.specs.declared.store.open.OpenError.TheVariants.{Repeated};
-ghost use Rattle.example_store.specs.declared.store.open.OpenError.TheVariants.{SeqNoOverflow};
-ghost use Rattle.logpurple.specs.Words.{Entry, HaveEntries, IsInOrder, IsStrict, OpenTable};
-ghost use Rattle.logpurple.specs.Words.{RunsHoldLists, StoresList, is_memory, range_of};
-ghost use Rattle.logpurple.specs.Words.{recovered_told, union_in};
 
 use crate::memtable::Memtable;
 use crate::store::compact::{Runs, push_shared};
@@ -111,22 +98,24 @@ impl<A: Allocator + Clone> Store<A> {
         closed: &Closed<A>,
     ) -> Result<Store<A>, OpenError>
         // It has what was closed, and nothing else.
-        ensures opened { IfOk result (λ store. IsClosed store closed.now) }
+        ensures opened { IfOk result (λ store. spec.IsClosed store closed.now) }
         ensures limit { IfOk result (λ store. store.limit ≡ limit) }
         ensures target { IfOk result (λ store. store.target ≡ target) }
         // Each file stores a list, and its reads rest on these lists alone.
-        ensures lists { IfOk result (λ store. (lists : List (List (List Entry))) ×
-            StoreLists (files_in closed.now) lists × RunsHoldLists store.runs lists) }
+        ensures lists { IfOk result (λ store. (lists : List (List (List spec.Entry))) ×
+            spec.StoreLists (spec.files_in closed.now) lists × spec.RunsHoldLists store.runs
+            lists) }
         // The snapshot of all writes is kept.
         ensures kept { IfOk result (λ _. closed.now.oldest ≤ closed.now.next) }
         // It reads as the history that the closed store read as.
-        ensures story { (s : Holding) (ws : List Entry) → IsStore s → IsClosed s closed.now →
-            IsTold s ws → IfOk result (λ store. IsTold store ws) }
+        ensures story { (s : spec.Holding) (ws : List spec.Entry) → spec.IsStore s →
+            spec.IsClosed s closed.now →
+            spec.IsTold s ws → IfOk result (λ store. spec.IsTold store ws) }
         // Opening a closed store fails with `OutOfMemory` only.
-        ensures taken { (s : Holding) → IsStore s → IsClosed s closed.now →
+        ensures taken { (s : spec.Holding) → spec.IsStore s → spec.IsClosed s closed.now →
             IfErr result (λ e. e ≡ OutOfMemory) }
         // Except for `OutOfMemory`, the error names the first fault.
-        ensures refused { IfErr result (IsOpenFault closed.now) }
+        ensures refused { IfErr result (spec.IsOpenFault closed.now) }
     {
         test_numbers(closed.next, closed.oldest)?;
         let runs = open_runs(&alloc, &closed.files, closed.next)?;
@@ -151,8 +140,8 @@ fn test_numbers(next: SeqNo, oldest: SeqNo) -> Result<(), OpenError>
     ensures room { IfOk result (λ _. next < 2 ^ 64 - 1) }
     ensures kept { IfOk result (λ _. oldest ≤ next) }
     ensures taken { next < 2 ^ 64 - 1 → oldest ≤ next → IsOk result }
-    ensures named { IfErr result (λ e. (e ≡ SeqNoOverflow) × (next ≡ 2 ^ 64 - 1) ⊎
-        (e ≡ OldestTooHigh) × (next < oldest)) }
+    ensures named { IfErr result (λ e. (e ≡ spec.SeqNoOverflow) × (next ≡ 2 ^ 64 - 1) ⊎
+        (e ≡ spec.OldestTooHigh) × (next < oldest)) }
 {
     if next == SeqNo::MAX {
         return Err(OpenError::SeqNoOverflow);
@@ -170,12 +159,14 @@ fn open_runs<A: Allocator + Clone>(
     next: SeqNo,
 ) -> Result<Runs<A>, OpenError>
     ensures own { IfOk result (λ runs.
-        AllByRecursion (IsOwnRun next) (map arc_value runs.items)) }
+        spec.AllByRecursion (spec.IsOwnRun next) (map spec.arc_value runs.items)) }
     ensures files { IfOk result (λ runs.
-        bytes_by_run (map arc_value runs.items) ≡ map (λ run. run.items) files.now) }
-    ensures taken { (runs : List (List OpenTable)) → AllByRecursion (IsOwnRun next) runs →
-        bytes_by_run runs ≡ map (λ run. run.items) files.now → IfErr result (λ e. e ≡ OutOfMemory) }
-    ensures named { IfErr result (IsFirstFault next (map (λ run. run.items) files.now)) }
+        spec.bytes_by_run (map spec.arc_value runs.items) ≡ map (λ run. run.items) files.now) }
+    ensures taken { (runs : List (List spec.OpenTable)) →
+        spec.AllByRecursion (spec.IsOwnRun next) runs →
+        spec.bytes_by_run runs ≡ map (λ run. run.items) files.now →
+        IfErr result (λ e. e ≡ OutOfMemory) }
+    ensures named { IfErr result (spec.IsFirstFault next (map (λ run. run.items) files.now)) }
 {
     let mut runs = Vec::new(alloc.clone()?);
     for run in files {
@@ -192,11 +183,12 @@ fn open_run<A: Allocator + Clone>(
     next: SeqNo,
     place: usize,
 ) -> Result<Run<Table<A>, A>, OpenError>
-    ensures own { IfOk result (IsOwnRun next) }
-    ensures files { IfOk result (λ run. map (λ (t : OpenTable). t.bytes) run ≡ files.now) }
-    ensures taken { (run : List OpenTable) → IsOwnRun next run →
-        map (λ (t : OpenTable). t.bytes) run ≡ files.now → IfErr result (λ e. e ≡ OutOfMemory) }
-    ensures named { IfErr result (NamesInRun next files.now place) }
+    ensures own { IfOk result (spec.IsOwnRun next) }
+    ensures files { IfOk result (λ run. map (λ (t : spec.OpenTable). t.bytes) run ≡ files.now) }
+    ensures taken { (run : List spec.OpenTable) → spec.IsOwnRun next run →
+        map (λ (t : spec.OpenTable). t.bytes) run ≡ files.now →
+        IfErr result (λ e. e ≡ OutOfMemory) }
+    ensures named { IfErr result (spec.NamesInRun next files.now place) }
 {
     let mut tables = Vec::new(alloc.clone()?);
     for bytes in files {
@@ -213,10 +205,11 @@ fn run_of_tables<A: Allocator + Clone>(
 ) -> Result<Run<Table<A>, A>, OpenError>
     ensures run { IfOk result (λ run. run ≡ tables.items) }
     ensures some { IfOk result (λ _. 0 < length tables.items) }
-    ensures order { IfOk result (λ _. IsInOrder range_of tables.items) }
-    ensures taken { 0 < length tables.items → IsInOrder range_of tables.items → IsOk result }
-    ensures named { IfErr result (λ e. (e ≡ NoFile place) × (tables.items ≡ []) ⊎
-        (e ≡ OutOfOrder place) × (IsInOrder range_of tables.items → ⊥)) }
+    ensures order { IfOk result (λ _. spec.IsInOrder spec.range_of tables.items) }
+    ensures taken { 0 < length tables.items → spec.IsInOrder spec.range_of tables.items →
+        IsOk result }
+    ensures named { IfErr result (λ e. (e ≡ spec.NoFile place) × (tables.items ≡ []) ⊎
+        (e ≡ spec.OutOfOrder place) × (spec.IsInOrder spec.range_of tables.items → ⊥)) }
 {
     let Some(run) = Run::new(tables) else {
         return Err(OpenError::NoFile(place));
@@ -234,11 +227,11 @@ fn open_file<A: Allocator + Clone>(
     next: SeqNo,
     place: (usize, usize),
 ) -> Result<Table<A>, OpenError>
-    ensures own { IfOk result (IsOwnTable next) }
+    ensures own { IfOk result (spec.IsOwnTable next) }
     ensures file { IfOk result (λ t. t.bytes ≡ bytes.now) }
-    ensures taken { (t : OpenTable) → IsOwnTable next t → t.bytes ≡ bytes.now →
+    ensures taken { (t : spec.OpenTable) → spec.IsOwnTable next t → t.bytes ≡ bytes.now →
         IfErr result (λ e. e ≡ OutOfMemory) }
-    ensures named { IfErr result (NamesFile next bytes.now place.0 place.1) }
+    ensures named { IfErr result (spec.NamesFile next bytes.now place.0 place.1) }
 {
     let table = open_table(alloc.clone()?, bytes.clone()?, place)?;
     test_table(&table, next, place)?;
@@ -253,9 +246,10 @@ fn open_table<A: Allocator + Clone>(
 ) -> Result<Table<A>, OpenError>
     ensures bytes { IfOk result (λ t. t.bytes ≡ bytes) }
     ensures unlifted { IfOk result (λ t. t.global_seqno ≡ 0) }
-    ensures opens { IfOk result (λ t. recovered_told bytes 0 true true ≡ Ok t.parts) }
-    ensures taken { (es : List Entry) → StoresList bytes es → IfErr result (λ e. e ≡ OutOfMemory) }
-    ensures named { (next : ℕ) → IfErr result (NamesFile next bytes place.0 place.1) }
+    ensures opens { IfOk result (λ t. spec.recovered_told bytes 0 true true ≡ Ok t.parts) }
+    ensures taken { (es : List spec.Entry) → spec.StoresList bytes es →
+        IfErr result (λ e. e ≡ OutOfMemory) }
+    ensures named { (next : ℕ) → IfErr result (spec.NamesFile next bytes place.0 place.1) }
 {
     match Table::recover(alloc, bytes, Checksum(0), 0, 0, true, true) {
         Ok(table) => Ok(table),
@@ -265,8 +259,9 @@ fn open_table<A: Allocator + Clone>(
 
 // The error for a table that failed to open.
 fn unopened(error: Error, place: (usize, usize)) -> OpenError
-    ensures memory { is_memory error ≡ true → result ≡ OutOfMemory }
-    ensures named { is_memory error ≡ false → result ≡ File place.0 place.1 (Unopened error) }
+    ensures memory { spec.is_memory error ≡ true → result ≡ OutOfMemory }
+    ensures named { spec.is_memory error ≡ false →
+        result ≡ spec.File place.0 place.1 (spec.Unopened error) }
 {
     match error {
         Error::OutOfMemory => OpenError::OutOfMemory,
@@ -281,11 +276,11 @@ fn test_table<A: Allocator + Clone>(
     place: (usize, usize),
 ) -> Result<(), OpenError>
     requires unlifted { table.now.global_seqno ≡ 0 }
-    requires opens { recovered_told table.now.bytes 0 true true ≡ Ok table.now.parts }
-    ensures own { IfOk result (λ _. IsOwnTable next table.now) }
-    ensures taken { (es : List Entry) → StoresList table.now.bytes es → 0 < length es →
-        AllByRecursion (IsOwn next) es → IfErr result (λ e. e ≡ OutOfMemory) }
-    ensures named { IfErr result (NamesFile next table.now.bytes place.0 place.1) }
+    requires opens { spec.recovered_told table.now.bytes 0 true true ≡ Ok table.now.parts }
+    ensures own { IfOk result (λ _. spec.IsOwnTable next table.now) }
+    ensures taken { (es : List spec.Entry) → spec.StoresList table.now.bytes es → 0 < length es →
+        spec.AllByRecursion (spec.IsOwn next) es → IfErr result (λ e. e ≡ OutOfMemory) }
+    ensures named { IfErr result (spec.NamesFile next table.now.bytes place.0 place.1) }
 {
     // Its metadata describes the list that it stores.
     table.tells_its_list();
@@ -304,13 +299,13 @@ fn test_entries<A: Allocator + Clone>(
     table: &Table<A>,
     place: (usize, usize),
 ) -> Result<(), OpenError>
-    requires opens { recovered_told table.now.bytes 0 true true ≡ Ok table.now.parts }
-    ensures sound { IfOk result (λ _. (es : List Entry) × StoresList table.now.bytes es ×
+    requires opens { spec.recovered_told table.now.bytes 0 true true ≡ Ok table.now.parts }
+    ensures sound { IfOk result (λ _. (es : List spec.Entry) × spec.StoresList table.now.bytes es ×
         (0 < length es)) }
-    ensures taken { (es : List Entry) → StoresList table.now.bytes es → 0 < length es →
+    ensures taken { (es : List spec.Entry) → spec.StoresList table.now.bytes es → 0 < length es →
         IfErr result (λ e. e ≡ OutOfMemory) }
     ensures named { (next : ℕ) →
-        IfErr result (NamesFile next table.now.bytes place.0 place.1) }
+        IfErr result (spec.NamesFile next table.now.bytes place.0 place.1) }
 {
     table.tells_its_list();
     match table.verify() {
@@ -330,15 +325,17 @@ fn test_order<A: Allocator + Clone>(
     alloc: &A,
     runs: &[Arc<Run<Table<A>, A>, A>],
 ) -> Result<(), OpenError>
-    requires some { AllByRecursion (λ (run : List OpenTable). 0 < length run)
-        (map arc_value runs.now) }
-    ensures strict { (lists : List (List (List Entry))) →
-        RunsHoldLists (map arc_value runs.now) lists → AllByRecursion HaveEntries lists →
-        IfOk result (λ _. IsStrict (union_in lists)) }
-    ensures taken { (lists : List (List (List Entry))) →
-        RunsHoldLists (map arc_value runs.now) lists → AllByRecursion HaveEntries lists →
-        IsStrict (union_in lists) → IfErr result (λ e. e ≡ OutOfMemory) }
-    ensures named { IfErr result (λ e. (e ≡ OutOfMemory) ⊎ (e ≡ Repeated)) }
+    requires some { spec.AllByRecursion (λ (run : List spec.OpenTable). 0 < length run)
+        (map spec.arc_value runs.now) }
+    ensures strict { (lists : List (List (List spec.Entry))) →
+        spec.RunsHoldLists (map spec.arc_value runs.now) lists →
+        spec.AllByRecursion spec.HaveEntries lists →
+        IfOk result (λ _. spec.IsStrict (spec.union_in lists)) }
+    ensures taken { (lists : List (List (List spec.Entry))) →
+        spec.RunsHoldLists (map spec.arc_value runs.now) lists →
+        spec.AllByRecursion spec.HaveEntries lists →
+        spec.IsStrict (spec.union_in lists) → IfErr result (λ e. e ≡ OutOfMemory) }
+    ensures named { IfErr result (λ e. (e ≡ OutOfMemory) ⊎ (e ≡ spec.Repeated)) }
 {
     match are_strict(alloc, runs) {
         Ok(true) => Ok(()),

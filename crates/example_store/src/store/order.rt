@@ -1,12 +1,8 @@
 //! Testing that the entries of runs are in strict order together.
 ghost use Rattle.std.specs.Prelude.{◌≡◌, ◌<◌, ◌↔◌, All, IfErr, IfOk, IsTrue, List, Some, length};
 ghost use Rattle.std.specs.Prelude.{map};
-ghost use Rattle.std.specs.Arc.{arc_value};
-ghost use Rattle.std.specs.Iterator.{IsFinite};
-ghost use Rattle.std.specs.List.{AllByRecursion};
-ghost use Rattle.logpurple.specs.Words.{CanDeal, DealTogether, DealsList, Entry, HaveEntries};
-ghost use Rattle.logpurple.specs.Words.{HoldLists, IsStrict, OpenTable, OutOfMemory};
-ghost use Rattle.logpurple.specs.Words.{RunsHoldLists, joined, nowhere, union_in};
+ghost use Rattle.example_store.specs.Words as spec;
+ghost use Rattle.logpurple.specs.Words.{OutOfMemory};
 ghost use Rattle.logpurple.proofs.Laws.{may_follow};
 
 use logpurple::block::{Error, InternalValue, IterItem};
@@ -27,14 +23,15 @@ pub fn are_strict<A: Allocator + Clone>(
     alloc: &A,
     runs: &[Arc<Run<Table<A>, A>, A>],
 ) -> Result<bool, Error>
-    requires some { AllByRecursion (λ (run : List OpenTable). 0 < length run)
-        (map arc_value runs.now) }
-    ensures exact { (lists : List (List (List Entry))) →
-        RunsHoldLists (map arc_value runs.now) lists → AllByRecursion HaveEntries lists →
-        IfOk result (λ b. IsTrue b ↔ IsStrict (union_in lists)) }
-    ensures memory { (lists : List (List (List Entry))) →
-        RunsHoldLists (map arc_value runs.now) lists → AllByRecursion HaveEntries lists →
-        IfErr result (λ e. e ≡ OutOfMemory) }
+    requires some { spec.AllByRecursion (λ (run : List spec.OpenTable). 0 < length run)
+        (map spec.arc_value runs.now) }
+    ensures exact { (lists : List (List (List spec.Entry))) →
+        spec.RunsHoldLists (map spec.arc_value runs.now) lists →
+        spec.AllByRecursion spec.HaveEntries lists →
+        IfOk result (λ b. IsTrue b ↔ spec.IsStrict (spec.union_in lists)) }
+    ensures memory { (lists : List (List (List spec.Entry))) →
+        spec.RunsHoldLists (map spec.arc_value runs.now) lists →
+        spec.AllByRecursion spec.HaveEntries lists → IfErr result (λ e. e ≡ OutOfMemory) }
 {
     let scanners = scanners_of(alloc, runs)?;
     come_in_order(alloc, scanners)
@@ -45,15 +42,16 @@ fn scanners_of<A: Allocator + Clone>(
     alloc: &A,
     runs: &[Arc<Run<Table<A>, A>, A>],
 ) -> Result<Vec<RunScanner<A>, A>, Error>
-    requires some { AllByRecursion (λ (run : List OpenTable). 0 < length run)
-        (map arc_value runs.now) }
+    requires some { spec.AllByRecursion (λ (run : List spec.OpenTable). 0 < length run)
+        (map spec.arc_value runs.now) }
     ensures list { let gives = ⟦<RunScanner<A> as Iterator>⟧.next_gives in
-        (lists : List (List (List Entry))) → RunsHoldLists (map arc_value runs.now) lists →
-        AllByRecursion HaveEntries lists →
-        IfOk result (λ v. DealTogether gives nowhere v.items (map joined lists)) }
-    ensures memory { (lists : List (List (List Entry))) →
-        RunsHoldLists (map arc_value runs.now) lists → AllByRecursion HaveEntries lists →
-        IfErr result (λ e. e ≡ OutOfMemory) }
+        (lists : List (List (List spec.Entry))) →
+        spec.RunsHoldLists (map spec.arc_value runs.now) lists →
+        spec.AllByRecursion spec.HaveEntries lists →
+        IfOk result (λ v. spec.DealTogether gives spec.nowhere v.items (map spec.joined lists)) }
+    ensures memory { (lists : List (List (List spec.Entry))) →
+        spec.RunsHoldLists (map spec.arc_value runs.now) lists →
+        spec.AllByRecursion spec.HaveEntries lists → IfErr result (λ e. e ≡ OutOfMemory) }
 {
     let mut scanners = Vec::new(alloc.clone()?);
     for run in runs {
@@ -64,12 +62,14 @@ fn scanners_of<A: Allocator + Clone>(
 
 // The scanner of a whole run.
 fn scanner_of<A: Allocator + Clone>(run: &Arc<Run<Table<A>, A>, A>) -> Result<RunScanner<A>, Error>
-    requires { 0 < length (arc_value run.now) }
+    requires { 0 < length (spec.arc_value run.now) }
     ensures list { let gives = ⟦<RunScanner<A> as Iterator>⟧.next_gives in
-        (lists : List (List Entry)) → HoldLists (arc_value run.now) lists → HaveEntries lists →
-        IfOk result (DealsList gives nowhere (joined lists)) }
-    ensures memory { (lists : List (List Entry)) → HoldLists (arc_value run.now) lists →
-        HaveEntries lists → IfErr result (λ e. e ≡ OutOfMemory) }
+        (lists : List (List spec.Entry)) → spec.HoldLists (spec.arc_value run.now) lists →
+        spec.HaveEntries lists →
+        IfOk result (spec.DealsList gives spec.nowhere (spec.joined lists)) }
+    ensures memory { (lists : List (List spec.Entry)) →
+        spec.HoldLists (spec.arc_value run.now) lists →
+        spec.HaveEntries lists → IfErr result (λ e. e ≡ OutOfMemory) }
 {
     RunScanner::culled(run.clone()?, (None, None))
 }
@@ -80,13 +80,14 @@ fn come_in_order<I: Iterator<Item = IterItem<A>> + Drop, A: Allocator + Clone>(
     alloc: &A,
     sources: Vec<I, A>,
 ) -> Result<bool, Error>
-    requires can { All (CanDeal I.next_gives nowhere I.can_next I.can_next) sources.items }
-    requires finite { All (λ s. IsFinite (I.remaining s)) sources.items }
-    ensures exact { (lists : List (List (List Entry))) →
-        DealTogether I.next_gives nowhere sources.items (map joined lists) →
-        IfOk result (λ b. IsTrue b ↔ IsStrict (union_in lists)) }
-    ensures memory { (lists : List (List (List Entry))) →
-        DealTogether I.next_gives nowhere sources.items (map joined lists) →
+    requires can { All (spec.CanDeal I.next_gives spec.nowhere I.can_next I.can_next)
+        sources.items }
+    requires finite { All (λ s. spec.IsFinite (I.remaining s)) sources.items }
+    ensures exact { (lists : List (List (List spec.Entry))) →
+        spec.DealTogether I.next_gives spec.nowhere sources.items (map spec.joined lists) →
+        IfOk result (λ b. IsTrue b ↔ spec.IsStrict (spec.union_in lists)) }
+    ensures memory { (lists : List (List (List spec.Entry))) →
+        spec.DealTogether I.next_gives spec.nowhere sources.items (map spec.joined lists) →
         IfErr result (λ e. e ≡ OutOfMemory) }
 {
     let entries = Merger::new(alloc.clone()?, sources)?;
@@ -98,10 +99,10 @@ fn comes_in_order<I: Iterator<Item = IterItem<A>> + Drop, A: Allocator>(
     items: I,
 ) -> Result<bool, Error>
     requires can { I.can_next items }
-    requires finite { IsFinite (I.remaining items) }
-    ensures exact { (es : List Entry) → DealsList I.next_gives nowhere es items →
-        IfOk result (λ b. IsTrue b ↔ IsStrict es) }
-    ensures memory { (es : List Entry) → DealsList I.next_gives nowhere es items →
+    requires finite { spec.IsFinite (I.remaining items) }
+    ensures exact { (es : List spec.Entry) → spec.DealsList I.next_gives spec.nowhere es items →
+        IfOk result (λ b. IsTrue b ↔ spec.IsStrict es) }
+    ensures memory { (es : List spec.Entry) → spec.DealsList I.next_gives spec.nowhere es items →
         IfErr result (λ e. e ≡ OutOfMemory) }
 {
     let mut last: Option<InternalValue<A>> = None;

@@ -1,11 +1,8 @@
 //! Compacting a part of the runs of a store.
 ghost use Rattle.std.specs.Prelude.{◌≡◌, ◌++◌, IfErr, IfOk, List, OnErr, OnOk, Some, drop, false};
 ghost use Rattle.std.specs.Prelude.{map, max, min};
-ghost use Rattle.std.specs.Arc.{arc_value};
-ghost use Rattle.example_store.specs.Part.{IsPartKept, front_runs, part_runs};
-ghost use Rattle.example_store.specs.Story.{IsTold};
-ghost use Rattle.logpurple.specs.Words.{Entry, OutOfMemory, RunsHoldLists, is_memory, kept_in};
-ghost use Rattle.logpurple.specs.Words.{rules_by, tables_fault};
+ghost use Rattle.example_store.specs.Words as spec;
+ghost use Rattle.logpurple.specs.Words.{OutOfMemory};
 
 use crate::store::Store;
 use crate::store::compact::compacted;
@@ -30,7 +27,7 @@ impl<A: Allocator + Clone> Store<A> {
     ///
     /// Those of [`Store::compact`]. The store is not changed then.
     pub fn compact_part(&mut self, from: usize, to: usize, watermark: SeqNo) -> Result<(), Error>
-        ensures story { (ws : List Entry) → IsTold self.old ws → IsTold self.new ws }
+        ensures story { (ws : List spec.Entry) → spec.IsTold self.old ws → spec.IsTold self.new ws }
         ensures oldest { OnOk result
             (self.new.oldest ≡ max self.old.oldest (min watermark self.old.next)) }
         ensures next { self.new.next ≡ self.old.next }
@@ -39,17 +36,19 @@ impl<A: Allocator + Clone> Store<A> {
         ensures recent { self.new.recent ≡ self.old.recent }
         // The part has what is kept of all that it had, the other runs are unchanged, and the
         // counter of ids is after the new tables.
-        ensures made { (lists : List (List (List Entry))) →
-            RunsHoldLists (part_runs from to self.old.runs) lists →
-            OnOk result (IsPartKept from to (min watermark self.old.next) lists self.old self.new) }
+        ensures made { (lists : List (List (List spec.Entry))) →
+            spec.RunsHoldLists (spec.part_runs from to self.old.runs) lists →
+            OnOk result (spec.IsPartKept from to (min watermark self.old.next) lists self.old
+            self.new) }
         ensures err { OnErr result (self.new ≡ self.old) }
         // Except for `OutOfMemory`, the error is that of writing what is kept of the part as
         // tables.
-        ensures refused { (lists : List (List (List Entry))) →
-            RunsHoldLists (part_runs from to self.old.runs) lists →
-            IfErr result (λ e. is_memory e ≡ false →
-            tables_fault self.old.ids self.old.target 0
-            (kept_in (rules_by (min watermark self.old.next) false false) lists) ≡ Some e) }
+        ensures refused { (lists : List (List (List spec.Entry))) →
+            spec.RunsHoldLists (spec.part_runs from to self.old.runs) lists →
+            IfErr result (λ e. spec.is_memory e ≡ false →
+            spec.tables_fault self.old.ids self.old.target 0
+            (spec.kept_in (spec.rules_by (min watermark self.old.next) false false) lists)
+            ≡ Some e) }
     {
         let watermark = watermark.min(self.next);
         let (front, part, behind) = cut_out(&self.runs, from, to);
@@ -77,9 +76,11 @@ fn cut_out<A: Allocator>(
     &[Arc<Run<Table<A>, A>, A>],
     &[Arc<Run<Table<A>, A>, A>],
 )
-    ensures front { map arc_value result.0.now ≡ front_runs from to (map arc_value runs.now) }
-    ensures part { map arc_value result.1.now ≡ part_runs from to (map arc_value runs.now) }
-    ensures behind { map arc_value result.2.now ≡ drop to (map arc_value runs.now) }
+    ensures front { map spec.arc_value result.0.now
+        ≡ spec.front_runs from to (map spec.arc_value runs.now) }
+    ensures part { map spec.arc_value result.1.now
+        ≡ spec.part_runs from to (map spec.arc_value runs.now) }
+    ensures behind { map spec.arc_value result.2.now ≡ drop to (map spec.arc_value runs.now) }
 {
     let (upper, behind) = runs.split_at(to.min(runs.len()));
     let (front, part) = upper.split_at(from.min(upper.len()));
@@ -92,8 +93,8 @@ fn share_behind<T: Drop, A: Allocator>(
     shared: &mut Vec<Arc<T, A>, A>,
     runs: &[Arc<T, A>],
 ) -> Result<(), Error>
-    ensures runs { OnOk result (map arc_value shared.new.items
-        ≡ map arc_value shared.old.items ++ map arc_value runs.now) }
+    ensures runs { OnOk result (map spec.arc_value shared.new.items
+        ≡ map spec.arc_value shared.old.items ++ map spec.arc_value runs.now) }
     ensures memory { IfErr result (λ e. e ≡ OutOfMemory) }
 {
     for run in runs {
@@ -109,8 +110,9 @@ fn side_by_side<T: Drop, A: Allocator + Clone>(
     made: &[Arc<T, A>],
     behind: &[Arc<T, A>],
 ) -> Result<Vec<Arc<T, A>, A>, Error>
-    ensures runs { IfOk result (λ runs. map arc_value runs.items
-        ≡ map arc_value front.now ++ (map arc_value made.now ++ map arc_value behind.now)) }
+    ensures runs { IfOk result (λ runs. map spec.arc_value runs.items
+        ≡ map spec.arc_value front.now
+        ++ (map spec.arc_value made.now ++ map spec.arc_value behind.now)) }
     ensures memory { IfErr result (λ e. e ≡ OutOfMemory) }
 {
     let mut runs = Vec::new(alloc.clone()?);
@@ -125,9 +127,9 @@ fn share_three<T: Drop, A: Allocator>(
     made: &[Arc<T, A>],
     behind: &[Arc<T, A>],
 ) -> Result<(), Error>
-    ensures runs { OnOk result (map arc_value shared.new.items
-        ≡ map arc_value shared.old.items ++ (map arc_value front.now
-        ++ (map arc_value made.now ++ map arc_value behind.now))) }
+    ensures runs { OnOk result (map spec.arc_value shared.new.items
+        ≡ map spec.arc_value shared.old.items ++ (map spec.arc_value front.now
+        ++ (map spec.arc_value made.now ++ map spec.arc_value behind.now))) }
     ensures memory { IfErr result (λ e. e ≡ OutOfMemory) }
 {
     share_behind(shared, front)?;

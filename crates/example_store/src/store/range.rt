@@ -1,12 +1,7 @@
 //! Ranges of a store at a snapshot.
 ghost use Rattle.std.specs.Prelude.{◌≡◌, [], ◌∷◌, ◌≤◌, IfErr, IfOk, List, map};
-ghost use Rattle.std.specs.Arc.{arc_value};
-ghost use Rattle.std.specs.Iterator.{IsFinite};
-ghost use Rattle.std.specs.Result.{IsOkAnd};
-ghost use Rattle.example_store.specs.Story.{IsTold};
-ghost use Rattle.logpurple.specs.Words.{CanDeal, DealsList, Entry, IsStrict, OutOfMemory};
-ghost use Rattle.logpurple.specs.Words.{RunsHoldLists, all_shown, newest, numbered_below, single};
-ghost use Rattle.logpurple.specs.Words.{sort_entries, union_in, within};
+ghost use Rattle.example_store.specs.Words as spec;
+ghost use Rattle.logpurple.specs.Words.{OutOfMemory};
 
 use crate::store::Store;
 use logpurple::block::{Error, IterItem, SeqNo, UserKey};
@@ -38,16 +33,17 @@ impl<A: Allocator + Clone> Store<A> {
         // At a snapshot that is kept, it shows what the history of writes says.
         ensures told { let gives = ⟦<Range<A> as Iterator>⟧.next_gives in
             let back_gives = ⟦<Range<A> as DoubleEndedIterator>⟧.next_back_gives in
-            (ws : List Entry) → IsTold self.now ws → self.now.oldest ≤ snapshot →
-            IfOk result (λ s. (es : List Entry) × DealsList gives back_gives es s ×
-            (all_shown es ≡ all_shown (newest (numbered_below snapshot
-            (within bounds.0 bounds.1 (sort_entries ws)))))) }
+            (ws : List spec.Entry) → spec.IsTold self.now ws → self.now.oldest ≤ snapshot →
+            IfOk result (λ s. (es : List spec.Entry) × spec.DealsList gives back_gives es s ×
+            (spec.all_shown es ≡ spec.all_shown (spec.newest (spec.numbered_below snapshot
+            (spec.within bounds.0 bounds.1 (spec.sort_entries ws)))))) }
         // At any snapshot, it yields the entries of the memtable and of the tables' lists.
         ensures read { let gives = ⟦<Range<A> as Iterator>⟧.next_gives in
             let back_gives = ⟦<Range<A> as DoubleEndedIterator>⟧.next_back_gives in
-            (lists : List (List (List Entry))) → RunsHoldLists self.now.runs lists →
-            IfOk result (DealsList gives back_gives (newest (numbered_below snapshot
-            (within bounds.0 bounds.1 (union_in (single self.now.recent ∷ lists)))))) }
+            (lists : List (List (List spec.Entry))) → spec.RunsHoldLists self.now.runs lists →
+            IfOk result (spec.DealsList gives back_gives (spec.newest (spec.numbered_below snapshot
+            (spec.within bounds.0 bounds.1
+            (spec.union_in (spec.single self.now.recent ∷ lists)))))) }
         ensures next { IfOk result (λ s. ⟦<Range<A> as Iterator>⟧.can_next s) }
         ensures next_back { IfOk result (λ s.
             ⟦<Range<A> as DoubleEndedIterator>⟧.can_next_back s) }
@@ -69,18 +65,20 @@ fn range_beside<S: DoubleEndedIterator<Item = IterItem<A>> + Drop, A: Allocator 
 ) -> Result<NewestOfSourcesAt<S, A>, Error>
     ensures list { let gives = ⟦<NewestOfSourcesAt<S, A> as Iterator>⟧.next_gives in
         let back_gives = ⟦<NewestOfSourcesAt<S, A> as DoubleEndedIterator>⟧.next_back_gives in
-        (lists : List (List (List Entry))) → RunsHoldLists (map arc_value runs.now) lists →
-        (es : List Entry) → IsStrict es →
-        IfOk source (DealsList S.next_gives S.next_back_gives (within bounds.0 bounds.1 es)) →
-        IfOk result (DealsList gives back_gives (newest (numbered_below snapshot
-        (within bounds.0 bounds.1 (union_in (single es ∷ lists)))))) }
+        (lists : List (List (List spec.Entry))) →
+        spec.RunsHoldLists (map spec.arc_value runs.now) lists →
+        (es : List spec.Entry) → spec.IsStrict es →
+        IfOk source (spec.DealsList S.next_gives S.next_back_gives
+        (spec.within bounds.0 bounds.1 es)) →
+        IfOk result (spec.DealsList gives back_gives (spec.newest (spec.numbered_below snapshot
+        (spec.within bounds.0 bounds.1 (spec.union_in (spec.single es ∷ lists)))))) }
     ensures next { IfOk source
-        (CanDeal S.next_gives S.next_back_gives S.can_next S.can_next_back) →
-        IfOk source (λ s. IsFinite (S.remaining s)) →
+        (spec.CanDeal S.next_gives S.next_back_gives S.can_next S.can_next_back) →
+        IfOk source (λ s. spec.IsFinite (S.remaining s)) →
         IfOk result (λ s. ⟦<NewestOfSourcesAt<S, A> as Iterator>⟧.can_next s) }
     ensures next_back { IfOk source
-        (CanDeal S.next_gives S.next_back_gives S.can_next S.can_next_back) →
-        IfOk source (λ s. IsFinite (S.remaining s)) →
+        (spec.CanDeal S.next_gives S.next_back_gives S.can_next S.can_next_back) →
+        IfOk source (λ s. spec.IsFinite (S.remaining s)) →
         IfOk result (λ s. ⟦<NewestOfSourcesAt<S, A> as DoubleEndedIterator>⟧.can_next_back s) }
     ensures memory { IfErr source (λ e. e ≡ OutOfMemory) → IfErr result (λ e. e ≡ OutOfMemory) }
 {
@@ -93,7 +91,7 @@ fn one_source<S: Drop, A: Allocator + Clone>(
     alloc: &A,
     source: Result<S, Error>,
 ) -> Result<(A, Vec<S, A>), Error>
-    ensures one { IfOk result (λ r. IsOkAnd source (λ s. r.1.items ≡ s ∷ [])) }
+    ensures one { IfOk result (λ r. spec.IsOkAnd source (λ s. r.1.items ≡ s ∷ [])) }
     ensures memory { IfErr source (λ e. e ≡ OutOfMemory) → IfErr result (λ e. e ≡ OutOfMemory) }
 {
     let source = source?;
