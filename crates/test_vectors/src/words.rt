@@ -2,7 +2,7 @@
 use sst_blocks::Error;
 use std::alloc::Allocator;
 
-/// The first word, and what follows the space behind it.
+/// The first word, and the rest after the space.
 pub fn split_word(line: &[u8]) -> (&[u8], &[u8]) {
     for (i, byte) in line.iter().enumerate() {
         if *byte == b' ' {
