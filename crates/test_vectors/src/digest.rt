@@ -69,8 +69,9 @@ impl Digest {
         step.is_some()
     }
 
-    /// The result of a step over the index: a 2, the end key, its sequence number, and the block's
-    /// offset and length; `false` at the end, which counts as a 0.
+    /// The result of a step over the index; `false` at the end, which counts as a 0.
+    ///
+    /// A handle counts as a 2, the end key, its sequence number, and the block's offset and length.
     pub fn put_handle<A: Allocator>(
         &mut self,
         step: &Option<Result<KeyedBlockHandle<A>, Error>>,

@@ -107,7 +107,7 @@ fn writes_the_sections_without_gaps(rt: HostRuntime) {
 
 // The counts of a writer, in four parts:
 // - entries and blocks cut; keys, tombstones, weak tombstones and reclaimable values written; and
-// the bytes of keys and values pending;
+//   the bytes of keys and values pending;
 // - the lowest and the highest sequence number, the length of the blocks and of their payloads;
 // - the first bytes of the first and of the last key;
 // - whether no entry was written.

@@ -104,8 +104,8 @@ const LOADS: &[(&[Load], Opened)] = &[
             (&[(44, 0)], 0, Some(45), Data, Err(Error::ChecksumMismatch)),
             // The new magic number before a payload of the old version, whose checksum is right.
             (&[(3, 0x32)], 0, Some(45), Data, Err(Error::InvalidBlock)),
-            // The trailer, whose slots begin at 1138 and whose magic number at 1250: another magic
-            // number, a length of 2^32, one byte past the end of the body, and up to that end.
+            // The trailer: its slots begin at 1138, its magic number at 1250. Another magic number, a
+            // length of 2^32, one byte past the end of the body, and up to that end.
             (&[(1257, 0)], 0, Some(45), Data, Err(Error::InvalidTrailer)),
             (
                 &[(1178, 0), (1182, 1)],
