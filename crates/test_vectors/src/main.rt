@@ -19,9 +19,10 @@
 //!   Prints the error code, or the checksum of the results of the point reads and of an iteration;
 //! - `sweep FILTER INDEX GLOBAL ..`: opens the table unchanged under each of these global sequence
 //!   numbers. Then it opens the table under 0 with each byte in turn set to 0, to 255 and to its
-//!   complement, where that is another one. Prints the number of calls of `open`, how many of them
-//!   succeeded, and three checksums: of the changes, and the error or the table's metadata; of the
-//!   results and loads of the point reads; and of the results and loads of iterations.
+//!   complement, where that is another one. Prints the number of calls of `open`, the number of
+//!   those that succeeded, and three checksums. The first is of the changes, and of each error or
+//!   table's metadata. The second is of the results and loads of the point reads, and the third of
+//!   those of the iterations.
 #![tactic(auto)]
 
 mod digest;
