@@ -29,7 +29,8 @@ fn first_number(reader: &mut BlockIndexIterImpl) -> Result<Option<SeqNo>, Error>
     }
 }
 
-// That of the reader from a key and a sequence number on; `None` where there is no reader.
+// The sequence number of the first handle from a key and a sequence number on; `None` if there is
+// no reader.
 fn starts(
     index: &BlockIndexImpl,
     key: &[u8],
@@ -94,7 +95,7 @@ const INDEXES: &[(Of, Pins, Told)] = &[
     (Of::Levels, (true, true), (TWO_LEVELS, FOUND, NO_HANDLE)),
 ];
 
-// Whether a table's index is so, once the table itself is dropped.
+// Whether a table's index has its kind and readers, after the table is dropped.
 fn tells(alloc: Global, of: Of, pins: Pins, expected: Told) -> bool {
     let index = asked(opened(alloc, &(of, &[], pins, 0)), index_in);
     asked(index, told) == Ok(expected)
@@ -109,7 +110,7 @@ fn readers_of_the_index_of_each_kind(rt: HostRuntime) {
 
 // ---- an index iterator that was sought or advanced
 
-// Calls of an index iterator of a@9, a@7, a@5 and b@1, in a block each; and whether it is unsought
+// Calls of an index iterator of a@9, a@7, a@5 and b@1, in a block each. Then whether it is unsought
 // after them, over a pinned index of one block and over another.
 type Before = (&'static [Call], bool, bool);
 
@@ -118,8 +119,8 @@ type Before = (&'static [Call], bool, bool);
 // levels.
 type Resumed = (Before, Bounds<'static>, &'static [Call], (u64, u64, u64));
 
-// Whether the calls of an index iterator return that, and it is then unsought or not as it should
-// be.
+// Whether the calls of an index iterator have their results, and it is then unsought or not as it
+// should be.
 fn is_before(
     handles: &mut BlockIndexIterImpl,
     before: &Before,
@@ -150,7 +151,7 @@ fn handles_after(
     }
 }
 
-// Sets a lower bound, where there is one.
+// Sets a lower bound, if there is one.
 fn set_lower(iter: &mut Iter, lower: Bound<UserKey>) {
     match lower {
         Bound::Included(key) => iter.set_lower_bound(Edge::Included(key)),
@@ -159,7 +160,7 @@ fn set_lower(iter: &mut Iter, lower: Bound<UserKey>) {
     }
 }
 
-// Sets an upper bound, where there is one.
+// Sets an upper bound, if there is one.
 fn set_upper(iter: &mut Iter, upper: Bound<UserKey>) {
     match upper {
         Bound::Included(key) => iter.set_upper_bound(Edge::Included(key)),
@@ -180,7 +181,7 @@ fn resumed_in(table: &Table, by: (Global, &Resumed, bool)) -> Result<Iter, Error
     Ok(iter)
 }
 
-// Whether they are yielded so, with as many loads, over the index of a table.
+// Whether these entries are yielded with the expected loads, over the index of a table.
 fn is_resumed(alloc: Global, changed: &Changed<'_>, resumed: &Resumed, index: u64) -> bool {
     let loaded = is_loaded(changed);
     let (whole, rest, _) = resumed.3;
@@ -189,8 +190,8 @@ fn is_resumed(alloc: Global, changed: &Changed<'_>, resumed: &Resumed, index: u6
     walked(iter, loaded, resumed.2) == Ok((data, index))
 }
 
-// Whether they are over each kind of index. A pinned one of one block is never loaded, and one on
-// demand once.
+// Whether they are so over each kind of index. A pinned one of one block is never loaded, and one
+// on demand once.
 fn is_resumed_over_each(alloc: Global, resumed: &Resumed) -> bool {
     let (_, _, index) = resumed.3;
     for (kind, loads) in KINDS.iter().zip([0, 1, index, index]) {

@@ -1,5 +1,5 @@
-//! The layout of written tables: how long they are, where their sections are, and how many blocks of
-//! the index and of the filter their meta blocks count.
+//! The layout of written tables: their lengths, the offsets of their sections, and the numbers of
+//! index and filter blocks in their meta blocks.
 use crate::tables::{Of, Parted, opened};
 use logpurple::table::Table;
 use lsm_formats::ItemName;
@@ -18,8 +18,7 @@ const NAMES: [SectionName; 4] = [
 // The offset and the length of a section, if there is one.
 type Place = Option<(u64, u64)>;
 
-// How many bytes a table has, where the sections of [`NAMES`] are, and how many blocks of the index
-// and of the filter are counted.
+// The length of a table, the sections of [`NAMES`], and the numbers of index and filter blocks.
 type Layout = (usize, &'static [Place], u64, u8);
 
 fn places_of(toc: &Toc) -> [Place; 4] {
