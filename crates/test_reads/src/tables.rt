@@ -1,9 +1,11 @@
-//! Tests of single tables, from entries to bytes and back.
+//! Tests of single tables, from entries to bytes and back, and the tables that they read.
 //!
 //! They cover point reads, ranges, scans and seeks under each kind of index and of filter, by value
-//! and borrowed; metadata, pinning and verification; the longest keys and the largest sequence
-//! numbers; and allocation failures. This module has the tables that are read: tables of an
-//! independent program, unchanged or with some of their bytes changed, and tables of a few rows.
+//! and borrowed. They also cover metadata, pinning, verification, the longest keys, the largest
+//! sequence numbers, and allocation failures.
+//!
+//! The tables are those of an independent program, unchanged or with some of their bytes changed,
+//! and tables of a few rows.
 ghost use Rattle.lsm_writers.specs.Filtering.{IsSmallFilter};
 ghost use Rattle.lsm_writers.specs.Writing.{IsSmallIndex};
 
@@ -37,7 +39,8 @@ pub(crate) const ROWS: &[Row<'static>] = &[
     (b"b", 1, ValueType::Value, b""),
 ];
 
-// Entries of each kind: in blocks of 7 bytes three, with 2 entries (69 bytes), 3 (92) and 2.
+// Entries of each kind. With a data block size of 7 they have three blocks: of 2 entries (69
+// bytes), 3 (92) and 2.
 const OF_EACH_KIND: &[Row<'static>] = &[
     (b"a", 9, ValueType::Value, b"first"),
     (b"a", 7, ValueType::Tombstone, b""),
@@ -262,8 +265,8 @@ pub(crate) fn opened<A: Allocator + Copy>(
     open_with(alloc, bytes, changed.2, changed.3)
 }
 
-/// The table of the rows, each in its own block, by its index: pinned, loaded by each reader, of
-/// two levels, and of two levels as an earlier version stored it.
+/// The table of the rows, each in its own block. Its index is pinned, loaded by each reader, of two
+/// levels, and of two levels as an earlier version stored it.
 pub(crate) const KINDS: &[Changed<'static>] = &[LOADED, ON_DEMAND, TWO_LEVELS, OLDER];
 
 /// The table with a pinned index.
@@ -310,8 +313,8 @@ const THREE: [u8; 8] = [3, 0, 0, 0, 0, 0, 0, 0];
 /// A key and a snapshot.
 pub(crate) type Sought = (&'static [u8], SeqNo);
 
-/// The result of a read, and the numbers of data, index and filter blocks that it loads. The loads
-/// are the largest numbers if the borrowing read has another result or other loads.
+/// The result of a read, and the numbers of data, index and filter blocks that it loads. These are
+/// `u64::MAX` if the borrowing read has another result or other loads.
 pub(crate) fn counted_read<A: Allocator + Copy>(
     table: &Table<A>,
     key: &[u8],

@@ -156,8 +156,8 @@ enum Came {
     Stopped,
 }
 
-// The outcome, or the error; the entries of the new tables, their ids and the next one; the entries
-// that the callback received; and the first three calls of the observer.
+// The outcome, or the error; the entries of the new tables, their ids and the next one. Then the
+// entries that the callback received, and the first three calls of the observer.
 type Wanted = (
     Result<Came, Error>,
     &'static [Version],

@@ -20,9 +20,10 @@ enum How {
     Kept(Rules),
 }
 
-// The index of some rows, how they are read, a key and a bound, bounds, and the names that are
-// read: the found entry and the ends of the range; or nothing. Rows are given by index, because
-// each reference in a table of cases makes its proof slower.
+// The index of some rows, how they are read, a key and a snapshot, bounds, and the names that are
+// read. These are the found entry and the ends of the range, or nothing.
+//
+// Rows are given by index, because each reference in a table of cases makes its proof slower.
 type Case = (
     usize,
     How,

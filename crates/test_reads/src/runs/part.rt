@@ -191,7 +191,7 @@ fn a_part_is_compacted_in_its_place(rt: HostRuntime) {
     }
 }
 
-/// Whether the entries are found whose sequence numbers become 0, by the first of these cases.
+/// Whether reads have the results of the first of these cases, whose rules zero sequence numbers.
 pub(crate) fn zeroed_is_found<A: Allocator + Copy>(alloc: A, plenty: A) -> Result<bool, Error> {
     match AROUND_A6.first() {
         Some(around) => finds(alloc, plenty, around),

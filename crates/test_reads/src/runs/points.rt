@@ -1,5 +1,7 @@
-//! Point reads of several runs, of all of them and by age, and of one: the entries by value,
-//! borrowed and by handle, the loaded blocks, and the error of a damaged table.
+//! Point reads of several runs, of all of them and by age, and of one.
+//!
+//! They compare the entries by value, borrowed and by handle, the loaded blocks, and the error of a
+//! damaged table.
 use crate::tables::{cloned, lends_same, number_of};
 use example_calling::read_run;
 use logpurple::run::{
@@ -234,8 +236,8 @@ fn is_there(alloc: Global, lists: &[Lists], place: &RunPlace) -> Result<bool, Er
 
 const ONE_RUN: &[Lists] = &[&[A9_B3]];
 
-// A key and a snapshot of a read of three runs, and other runs without an entry at the handle: no
-// runs, too few, and a run of too few tables.
+// A key and a snapshot of a read of three runs, and other runs without an entry at its handle.
+// These are no runs, too few, and a run of too few tables.
 const ELSEWHERE: &[(&[u8], SeqNo, &[Lists])] = &[
     (b"a", 10, &[]),
     (b"d", 10, TWO_RUNS),

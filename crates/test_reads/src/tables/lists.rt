@@ -170,9 +170,10 @@ fn what_is_written_is_found(rt: HostRuntime) {
 // ---- the metadata of a table
 
 // The metadata of a table: its id; how many entries, tombstones, weak tombstones, reclaimable weak
-// tombstones and keys it has; its lowest and highest sequence number; and its highest one with the
-// global sequence number. Then the ends of its keys, and whether it may have keys within some
-// bounds.
+// tombstones and keys it has; and its lowest and highest sequence number.
+//
+// Then its highest sequence number with the global one, the ends of its keys, and whether it may
+// have keys within some bounds.
 type Facts = ([u64; 9], [u8; 2], [bool; 6]);
 
 const BOUNDS: [Bounds<'static>; 6] = [

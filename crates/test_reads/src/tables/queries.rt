@@ -204,7 +204,7 @@ const TWO: &[Sought] = &[(b"a", 10), (b"b", 2)];
 const FOUR: &[Sought] = &[(b"a", 10), (b"a", 8), (b"a", 6), (b"b", 2)];
 
 // A read makes no request for memory, neither for the offsets of a block's entries nor for those of
-// a partition's handles. The entry shares the table's bytes. No queries make no request either.
+// a partition's handles. The entry shares the table's bytes. Without queries there is no request.
 fn asks_for_none(alloc: Global) -> bool {
     let none = requests_in(alloc, Of::Rows(Parted::Nothing), &[]);
     let in_parts = requests_in(alloc, Of::Rows(Parted::Index), TWO);

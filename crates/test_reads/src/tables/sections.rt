@@ -45,9 +45,9 @@ fn is_laid(table: &Table, layout: &Layout) -> Result<bool, Error> {
     )
 }
 
-// Tables and their layouts. The first five have four data blocks of 46 bytes, the last two one of 47.
-// A block of one handle for a key of one byte has 53 bytes, and 25 more for each further handle. A
-// filter of one or two keys has 33.
+// Tables and their layouts. The first five have four data blocks of 46 bytes, the last two one of
+// 47. A block of one handle for a key of one byte has 53 bytes, and 25 more for each further
+// handle. A filter of one or two keys has 33.
 const LAYOUTS: &[(Of, Layout)] = &[
     // A partition of the index for each block of data.
     (

@@ -169,8 +169,8 @@ pub(crate) fn walked<W: Walk + Drop>(
     }
 }
 
-/// The iterator under test: a range, the handles of the index, and a scan, each of a table that is
-/// dropped before the first step; and a scan of some blocks of its bytes.
+/// The iterator under test: a range, the handles of the index, or a scan, each of a table that is
+/// dropped before the first step. Or a scan of some blocks of its bytes.
 pub(crate) enum Subject {
     Range(Bounds<'static>),
     Handles,
@@ -589,7 +589,7 @@ fn numbers_are_lifted_and_a_refusal_ends_what_is_walked(rt: HostRuntime) {
 // ---- out of memory
 
 // An iterator and calls. Then the calls that run out of memory in some run where one allocation
-// fails, and those that do in none: 1 is the first call, 2 the second, 4 any after them.
+// fails, and those that never do. 1 is the first call, 2 the second, 4 any after them.
 type Refused = (Changed<'static>, Subject, &'static [Call], u8, u8);
 
 const WITHIN: Bounds<'static> = (Bound::Included(A_KEY), Bound::Included(B_KEY));

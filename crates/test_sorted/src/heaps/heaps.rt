@@ -16,8 +16,8 @@ enum Kind {
 
 const KINDS: &[Kind] = &[Kind::Tournament, Kind::IntervalHeap, Kind::Lazy];
 
-// A turn, the number that it takes out, the number of numbers left, and the number of matches
-// played.
+// A turn, the number that it takes out, how many numbers are left, and how many comparisons were
+// made.
 type Step = (Turn, Option<u8>, usize, u64);
 
 // The test of a queue.
@@ -201,7 +201,7 @@ const CASES: &[Case] = &[
         ]),
         (1, 1),
     ),
-    // One number needs no match.
+    // One number needs no comparison.
     Case(
         &[Kind::Tournament],
         1,

@@ -18,7 +18,7 @@ pub(crate) enum Turn {
 /// A queue of numbers, with room for some.
 pub(crate) trait Queue {
     /// Takes a turn. Returns the number that was popped, how many numbers are left, and how many
-    /// matches were played, if they are counted.
+    /// comparisons were made, if they are counted.
     fn take(&mut self, turn: Turn) -> (Option<u8>, usize, u64);
 }
 
