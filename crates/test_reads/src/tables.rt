@@ -142,7 +142,7 @@ fn written_forgetting_index<A: Allocator + Copy>(alloc: A) -> Result<Slice<A>, E
     written_by(writer, alloc, ROWS)
 }
 
-// The same with the default filter, and the filter partitioned in place of the index.
+// The same with the default filter, and the filter partitioned instead of the index.
 fn written_forgetting_filter<A: Allocator + Copy>(alloc: A) -> Result<Slice<A>, Error> {
     let writer = Writer::new(alloc, 1, 0, Timestamp::from(0))?
         .use_data_block_size(0)
@@ -344,7 +344,6 @@ pub(crate) fn lends_same<A: Allocator>(
     }
 }
 
-/// A clone of a table.
 pub(crate) fn cloned(table: &Table) -> Result<Table, Error> {
     Ok(table.clone()?)
 }

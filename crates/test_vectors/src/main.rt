@@ -1,5 +1,5 @@
 //! Reads and writes tables that an independent program made, and prints a checksum of the results
-//! for each table. That program's own results have the same checksums.
+//! for each table. The results of that program have the same checksums.
 //!
 //! Standard input is a list of commands, each a line of words. Bytes are in hex, `-` for none, and
 //! flags are 1 or 0:

@@ -72,7 +72,7 @@ pub fn put_facts<A: Allocator>(digest: &mut Digest, table: &Table<A>) {
     digest.put_number(table.pinned_block_index_size() as u64);
 }
 
-/// The result of a point read; returns what it loads.
+/// Adds the result of a point read, and returns the loads.
 pub fn put_read<A: Allocator + Copy>(
     digest: &mut Digest,
     table: &Table<A>,

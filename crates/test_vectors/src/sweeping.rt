@@ -168,10 +168,10 @@ impl Swept {
         }
     }
 
-    // Opens a table with the byte at an index changed in each way.
+    // Opens a table with the byte at an index changed to 0, to 255 and to its complement.
     fn change_byte<A: Allocator + Copy>(&mut self, subject: &Subject<'_, A>, at: u64, byte: u8) {
         for (way, value) in [0, 0xff, !byte].iter().enumerate() {
-            // The complement of 0 is 255, and the other way round.
+            // The complement of 0 is 255, and that of 255 is 0.
             let is_again = way == 2 && (byte == 0 || byte == 0xff);
             if *value != byte && !is_again {
                 let value = u64::from(*value);

@@ -16,7 +16,6 @@ enum Given {
 // A step at an end, its result, and the number of rows that are not loaded after it.
 type Step = (Direction, Given, usize);
 
-// A row of numbers.
 fn row_of(alloc: Global, numbers: &[u8]) -> Result<Row, Error> {
     let mut list = LinkedList::new(alloc);
     for number in numbers {

@@ -24,7 +24,6 @@ pub(crate) type Seen = (TableId, u128, usize);
 /// The number of tables, and the first of them, with zeros after the last one.
 pub(crate) type Tables = (usize, [Seen; 8]);
 
-/// No table.
 pub(crate) const NO_TABLES: Tables = (0, [(0, 0, 0); 8]);
 
 /// The error codes of a new writer, of the first entry that fails, of a further entry and another
@@ -35,7 +34,7 @@ pub(crate) type Refusals = [u8; 5];
 /// before, and the tables.
 type Ended = (u8, Option<TableId>, bool, Tables);
 
-/// The result of a writer: its error codes, and what `finish` returns.
+/// The result of a writer: its error codes, and the result of `finish`.
 pub(crate) type Told = (Refusals, Option<TableId>, bool, Tables);
 
 /// A writer of rows.

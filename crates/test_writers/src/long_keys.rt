@@ -24,7 +24,7 @@ fn write_keys(alloc: Global, writer: &mut Writer, first: &[u8], second: &[u8]) -
     ]
 }
 
-// The error codes of one writer, the last of `finish`, and whether it is empty before.
+// The error codes of one writer, the last of `finish`, and whether it is empty before `finish`.
 fn up_to_the_end(alloc: Global, first: &[u8], second: &[u8]) -> Result<([u8; 4], u8, bool), Error> {
     let mut writer = new_writer(alloc)?;
     let numbers = write_keys(alloc, &mut writer, first, second);
@@ -32,7 +32,8 @@ fn up_to_the_end(alloc: Global, first: &[u8], second: &[u8]) -> Result<([u8; 4],
     Ok((numbers, number(writer.finish()), is_empty))
 }
 
-// The same for two lengths of keys of the byte `a`.
+// The error codes of one writer for keys of the byte `a` of two lengths, and whether it is empty
+// before `finish`.
 fn written(alloc: Global, first: usize, second: usize) -> Result<([u8; 4], u8, bool), Error> {
     let key = vec![in alloc; 0x61u8; first.max(second)]?;
     up_to_the_end(alloc, &key[..first], &key[..second])

@@ -51,8 +51,7 @@ const WRITTEN: [(By, usize); 15] = [
     (By::Tables(1, 4_096, 4_096), 1),
 ];
 
-// The number of tables of the rows, if none fails and they are the same for both ways to pass
-// entries.
+// The number of tables of the rows, if none fails and they are the same by value and by reference.
 fn count_of_same(alloc: Global, by: By) -> Option<usize> {
     let by_value = told(alloc, by, &ROWS, Given::ByValue);
     if by_value.0 != [0; 5] || by_value != told(alloc, by, &ROWS, Given::ByReference) {

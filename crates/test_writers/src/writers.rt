@@ -52,7 +52,6 @@ fn writes_a_table_byte_for_byte_and_prints_it_without_its_bytes(rt: HostRuntime)
 // The offset and the length of a section.
 type Place = (u64, u64);
 
-// An absent section.
 const ABSENT: Place = (u64::MAX, u64::MAX);
 
 // The sections, in the order of the file.

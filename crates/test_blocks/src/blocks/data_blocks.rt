@@ -42,7 +42,7 @@ impl Within for InternalValue {
     }
 }
 
-// The bound on the block of some entries, and the bytes after encoding them at the end of a buffer.
+// Encodes some entries at the end of `buf`. Returns the bound on their block, and the result.
 fn encoded<A: Allocator>(
     buf: &mut Vec<u8, A>,
     items: &[InternalValue<A>],

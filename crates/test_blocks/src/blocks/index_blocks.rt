@@ -36,7 +36,7 @@ impl Within for KeyedBlockHandle {
     }
 }
 
-// The bound on the block of some handles, and the bytes after encoding them at the end of a buffer.
+// Encodes some handles at the end of `buf`. Returns the bound on their block, and the result.
 fn encoded<A: Allocator>(
     buf: &mut Vec<u8, A>,
     handles: &[KeyedBlockHandle<A>],
@@ -89,8 +89,8 @@ impl<A: Allocator> Walk for IndexBlockIter<'_, A> {
     }
 }
 
-// A payload, its handles, iterations, and finds: a key, a sequence number and the index of the
-// first handle that reaches them, if any.
+// A payload, its handles, iterations, and finds: a key, a sequence number and the block offset of
+// the first handle that reaches them (99 if none).
 struct Stored {
     version: TableVersion,
     payload: &'static [u8],

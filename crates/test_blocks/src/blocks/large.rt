@@ -35,7 +35,7 @@ pub(crate) fn part(bytes: &Slice, start: usize, len: usize) -> Result<Slice, Err
 
 /// An item whose key and value share a part of some bytes.
 pub(crate) trait Within: Drop {
-    /// The key has a given length and begins at a start. The value, if any, has the length of its
+    /// The key has `key_len` bytes and begins at `start`. The value, if any, has the length of its
     /// size and begins at the last of the numbers.
     fn within(bytes: &Slice, start: usize, size: &Size, key_len: usize) -> Result<Self, Error>;
 }
@@ -61,7 +61,7 @@ fn items_of<T: Within>(alloc: Global, size: &Size) -> Result<Vec<T>, Error> {
 
 const MEBIBYTE: usize = 1048576;
 
-// The number of items, the lengths of their keys, the last key, and their values.
+// The number of items, the lengths of their keys, of the last key, and of each value.
 macro_rules! size {
     ($count:expr, $key_len:expr, $last_len:expr, $value_len:expr) => {
         Size {

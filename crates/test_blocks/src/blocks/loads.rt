@@ -186,7 +186,7 @@ const LOADED: &[Row] = &[
     (V4, Index, handles!(2; [b'a', 1, 2], [b'a', 1, 1]), Some(2)),
     (V4, Index, handles!(2; [b'a', 1, 1], [b'b', 1, 2]), Some(2)),
     // fewer handles or more than the count, a truncated end key, and a byte after the last handle;
-    // and handles not strictly sorted: equal, with ascending sequence numbers, with descending keys
+    // handles not strictly sorted: equal, with ascending sequence numbers, with descending keys
     (V4, Index, handles!(1;), None),
     (V4, Index, handles!(u32::MAX; [b'a', 1, 1]), None),
     (V4, Index, handles!(0; [b'a', 1, 1]), None),

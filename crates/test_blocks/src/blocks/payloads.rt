@@ -1,4 +1,4 @@
-//! Blocks of payloads that are given byte by byte.
+//! Blocks of payloads that tests write byte by byte.
 ghost use Rattle.std.specs.Prelude.{◌≡◌, []};
 
 use sst_blocks::{
@@ -7,7 +7,7 @@ use sst_blocks::{
 };
 use std::alloc::Allocator;
 
-/// Returns a value, or the error of what was done with it.
+/// Returns `value`, or the error in `done`.
 pub(crate) fn once_done<T: Drop, E>(value: T, done: Result<(), E>) -> Result<T, E> {
     done?;
     Ok(value)
@@ -71,7 +71,6 @@ fn load<A: Allocator + Copy>(
     block
 }
 
-/// The data block of a payload.
 pub(crate) fn data_block<A: Allocator + Copy>(
     alloc: A,
     version: TableVersion,
@@ -87,7 +86,6 @@ pub(crate) fn data_block<A: Allocator + Copy>(
     }
 }
 
-/// The index block of a payload.
 pub(crate) fn index_block<A: Allocator + Copy>(
     alloc: A,
     version: TableVersion,

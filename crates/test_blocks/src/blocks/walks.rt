@@ -1,4 +1,5 @@
-//! Iterations from both ends, compared by the sequence numbers that they yield.
+//! Iterations from both ends, compared by one number per item: the sequence number of an entry, or
+//! the block offset of a handle.
 
 use sst_blocks::Direction::{Back, Front};
 use sst_blocks::{Direction, Error, SeqNo};
@@ -23,7 +24,7 @@ pub(crate) enum Edge {
 /// A seek: an edge, a key, a sequence number, and whether an entry remains.
 pub(crate) type Seek = (Edge, &'static [u8], SeqNo, bool);
 
-/// The seeks of an iteration, and then ends and what the iterator yields there.
+/// The seeks of an iteration, and then ends and the numbers of the items there.
 pub(crate) type Walked = (&'static [Seek], &'static [(Direction, u64)]);
 
 /// An iterator with two ends.
@@ -31,7 +32,7 @@ pub(crate) trait Walk {
     /// Seeks, and returns whether an entry remains.
     fn narrow(&mut self, edge: Edge, key: &[u8], seqno: SeqNo) -> bool;
 
-    /// The sequence number of the next item at an end.
+    /// The number of the next item at an end.
     fn give(&mut self, end: Direction) -> u64;
 }
 
@@ -43,7 +44,7 @@ pub(crate) fn refusal(error: Error) -> u64 {
     }
 }
 
-/// Whether seeks return what they should, and the iterator then yields these sequence numbers. An
+/// Whether seeks return what they should, and the iterator then yields items with these numbers. An
 /// error may end it early, if one may occur; nothing follows the error.
 pub(crate) fn walks_so<W: Walk>(
     walk: &mut W,

@@ -32,7 +32,7 @@ pub(crate) fn loaded(
     })
 }
 
-// Changes of the stored table; the offset, the size if given, and the kind that are passed to the
+// Changes of the stored table; the offset, the size if any, and the kind that are passed to the
 // load; and its result.
 type Load = (&'static [(usize, u8)], u64, Option<u32>, BlockType, Answer);
 
@@ -104,8 +104,8 @@ const LOADS: &[(&[Load], Opened)] = &[
             (&[(44, 0)], 0, Some(45), Data, Err(Error::ChecksumMismatch)),
             // The new magic number before a payload of the old version, whose checksum is right.
             (&[(3, 0x32)], 0, Some(45), Data, Err(Error::InvalidBlock)),
-            // The trailer: its slots begin at 1138, its magic number at 1250. Another magic number, a
-            // length of 2^32, one byte past the end of the body, and up to that end.
+            // The trailer: its slots begin at 1138, its magic number at 1250. Another magic
+            // number, a length of 2^32, one byte past the end of the body, and up to that end.
             (&[(1257, 0)], 0, Some(45), Data, Err(Error::InvalidTrailer)),
             (
                 &[(1178, 0), (1182, 1)],
@@ -363,7 +363,7 @@ fn counted_of(heap: &Refusing, case: &Case) -> Result<(usize, usize, Counts), Er
     Ok((first, last, counts))
 }
 
-// Whether a load returns what is expected; or `OutOfMemory`, where it may fail.
+// Whether a load has the expected result; or `OutOfMemory`, where it may fail.
 fn is_answer(answer: &Answer, expected: &Answer, may_fail: bool) -> bool {
     answer == expected || may_fail && *answer == Err(Error::OutOfMemory)
 }

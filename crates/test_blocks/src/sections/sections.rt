@@ -8,7 +8,6 @@ use sst_blocks::{BlockSource, Error, Section, SectionName, SectionWriter};
 use std::alloc::Allocator;
 use test_refusing::Refusing;
 
-// Writes a section.
 fn put_section<A: Allocator + Copy>(
     writer: &mut SectionWriter<A>,
     name: SectionName,

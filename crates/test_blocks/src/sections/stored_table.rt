@@ -85,7 +85,6 @@ static BYTES: [u8; 1258] = [
     0x00, 0x00, 0x4c, 0x53, 0x4d, 0x54, 0x53, 0x45, 0x43, 0x31,
 ];
 
-/// The bytes of the table.
 pub(crate) fn bytes() -> &'static [u8; 1258] {
     &BYTES
 }

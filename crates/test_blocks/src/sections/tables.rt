@@ -12,7 +12,6 @@ pub(crate) fn handle(offset: u64, size: u32) -> BlockHandle {
     BlockHandle::new(BlockOffset(offset), size)
 }
 
-// Changes some bytes.
 fn change(bytes: &mut [u8], changes: &[(usize, u8)]) {
     for (at, value) in changes {
         if let Some(byte) = bytes.get_mut(*at) {

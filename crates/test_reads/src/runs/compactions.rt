@@ -145,7 +145,7 @@ impl CompactionObserver for Told {
 
 // The arguments of a compaction: a threshold, a target, the first id, the sequence numbers that the
 // filter drops and hides, and the call at which the observer stops it. Tombstones and sequence
-// numbers stay.
+// numbers are kept.
 type How = (SeqNo, u64, TableId, SeqNo, SeqNo, usize);
 
 // The outcome of a compaction.
@@ -368,7 +368,6 @@ const A10_ALONE: usize = 10;
 
 const A10_BEFORE_A3: usize = 11;
 
-// The runs at an index.
 fn lists_at(place: usize) -> &'static [Lists] {
     RUNS.get(place).copied().unwrap_or(&[])
 }

@@ -116,12 +116,11 @@ const THREE_KEYS: usize = 4;
 
 const LONG_ROWS: usize = 5;
 
-// The rows at an index.
 fn rows_at(place: usize) -> &'static [Row<'static>] {
     LISTS.get(place).copied().unwrap_or(&[])
 }
 
-// Threshold 5; tombstones and sequence numbers stay.
+// Threshold 5; tombstones and sequence numbers are kept.
 const KEPT: How = How::Kept(Rules {
     watermark: 5,
     evict: false,
@@ -142,7 +141,7 @@ const ZEROED: How = How::Kept(Rules {
     zeroing: true,
 });
 
-// Threshold 100; tombstones and sequence numbers stay.
+// Threshold 100; tombstones and sequence numbers are kept.
 const KEPT_AT_100: How = How::Kept(Rules {
     watermark: 100,
     evict: false,
@@ -271,7 +270,7 @@ fn is_cut<A: Allocator + Copy>(alloc: A, cut: &Cut) -> Result<bool, Error> {
     Ok(tables.len() == count && told(&run).as_slice() == entries && ids.next() == next)
 }
 
-// The length of the blocks of the versions of `a`: each has a header of 24 bytes, a count of 4, and
+// The length of the blocks of the versions of `a`. Each has a header of 24 bytes, a count of 4, and
 // for its one entry 17 bytes, its key and its value.
 const OF_A: u64 = 3 * (24 + 4 + 17 + 1 + 8_000);
 

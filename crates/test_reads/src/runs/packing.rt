@@ -1,5 +1,5 @@
-//! Packing of runs: the tables of each packed run, a run that stays unchanged, and a run without
-//! tables, which is ignored.
+//! Packing of runs: the tables of each packed run, an unchanged run, and a run without tables,
+//! which is ignored.
 use logpurple::laws::packing_law;
 use logpurple::run::{pack_runs, write_run};
 use logpurple::table::Table;
@@ -80,7 +80,7 @@ fn are_packed(alloc: Global, lists: &[Lists], wanted: Numbers) -> bool {
     added.is_ok() && alone == Ok(wanted) && beside == Ok(wanted)
 }
 
-// One run stays unchanged. As part of several runs, its overlapping tables would not stay in one.
+// One run is unchanged. Among several runs, its overlapping tables would not remain in one run.
 const CASES: &[(&[Lists], Numbers)] = &[
     (&[], ([[0; 3]; 4], 0)),
     (FOUR_RUNS, ([[1, 2, 5], [3, 0, 0], [4, 0, 0], [0; 3]], 3)),

@@ -131,7 +131,6 @@ const OF_THREE_TABLES: usize = 4;
 
 const NO_RUNS: usize = 5;
 
-// The runs at an index.
 fn lists_at(place: usize) -> &'static [Lists] {
     RUNS.get(place).copied().unwrap_or(&[])
 }
@@ -197,8 +196,9 @@ const REFUSALS: &[Case] = &[
     ),
 ];
 
-// The number of requests of a case in which the `nth` one fails, or none if it is 0. Records which
-// of its items come; `None` if others come. There may be no memory for the runs.
+// The number of requests of a case in which the `nth` one fails, or none if it is 0. Records the
+// case's items that the runs yield; `None` if they yield others. There may be no memory for the
+// runs.
 fn note(alloc: Global, nth: usize, case: &Case, met: &mut [bool; 3]) -> Option<usize> {
     let heap = Refusing::new(alloc, nth);
     match which(&heap, case) {
@@ -213,8 +213,8 @@ fn note(alloc: Global, nth: usize, case: &Case, met: &mut [bool; 3]) -> Option<u
     Some(heap.requests())
 }
 
-// The items of a case that come without a failing request, and those that come with each request
-// failing in turn; `None` if others come.
+// The items of a case that its runs yield without a failing request, and all that they yield with
+// each request failing in turn. `None` if they yield others.
 fn met(alloc: Global, case: &Case) -> Option<[[bool; 3]; 2]> {
     let mut first = [false; 3];
     let requests = note(alloc, 0, case, &mut first)?;

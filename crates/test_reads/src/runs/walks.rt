@@ -1,5 +1,7 @@
-//! Readers and scanners of one run: within bounds and of a span, from both ends, whole entries of
-//! each kind, with a damaged table, as lending iterators, and lending and by value in turn. Most
+//! Readers and scanners of one run: within bounds and of a span, from both ends, and with a damaged
+//! table.
+//!
+//! They yield whole entries of each kind, by value, as lending iterators, and both in turn. Most
 //! functions that call them are generic in them, so that a proof looks at none of their parts.
 ghost use Rattle.std.specs.Prelude.{◌≡◌, ◌-◌, ◌<◌, ◌≤◌, true, IfOk, length, unwrap_or};
 ghost use Rattle.std.specs.Arc.{arc_value};

@@ -1,7 +1,8 @@
-//! The index of tables of one list, which has the same blocks, whichever index they are written
-//! with, and whether or not it is pinned: its kind, where its readers start, and the entries within
-//! bounds over an index iterator that was sought or advanced. `test_vectors` compares which blocks
-//! these are and their order.
+//! The index of tables of one list, written with each kind of index and pinned or not.
+//!
+//! It has the same blocks in each case. The tests compare its kind, the start of its readers, and
+//! the entries within bounds over an index iterator that was sought or advanced. `test_vectors`
+//! compares which blocks these are and their order.
 use crate::tables::walks::{Call, Walk, is_loaded, walked};
 use crate::tables::{Changed, KINDS, Of, Parted, Pins, opened};
 use logpurple::table::{
@@ -114,9 +115,8 @@ fn readers_of_the_index_of_each_kind(rt: HostRuntime) {
 // after them, over a pinned index of one block and over another.
 type Before = (&'static [Call], bool, bool);
 
-// The calls before; bounds, and the calls of the entries within them; and how many blocks are
-// loaded: data blocks over a pinned index of one block and over another, and index blocks of two
-// levels.
+// The calls before; bounds, and the calls of the entries within them. Then the loaded blocks: data
+// blocks over a pinned index of one block and over another, and index blocks of two levels.
 type Resumed = (Before, Bounds<'static>, &'static [Call], (u64, u64, u64));
 
 // Whether the calls of an index iterator have their results, and it is then unsought or not as it
@@ -190,8 +190,8 @@ fn is_resumed(alloc: Global, changed: &Changed<'_>, resumed: &Resumed, index: u6
     walked(iter, loaded, resumed.2) == Ok((data, index))
 }
 
-// Whether they are so over each kind of index. A pinned one of one block is never loaded, and one
-// on demand once.
+// Whether the same entries are yielded over each kind of index. A pinned one of one block is never
+// loaded, and one on demand once.
 fn is_resumed_over_each(alloc: Global, resumed: &Resumed) -> bool {
     let (_, _, index) = resumed.3;
     for (kind, loads) in KINDS.iter().zip([0, 1, index, index]) {

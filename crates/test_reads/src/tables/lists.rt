@@ -50,7 +50,6 @@ const TOMBSTONES: usize = 4;
 
 const A3: usize = 5;
 
-// The rows at an index.
 fn rows_at(place: usize) -> &'static [Row<'static>] {
     LISTS.get(place).copied().unwrap_or(&[])
 }
@@ -151,7 +150,7 @@ pub(crate) fn rows_are_read<A: Allocator + Copy>(alloc: A) -> Result<bool, Error
     Ok(read == Some((Some(7), [9, 7, 5, 1, 0])))
 }
 
-// ---- what is found by a key alone
+// ---- an entry found by its key alone
 
 // The sequence number of the entry of a key below 8, in a list that is written and opened.
 fn found_below_8(alloc: Global, key: &[u8]) -> Result<Option<SeqNo>, Error> {

@@ -189,7 +189,7 @@ fn first(block: &DataBlock<Global>) -> Result<Option<(usize, SeqNo)>, Error> {
     Ok(Some((entry.key.user_key.len(), entry.key.seqno)))
 }
 
-// The same of the block at a handle.
+// The length of the first entry's key in the block at a handle, and its sequence number.
 fn first_in(source: &BlockSource, handle: &BlockHandle) -> Result<Option<(usize, SeqNo)>, Error> {
     let block = load_entries(source, handle, BlockType::Data, &mut Opened::none());
     asked(block, first)

@@ -174,7 +174,7 @@ pub(crate) const OF_TWO_LEVELS: usize = 0;
 /// The index of the table with damaged data blocks.
 pub(crate) const OF_DAMAGED_BLOCKS: usize = 1;
 
-/// Whether the reads of the table at an index find what they should, each on its second try at the
+/// Whether the reads of the table at an index have their results, each on its second try at the
 /// latest.
 pub(crate) fn table_is_read<A: Allocator + Copy>(alloc: A, at: usize) -> Result<bool, Error> {
     match TABLES.get(at) {

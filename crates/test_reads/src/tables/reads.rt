@@ -395,7 +395,7 @@ fn wrong_read(alloc: Global, reads: &[Read]) -> Option<usize> {
     None
 }
 
-// The same for reads after other changes.
+// The index of the first read after other changes with another result.
 fn wrong_changed_read(alloc: Global) -> Option<usize> {
     for (place, (changed, sought, expected)) in CHANGED_READS.iter().enumerate() {
         if !is_answered(opened(alloc, changed), *sought, expected) {
@@ -497,7 +497,7 @@ const OF_FOUR: [Sizes; 4] = [(0, 0, 104), (0, 0, 0), (0, 0, 104), (0, 0, 0)];
 const OF_PARTS: [Sizes; 4] = [(66, 0, 104), (66, 0, 0), (66, 0, 104), (66, 0, 0)];
 
 // The top level of an index of one partition has a count of 4, and a key of one byte with 24 for
-// its handle; the partition of a filter has 33 bytes.
+// its handle. The partition of a filter has 33 bytes.
 const OF_FORGETTING: [Sizes; 4] = [(33, 0, 29); 4];
 
 const BY_ONE_PARTITION: [Pinned; 2] = [

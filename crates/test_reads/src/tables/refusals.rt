@@ -62,7 +62,7 @@ fn has_fault(table: Result<Table, Error>, fault: &Error) -> bool {
     table.err().as_ref() == Some(fault)
 }
 
-// The index of the first fault without its error.
+// The index of the first changes with another result than their error.
 fn wrong_fault(alloc: Global, faults: &[(Changes<'static>, Error)]) -> Option<usize> {
     for (place, (changes, fault)) in faults.iter().enumerate() {
         if !has_fault(opened(alloc, &(Of::One, *changes, BOTH, 0)), fault) {
@@ -72,7 +72,7 @@ fn wrong_fault(alloc: Global, faults: &[(Changes<'static>, Error)]) -> Option<us
     None
 }
 
-// The same for changed bytes.
+// The index of the first changed bytes with another result than their error.
 fn wrong_byte_fault(alloc: Global, faults: &[(Bytes, Error)]) -> Option<usize> {
     for (place, (bytes, fault)) in faults.iter().enumerate() {
         if !has_fault(damaged(alloc, &(Of::One, *bytes, BOTH, 0)), fault) {
@@ -446,7 +446,7 @@ static ITEM_FAULTS: [(Changes<'static>, Error); 11] = [
     ),
 ];
 
-// The index of the first item without its error.
+// The index of the first item with another result than its error.
 fn wrong_item(alloc: Global, items: &[([u8; 8], usize, Option<[u8; 1]>, Error)]) -> Option<usize> {
     for (place, (checksum, at, byte, fault)) in items.iter().enumerate() {
         let written: &[u8] = match byte {

@@ -12,9 +12,10 @@ use test_refusing::Refusing;
 use test_tables::large::{asked, asked_with};
 use test_tables::runs::{ALL, Bounds, Name, name_of, owned_range};
 
-/// A call and its result: the name that a step at the front or at the back yields, if any; and
-/// whether a seek of the lower or of the upper edge, before the first step, leaves anything. A seek
-/// in an index that is loaded later returns true.
+/// A call and its result: the name that a step at the front or at the back yields, if any; or
+/// whether a seek before the first step leaves anything.
+///
+/// A seek sets the lower or the upper bound. A seek in an index that is loaded later returns true.
 pub(crate) enum Call {
     Front(Option<Name>),
     Back(Option<Name>),
@@ -107,8 +108,10 @@ impl<A: Allocator + Clone> Walk for BlockIndexIterImpl<A> {
     }
 }
 
-/// The outcome of some calls: how many blocks were loaded, where each has its result; or how many
-/// have it, and the error of the next one, after which nothing was yielded and nothing was loaded.
+/// The outcome of some calls. If each has its result, the number of loaded blocks. Otherwise the
+/// number of those that have it, and the error of the next one, after which nothing was yielded and
+/// nothing was loaded.
+///
 /// `Source(9)` is another result, and `UNMADE` the call that makes the iterator.
 pub(crate) type Came = Result<(u64, u64), (usize, Error)>;
 
@@ -220,7 +223,7 @@ pub(crate) fn blocks_in<A: Allocator + Copy>(
     asked_with(BlockSource::new(alloc, bytes), (count, changed.3), scan_of)
 }
 
-/// Whether the index is one pinned block, so that a seek knows what it leaves.
+/// Whether the index is one pinned block, so that a seek can tell if it leaves anything.
 pub(crate) fn is_loaded(changed: &Changed<'_>) -> bool {
     match changed.0 {
         Of::Rows(Parted::Nothing) => changed.2.1,

@@ -137,8 +137,8 @@ impl<'a> Merge<'a> {
     }
 }
 
-// The outcome of a merge: the number of entries that came in key order, the number left in the
-// queue, and the comparisons made and as counted by the queue.
+// The outcome of a merge: the number of entries in key order, the number left in the queue, and the
+// comparisons made and as counted by the queue.
 fn merged(mut merge: Merge<'_>, entries: u64) -> (u64, usize, u64, u64) {
     for source in 0..merge.sources.count {
         merge.push(source, 0);
@@ -162,7 +162,7 @@ fn merged(mut merge: Merge<'_>, entries: u64) -> (u64, usize, u64, u64) {
 struct Compared(Sources, usize, u64, u64);
 
 impl Example for Compared {
-    // Whether all entries come in order, and the comparisons are those that the queue counts.
+    // Whether all entries are in order, and the comparisons are those that the queue counts.
     fn is_so(&self, alloc: Global) -> bool {
         let Compared(sources, room, an_entry, comparisons) = self;
         let entries = sources.count.saturating_mul(sources.each);

@@ -3,7 +3,6 @@
 use std::alloc::Global;
 use test_refusing::{Refusing, each_refused};
 
-/// A worked example.
 pub(crate) trait Example {
     /// Whether all results are as expected.
     fn is_so(&self, alloc: Global) -> bool;

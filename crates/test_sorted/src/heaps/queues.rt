@@ -160,7 +160,6 @@ impl Counts {
         None
     }
 
-    /// How many numbers there are.
     pub(crate) fn len(&self) -> usize {
         let [zeros, ones, twos] = self.of;
         zeros.saturating_add(ones).saturating_add(twos)

@@ -118,8 +118,8 @@ fn packing_faults<A: Allocator + Copy>(
 }
 
 impl Example for Packing {
-    // The chain and the packing each continue after an allocation failure of the other. That
-    // failure is the only fault.
+    // The chain and the packing each continue after an allocation failure of the other. There is no
+    // other fault.
     fn is_so(&self, heap: &Refusing, may_fail: bool) -> bool {
         let faults = match runs_of(heap, self.0) {
             Ok(runs) => {

@@ -233,7 +233,7 @@ const CHANGED: &[Changed] = &[
         ],
         sought: &[],
     },
-    // Appended tables come after those of before, which stay.
+    // Appended tables are after those of before, which are kept.
     changed!(
         (Change::Extend("4:b-c"), 2, "01234", false),
         (Change::Keep, 0, "0123", true)

@@ -1,5 +1,4 @@
-//! Tables of an id and a range alone, their runs, and what tests use of them, given as the words of
-//! a text.
+//! Tables of an id and a range alone, and their runs, written as the words of a text.
 //!
 //! `a-d` is the range from the key `a` to the key `d`, and `2:a-d` the table 2 with that range. An
 //! id is a digit.
@@ -128,7 +127,6 @@ pub fn is_like<T: PartialEq + Drop, E: Drop>(made: Result<T, E>, value: &T) -> b
     }
 }
 
-// A worked example.
 pub trait Example {
     // Whether all results are as expected; or `OutOfMemory`, where it may occur.
     fn is_so(&self, heap: &Refusing, may_fail: bool) -> bool;

@@ -75,7 +75,7 @@ enum Plan {
     // Drops a key, and replaces entries below this sequence number with tombstones.
     DropKeyReplaceBelow(u8, u64),
     // Five consecutive keys are versions of one, the newest first. Drops each below the watermark
-    // that comes after a newer one.
+    // that is after a newer one.
     NewestOfFive(Option<u8>, u8),
 }
 

@@ -208,7 +208,7 @@ fn merges(alloc: Global, text: &'static str, wanted: &str) -> Result<bool, Error
 const LENT: &[(&str, &str)] = &[
     ("", ""),
     ("aV1 dV1 / bV1 / cV1 /", "aV1 bV1 cV1 dV1"),
-    // An error comes right after the entry before it, and nothing follows it.
+    // An error is yielded right after the entry before it, and nothing follows it.
     ("aV1 dV1 !7 / bV1 / cV1 eV1 /", "aV1 bV1 cV1 dV1 !7"),
     ("aV1 dV1 / bV1 !7 fV1 / cV1 /", "aV1 bV1 !7"),
     ("aV1 cV1 !7 / bV1 !7 / eV1 /", "aV1 bV1 !7"),

@@ -51,7 +51,6 @@ pub fn said_by(word: &str) -> Said {
     }
 }
 
-// The kind of a letter.
 fn kind_of(letter: u8) -> ValueType {
     match letter {
         b'T' => ValueType::Tombstone,
@@ -61,7 +60,7 @@ fn kind_of(letter: u8) -> ValueType {
     }
 }
 
-// The result of a word. Its key and value stay in the text.
+// The result of a word. Its key and value are slices of the text.
 fn result_of<A: Allocator>(word: &'static str) -> IterItem<A> {
     let (sign, kind, number, byte) = said_by(word);
     match sign {
@@ -92,7 +91,6 @@ pub fn results_of<A: Allocator>(
     Ok(results)
 }
 
-// The letter of a kind.
 fn letter_of(kind: ValueType) -> u8 {
     match kind {
         ValueType::Value => b'V',

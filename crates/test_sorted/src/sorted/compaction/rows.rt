@@ -288,8 +288,8 @@ pub(super) const ROWS: &[Row] = &[
         TOMBSTONES,
         "",
     ),
-    // A newest version numbered at the threshold is no cut, whatever its kind and whatever is below
-    // it.
+    // A newest version with the threshold as its sequence number is no cut, whatever its kind and
+    // whatever is below it.
     (
         How::ByValue,
         999,
@@ -493,7 +493,7 @@ pub(super) const ROWS: &[Row] = &[
         "aV999u aV998v aV997w aT996 aT995 aT994",
         "aV996x aV995y aV994z bV999",
     ),
-    // It does not call the filter for a tombstone either.
+    // Nor does it call the filter for a tombstone.
     (
         How::Filtered,
         5,
@@ -536,7 +536,7 @@ pub(super) const ROWS: &[Row] = &[
         "aV9 aV0 bV0",
         "",
     ),
-    // An error comes after the entry before it, and hides nothing.
+    // An error is yielded after the entry before it, and hides nothing.
     (
         How::Lent,
         5,
@@ -598,7 +598,7 @@ pub(super) const ROWS: &[Row] = &[
         "aW0x bV0",
         "",
     ),
-    // It waits for the next item, so an error is yielded in its stead.
+    // A weak tombstone waits for the next item, so an error is yielded in its stead.
     (
         How::Lent,
         5,
