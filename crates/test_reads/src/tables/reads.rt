@@ -285,21 +285,23 @@ static READS: [Read; 57] = [
         (b'a', 2),
         Err(MISMATCH),
     ),
-    // only the read of the damaged partition of the index
+    // only the read of the damaged index partition fails
     (PART_OF_INDEX, (b'a', 8), Ok((Err(MISMATCH), [0, 1, 0]))),
     (PART_OF_INDEX, (b'a', 10), Ok((Ok(Some(9)), [1, 1, 0]))),
     (PART_OF_INDEX, (b'a', 6), Ok((Ok(Some(5)), [1, 1, 0]))),
     (PART_OF_INDEX, (b'b', 2), Ok((Ok(Some(1)), [1, 1, 0]))),
     (PART_OF_INDEX, (b'c', 8), Ok((Ok(None), [0, 0, 0]))),
-    // each read that loads the index
+    // each read that loads the index fails
     (WHOLE_INDEX, (b'a', 2), Ok((Err(MISMATCH), [0, 1, 0]))),
     (WHOLE_INDEX, (b'c', 2), Ok((Err(MISMATCH), [0, 1, 0]))),
     (WHOLE_INDEX, (b'a', 1), Ok((Ok(None), [0, 0, 0]))),
-    // each read that loads the filter; a snapshot at the lowest sequence number queries nothing
+    // each read that loads the filter fails; a snapshot at the lowest sequence number queries
+    // nothing
     (WHOLE_FILTER, (b'a', 2), Ok((Err(MISMATCH), [0, 0, 1]))),
     (WHOLE_FILTER, (b'c', 2), Ok((Err(MISMATCH), [0, 0, 1]))),
     (WHOLE_FILTER, (b'a', 1), Ok((Ok(None), [0, 0, 0]))),
-    // only the reads of the damaged partition's keys; after the last partition nothing is queried
+    // only the reads of the damaged partition's keys fail; after the last partition nothing is
+    // queried
     (PART_OF_FILTER, (b'a', 8), Ok((Err(MISMATCH), [0, 0, 1]))),
     (PART_OF_FILTER, (EMPTY, 8), Ok((Err(MISMATCH), [0, 0, 1]))),
     (PART_OF_FILTER, (b'b', 2), Ok((Ok(Some(1)), [1, 0, 1]))),

@@ -493,7 +493,7 @@ pub(super) const ROWS: &[Row] = &[
         "aV999u aV998v aV997w aT996 aT995 aT994",
         "aV996x aV995y aV994z bV999",
     ),
-    // Nor does it call the filter for a tombstone.
+    // A lending compaction does not call the filter for a tombstone either.
     (
         How::Filtered,
         5,
