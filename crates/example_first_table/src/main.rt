@@ -1,19 +1,19 @@
-//! Writes a table, opens it and reads it back: the calls that a store makes first.
+//! Writes a table, opens it and reads it back: the first calls of a store.
 #![tactic(auto)]
 
 use logpurple::block::{Error, InternalValue, SeqNo, Slice, ValueType};
 use logpurple::table::{FinishedTable, OpenOptions, Table, Timestamp, Writer};
 use std::alloc::Allocator;
 
-/// Keys, the numbers of their versions, and values: keys upward, and the versions of a key from the
-/// newest on.
+/// Keys, sequence numbers and values: keys in ascending order, and the versions of a key from the
+/// newest to the oldest.
 const ENTRIES: [(&[u8], SeqNo, &[u8]); 3] = [
     (b"apple", 7, b"red"),
     (b"apple", 3, b"green"),
     (b"pear", 5, b"yellow"),
 ];
 
-/// Writes an entry, if it comes after the one before it, by key and number.
+/// Writes an entry, if its key and sequence number come after those of the one before it.
 fn write_entry<A: Allocator + Copy>(
     alloc: A,
     writer: &mut Writer<A>,
@@ -28,7 +28,7 @@ fn write_entry<A: Allocator + Copy>(
     writer.write(item)
 }
 
-/// Writes the entries as table 1 of level 0, created at moment 0.
+/// Writes the entries as table 1 of level 0, created at timestamp 0.
 fn write_table<A: Allocator + Copy>(alloc: A) -> Result<Option<FinishedTable<A>>, Error> {
     let mut writer = Writer::new(alloc, 1, 0, Timestamp::from(0))?;
     let entries = ENTRIES;
@@ -38,8 +38,7 @@ fn write_table<A: Allocator + Copy>(alloc: A) -> Result<Option<FinishedTable<A>>
     writer.finish()
 }
 
-/// Opens a table. By default nothing is added to the stored numbers, and filter and index stay
-/// loaded.
+/// Opens a table. By default the global sequence number is 0, and filter and index are pinned.
 fn open_table<A: Allocator + Copy>(alloc: A, written: FinishedTable<A>) -> Result<Table<A>, Error> {
     OpenOptions::default().open(alloc, &written)
 }
@@ -50,7 +49,7 @@ fn main(rt: HostRuntime) -> anyhow::Result<()> {
     };
     let table = open_table(rt.alloc(), written)?;
 
-    // The newest version of a key that is numbered below 5.
+    // The newest version of a key with a sequence number below 5.
     if let Some(item) = table.get_by_key(b"apple", 5)? {
         println!(rt; "found number {}", item.key.seqno)?;
     }

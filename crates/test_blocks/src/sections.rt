@@ -1,4 +1,4 @@
-//! Tests of sections, of blocks as they are loaded, and of filters.
+//! Tests of sections, block loads and filters.
 mod filter_blocks;
 mod filters;
 mod hashes;

@@ -1,9 +1,9 @@
-//! What lends beside what gives by value.
+//! Compares lending iterators with iterators by value.
 ghost use Rattle.sst_entries.specs.Stream.{CanDeal, nowhere};
 
 use sst_entries::{Error, InternalValue, IterItem, Lending};
 
-/// Goes on, as often as wanted.
+/// Advances a source. It may be called any number of times.
 pub fn go_on<L: Lending>(source: &mut L) -> Result<bool, Error>
     requires { CanDeal L.advances nowhere L.can_advance L.can_advance source.old }
     ensures can { CanDeal L.advances nowhere L.can_advance L.can_advance source.new }
@@ -11,7 +11,7 @@ pub fn go_on<L: Lending>(source: &mut L) -> Result<bool, Error>
     source.advance()
 }
 
-// Whether a source lends an entry next that is this one.
+// Whether a source yields this entry next.
 fn is_next<L: Lending>(source: &mut L, item: &InternalValue) -> Result<bool, Error>
     requires { CanDeal L.advances nowhere L.can_advance L.can_advance source.old }
     ensures can { CanDeal L.advances nowhere L.can_advance L.can_advance source.new }
@@ -20,7 +20,7 @@ fn is_next<L: Lending>(source: &mut L, item: &InternalValue) -> Result<bool, Err
     Ok(has_more && source.entry() == Some(item.as_entry_ref()))
 }
 
-// Whether the next of a source is this answer, which is an entry or the end.
+// Whether the next item of a source equals this one, which is an entry or the end.
 fn agrees<L: Lending>(source: &mut L, item: Option<IterItem>) -> Result<bool, Error>
     requires { CanDeal L.advances nowhere L.can_advance L.can_advance source.old }
     ensures can { CanDeal L.advances nowhere L.can_advance L.can_advance source.new }
@@ -32,7 +32,7 @@ fn agrees<L: Lending>(source: &mut L, item: Option<IterItem>) -> Result<bool, Er
     }
 }
 
-// Takes the next, as often as wanted.
+// Returns the next item. It may be called any number of times.
 fn next_of<I: Iterator<Item = IterItem>>(source: &mut I) -> Option<IterItem>
     requires { CanDeal I.next_gives nowhere I.can_next I.can_next source.old }
     ensures can { CanDeal I.next_gives nowhere I.can_next I.can_next source.new }
@@ -40,8 +40,8 @@ fn next_of<I: Iterator<Item = IterItem>>(source: &mut I) -> Option<IterItem>
     source.next()
 }
 
-/// Whether a source by value and one that lends give the same entries, and the same end, at so many
-/// calls. Refused with the first error of either.
+/// Whether an iterator by value and a lending iterator yield the same entries and the same end in
+/// `calls` calls. Fails with the first error of either.
 pub fn agree<I: Iterator<Item = IterItem> + Drop, L: Lending + Drop>(
     mut by_value: I,
     mut lending: L,

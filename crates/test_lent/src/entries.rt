@@ -1,8 +1,8 @@
-//! Numbers that look random, and small entries.
+//! Pseudorandom numbers and small entries.
 use sst_entries::{Error, InternalValue, Slice, ValueType};
 use std::alloc::Global;
 
-/// The next of some numbers that look random.
+/// The next pseudorandom number.
 pub fn random(seed: &mut u64) -> u64 {
     *seed = seed
         .wrapping_mul(6364136223846793005)
@@ -10,7 +10,7 @@ pub fn random(seed: &mut u64) -> u64 {
     *seed >> 33
 }
 
-/// An entry of a key of one byte, and a value of one byte.
+/// An entry with a key and a value of one byte each.
 pub fn entry_of(
     alloc: Global,
     key: u8,

@@ -1,5 +1,5 @@
-//! What tests of streams share: lists that are lent, lists that look random, and the comparison of
-//! what lends with what gives by value. Nothing here is for use.
+//! Shared by tests of streams: lending lists, pseudorandom lists, and the comparison of lending
+//! iterators with those by value. Nothing here is for use.
 #![tactic(auto)]
 
 mod agreeing;

@@ -1,10 +1,10 @@
-//! A list that is lent.
+//! A list as a lending iterator.
 ghost use Rattle.sst_entries.specs.Stream.{CanDeal, nowhere};
 
 use sst_entries::{EntryRef, Error, InternalValue, IterItem, Lending};
 use std::vec::IntoIter;
 
-/// Lends what a list holds: its entries, and its errors in their places.
+/// Yields the entries of a list, borrowed, and its errors, in the list's order.
 #[derive(Drop)]
 pub struct LentList {
     rest: IntoIter<IterItem>,
@@ -47,7 +47,7 @@ impl Lending for LentList {
     }
 }
 
-/// A list that is lent from its front.
+/// A lending iterator over a list, from its front.
 pub fn lent_list(results: Vec<IterItem>) -> LentList
     ensures can { CanDeal ⟦<LentList as Lending>⟧.advances nowhere
         ⟦<LentList as Lending>⟧.can_advance ⟦<LentList as Lending>⟧.can_advance result }

@@ -1,4 +1,4 @@
-//! Worked examples of tables and of runs of tables, in one crate, since what they hold is the same.
+//! Worked examples of tables and of runs of tables, in one crate because they share their data.
 //! Nothing here is for use.
 #![tactic(auto)]
 

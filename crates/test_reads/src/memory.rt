@@ -1,5 +1,5 @@
-//! Tables and runs that are written, opened, read and compacted with each request for memory
-//! refused in turn. One function tries all that is done, so that its call is proved once.
+//! Writes, opens, reads and compacts tables and runs with each request for memory failing in turn.
+//! One function tries all works, so that its call is proved once.
 use crate::runs::{compactions, lists as run_lists, part, walks};
 use crate::tables::{lists, points, queries, refusals};
 use sst_blocks::Error;
@@ -7,8 +7,7 @@ use std::alloc::{Allocator, Global};
 use test_refusing::{Refusing, each_refused};
 use test_tables::runs::is_right;
 
-// What is done: with a table, or with a run, as a case of a table at its place or a work of its
-// own.
+// The work of a test, on a table or on a run. It is named by the index of a case, or by itself.
 enum Work {
     List,
     Points,
@@ -22,7 +21,7 @@ enum Work {
     NewTables,
 }
 
-// Whether what is named is done right, some of it over memory that is plenty.
+// Whether a work has its result. Some of it uses ample memory.
 fn answer<A: Allocator + Copy>(
     alloc: A,
     plenty: A,
@@ -43,8 +42,8 @@ fn answer<A: Allocator + Copy>(
     }
 }
 
-// Whether what is named makes more requests than so many, and is done right with nothing refused
-// and with each request refused in turn.
+// Whether a work makes more requests than `least`, and has its result without a failing request and
+// with each of them failing in turn.
 fn is_right_refused(alloc: Global, work: &Work, least: usize) -> bool {
     let requests = each_refused(alloc, |heap: &Refusing, may_fail: bool| {
         let plenty = Refusing::new(alloc, 0);
@@ -53,8 +52,8 @@ fn is_right_refused(alloc: Global, work: &Work, least: usize) -> bool {
     requests.is_ok_and(|requests| requests > least)
 }
 
-// What is done, and how many requests it makes at least. A run is read by its reader, by that of a
-// span, and by a scan; a list as it is, and what is kept of one.
+// Works, and numbers of requests that they exceed. A run is read by its reader, by the reader of a
+// span, and by a scan; a list unchanged, and compacted.
 const WORKS: &[(Work, usize)] = &[
     (Work::List, 20),
     (Work::Points, 20),

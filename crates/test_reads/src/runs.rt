@@ -1,7 +1,8 @@
-//! Tests of what is read from one run and from several as one, from both ends, by scans, below a
-//! number and by age, given and lent; of lists that are written as runs; of runs that are compacted
-//! or packed, all of them or a part, with a filter and without; and of what stays where memory is
-//! refused, an id is wanting or a table is damaged.
+//! Tests of reads of one run and of several as one.
+//!
+//! Reads are from both ends, by scans, below a sequence number and by age, by value and borrowed.
+//! Lists are written as runs. Runs are compacted or packed, all of them or a part, with a filter
+//! and without. Some tests have allocation failures, too few ids or a damaged table.
 pub mod compactions;
 mod key_ranges;
 mod lent_ranges;

@@ -1,8 +1,11 @@
-//! Tests of single tables, from entries to bytes and back, of point reads, ranges, scans and seeks
-//! under each kind of index and of filter, given and lent; of what a table says, is kept and
-//! verified by; of the longest keys and the largest numbers; and of what stays where memory is
-//! refused. Here are the tables that are read: tables that an independent program stored, as they
-//! are and with some of their bytes changed, and tables of a few rows.
+//! Tests of single tables, from entries to bytes and back, and the tables that they read.
+//!
+//! They cover point reads, ranges, scans and seeks under each kind of index and of filter, by value
+//! and borrowed. They also cover metadata, pinning, verification, the longest keys, the largest
+//! sequence numbers, and allocation failures.
+//!
+//! The tables are those of an independent program, unchanged or with some of their bytes changed,
+//! and tables of a few rows.
 ghost use Rattle.lsm_writers.specs.Filtering.{IsSmallFilter};
 ghost use Rattle.lsm_writers.specs.Writing.{IsSmallIndex};
 
@@ -36,7 +39,8 @@ pub(crate) const ROWS: &[Row<'static>] = &[
     (b"b", 1, ValueType::Value, b""),
 ];
 
-// Entries of each kind: in blocks of 7 bytes three, of 2 entries (69 bytes), 3 (92) and 2.
+// Entries of each kind. With a data block size of 7 they have three blocks: of 2 entries (69
+// bytes), 3 (92) and 2.
 const OF_EACH_KIND: &[Row<'static>] = &[
     (b"a", 9, ValueType::Value, b"first"),
     (b"a", 7, ValueType::Tombstone, b""),
@@ -47,7 +51,7 @@ const OF_EACH_KIND: &[Row<'static>] = &[
     (b"e", 1, ValueType::Value, b"z"),
 ];
 
-/// What is in partitions, of a handle or a key each.
+/// The partitioned parts of a table, with one handle or key per partition.
 #[derive(Clone, Copy)]
 pub(crate) enum Parted {
     Nothing,
@@ -74,7 +78,7 @@ fn filter_kind(parted: Parted) -> FilterKind
     }
 }
 
-// A writer of blocks of a size, of 4,096 at most, and of a filter of some tenths of a bit for a
+// A writer with a data block size, of 4,096 at most, and a filter with some tenths of a bit per
 // key.
 fn writer_of<A: Allocator + Copy>(
     alloc: A,
@@ -103,8 +107,8 @@ pub(crate) fn written_by<A: Allocator + Copy>(
     Ok(fill(writer, alloc, rows)?.bytes)
 }
 
-/// Those by the filter's tenths of a bit for a key, and the size of a block of data, of 4,096 at
-/// most.
+/// The bytes of a table, by the filter's tenths of a bit per key, and the data block size, of 4,096
+/// at most.
 pub(crate) fn written<A: Allocator + Copy>(
     alloc: A,
     parted: Parted,
@@ -115,20 +119,20 @@ pub(crate) fn written<A: Allocator + Copy>(
     written_by(writer_of(alloc, parted, bits, block_size)?, alloc, rows)
 }
 
-// Those of a table of a@1 whose index has an interval of two.
+// The bytes of a table of a@1 whose index has an interval of two.
 fn written_with_interval<A: Allocator + Copy>(alloc: A) -> Result<Slice<A>, Error> {
     let rows: [Row<'static>; 1] = [(b"a", 1, ValueType::Value, b"x")];
     let writer = new_writer(alloc)?.use_index_block_restart_interval(2);
     written_by(writer, alloc, &rows)
 }
 
-// Those of a table of a@1 by a writer without options.
+// The bytes of a table of a@1 by a writer without options.
 fn written_by_default<A: Allocator + Copy>(alloc: A) -> Result<Slice<A>, Error> {
     let rows: [Row<'static>; 1] = [(b"a", 1, ValueType::Value, b"x")];
     written_by(Writer::new(alloc, 1, 0, Timestamp::from(0))?, alloc, &rows)
 }
 
-// Those of a table of [`ROWS`], each in a block of its own, without a filter. The partitioned index
+// The bytes of a table of [`ROWS`], each in its own block, without a filter. The partitioned index
 // starts with the default partition size: the smaller one set before it is forgotten.
 fn written_forgetting_index<A: Allocator + Copy>(alloc: A) -> Result<Slice<A>, Error> {
     let writer = new_writer(alloc)?
@@ -138,7 +142,7 @@ fn written_forgetting_index<A: Allocator + Copy>(alloc: A) -> Result<Slice<A>, E
     written_by(writer, alloc, ROWS)
 }
 
-// The same with the default filter, and the filter partitioned in place of the index.
+// The same with the default filter, and the filter partitioned instead of the index.
 fn written_forgetting_filter<A: Allocator + Copy>(alloc: A) -> Result<Slice<A>, Error> {
     let writer = Writer::new(alloc, 1, 0, Timestamp::from(0))?
         .use_data_block_size(0)
@@ -147,8 +151,8 @@ fn written_forgetting_filter<A: Allocator + Copy>(alloc: A) -> Result<Slice<A>, 
     written_by(writer, alloc, ROWS)
 }
 
-// Those of a table of [`ROWS`], each in a block of its own, where a size of partitions is
-// forgotten, as partitions are asked for after it.
+// The bytes of a table of [`ROWS`], each in its own block. The partition size is forgotten, because
+// partitions are set after it.
 fn written_forgetting<A: Allocator + Copy>(alloc: A) -> Result<Slice<A>, Error> {
     let writer = new_writer(alloc)?
         .use_data_block_size(0)
@@ -159,34 +163,34 @@ fn written_forgetting<A: Allocator + Copy>(alloc: A) -> Result<Slice<A>, Error> 
     written_by(writer, alloc, ROWS)
 }
 
-/// A table: a stored one, of one entry, without a filter and with one, and of four, with the index
-/// in two levels and with a filter in parts; or one that is written.
+/// A table: a stored one, or one that is written. The stored ones have one entry, without a filter
+/// and with one, or four entries, with a two-level index and with a partitioned filter.
 #[derive(Clone, Copy)]
 pub(crate) enum Of {
     One,
     Filtered,
     Levels,
     FilterParts,
-    /// Of [`ROWS`], each in a block of its own, without a filter.
+    /// A table of [`ROWS`], each in its own block, without a filter.
     Rows(Parted),
-    /// Of these, with a filter of a partition for each key.
+    /// The same, with a filter of a partition for each key.
     Keys,
-    /// Of these, with an index and a filter in a partition each, for which a smaller size was set
-    /// before they were asked for.
+    /// The same, with an index and a filter of one partition each. A smaller partition size was set
+    /// before they were partitioned.
     Forgetting,
-    /// Of these, without a filter and with such an index.
+    /// The same, without a filter and with such an index.
     ForgettingIndex,
-    /// Of these, with a full index and such a filter.
+    /// The same, with a full index and such a filter.
     ForgettingFilter,
-    /// Of these, all in one block, without a filter.
+    /// The same rows, all in one block, without a filter.
     Block,
-    /// Of `a` with a number and the value `x`.
+    /// A table of `a` with a sequence number and the value `x`.
     Numbered(SeqNo),
-    /// Of a@1 with the value `x`, by a writer without options.
+    /// A table of a@1 with the value `x`, by a writer without options.
     Default,
-    /// Of one whose index has an interval of two.
+    /// A table whose index has an interval of two.
     Interval,
-    /// Of entries of each kind, in three blocks.
+    /// A table of entries of each kind, in three blocks.
     Kinds,
 }
 
@@ -221,7 +225,7 @@ pub(crate) fn bytes_of<A: Allocator + Copy>(alloc: A, of: Of) -> Result<Slice<A>
     }
 }
 
-/// Some bytes, from where and by what they are overwritten.
+/// The offsets and new bytes of some ranges.
 pub(crate) type Changes<'a> = &'a [(usize, &'a [u8])];
 
 /// Whether the filter and the index are pinned.
@@ -230,7 +234,7 @@ pub(crate) type Pins = (bool, bool);
 /// Each pair of pins.
 pub(crate) const ALL_PINS: [Pins; 4] = [(true, true), (true, false), (false, true), (false, false)];
 
-/// A table, the changes of its bytes, what stays loaded, and a global number.
+/// A table, the changes of its bytes, the pins, and a global sequence number.
 pub(crate) type Changed<'a> = (Of, Changes<'a>, Pins, SeqNo);
 
 /// The table of some bytes.
@@ -243,7 +247,7 @@ pub(crate) fn open_with<A: Allocator + Copy>(
     Table::recover(alloc, bytes, Checksum(0), global_seqno, 0, pins.0, pins.1)
 }
 
-/// The bytes of a table, some of them changed.
+/// The bytes of a table, with some of them changed.
 pub(crate) fn changed_bytes<A: Allocator + Copy>(
     alloc: A,
     changed: &Changed<'_>,
@@ -252,7 +256,7 @@ pub(crate) fn changed_bytes<A: Allocator + Copy>(
     overwritten(alloc, bytes.as_slice(), changed.1)
 }
 
-/// The table of them.
+/// The table with some of its bytes changed.
 pub(crate) fn opened<A: Allocator + Copy>(
     alloc: A,
     changed: &Changed<'_>,
@@ -261,24 +265,24 @@ pub(crate) fn opened<A: Allocator + Copy>(
     open_with(alloc, bytes, changed.2, changed.3)
 }
 
-/// The table of the rows, each in a block of its own, with an index that stays loaded, that is
-/// loaded by each reader, that has two levels, and that has two as an earlier version stored it.
+/// The table of the rows, each in its own block. Its index is pinned, loaded by each reader, of two
+/// levels, and of two levels as an earlier version stored it.
 pub(crate) const KINDS: &[Changed<'static>] = &[LOADED, ON_DEMAND, TWO_LEVELS, OLDER];
 
-/// With an index that stays loaded.
+/// The table with a pinned index.
 pub(crate) const LOADED: Changed<'static> = (Of::Rows(Parted::Nothing), &[], (false, true), 0);
 
-/// With one that each reader loads.
+/// The table with an index that each reader loads.
 pub(crate) const ON_DEMAND: Changed<'static> = (Of::Rows(Parted::Nothing), &[], (false, false), 0);
 
-/// With one of two levels.
+/// The table with a two-level index.
 pub(crate) const TWO_LEVELS: Changed<'static> = (Of::Rows(Parted::Index), &[], (false, true), 0);
 
-/// With one of two levels, as an earlier version stored it.
+/// The table with a two-level index, as an earlier version stored it.
 pub(crate) const OLDER: Changed<'static> = (Of::Levels, &[], (false, true), 0);
 
-/// The table of a@1 whose meta block says that its numbers are 0, and the largest number is added
-/// to each.
+/// The table of a@1 whose meta block describes its sequence numbers as 0, opened with the largest
+/// global sequence number.
 pub(crate) const BELITTLED: Changed<'static> = (
     Of::One,
     &[
@@ -306,11 +310,11 @@ pub(crate) const UNDERSTATED: Changed<'static> = (
 // The number 3 as an item of a meta block.
 const THREE: [u8; 8] = [3, 0, 0, 0, 0, 0, 0, 0];
 
-/// A key and a bound.
+/// A key and a snapshot.
 pub(crate) type Sought = (&'static [u8], SeqNo);
 
-/// What a read answers, and how many blocks of data, of the index and of the filter it loads. Where
-/// the read that lends answers or loads otherwise, the loads are as many as there are none.
+/// The result of a read, and the numbers of data, index and filter blocks that it loads. These are
+/// `u64::MAX` if the borrowing read has another result or other loads.
 pub(crate) fn counted_read<A: Allocator + Copy>(
     table: &Table<A>,
     key: &[u8],
@@ -327,7 +331,7 @@ pub(crate) fn counted_read<A: Allocator + Copy>(
     (number_of(found), loads)
 }
 
-/// Whether a read that lends answers as one that gives.
+/// Whether a borrowing read has the same result as one by value.
 pub(crate) fn lends_same<A: Allocator>(
     found: &Result<Option<InternalValue<A>>, Error>,
     lent: &Result<Option<EntryRef<'_>>, Error>,
@@ -340,12 +344,11 @@ pub(crate) fn lends_same<A: Allocator>(
     }
 }
 
-/// A clone of a table.
 pub(crate) fn cloned(table: &Table) -> Result<Table, Error> {
     Ok(table.clone()?)
 }
 
-/// The number of what a read found, if any.
+/// The sequence number of the entry that a read found, if any.
 pub(crate) fn number_of<A: Allocator>(
     found: Result<Option<InternalValue<A>>, Error>,
 ) -> Result<Option<SeqNo>, Error> {

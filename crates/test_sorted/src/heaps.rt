@@ -1,4 +1,4 @@
-//! Tests of the queues with two ends.
+//! Tests of the double-ended priority queues.
 mod comparisons;
 mod examples;
 mod heaps;

@@ -1,5 +1,5 @@
-//! Worked examples of key ranges and runs, of the queues with two ends, and of merging, newest
-//! versions and compaction. Nothing here is for use.
+//! Worked examples of key ranges and runs, double-ended queues, merging, newest versions and
+//! compaction. Nothing here is for use.
 #![tactic(auto)]
 
 #[cfg(test)]

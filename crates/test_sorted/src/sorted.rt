@@ -1,4 +1,4 @@
-//! Tests of merging, newest versions and compaction, given and lent.
+//! Tests of merging, newest versions and compaction, by value and borrowed.
 mod compaction;
 mod laws;
 mod lending;

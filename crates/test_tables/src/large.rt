@@ -1,9 +1,9 @@
-//! Large values, which are asked something and let go of. What stands here is generic in them, so
-//! that no part of a value is looked at.
+//! Calls a function on a large value and drops the value. The functions are generic, so that a
+//! proof looks at no part of the value.
 use sst_blocks::Error;
 use std::alloc::Allocator;
 
-/// What is asked of a large value, which is let go of here alone, or why there is none.
+/// Calls `ask` on a value and drops the value, or returns the error of making it.
 pub fn asked<T: Drop, U, F: FnOnce(&T) -> Result<U, Error> + Drop>(
     made: Result<T, Error>,
     ask: F,
@@ -13,7 +13,8 @@ pub fn asked<T: Drop, U, F: FnOnce(&T) -> Result<U, Error> + Drop>(
     ask(&made?)
 }
 
-/// What is asked of a large value and of another one, which is copied.
+/// Calls `ask` on a value with a second one, which is copied, and drops the first. Returns the
+/// error of making it.
 pub fn asked_with<T: Drop, C: Copy, U, F: FnOnce(&T, C) -> Result<U, Error> + Drop>(
     made: Result<T, Error>,
     with: C,
@@ -24,7 +25,7 @@ pub fn asked_with<T: Drop, C: Copy, U, F: FnOnce(&T, C) -> Result<U, Error> + Dr
     ask(&made?, with)
 }
 
-/// What is asked of a value that changes as it is asked, or the refusal that made none.
+/// Calls `ask` on a mutable value and drops it, or returns the error of making it.
 pub fn asked_mut<T: Drop, U, F: FnOnce(&mut T) -> Result<U, Error> + Drop>(
     made: Result<T, Error>,
     ask: F,
@@ -34,7 +35,8 @@ pub fn asked_mut<T: Drop, U, F: FnOnce(&mut T) -> Result<U, Error> + Drop>(
     ask(&mut made?)
 }
 
-/// What is asked of a value that there may be none of, or the refusal that made none.
+/// Calls `ask` on a mutable value, if there is one, and drops it; or returns the error of making
+/// it.
 pub fn asked_if_any<T: Drop, U, F: FnOnce(&mut T) -> Result<U, Error> + Drop>(
     made: Result<Option<T>, Error>,
     ask: F,
@@ -47,7 +49,7 @@ pub fn asked_if_any<T: Drop, U, F: FnOnce(&mut T) -> Result<U, Error> + Drop>(
     }
 }
 
-/// Puts a large value behind others, or says why there is none.
+/// Pushes a value, or returns the error of making it.
 pub fn add<T: Drop, A: Allocator>(
     values: &mut Vec<T, A>,
     made: Result<T, Error>,

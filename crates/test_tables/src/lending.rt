@@ -1,17 +1,16 @@
-//! Readers that lend beside those that give by value: the same entries and errors in the same
-//! places, and as many loads. What walks them is generic in them, so that none of their parts is
-//! looked at.
+//! Compares lending readers with readers by value: the same entries and errors in the same order,
+//! and as many loads. The functions are generic, so that a proof looks at no part of the readers.
 use logpurple::run::{RunReader, RunScanner};
 use logpurple::table::{Iter, Scanner};
 use sst_blocks::{EntryRef, Error, IterItem, Lending, Opened};
 use std::alloc::Global;
 
-/// What gives by value.
+/// A reader by value.
 pub trait Gives {
     /// The next entry.
     fn gives(&mut self) -> Option<IterItem<Global>>;
 
-    /// How many blocks were loaded, where that is counted.
+    /// The blocks loaded so far, if they are counted.
     fn given_by(&self) -> Opened;
 }
 
@@ -55,16 +54,16 @@ impl Gives for RunScanner<Global> {
     }
 }
 
-/// What lends.
+/// A lending reader.
 pub trait Lends {
-    /// Goes on to the next entry, and whether what came and what is lent is what was given.
+    /// Advances, and returns whether the result and the borrowed entry equal `given`.
     fn lends(&mut self, given: &Option<IterItem<Global>>) -> bool;
 
-    /// How many blocks were loaded, where that is counted.
+    /// The blocks loaded so far, if they are counted.
     fn lent_by(&self) -> Opened;
 }
 
-// Whether a step that lends answers as one that gave.
+// Whether a lending step has the same result as a step by value.
 fn is_same(
     more: Result<bool, Error>,
     lent: Option<EntryRef<'_>>,
@@ -122,7 +121,7 @@ impl Lends for RunScanner<Global> {
     }
 }
 
-// What came at a step: whether an entry did, and else the number of the refusal, or 0 at the end.
+// The result of a step: whether it yielded an entry, and otherwise the error code, or 0 at the end.
 type Came = (bool, u8);
 
 const END: Came = (false, 0);
@@ -135,7 +134,8 @@ fn what_came(given: &Option<IterItem<Global>>) -> Came {
     }
 }
 
-// What comes of both, which have loaded as many blocks then; `None` where they differ.
+// The result of a step of both readers, if both have loaded the same blocks; `None` where they
+// differ.
 fn step_both<G: Gives, L: Lends>(giving: &mut G, lending: &mut L) -> Option<Came> {
     let given = giving.gives();
     let is_same = lending.lends(&given);
@@ -148,10 +148,10 @@ fn step_both<G: Gives, L: Lends>(giving: &mut G, lending: &mut L) -> Option<Came
     }
 }
 
-/// How many entries came, and the number of the refusal behind them, or 0.
+/// The number of entries, and the code of the error after them, or 0.
 pub type Walk = (usize, u8);
 
-// A walk, if it is over on both sides.
+// The result of both readers, if both are exhausted.
 fn over<G: Gives, L: Lends>(giving: &mut G, lending: &mut L, walk: Walk) -> Option<Walk> {
     for _ in 0..3 {
         if step_both(giving, lending) != Some(END) {
@@ -161,7 +161,7 @@ fn over<G: Gives, L: Lends>(giving: &mut G, lending: &mut L, walk: Walk) -> Opti
     Some(walk)
 }
 
-// What both walk; `None` where they differ, or go on for 20 steps.
+// The result of both readers; `None` if they differ or yield 20 entries.
 fn walked<G: Gives, L: Lends>(giving: &mut G, lending: &mut L) -> Option<Walk> {
     for entries in 0..20 {
         match step_both(giving, lending) {
@@ -173,8 +173,8 @@ fn walked<G: Gives, L: Lends>(giving: &mut G, lending: &mut L) -> Option<Walk> {
     None
 }
 
-/// What a reader that gives and one that lends walk to their end, once both are made; `None` where
-/// they differ.
+/// The result of a reader by value and a lending one, up to their ends; `None` if they differ.
+/// Fails if either cannot be made.
 pub fn walk_both<G: Gives + Drop, L: Lends + Drop>(
     giving: Result<G, Error>,
     lending: Result<L, Error>,

@@ -1,5 +1,5 @@
-//! What the tests of several crates share: rows and the tables of them, stored tables, runs, and
-//! what is read of these. Nothing here is for use.
+//! Shared by the tests of several crates: rows and their tables, stored tables, runs, and results
+//! of reads. Nothing here is for use.
 #![tactic(auto)]
 
 pub mod large;

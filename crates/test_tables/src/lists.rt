@@ -1,4 +1,4 @@
-//! Lists of entries, and what is read of the two ends of a stream of them.
+//! Lists of entries, and the entries at both ends of a stream of them.
 ghost use Rattle.std.specs.Prelude.{IfOk};
 ghost use Rattle.lsm_writers.specs.Writing.{IsWritable};
 ghost use Rattle.sst_entries.specs.Stream.{CanDeal};
@@ -14,7 +14,7 @@ use std::alloc::Allocator;
 /// The newest versions of several runs.
 pub type Stream<A> = NewestOf<RunReader<A>, A>;
 
-/// The entries of some rows. `Source(0)` where they cannot be written.
+/// The entries of some rows. Fails with `Source(0)` if they cannot be written.
 pub fn list_of<A: Allocator + Copy>(
     alloc: A,
     rows: &[Row<'_>],
@@ -32,8 +32,8 @@ pub fn list_of<A: Allocator + Copy>(
     }
 }
 
-// What a stream answers at some ends. It is generic in what the stream is over: a whole concrete
-// stream costs a proof minutes where it is handed to a function that is generic in streams.
+// The items that a stream yields at some ends. It is generic in its sources: passing a concrete
+// stream to a function generic in streams costs a proof minutes.
 fn answers_in<S: DoubleEndedIterator<Item = IterItem<A>>, A: Allocator + Copy>(
     alloc: A,
     stream: &mut NewestOf<S, A>,
@@ -47,8 +47,8 @@ fn answers_in<S: DoubleEndedIterator<Item = IterItem<A>>, A: Allocator + Copy>(
     Ok(answers_at(alloc, stream, ends)?)
 }
 
-// What the stream of several runs answers at some ends. This alone hands that stream on, and
-// `answers_last` alone lets it go.
+// The items that the stream of several runs yields at some ends. Only this function passes that
+// stream on, and only `answers_last` drops it.
 fn answers_of<A: Allocator + Copy>(
     alloc: A,
     stream: &mut Stream<A>,
@@ -77,7 +77,7 @@ fn answers_last<A: Allocator + Copy>(
     answers
 }
 
-/// What some runs answer at some ends, within bounds.
+/// The items that some runs yield at some ends, within bounds.
 pub fn answers_within<A: Allocator + Copy>(
     alloc: A,
     runs: &[Tables<A>],
@@ -90,7 +90,7 @@ pub fn answers_within<A: Allocator + Copy>(
 
 const BACK_AND_FRONT: [Direction; 2] = [Direction::Back, Direction::Front];
 
-/// What a stream answers at its back, and then at its front.
+/// The items that a stream yields at its back, and then at its front.
 pub fn ends_of<A: Allocator + Copy>(
     alloc: A,
     stream: &mut Stream<A>,
@@ -103,8 +103,7 @@ pub fn ends_of<A: Allocator + Copy>(
     answers_of(alloc, stream, &BACK_AND_FRONT)
 }
 
-/// The names of what a read gives: of the entry that is found, and of the first and the last of a
-/// stream.
+/// The names of the entry that a read finds, and of the first and the last entry of a stream.
 pub fn read_names<A: Allocator + Copy>(
     alloc: A,
     read: (Option<InternalValue<A>>, Stream<A>),
@@ -119,7 +118,7 @@ pub fn read_names<A: Allocator + Copy>(
     named(found, ends?)
 }
 
-// The names of the last and the first of a stream.
+// The names of the last and the first entry of a stream.
 fn names_of<A: Allocator>(ends: Vec<Option<IterItem<A>>, A>) -> [Result<Option<Name>, Error>; 2] {
     let mut names = [Ok(None), Ok(None)];
     for (slot, answer) in names.iter_mut().zip(ends.into_iter()) {
@@ -128,7 +127,7 @@ fn names_of<A: Allocator>(ends: Vec<Option<IterItem<A>>, A>) -> [Result<Option<N
     names
 }
 
-/// The names of a found entry, and of the first and the last of a stream, by the answers of
+/// The names of a found entry, and of the first and the last entry of a stream, from the items of
 /// [`ends_of`].
 pub fn named<A: Allocator + Copy>(
     found: Option<InternalValue<A>>,

@@ -1,4 +1,4 @@
-//! Rows that a table is written from.
+//! The rows of a table.
 ghost use Rattle.std.specs.Prelude.{IfOk};
 ghost use Rattle.lsm_writers.specs.Writing.{IsFresh};
 
@@ -6,10 +6,10 @@ use lsm_writers::{BloomConstructionPolicy, FinishedTable, Timestamp, Writer};
 use sst_blocks::{Error, InternalValue, SeqNo, Slice, ValueType};
 use std::alloc::Allocator;
 
-/// A key, a number, a kind and a value.
+/// A key, a sequence number, a kind and a value.
 pub type Row<'a> = (&'a [u8], SeqNo, ValueType, &'a [u8]);
 
-/// A writer of the table 1 at level 0 and moment 0, without a filter.
+/// A writer of the table 1 at level 0 and timestamp 0, without a filter.
 pub fn new_writer<A: Allocator + Clone>(alloc: A) -> Result<Writer<A>, Error>
     ensures { IfOk result (λ w. IsFresh w) }
 {
@@ -24,7 +24,7 @@ pub fn entry<A: Allocator + Clone>(alloc: A, row: &Row<'_>) -> Result<InternalVa
     Ok(InternalValue::from_components(key, value, row.1, row.2))
 }
 
-// Writes a row; `false` where it may not follow.
+// Writes a row; `false` if it may not follow.
 fn put_row<A: Allocator + Clone>(
     alloc: A,
     writer: &mut Writer<A>,
@@ -38,7 +38,7 @@ fn put_row<A: Allocator + Clone>(
     Ok(true)
 }
 
-/// Writes some rows, up to one that may not follow; `false` where there is such a row.
+/// Writes some rows, up to one that may not follow; `false` if there is such a row.
 pub fn put_rows<A: Allocator + Clone>(
     alloc: A,
     writer: &mut Writer<A>,
@@ -52,20 +52,20 @@ pub fn put_rows<A: Allocator + Clone>(
     Ok(true)
 }
 
-/// A writer, once it has written what it was given. Generic in the writer, so that none of its
-/// parts is looked at.
+/// Returns a writer, or the error of writing. It is generic in the writer, so that a proof looks at
+/// none of its parts.
 pub fn written<W: Drop>(writer: W, answer: Result<(), Error>) -> Result<W, Error> {
     answer?;
     Ok(writer)
 }
 
-// `Source(0)` where a row may not follow the one before.
+// Fails with `Source(0)` if a row may not follow the one before.
 fn all_put(put: Result<bool, Error>) -> Result<(), Error> {
     if put? { Ok(()) } else { Err(Error::Source(0)) }
 }
 
-/// The writer, once it has written some rows. `Source(0)` where a row may not follow the one
-/// before.
+/// The writer, after it has written some rows. Fails with `Source(0)` if a row may not follow the
+/// one before.
 pub fn filled<A: Allocator + Clone>(
     mut writer: Writer<A>,
     alloc: A,
@@ -75,8 +75,8 @@ pub fn filled<A: Allocator + Clone>(
     written(writer, answer)
 }
 
-/// The table of some rows. `Source(0)` where a row may not follow the one before, `Source(1)` where
-/// there are none.
+/// The table of some rows. Fails with `Source(0)` if a row may not follow the one before, and with
+/// `Source(1)` if there are none.
 pub fn fill<A: Allocator + Clone>(
     writer: Writer<A>,
     alloc: A,

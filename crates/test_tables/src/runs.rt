@@ -15,18 +15,18 @@ pub const ALL: Bounds<'static> = (Bound::Unbounded, Bound::Unbounded);
 
 pub type Tables<A> = Arc<Run<Table<A>, A>, A>;
 
-/// A key of one byte, 0 for any other, and a number.
+/// A key of one byte, 0 for any other, and a sequence number.
 pub type Name = (u8, SeqNo);
 
 /// The tables of a run, by their rows.
 pub type Lists = &'static [&'static [Row<'static>]];
 
-// The bytes of the table of some rows, all in one block of data.
+// The bytes of the table of some rows, all in one data block.
 fn bytes_of<A: Allocator + Copy>(alloc: A, rows: &[Row<'_>]) -> Result<Slice<A>, Error> {
     Ok(fill(new_writer(alloc)?, alloc, rows)?.bytes)
 }
 
-// The table of some rows, and some of its bytes changed.
+// The table of some rows, with some of its bytes changed.
 fn table_of<A: Allocator + Copy>(
     alloc: A,
     rows: &[Row<'_>],
@@ -37,10 +37,10 @@ fn table_of<A: Allocator + Copy>(
     open(alloc, bytes, 0)
 }
 
-// The first byte of the payload of the block of data.
+// The first byte of the payload of the data block.
 const DAMAGE: [(usize, &[u8]); 1] = [(24, b"?")];
 
-// The table at a place, its block of data damaged if it is the damaged one.
+// The table at an index, with its data block damaged if `damaged` is this index.
 fn table_at<A: Allocator + Copy>(
     alloc: A,
     rows: &[Row<'_>],
@@ -53,7 +53,7 @@ fn table_at<A: Allocator + Copy>(
     }
 }
 
-// The tables of some lists, the one at a place damaged.
+// The tables of some lists, with the one at an index damaged.
 fn tables_of<A: Allocator + Copy>(
     alloc: A,
     lists: &[&[Row<'_>]],
@@ -66,7 +66,7 @@ fn tables_of<A: Allocator + Copy>(
     Ok(tables)
 }
 
-// The run of some tables. `Source(2)` where there are none.
+// The run of some tables. Fails with `Source(2)` if there are none.
 fn shared<A: Allocator + Copy>(alloc: A, tables: Vec<Table<A>, A>) -> Result<Tables<A>, Error> {
     match Run::new(tables) {
         Some(run) => Ok(Arc::new(alloc, run)?),
@@ -74,13 +74,13 @@ fn shared<A: Allocator + Copy>(alloc: A, tables: Vec<Table<A>, A>) -> Result<Tab
     }
 }
 
-/// A run of the tables of some lists. `Source(2)` where there are none.
+/// A run of the tables of some lists. Fails with `Source(2)` if there are none.
 pub fn run_of<A: Allocator + Copy>(alloc: A, lists: &[&[Row<'_>]]) -> Result<Tables<A>, Error> {
     damaged_run_of(alloc, lists, lists.len())
 }
 
-/// A run of the tables of some lists, where the block of data of the table at a place is damaged,
-/// if there is one.
+/// A run of the tables of some lists, with the data block of the table at an index, if any,
+/// damaged.
 pub fn damaged_run_of<A: Allocator + Copy>(
     alloc: A,
     lists: &[&[Row<'_>]],
@@ -123,7 +123,7 @@ pub(crate) fn name_in<A: Allocator>(item: &InternalValue<A>) -> Name {
     }
 }
 
-/// The name of an answer.
+/// The name of an item.
 pub fn name_of<A: Allocator>(item: Option<IterItem<A>>) -> Result<Option<Name>, Error> {
     match item {
         Some(Ok(item)) => Ok(Some(name_in(&item))),
@@ -132,8 +132,8 @@ pub fn name_of<A: Allocator>(item: Option<IterItem<A>>) -> Result<Option<Name>, 
     }
 }
 
-/// Whether an answer is right, or is want of memory where a request is refused. Some requests are
-/// for what a table remembers, and refused it does without.
+/// Whether a result is right, or is `OutOfMemory` where a request may fail. A reader works without
+/// the memory for its verified-block cache, so that failure causes no error.
 pub fn is_right(answer: Result<bool, Error>, may_fail: bool) -> bool {
     match answer {
         Ok(right) => right,

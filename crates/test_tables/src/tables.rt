@@ -1,11 +1,11 @@
-//! Opening a table, changing its bytes and reading from it, for the tests.
+//! Opens tables, changes their bytes and reads from them, for tests.
 use logpurple::table::Table;
 use sst_blocks::{
     Block, BlockHandle, BlockSource, BlockType, Checksum, DataBlock, Error, Opened, SeqNo, Slice,
 };
 use std::alloc::Allocator;
 
-/// The table of some bytes, all of it loaded that can be.
+/// The table of some bytes, with filter and index pinned.
 pub fn open<A: Allocator + Clone>(
     alloc: A,
     bytes: Slice<A>,
@@ -14,7 +14,7 @@ pub fn open<A: Allocator + Clone>(
     Table::recover(alloc, bytes, Checksum(0), global_seqno, 0, true, true)
 }
 
-/// The number that a read finds, if any, and how many data blocks it loads.
+/// The sequence number that a read finds, if any, and the number of data blocks that it loads.
 pub fn read<A: Allocator + Clone>(
     table: &Table<A>,
     key: &[u8],
@@ -29,7 +29,7 @@ pub fn read<A: Allocator + Clone>(
     (found, opened.data_loads)
 }
 
-/// Some bytes, of which some runs are overwritten: from where, and with what.
+/// Some bytes, of which some ranges are overwritten: their offset, and the new bytes.
 pub fn overwritten<A: Allocator + Clone>(
     alloc: A,
     bytes: &[u8],
@@ -46,7 +46,7 @@ pub fn overwritten<A: Allocator + Clone>(
     Slice::from_vec(bytes)
 }
 
-// The entries of a block, where it has a kind that holds them.
+// The entries of a block, if its kind has entries.
 fn entries_of<A: Allocator>(block: Block<A>) -> Result<DataBlock<A>, Error> {
     match block.kind() {
         BlockType::Data | BlockType::Meta => Ok(DataBlock::new(block)),

@@ -1,5 +1,4 @@
-//! Rows of each kind, with different values, and the comparison of an entry with the whole of the
-//! row that it was written from.
+//! Rows of each kind, with different values, and the comparison of whole entries with their rows.
 use crate::rows::Row;
 use sst_blocks::{InternalValue, IterItem, ValueType};
 use std::alloc::Allocator;
@@ -14,12 +13,12 @@ pub const B6: Row<'static> = (b"b", 6, ValueType::Value, b"yy");
 
 pub const C5: Row<'static> = (b"c", 5, ValueType::Indirection, b"far");
 
-/// That a tombstone has no value is custom, and no rule.
+/// A tombstone with a value: by custom it has none, but no rule forbids it.
 pub const D3: Row<'static> = (b"d", 3, ValueType::Tombstone, b"gone");
 
 pub const D2: Row<'static> = (b"d", 2, ValueType::Indirection, b"");
 
-// Whether an entry has the key, the number, the kind and the value of a row.
+// Whether an entry has the key, sequence number, kind and value of a row.
 fn is_row<A: Allocator>(item: &InternalValue<A>, row: &Row<'_>) -> bool {
     item.key.user_key.as_slice() == row.0
         && item.key.seqno == row.1
@@ -27,7 +26,7 @@ fn is_row<A: Allocator>(item: &InternalValue<A>, row: &Row<'_>) -> bool {
         && item.value.as_slice() == row.3
 }
 
-/// Whether an answer is the entry of a row, or nothing where there is no row.
+/// Whether an item is the entry of a row, or nothing where there is no row.
 pub fn is_answer<A: Allocator>(answer: &Option<IterItem<A>>, row: Option<&Row<'_>>) -> bool {
     match (answer, row) {
         (Some(Ok(item)), Some(row)) => is_row(item, row),

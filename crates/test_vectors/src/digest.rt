@@ -1,15 +1,15 @@
-//! Checksums of answers.
+//! Checksums of results.
 use sst_blocks::{Error, InternalValue, IterItem, KeyedBlockHandle, Opened};
 use sst_sections::fnv::Fnv1a;
 use std::alloc::Allocator;
 
-/// The running FNV-1a hash of answers. Each number counts as 8 bytes, the low one first, and each
-/// run of bytes as its length and itself.
+/// The running FNV-1a hash of results. Each number counts as 8 little-endian bytes, and each byte
+/// string as its length and its bytes.
 #[derive(Clone, Copy)]
 pub struct Digest(Fnv1a);
 
 impl Digest {
-    /// Of no answers.
+    /// The hash of no results.
     pub fn new() -> Digest {
         Digest(Fnv1a::new())
     }
@@ -28,7 +28,7 @@ impl Digest {
         self.0.update(bytes);
     }
 
-    /// A 2, the key, the number, the kind's tag and the value.
+    /// A 2, the key, the sequence number, the kind's tag and the value.
     fn put_entry<A: Allocator>(&mut self, item: &InternalValue<A>) {
         self.put_number(2);
         self.put_bytes(item.key.user_key.as_slice());
@@ -37,13 +37,13 @@ impl Digest {
         self.put_bytes(item.value.as_slice());
     }
 
-    /// A 1 and the refusal's number.
+    /// A 1 and the error code.
     pub fn put_error(&mut self, error: &Error) {
         self.put_number(1);
         self.put_number(u64::from(error.number()));
     }
 
-    /// What a point read finds: a 0 for none.
+    /// The entry that a point read finds: a 0 for none.
     pub fn put_found<A: Allocator>(&mut self, found: &Option<InternalValue<A>>) {
         match found {
             Some(item) => self.put_entry(item),
@@ -51,7 +51,7 @@ impl Digest {
         }
     }
 
-    /// What a point read answers.
+    /// The result of a point read.
     pub fn put_answer<A: Allocator>(&mut self, answer: &Result<Option<InternalValue<A>>, Error>) {
         match answer {
             Ok(found) => self.put_found(found),
@@ -59,7 +59,7 @@ impl Digest {
         }
     }
 
-    /// What a step of a walk answers; `false` at the end, which counts as a 0.
+    /// The result of a step of an iteration; `false` at the end, which counts as a 0.
     pub fn put_step<A: Allocator>(&mut self, step: &Option<IterItem<A>>) -> bool {
         match step {
             Some(Ok(item)) => self.put_entry(item),
@@ -69,8 +69,9 @@ impl Digest {
         step.is_some()
     }
 
-    /// What a step over the index answers: a 2, the end key, its number, and the block's position
-    /// and length; `false` at the end, which counts as a 0.
+    /// The result of a step over the index; `false` at the end, which counts as a 0.
+    ///
+    /// A handle counts as a 2, the end key, its sequence number, and the block's offset and length.
     pub fn put_handle<A: Allocator>(
         &mut self,
         step: &Option<Result<KeyedBlockHandle<A>, Error>>,
@@ -89,14 +90,14 @@ impl Digest {
         step.is_some()
     }
 
-    /// How many blocks of data, index and filter were loaded.
+    /// The numbers of data, index and filter blocks that were loaded.
     pub fn put_opened(&mut self, opened: &Opened) {
         self.put_number(opened.data_loads);
         self.put_number(opened.index_loads);
         self.put_number(opened.filter_loads);
     }
 
-    /// How many blocks of each kind were loaded, the meta block last.
+    /// The number of loaded blocks of each kind, the meta block last.
     pub fn put_loads(&mut self, opened: &Opened) {
         self.put_opened(opened);
         self.put_number(opened.meta_loads);

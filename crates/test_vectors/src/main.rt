@@ -1,27 +1,28 @@
-//! Reads and writes the tables that an independent program made, and prints what it finds: for each
-//! table a checksum of all that it says and reads, which that program's own answers give too.
+//! Reads and writes tables that an independent program made, and prints a checksum of the results
+//! for each table. The results of that program have the same checksums.
 //!
 //! Standard input is a list of commands, each a line of words. Bytes are in hex, `-` for none, and
 //! flags are 1 or 0:
 //!
-//! - `table BYTES`: the table that the lines below speak of;
-//! - `entry KEY NUMBER TAG VALUE`: one more entry, its kind by its tag;
+//! - `table BYTES`: the table of the lines below;
+//! - `entry KEY SEQNO TAG VALUE`: one more entry, its kind by its tag;
 //! - `query KEY BOUND`: one more point read;
-//! - `forget`: the entries and the point reads go;
-//! - `write ID LEVEL MOMENT SIZE INDEX FILTER SIZE BLOCK BITS INTERVAL`: writes the entries. A
-//!   partition size is set before the kinds of index and filter are chosen (1 for partitions), and
-//!   one behind that; then follow the data block size, the tenths of a bit a key and the restart
-//!   interval of data blocks. With three numbers alone no option is set. Prints whether the bytes
-//!   are those of the table, and their checksum;
-//! - `read FILTER INDEX`: opens the table, 1 for what stays loaded. Prints the checksum of all that
-//!   it says and reads, with the loads of each point read;
+//! - `forget`: removes the entries and the point reads;
+//! - `write ID LEVEL TIMESTAMP SIZE INDEX FILTER SIZE BLOCK BITS INTERVAL`: writes the entries.
+//!   The first partition size is set before the kinds of index and filter (1 for partitions), the
+//!   second after them. Then follow the data block size, the tenths of a bit per key and the
+//!   restart interval of data blocks. With three numbers alone no option is set. Prints whether the
+//!   bytes are those of the table, and their checksum;
+//! - `read FILTER INDEX`: opens the table, 1 to pin a part. Prints the checksum of its metadata and
+//!   of the results of all reads, with the loads of each point read;
 //! - `damage FILTER INDEX POSITION BYTE ..`: opens the table with some bytes changed, or none.
-//!   Prints why it is refused, or the checksum of what the point reads and a walk answer;
-//! - `sweep FILTER INDEX GLOBAL ..`: opens the table as it is under each of these global numbers,
-//!   and then, under 0, with each byte in turn set to 0, to 255 and to its complement, where that
-//!   is another one. Prints how many were opened, how many of these were not refused, and three
-//!   checksums: of what was changed, and the refusal or what the table says of itself; of what the
-//!   point reads answer and load; and of what walks answer and load.
+//!   Prints the error code, or the checksum of the results of the point reads and of an iteration;
+//! - `sweep FILTER INDEX GLOBAL ..`: opens the table unchanged under each of these global sequence
+//!   numbers. Then it opens the table under 0 with each byte in turn set to 0, to 255 and to its
+//!   complement, where that is another one. Prints the number of calls of `open`, the number of
+//!   those that succeeded, and three checksums. The first is of the changes, and of each error or
+//!   table's metadata. The second is of the results and loads of the point reads, and the third of
+//!   those of the iterations.
 #![tactic(auto)]
 
 mod digest;
@@ -37,7 +38,7 @@ use std::alloc::Allocator;
 use std::io::{self, BufRead, BufReader, BufWriter, Write};
 use sweeping::Swept;
 
-// Reads the next line, without its end; `false` where there is none.
+// Reads the next line, without its end; `false` if there is none.
 fn read_line<R: BufRead, A: Allocator>(input: &mut R, line: &mut Vec<u8, A>) -> io::Result<bool> {
     line.clear();
     let length = input.read_until(b'\n', line)?;
@@ -54,7 +55,7 @@ fn print_sweep<W: Write>(output: &mut W, sweep: &Swept) -> io::Result<()> {
     writeln!(output, "sweep {opens} {taken} {opened} {read} {walked}")
 }
 
-// Prints what a command came to.
+// Prints the result of a command.
 fn print_answer<W: Write>(output: &mut W, answer: &Answer) -> io::Result<()> {
     match answer {
         Answer::Silent => Ok(()),
@@ -66,7 +67,7 @@ fn print_answer<W: Write>(output: &mut W, answer: &Answer) -> io::Result<()> {
     }
 }
 
-// Answers each line, up to the last one.
+// Runs the command of each line, up to the last one.
 fn answer_lines<A: Allocator + Copy, R: BufRead, W: Write>(
     script: &mut Script<A>,
     line: &mut Vec<u8, A>,
@@ -82,8 +83,8 @@ fn answer_lines<A: Allocator + Copy, R: BufRead, W: Write>(
     Ok(())
 }
 
-// Answers all that is read, and writes it out. Generic in both ends, so that none of their parts is
-// looked at.
+// Reads all lines and writes their results. It is generic in both ends, so that a proof looks at
+// none of their parts.
 fn answer_all<A: Allocator + Copy, R: BufRead + Drop, W: Write + Drop>(
     alloc: A,
     mut input: R,

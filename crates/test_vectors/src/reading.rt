@@ -1,21 +1,21 @@
-//! What tables say of themselves, and what is read of them.
+//! The metadata of tables, and the results of reads.
 use crate::digest::Digest;
 use crate::walking::{ALL, BACKS, FRONTS, put_steps};
 use lsm_readers::{ParsedMeta, Query, Table};
 use sst_blocks::{Checksum, Error, Opened, SeqNo, Slice};
 use std::alloc::Allocator;
 
-/// What stays loaded while a table is open.
+/// The parts that are pinned while a table is open.
 #[derive(Clone, Copy)]
 pub struct Pins {
     pub filter: bool,
     pub index: bool,
 }
 
-/// How many steps a walk over a damaged table makes at most.
+/// The largest number of steps of an iteration over a damaged table.
 const SOME: usize = 80;
 
-/// Opens a table, whose numbers have the global number added.
+/// Opens a table with a global sequence number.
 pub fn open<A: Allocator + Copy>(
     alloc: A,
     bytes: &[u8],
@@ -34,8 +34,8 @@ pub fn open<A: Allocator + Copy>(
     )
 }
 
-/// What is asked of a large value and of another, or why there is no large one, which is let go of
-/// here alone. Generic in it, so that none of its parts is looked at.
+/// Calls a function on a large value with a second one, and drops the large one; or returns the
+/// error of making it. It is generic, so that a proof looks at no part of the value.
 pub fn asked<T: Drop, C: Copy, U, F: FnOnce(&T, C) -> Result<U, Error> + Drop>(
     made: Result<T, Error>,
     with: C,
@@ -59,7 +59,7 @@ fn put_counts<A: Allocator>(digest: &mut Digest, meta: &ParsedMeta<A>) {
     digest.put_number(meta.file_size);
 }
 
-/// What a table says of itself: what its meta block says, and the sizes of what stays loaded.
+/// The metadata of a table: its meta block, and the sizes of its pinned parts.
 pub fn put_facts<A: Allocator>(digest: &mut Digest, table: &Table<A>) {
     let meta = &table.metadata;
     put_counts(digest, meta);
@@ -72,7 +72,7 @@ pub fn put_facts<A: Allocator>(digest: &mut Digest, table: &Table<A>) {
     digest.put_number(table.pinned_block_index_size() as u64);
 }
 
-/// The answer of a point read; what it loads.
+/// Adds the result of a point read, and returns the loads.
 pub fn put_read<A: Allocator + Copy>(
     digest: &mut Digest,
     table: &Table<A>,
@@ -84,7 +84,7 @@ pub fn put_read<A: Allocator + Copy>(
     opened
 }
 
-// The answers of point reads, with the loads of each where these are asked for.
+// The results of point reads, with the loads of each if they are wanted.
 fn put_reads<A: Allocator + Copy>(
     digest: &mut Digest,
     table: &Table<A>,
@@ -99,7 +99,7 @@ fn put_reads<A: Allocator + Copy>(
     }
 }
 
-// The entries from some ends, up to some number of steps.
+// The entries from some ends, up to a number of steps.
 fn put_entries<A: Allocator + Copy>(
     digest: &mut Digest,
     table: &Table<A>,
@@ -109,7 +109,7 @@ fn put_entries<A: Allocator + Copy>(
     put_steps(digest, table.iter(), ends, steps)
 }
 
-// All that a table says and reads.
+// The metadata of a table, and the results of its reads.
 fn digest_of_all<A: Allocator + Copy>(table: &Table<A>, reads: &[Query<A>]) -> Result<u64, Error> {
     let mut digest = Digest::new();
     put_facts(&mut digest, table);
@@ -120,7 +120,7 @@ fn digest_of_all<A: Allocator + Copy>(table: &Table<A>, reads: &[Query<A>]) -> R
     Ok(digest.finish())
 }
 
-/// The checksum of all that a table says and reads.
+/// The checksum of a table's metadata and of the results of its reads.
 pub fn read_all<A: Allocator + Copy>(
     alloc: A,
     bytes: &[u8],
@@ -130,7 +130,7 @@ pub fn read_all<A: Allocator + Copy>(
     asked(open(alloc, bytes, pins, 0), reads, digest_of_all)
 }
 
-// What point reads of a damaged table and a walk over it answer.
+// The results of point reads of a damaged table and of an iteration over it.
 fn digest_of_damaged<A: Allocator + Copy>(
     table: &Table<A>,
     reads: &[Query<A>],
@@ -141,7 +141,7 @@ fn digest_of_damaged<A: Allocator + Copy>(
     Ok(digest.finish())
 }
 
-/// Some bytes, of which some are changed: each two numbers are a position and a byte.
+/// Some bytes with changes: each two numbers are an offset and a byte.
 pub fn changed<A: Allocator>(alloc: A, bytes: &[u8], changes: &[u64]) -> Result<Vec<u8, A>, Error> {
     let mut bytes = Vec::from_slice(alloc, bytes)?;
     let mut position = None;
@@ -159,7 +159,7 @@ pub fn changed<A: Allocator>(alloc: A, bytes: &[u8], changes: &[u64]) -> Result<
     Ok(bytes)
 }
 
-/// The checksum of what a table reads of which some bytes are changed.
+/// The checksum of the results of reads of a table with some bytes changed.
 pub fn read_damaged<A: Allocator + Copy>(
     alloc: A,
     bytes: &[u8],

@@ -1,4 +1,4 @@
-//! The commands, and what was told so far.
+//! The commands, and the state that they set.
 use crate::reading::{Pins, asked, read_all, read_damaged};
 use crate::sweeping::{Subject, Swept, sweep};
 use crate::words::{bytes_of, number_of, numbers_of, split_word};
@@ -9,7 +9,7 @@ use sst_blocks::{Error, InternalValue, Slice, ValueType};
 use std::alloc::Allocator;
 use std::mem;
 
-/// What a command came to.
+/// The result of a command.
 #[derive(Drop)]
 pub enum Answer {
     Silent,
@@ -21,7 +21,7 @@ pub enum Answer {
     Unknown,
 }
 
-/// What was told so far.
+/// The state that the commands so far have set.
 #[derive(Drop)]
 pub struct Script<A: Allocator> {
     alloc: A,
@@ -30,7 +30,7 @@ pub struct Script<A: Allocator> {
     reads: Vec<Query<A>, A>,
 }
 
-// A number of a list, or 0 where it is shorter.
+// A number of a list, or 0 if the list is shorter.
 fn at(numbers: &[u64], place: usize) -> u64 {
     match numbers.get(place) {
         Some(number) => *number,
@@ -38,7 +38,7 @@ fn at(numbers: &[u64], place: usize) -> u64 {
     }
 }
 
-// A number that has room in 4 bytes, or the largest one.
+// A number as a `u32`, or the largest one if it is too large.
 fn at_u32(numbers: &[u64], place: usize) -> u32 {
     u32::try_from(at(numbers, place)).unwrap_or(u32::MAX)
 }
@@ -91,7 +91,7 @@ fn slice_of<A: Allocator + Clone>(alloc: A, word: &[u8]) -> Result<Slice<A>, Err
     Slice::from_vec(bytes_of(alloc, word)?)
 }
 
-// The entry of the words behind `entry`.
+// The entry of the words after `entry`.
 fn item_of<A: Allocator + Copy>(alloc: A, line: &[u8]) -> Result<InternalValue<A>, Error> {
     let (key, rest) = split_word(line);
     let (number, rest) = split_word(rest);
@@ -101,7 +101,7 @@ fn item_of<A: Allocator + Copy>(alloc: A, line: &[u8]) -> Result<InternalValue<A
     Ok(InternalValue::from_components(key, value, number_of(number), kind_of(kind)))
 }
 
-// The read of the words behind `query`.
+// The read of the words after `query`.
 fn read_of<A: Allocator + Copy>(alloc: A, line: &[u8]) -> Result<Query<A>, Error> {
     let (key, bound) = split_word(line);
     Ok(Query {
@@ -118,7 +118,7 @@ fn written_as<A: Allocator>(table: &FinishedTable<A>, bytes: &[u8]) -> Result<An
     })
 }
 
-// Puts a value behind others, or says why there is none.
+// Pushes a value, or returns the error of making it.
 fn add<T: Drop, A: Allocator>(values: &mut Vec<T, A>, made: Result<T, Error>) -> Result<(), Error> {
     values.push(made?)?;
     Ok(())
@@ -130,7 +130,7 @@ fn silent(done: Result<(), Error>) -> Result<Answer, Error> {
 }
 
 impl<A: Allocator + Copy> Script<A> {
-    /// Nothing was told yet.
+    /// The state before any command.
     pub fn new(alloc: A) -> Script<A> {
         Script {
             alloc,
@@ -140,7 +140,7 @@ impl<A: Allocator + Copy> Script<A> {
         }
     }
 
-    /// What a line comes to.
+    /// The result of a line.
     pub fn answer(&mut self, line: &[u8]) -> Answer {
         match self.obey(line) {
             Ok(answer) => answer,
@@ -159,7 +159,7 @@ impl<A: Allocator + Copy> Script<A> {
         }
     }
 
-    // Keeps what the lines behind are to use.
+    // Keeps the arguments of a command for the lines after it.
     fn note(&mut self, name: &[u8], words: &[u8]) -> Result<Answer, Error> {
         match name {
             b"table" => silent(self.set_table(words)),

@@ -1,4 +1,4 @@
-//! Sweeps: what a table answers as it is, and with each of its bytes changed.
+//! Sweeps: the results of a table unchanged, and with each of its bytes changed.
 use crate::digest::Digest;
 use crate::reading::{Pins, asked, changed, open, put_facts, put_read};
 use crate::walking::{BACKS, FRONTS, IN_TURN, put_walk};
@@ -9,7 +9,7 @@ use sst_blocks::{BlockSource, Counted, Error, SeqNo, Slice};
 use std::alloc::Allocator;
 use std::ops::Bound;
 
-/// What is opened, and what is read of it.
+/// The table to open, and the reads of it.
 #[derive(Drop)]
 pub struct Subject<'a, A: Allocator> {
     pub alloc: A,
@@ -18,22 +18,22 @@ pub struct Subject<'a, A: Allocator> {
     pub reads: &'a [Query<A>],
 }
 
-/// What came out.
+/// The result of a sweep.
 #[derive(Clone, Copy)]
 pub struct Swept {
-    /// How many tables were opened, or refused to be.
+    /// The number of tables for which `open` was called.
     pub opens: u64,
-    /// How many of these were opened.
+    /// The number of these that were opened.
     pub taken: u64,
-    /// What was changed, and why the table was refused or what it says of itself.
+    /// The changes, and for each the error or the metadata of the table.
     pub opened: Digest,
-    /// What point reads answer and load.
+    /// The results and loads of point reads.
     pub read: Digest,
-    /// What walks answer and load.
+    /// The results and loads of iterations.
     pub walked: Digest,
 }
 
-// The checksums of what an open table says, and of what reads and walks of it answer.
+// The checksums of an open table's metadata, and of the results of its reads and iterations.
 #[derive(Clone, Copy)]
 struct Answers {
     told: u64,
@@ -45,7 +45,7 @@ fn source_of<A: Allocator + Copy>(alloc: A, table: &Table<A>) -> Result<BlockSou
     BlockSource::new(alloc, table.bytes()?)
 }
 
-// Point reads, each by the table and over a source that counts.
+// Point reads, each by the table and over a source that counts loads.
 fn put_reads<A: Allocator + Copy>(
     digest: &mut Digest,
     source: &BlockSource<A>,
@@ -87,7 +87,7 @@ fn digest_of_reads<A: Allocator + Copy>(
     Ok(digest.finish())
 }
 
-// The key above which a range is walked.
+// The lower bound of a range, exclusive.
 const ABOVE: &[u8] = b"a";
 
 fn above<A: Allocator + Copy>(alloc: A, table: &Table<A>) -> Result<Iter<A>, Error> {
@@ -102,7 +102,7 @@ fn handles_of<A: Allocator + Copy>(
     index.iter()
 }
 
-// All entries, those above a key, and the handles of the index, from some ends.
+// The entries, those above a key, and the handles of the index, from some ends.
 fn put_walks<A: Allocator + Copy>(
     digest: &mut Digest,
     alloc: A,
@@ -168,10 +168,10 @@ impl Swept {
         }
     }
 
-    // Opens a table with the byte at a place changed in each way.
+    // Opens a table with the byte at an index changed to 0, to 255 and to its complement.
     fn change_byte<A: Allocator + Copy>(&mut self, subject: &Subject<'_, A>, at: u64, byte: u8) {
         for (way, value) in [0, 0xff, !byte].iter().enumerate() {
-            // The complement of 0 is 255, and the other way round.
+            // The complement of 0 is 255, and that of 255 is 0.
             let is_again = way == 2 && (byte == 0 || byte == 0xff);
             if *value != byte && !is_again {
                 let value = u64::from(*value);
@@ -190,8 +190,8 @@ impl Swept {
     }
 }
 
-/// Opens a table as it is under some global numbers, and with each byte changed in turn to 0, to
-/// 255 and to its complement, under 0.
+/// Opens a table unchanged under some global sequence numbers. Then opens it under 0 with each byte
+/// in turn changed to 0, to 255 and to its complement.
 pub fn sweep<A: Allocator + Copy>(subject: &Subject<'_, A>, global_seqnos: &[SeqNo]) -> Swept {
     let mut sweep = Swept {
         opens: 0,

@@ -1,4 +1,4 @@
-//! Walks: over entries and over the handles of the index, from both ends, and block by block.
+//! Iterations over entries and over the handles of the index, from both ends, and block by block.
 use crate::digest::Digest;
 use lsm_block_indexes::{BlockIndexIter, BlockIndexIterImpl};
 use lsm_iters::Iter;
@@ -6,10 +6,10 @@ use lsm_readers::Scanner;
 use sst_blocks::{Error, Opened};
 use std::alloc::Allocator;
 
-/// What is walked. What does so is generic in it, so that none of its parts is looked at.
+/// An iterator. Its callers are generic, so that a proof looks at none of its parts.
 pub trait Walk {
-    /// Takes what a step from an end answers. Tells whether there was something left, and which
-    /// blocks were loaded so far.
+    /// Adds the result of a step at an end. Returns whether it was not the end, and the blocks
+    /// loaded so far.
     fn put_step(&mut self, digest: &mut Digest, is_back: bool) -> (bool, Opened);
 }
 
@@ -35,24 +35,24 @@ impl<A: Allocator + Copy> Walk for BlockIndexIterImpl<A> {
     }
 }
 
-// A scan has one end alone.
+// A scan has a front only.
 impl<A: Allocator + Copy> Walk for Scanner<A> {
     fn put_step(&mut self, digest: &mut Digest, _: bool) -> (bool, Opened) {
         (digest.put_step(&self.next()), self.opened())
     }
 }
 
-/// From which ends each two steps are made, `true` for the back.
+/// The ends of each two steps, `true` for the back.
 pub const FRONTS: [bool; 2] = [false, false];
 
 pub const BACKS: [bool; 2] = [true, true];
 
 pub const IN_TURN: [bool; 2] = [false, true];
 
-/// More steps than a table here has entries.
+/// More steps than any table here has entries.
 pub const ALL: usize = 1_000;
 
-/// What a walk answers, up to its end or to some number of steps.
+/// The items of an iteration, up to its end or to a number of steps.
 pub fn put_steps<W: Walk + Drop>(
     digest: &mut Digest,
     made: Result<W, Error>,
@@ -68,10 +68,11 @@ pub fn put_steps<W: Walk + Drop>(
     Ok(())
 }
 
-/// How often nothing is answered before a walk is left: at its end, and twice more from each.
+/// The number of `None` results after which an iteration is left: the one at its end, and two more
+/// from each end.
 const NOTHING: u64 = 5;
 
-// What a walk answers and has loaded by each step, to its end and behind it.
+// The result and the loads of each step of an iteration, to its end and after it.
 fn put_to_end<W: Walk>(digest: &mut Digest, walk: &mut W, ends: [bool; 2]) {
     let mut nothing = 0u64;
     for step in 0..ALL {
@@ -87,7 +88,8 @@ fn put_to_end<W: Walk>(digest: &mut Digest, walk: &mut W, ends: [bool; 2]) {
     }
 }
 
-/// What a walk answers and has loaded by each step, to its end and behind it; or why there is none.
+/// The result and the loads of each step of an iteration, to its end and after it; or the error of
+/// making it.
 pub fn put_walk<W: Walk + Drop>(digest: &mut Digest, made: Result<W, Error>, ends: [bool; 2]) {
     match made {
         Ok(mut walk) => put_to_end(digest, &mut walk, ends),

@@ -2,7 +2,7 @@
 use sst_blocks::Error;
 use std::alloc::Allocator;
 
-/// The first word, and what follows the space behind it.
+/// The first word, and the rest after the space.
 pub fn split_word(line: &[u8]) -> (&[u8], &[u8]) {
     for (i, byte) in line.iter().enumerate() {
         if *byte == b' ' {
@@ -18,7 +18,7 @@ fn with_digit(number: u64, byte: u8) -> u64 {
     number.saturating_mul(10).saturating_add(digit)
 }
 
-/// The number that a word spells in decimal.
+/// The decimal number of a word.
 pub fn number_of(word: &[u8]) -> u64 {
     let mut number = 0;
     for byte in word {
@@ -27,7 +27,7 @@ pub fn number_of(word: &[u8]) -> u64 {
     number
 }
 
-/// The numbers that the words of a line spell.
+/// The decimal numbers of the words of a line.
 pub fn numbers_of<A: Allocator>(alloc: A, line: &[u8]) -> Result<Vec<u64, A>, Error> {
     let mut numbers = Vec::new(alloc);
     let mut number = 0;
@@ -51,7 +51,7 @@ fn digit_of(byte: u8) -> u8 {
     }
 }
 
-/// The bytes that a word spells in hex; none for `-`.
+/// The bytes of a word in hex; none for `-`.
 pub fn bytes_of<A: Allocator>(alloc: A, word: &[u8]) -> Result<Vec<u8, A>, Error> {
     let mut bytes = Vec::with_capacity(alloc, word.len() / 2)?;
     let mut high = None;

@@ -1,4 +1,4 @@
-//! Writing tables with options that are not the defaults.
+//! Writes tables with options that are not the defaults.
 ghost use Rattle.std.specs.Prelude.{IfOk};
 ghost use Rattle.lsm_writers.specs.Writing.{IsFresh};
 
@@ -6,22 +6,22 @@ use lsm_writers::{BloomConstructionPolicy, FinishedTable, Timestamp, Writer};
 use sst_blocks::{Error, InternalValue};
 use std::alloc::Allocator;
 
-/// What a table is written with.
+/// The options of a table.
 #[derive(Clone, Copy)]
 pub struct Choices {
     pub id: u64,
     pub level: u8,
     pub moment: u64,
-    /// Whether no option is set, and what follows is passed over.
+    /// Whether no option is set, and the fields below are ignored.
     pub keeps_defaults: bool,
-    /// A partition size that is set before the kinds of index and filter are chosen.
+    /// A partition size that is set before the kinds of index and filter.
     pub size_before: u32,
     pub has_index_parts: bool,
     pub has_filter_parts: bool,
-    /// A partition size that is set behind them.
+    /// A partition size that is set after them.
     pub size_behind: u32,
     pub block_size: u32,
-    /// Tenths of a bit a key.
+    /// Tenths of a bit per key.
     pub bits: u32,
     pub interval: u8,
 }
@@ -89,7 +89,7 @@ fn new_writer<A: Allocator + Copy>(alloc: A, choices: &Choices) -> Result<Writer
     }
 }
 
-// Writes entries. `Source(0)` where one may not follow the one before.
+// Writes entries. Fails with `Source(0)` if one may not follow the one before.
 fn put_all<A: Allocator + Copy>(
     writer: &mut Writer<A>,
     items: Vec<InternalValue<A>, A>,
@@ -103,15 +103,15 @@ fn put_all<A: Allocator + Copy>(
     Ok(())
 }
 
-// A writer, once it has written what it was given. Generic in the writer, so that none of its parts
-// is looked at.
+// Returns a writer, or the error of writing. It is generic in the writer, so that a proof looks at
+// none of its parts.
 fn written<W: Drop>(writer: W, answer: Result<(), Error>) -> Result<W, Error> {
     answer?;
     Ok(writer)
 }
 
-/// The table of some entries. `Source(0)` where one may not follow the one before, `Source(1)`
-/// where there are none.
+/// The table of some entries. Fails with `Source(0)` if one may not follow the one before, and with
+/// `Source(1)` if there are none.
 pub fn write_table<A: Allocator + Copy>(
     alloc: A,
     choices: &Choices,

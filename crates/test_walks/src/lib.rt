@@ -1,4 +1,4 @@
-//! A walk over lists of numbers, and tests of it. Nothing here is for use.
+//! An iteration over lists of numbers, and its tests. Nothing here is for use.
 #![tactic(auto)]
 
 mod rows;

@@ -1,4 +1,4 @@
-//! Lists of numbers as the parts of a walk.
+//! Lists of numbers as the parts of an iteration.
 ghost use Rattle.std.specs.Prelude.{Option, Result};
 ghost use Rattle.sst_entries.specs.declared.error.Error.{Error};
 ghost use Rattle.lsm_walks.specs.Parts.{Loading};
@@ -8,15 +8,15 @@ use lsm_walks::{Ends, Parts};
 use sst_entries::{Direction, Error};
 use std::collections::LinkedList;
 
-/// Numbers, dealt from both ends, and how many loads they may make of their own: the first step
-/// makes them.
+/// Yields numbers from both ends. `loads` is the number of loads that it may still make; the first
+/// step makes them.
 #[derive(Drop)]
 pub struct Row {
     pub numbers: LinkedList<u8>,
     pub loads: u8,
 }
 
-/// Rows, and an error in the place of one that cannot be loaded.
+/// Rows, with an error at the position of each row that cannot be loaded.
 #[derive(Drop)]
 pub struct Rows {
     pub rows: LinkedList<Result<Row, Error>>,

@@ -1,11 +1,11 @@
-//! What a walk deals from both ends, and when it loads.
+//! Items yielded from both ends, and the steps that load a row.
 use crate::{Row, Rows};
 use lsm_walks::{Ends, Walk};
 use sst_entries::{Direction, Error};
 use std::alloc::Global;
 use std::collections::LinkedList;
 
-// What a step gave.
+// The result of a step.
 #[derive(Clone, Copy, Debug, PartialEq, Eq)]
 enum Given {
     Number(u8),
@@ -13,10 +13,9 @@ enum Given {
     Nothing,
 }
 
-// A step at an end, what it gives, and how many rows are not loaded then.
+// A step at an end, its result, and the number of rows that are not loaded after it.
 type Step = (Direction, Given, usize);
 
-// A row of numbers.
 fn row_of(alloc: Global, numbers: &[u8]) -> Result<Row, Error> {
     let mut list = LinkedList::new(alloc);
     for number in numbers {
@@ -30,7 +29,7 @@ fn row_of(alloc: Global, numbers: &[u8]) -> Result<Row, Error> {
     })
 }
 
-// A walk over rows, of which those that hold nothing but a 0 cannot be loaded.
+// An iteration over rows. A row of a single 0 cannot be loaded.
 fn walk_over(alloc: Global, rows: &[&[u8]]) -> Result<Walk<Rows, Row>, Error> {
     let mut list = LinkedList::new(alloc);
     for numbers in rows {
@@ -54,7 +53,7 @@ fn as_given(answer: Option<Result<u8, Error>>) -> Given {
     }
 }
 
-// How many of these steps give what they are to give, up to the first that does not.
+// The number of steps with the expected result, up to the first with another one.
 fn steps_met(walk: &mut Walk<Rows, Row>, steps: &[Step]) -> usize {
     let mut met = 0usize;
     for (at, want, left) in steps {

@@ -1,4 +1,4 @@
-//! What writers answer: whether an entry may follow, what is refused, and the ids of the tables.
+//! Results of writers: whether an entry may follow, error codes, and the ids of the tables.
 use crate::given::{By, Given, MAY_NOT_FOLLOW, Refusals, number, told};
 use lsm_writers::{MultiWriter, TableId, TableIds, Timestamp};
 use sst_blocks::{SeqNo, ValueType};
@@ -14,15 +14,15 @@ const E3: Row<'static> = (b"e", 3, ValueType::Tombstone, b"");
 // A writer of one table without a filter.
 const TABLE: By = By::Table(false, 4_096, 0);
 
-// What one answers that may not write an entry, nor the further one behind it, and goes on.
+// Two entries that may not follow, after which the writer still works.
 const NOT_BEHIND: Refusals = [0, MAY_NOT_FOLLOW, MAY_NOT_FOLLOW, 0, 0];
 
 // The ids of the first three tables, 0 where there is none.
 type Ids = [TableId; 3];
 
-// What writes some rows, its refusals, the id of the next table, and those of the first ones.
+// A writer, its rows, the error codes, the id of the next table, and the ids of the first tables.
 static ANSWERS: [(By, &[Row<'static>], Refusals, Option<TableId>, Ids); 9] = [
-    // the ids run on from the second at target 0, and where nothing is written there is no table
+    // the ids continue from the second at target 0, and without entries there is no table
     (
         By::Tables(5, 0, 4_096),
         &[A1, B1],
@@ -38,7 +38,7 @@ static ANSWERS: [(By, &[Row<'static>], Refusals, Option<TableId>, Ids); 9] = [
         [5, 0, 0],
     ),
     (By::Tables(5, 0, 4_096), &[], [0; 5], Some(6), [0; 3]),
-    // no table begins once the ids are spent, and the writer has failed then
+    // no table begins without an id, and the writer has failed then
     (
         By::Tables(TableId::MAX, 0, 4_096),
         &[A1],
@@ -46,7 +46,7 @@ static ANSWERS: [(By, &[Row<'static>], Refusals, Option<TableId>, Ids); 9] = [
         None,
         [0; 3],
     ),
-    // neither an older key may follow, nor the same number again, nor the largest number
+    // an older key may not follow, nor the same sequence number again, nor the largest one
     (
         TABLE,
         &[E3, (b"d", 1, ValueType::Value, b"")],
@@ -84,7 +84,7 @@ static ANSWERS: [(By, &[Row<'static>], Refusals, Option<TableId>, Ids); 9] = [
     ),
 ];
 
-// What is answered where rows are written so.
+// The results of writing these rows.
 fn answers(alloc: Global, by: By, rows: &[Row<'static>]) -> (Refusals, Option<TableId>, Ids) {
     let (refusals, next, _, (_, tables)) = told(alloc, by, rows, Given::ByValue);
     (refusals, next, [tables[0].0, tables[1].0, tables[2].0])
@@ -97,7 +97,7 @@ fn entries_follow_or_not_and_ids_run_on_from_table_to_table(rt: HostRuntime) {
     }
 }
 
-// The ids that are left from the last one on, and the number of the refusal of a new writer then.
+// The ids left from the last one on, and the error code of a new writer without ids.
 fn left(alloc: Global) -> ([Option<TableId>; 2], u8) {
     let mut ids = TableIds::new(TableId::MAX);
     let drawn = [ids.next(), ids.next()];

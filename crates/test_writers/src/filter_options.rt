@@ -1,4 +1,4 @@
-//! Filters of partitions whose options were set between keys.
+//! Partitioned filters whose options change between keys.
 ghost use Rattle.std.specs.Prelude.{ℕ, List, [], ◌∷◌, ◌++◌, IfOk};
 ghost use Rattle.lsm_section_writers.specs.Held.{HoldsParts};
 ghost use Rattle.lsm_section_writers.specs.Rising.{Rises};
@@ -12,13 +12,13 @@ use sst_blocks::{
 use std::alloc::Global;
 use test_tables::large::asked_with;
 
-// The partition size, and how many tenths of a bit a key has.
+// The partition size, and tenths of a bit per key.
 type Setting = (u32, u32);
 
-// Those before each of three keys.
+// The settings before each of three keys.
 type Settings = (Setting, Setting, Setting);
 
-// Registers a key once the options are set.
+// Sets the options and registers a key.
 fn add(
     writer: PartitionedFilterWriter,
     setting: Setting,
@@ -35,7 +35,7 @@ fn add(
     Ok(set)
 }
 
-// A writer that is given "a", "b" and "c", each once its options are set.
+// A writer with the keys "a", "b" and "c", each registered after its options were set.
 fn three_keys(alloc: Global, settings: Settings) -> Result<PartitionedFilterWriter, Error> {
     let (first, second, third) = settings;
     let a: UserKey = Slice::from_static(b"a");
@@ -47,7 +47,7 @@ fn three_keys(alloc: Global, settings: Settings) -> Result<PartitionedFilterWrit
     add(two, third, &c)
 }
 
-// How many partitions it writes, and the bytes.
+// The number of partitions and the bytes.
 fn written(alloc: Global, settings: Settings) -> Result<(usize, Slice), Error> {
     let mut sections = SectionWriter::new(alloc)?;
     let count = three_keys(alloc, settings)?.finish(&mut sections)?;
@@ -69,7 +69,7 @@ fn filter_of(block: Block) -> Result<FilterBlock, Error> {
     }
 }
 
-// The top level.
+// The top level of the filter.
 fn tops_of(source: &BlockSource) -> Result<IndexBlock, Error> {
     let Some(section) = source.toc().section(SectionName::FilterTli) else {
         return Err(Error::MissingSection);
@@ -79,7 +79,7 @@ fn tops_of(source: &BlockSource) -> Result<IndexBlock, Error> {
     index_of(source.load(&lies, BlockType::Index, &mut Opened::none())?)
 }
 
-// Whether the partition that the top level names for a key admits it.
+// Whether the partition that the top level returns for a key admits it.
 fn says(source: &BlockSource, tops: &IndexBlock, key: &[u8]) -> Result<bool, Error> {
     let Some(lies) = tops.find(key, SeqNo::MAX) else {
         return Ok(false);
@@ -88,7 +88,7 @@ fn says(source: &BlockSource, tops: &IndexBlock, key: &[u8]) -> Result<bool, Err
     Ok(filter.maybe_contains_hash(Builder::<Global>::get_hash(key)))
 }
 
-// The first byte of the end key of the partition at a place, 0 where there is none.
+// The first byte of the end key of the partition at an index, 0 if there is none.
 fn end_at(tops: &IndexBlock, place: usize) -> u8 {
     if place >= tops.len() {
         return 0;
@@ -110,8 +110,8 @@ fn told(tops: &IndexBlock, source: &BlockSource) -> Result<Told, Error> {
     Ok(([end_at(tops, 0), end_at(tops, 1), end_at(tops, 2)], admits))
 }
 
-// How many partitions are written where options are set between the keys, the end keys of the first
-// ones, and whether "a", "b" and "c" are admitted.
+// The number of partitions, the end keys of the first ones, and whether "a", "b" and "c" are
+// admitted.
 fn told_of(alloc: Global, settings: Settings) -> Result<(usize, Told), Error> {
     let (count, bytes) = written(alloc, settings)?;
     let source = BlockSource::new(alloc, bytes)?;
@@ -120,16 +120,16 @@ fn told_of(alloc: Global, settings: Settings) -> Result<(usize, Told), Error> {
     Ok((count, told?))
 }
 
-// The settings before each key, how many partitions are written, and their end keys. Up to three
-// keys of ten bits have 8 bytes of bits, and two of 64 bits have 16.
+// The settings before each key, the number of partitions, and their end keys. Up to three keys of
+// ten bits take 8 bytes of bits, and two of 64 bits take 16.
 const CASES: &[(Settings, usize, [u8; 3])] = &[
-    // never larger than the size, and a size that each key reaches
+    // never above the size, and a size that each key reaches
     (((100, 100), (100, 100), (100, 100)), 1, [b'c', 0, 0]),
     (((8, 100), (8, 100), (8, 100)), 3, [b'a', b'b', b'c']),
-    // a smaller size, and a larger one behind it
+    // a smaller size, and a larger one after it
     (((100, 100), (8, 100), (100, 100)), 2, [b'b', b'c', 0]),
     (((8, 100), (100, 100), (8, 100)), 2, [b'a', b'c', 0]),
-    // another policy, and the first one again
+    // another policy, and then the first one again
     (((16, 100), (16, 640), (16, 100)), 2, [b'b', b'c', 0]),
     (((16, 640), (16, 100), (16, 640)), 1, [b'c', 0, 0]),
 ];

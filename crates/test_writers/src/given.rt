@@ -1,5 +1,5 @@
-//! Rows that are given to writers of a table and of tables, and what these answer, in plain
-//! numbers. What gives them is generic in the writer, so that none of its parts is looked at.
+//! Writes rows with writers of one table and of several, and returns the results as plain numbers.
+//! The functions are generic in the writer, so that a proof looks at none of its parts.
 use lsm_writers::{
     BloomConstructionPolicy, FinishedTable, MultiWriter, TableId, TableIds, Timestamp, Writer,
 };
@@ -8,49 +8,48 @@ use sst_entries::EntryRef;
 use std::alloc::Allocator;
 use test_tables::rows::Row;
 
-/// How entries are given.
+/// How entries are passed.
 #[derive(Clone, Copy)]
 pub(crate) enum Given {
     ByValue,
     ByReference,
 }
 
-/// What stands in place of a refusal's number where an entry may not be written next.
+/// Stands for an error code where an entry may not be written next.
 pub(crate) const MAY_NOT_FOLLOW: u8 = u8::MAX;
 
-/// A table: its id, the checksum of all its bytes, and how many these are.
+/// A table: its id, the checksum of all its bytes, and their number.
 pub(crate) type Seen = (TableId, u128, usize);
 
-/// How many tables there are, and the first of them; zeros behind the last one.
+/// The number of tables, and the first of them, with zeros after the last one.
 pub(crate) type Tables = (usize, [Seen; 8]);
 
-/// No table.
 pub(crate) const NO_TABLES: Tables = (0, [(0, 0, 0); 8]);
 
-/// The numbers of the refusals of a new writer, of the first entry that is refused, of a further
-/// one and of another call behind it, and of the end; 0 for none.
+/// The error codes of a new writer, of the first entry that fails, of a further entry and another
+/// call after it, and of `finish`; 0 for none.
 pub(crate) type Refusals = [u8; 5];
 
-/// The refusal of the end, the id of the next table where there can be one, whether no entry was
-/// given before, and the tables.
+/// The error code of `finish`, the id of the next table if any, whether no entry was written
+/// before, and the tables.
 type Ended = (u8, Option<TableId>, bool, Tables);
 
-/// What a writer answers: its refusals, and what it tells in the end.
+/// The result of a writer: its error codes, and the result of `finish`.
 pub(crate) type Told = (Refusals, Option<TableId>, bool, Tables);
 
-/// What is given rows.
+/// A writer of rows.
 pub(crate) trait Takes {
-    /// Writes the entry of a row, and tells the number of its refusal, 0 for none.
+    /// Writes the entry of a row, and returns its error code, 0 for none.
     fn take(&mut self, row: &Row<'static>, given: Given) -> u8;
 
-    /// The number of the refusal of another call than the one that gives an entry by value.
+    /// The error code of a call other than the one that writes an entry by value.
     fn call(&mut self) -> u8;
 
-    /// Finishes, and lets go of what is written.
+    /// Finishes, and drops the tables.
     fn end(self) -> Ended;
 }
 
-// The entry of a row, which takes no memory of its own.
+// The entry of a row, without a request for memory.
 fn entry<A: Allocator>(row: &Row<'static>) -> InternalValue<A> {
     let (key, value) = (Slice::from_static(row.0), Slice::from_static(row.3));
     InternalValue::from_components(key, value, row.1, row.2)
@@ -65,7 +64,8 @@ fn entry_ref<'a>(row: &Row<'a>) -> EntryRef<'a> {
     }
 }
 
-/// The number of a refusal, 0 for none. Generic in what is made, so that none of it is looked at.
+/// The error code of a result, 0 for none. It is generic, so that a proof looks at no part of the
+/// value.
 pub(crate) fn number<T: Drop>(made: Result<T, Error>) -> u8 {
     match made {
         Ok(_) => 0,
@@ -161,11 +161,11 @@ impl<A: Allocator + Copy> Takes for MultiWriter<A> {
     }
 }
 
-/// The row that is given behind one that is refused.
+/// The row that is written after one that fails.
 const BEHIND: Row<'static> = (b"d", 1, ValueType::Value, b"");
 
-/// The numbers of the first refusal of some rows, of a further row behind it, and of another call;
-/// 0 for none.
+/// The error codes of the first of some rows that fails, of a further row after it, and of another
+/// call; 0 for none.
 pub(crate) fn put_rows<T: Takes>(taking: &mut T, rows: &[Row<'static>], given: Given) -> [u8; 3] {
     for row in rows {
         let first = taking.take(row, given);
@@ -176,7 +176,7 @@ pub(crate) fn put_rows<T: Takes>(taking: &mut T, rows: &[Row<'static>], given: G
     [0; 3]
 }
 
-/// What a writer answers that is given some rows, up to the first that is refused.
+/// The result of a writer of some rows, up to the first that fails.
 pub(crate) fn told_by<T: Takes>(
     made: Result<T, Error>,
     rows: &[Row<'static>],
@@ -191,13 +191,13 @@ pub(crate) fn told_by<T: Takes>(
     ([0, first, again, other, last], next, is_empty, tables)
 }
 
-/// What writes rows.
+/// A kind of writer.
 #[derive(Clone, Copy)]
 pub(crate) enum By {
-    /// A writer of the table 1, in partitions or without, with data blocks of a size, and with so
-    /// many tenths of a bit for each key in the filter.
+    /// A writer of the table 1: whether it is partitioned, the data block size, and tenths of a bit
+    /// per key in the filter.
     Table(bool, u32, u32),
-    /// A writer of tables under the ids from one on, of a target size, with data blocks of a size.
+    /// A writer of tables: the first id, the target size, and the data block size.
     Tables(TableId, u64, u32),
 }
 
@@ -228,7 +228,7 @@ fn tables<A: Allocator + Copy>(
     Ok(writer.use_data_block_size(size.min(4_096)))
 }
 
-/// What is answered where rows are written so.
+/// The result of writing rows with a kind of writer.
 pub(crate) fn told<A: Allocator + Copy>(
     alloc: A,
     by: By,

@@ -1,4 +1,4 @@
-//! Worked examples of `lsm_writers`: tests of what is written. Nothing here is for use.
+//! Worked examples of `lsm_writers`: the tables that writers return. Nothing here is for use.
 #![tactic(auto)]
 
 #[cfg(test)]

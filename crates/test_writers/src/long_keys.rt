@@ -1,11 +1,11 @@
-//! Keys of the greatest length, and longer ones, which are made as the test runs.
+//! Keys of the greatest length and longer ones, which are built when the test runs.
 use crate::given::{MAY_NOT_FOLLOW, number};
 use lsm_writers::Writer;
 use sst_blocks::{Error, ValueType};
 use std::alloc::Global;
 use test_tables::rows::{new_writer, put_rows};
 
-// The error number of writing an entry, 0 if it is written.
+// The error code of writing an entry, 0 if it is written.
 fn write_key(alloc: Global, writer: &mut Writer, key: &[u8]) -> u8 {
     match put_rows(alloc, writer, &[(key, 1, ValueType::Value, b"")]) {
         Ok(true) => 0,
@@ -14,7 +14,7 @@ fn write_key(alloc: Global, writer: &mut Writer, key: &[u8]) -> u8 {
     }
 }
 
-// The error numbers of writing two keys and then `b`, and of a cut.
+// The error codes of writing two keys and then `b`, and of a cut.
 fn write_keys(alloc: Global, writer: &mut Writer, first: &[u8], second: &[u8]) -> [u8; 4] {
     [
         write_key(alloc, writer, first),
@@ -24,7 +24,7 @@ fn write_keys(alloc: Global, writer: &mut Writer, first: &[u8], second: &[u8]) -
     ]
 }
 
-// The error numbers of one writer, that of `finish` last, and whether it is empty before.
+// The error codes of one writer, the last of `finish`, and whether it is empty before `finish`.
 fn up_to_the_end(alloc: Global, first: &[u8], second: &[u8]) -> Result<([u8; 4], u8, bool), Error> {
     let mut writer = new_writer(alloc)?;
     let numbers = write_keys(alloc, &mut writer, first, second);
@@ -32,13 +32,14 @@ fn up_to_the_end(alloc: Global, first: &[u8], second: &[u8]) -> Result<([u8; 4],
     Ok((numbers, number(writer.finish()), is_empty))
 }
 
-// The same for keys of the byte `a`, of two lengths.
+// The error codes of one writer for keys of the byte `a` of two lengths, and whether it is empty
+// before `finish`.
 fn written(alloc: Global, first: usize, second: usize) -> Result<([u8; 4], u8, bool), Error> {
     let key = vec![in alloc; 0x61u8; first.max(second)]?;
     up_to_the_end(alloc, &key[..first], &key[..second])
 }
 
-// The lengths of two keys, the error numbers of writing these, `b`, and of a cut, and that of
+// The lengths of two keys, the error codes of writing these, `b`, and of a cut, and that of
 // `finish`.
 const CASES: [(usize, usize, [u8; 4], u8); 3] = [
     (1_048_575, 1_048_576, [0; 4], 0),

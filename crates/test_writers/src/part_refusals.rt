@@ -1,5 +1,6 @@
-//! Writers of indexes and filters, and of sections, that were refused memory, each request in turn,
-//! and have ample memory again: the first refuse from then on, and what a section writer had stays.
+//! Writers of indexes, filters and sections after an allocation failure, for each request in turn;
+//! later requests succeed. An index or filter writer fails from then on. A section writer keeps its
+//! bytes.
 ghost use Rattle.std.specs.Prelude.{◌≡◌, ◌++◌, ◌∷◌, [], IfOk};
 ghost use Rattle.sst_blocks.specs.Handles.{AreStrictHandles};
 ghost use Rattle.lsm_section_writers.specs.FilterEither.{HoldsBy};
@@ -18,17 +19,17 @@ use sst_blocks::{
 };
 use std::alloc::Allocator;
 
-// What a section writer has before an index or a filter is written.
+// The bytes of a section writer before an index or a filter is written.
 const FRONT: &[u8] = b"front";
 
-// What is told where bytes that were written are gone.
+// The error codes where bytes that were written are lost.
 const LOST: Refusals = [u8::MAX; 5];
 
-/// The error numbers of writing a part of a table, and the id 0, the checksum and the length of all
-/// that the section writer has.
+/// The error codes of writing a part of a table; and the id 0, and the checksum and length of all
+/// bytes of the section writer.
 pub(crate) type Part = (Refusals, Seen);
 
-// A section writer that has these bytes.
+// A section writer with these bytes.
 fn with_front<A: Allocator + Copy>(alloc: A) -> Result<SectionWriter<A>, Error>
     ensures { IfOk result (λ w. w.started ≡ []) }
 {
@@ -37,7 +38,7 @@ fn with_front<A: Allocator + Copy>(alloc: A) -> Result<SectionWriter<A>, Error>
     Ok(sections)
 }
 
-// Finishes a section writer. The refusals are these if its bytes begin with `front`.
+// Finishes a section writer. Returns these error codes if its bytes begin with `front`.
 fn finish_part<A: Allocator + Copy>(
     front: &[u8],
     sections: SectionWriter<A>,
@@ -52,7 +53,7 @@ fn finish_part<A: Allocator + Copy>(
     }
 }
 
-// Registers a key, twice where it is refused, and finishes.
+// Registers a key, again if that fails, and finishes.
 fn register_key<A: Allocator, W: FilterWriter<A>>(
     mut writer: W,
     key: &UserKey<A>,
@@ -70,7 +71,7 @@ fn register_key<A: Allocator, W: FilterWriter<A>>(
     refusals
 }
 
-// Registers a handle, twice where it is refused, or none, and finishes.
+// Registers a handle, again if that fails, or none, and finishes.
 fn register_block<A: Allocator, W: BlockIndexWriter<A>>(
     mut writer: W,
     handle: &KeyedBlockHandle<A>,
@@ -91,7 +92,7 @@ fn register_block<A: Allocator, W: BlockIndexWriter<A>>(
     refusals
 }
 
-// A writer of a filter, in partitions or not, that has no keys.
+// A writer of a filter without keys, partitioned or not.
 fn filter_writer<A: Allocator + Copy>(
     alloc: A,
     is_partitioned: bool,
@@ -114,7 +115,7 @@ pub(crate) fn filter<A: Allocator + Copy>(alloc: A, is_partitioned: bool) -> Res
     finish_part(FRONT, sections, refusals)
 }
 
-// A writer of an index, in partitions or not, that has no handles.
+// A writer of an index without handles, partitioned or not.
 fn index_writer<A: Allocator>(alloc: A, is_partitioned: bool) -> IndexWriterImpl<A>
     ensures { (registered_by result).handles ≡ [] }
 {
@@ -140,7 +141,7 @@ pub(crate) fn index<A: Allocator + Copy>(
     finish_part(FRONT, sections, refusals)
 }
 
-// Begins a section, again where it is refused memory.
+// Begins a section, again after an allocation failure.
 fn start<A: Allocator + Copy>(sections: &mut SectionWriter<A>) -> Result<(), Error>
     requires { sections.old.started ≡ [] }
 {
@@ -150,7 +151,7 @@ fn start<A: Allocator + Copy>(sections: &mut SectionWriter<A>) -> Result<(), Err
     }
 }
 
-// Writes bytes, again where it is refused memory.
+// Writes bytes, again after an allocation failure.
 fn append<A: Allocator + Copy>(sections: &mut SectionWriter<A>, bytes: &[u8]) -> Result<(), Error> {
     match sections.append(bytes) {
         Ok(()) => Ok(()),
@@ -158,7 +159,7 @@ fn append<A: Allocator + Copy>(sections: &mut SectionWriter<A>, bytes: &[u8]) ->
     }
 }
 
-/// A section that is written in two steps.
+/// A section written in two steps.
 pub(crate) fn section<A: Allocator + Copy>(alloc: A) -> Result<Part, Error> {
     let mut sections = SectionWriter::new(alloc)?;
     start(&mut sections)?;
@@ -167,7 +168,7 @@ pub(crate) fn section<A: Allocator + Copy>(alloc: A) -> Result<Part, Error> {
     finish_part(b"front bytes, more than were there", sections, [0; 5])
 }
 
-/// A section of as many bytes as a block of no handles has.
+/// A section as long as a block without handles.
 pub(crate) fn section_of_28<A: Allocator + Copy>(alloc: A) -> Result<Part, Error> {
     let mut sections = with_front(alloc)?;
     start(&mut sections)?;

@@ -1,5 +1,5 @@
-//! Writers that were refused memory, each request in turn, and have ample memory again: they refuse
-//! from then on. One function tries them all, so that its call is proved once.
+//! Writers after an allocation failure, for each request in turn; later requests succeed. They fail
+//! from then on. One function tests them all, so that its call is proved once.
 use crate::given::{By, Given, NO_TABLES, Refusals, Told, told};
 use crate::part_refusals::{Part, filter, index, section, section_of_28};
 use sst_blocks::{Error, ValueType};
@@ -7,8 +7,8 @@ use std::alloc::{Allocator, Global};
 use test_refusing::{Refusing, each_refused};
 use test_tables::rows::Row;
 
-// What is answered where memory is refused: by a new writer, by a call and each one behind it, or
-// by the end alone.
+// The error codes of an allocation failure: in a new writer, in a call and each one after it, or in
+// `finish` alone.
 const MEMORY: [Refusals; 3] = [[1, 0, 0, 0, 0], [0, 1, 23, 23, 23], [0, 0, 0, 0, 1]];
 
 // A value that fills a block.
@@ -28,7 +28,7 @@ static LONG_ROWS: [Row<'static>; 3] = [
     (b"c", 1, ValueType::Value, LONG),
 ];
 
-// What is written. A filter and an index are in partitions or not, and an index has a handle or
+// The work of a test. A filter and an index are partitioned or not, and an index has a handle or
 // none.
 #[derive(Clone, Copy)]
 enum Work {
@@ -40,8 +40,8 @@ enum Work {
     SectionOf28,
 }
 
-// What writing a part yields, in the form of a writer of tables. An error that is returned before
-// the part is that of a new writer.
+// The result of writing a part, in the form of a writer of tables. An error before the part counts
+// as that of a new writer.
 fn as_told(part: Result<Part, Error>) -> Told {
     match part {
         Ok(part) => {
@@ -54,7 +54,7 @@ fn as_told(part: Result<Part, Error>) -> Told {
     }
 }
 
-// The errors, and checksums of what is written.
+// The error codes, and the checksums of the tables.
 fn outcome<A: Allocator + Copy>(alloc: A, work: Work) -> Told {
     match work {
         Work::Short(by) => told(alloc, by, &SHORT_ROWS, Given::ByValue),
@@ -68,8 +68,8 @@ fn outcome<A: Allocator + Copy>(alloc: A, work: Work) -> Told {
     }
 }
 
-// Whether a run writes the same bytes as with ample memory, or returns `OutOfMemory` where a request
-// is refused. Long values are never written without the refused request.
+// Whether a run writes the same bytes as with ample memory, or returns `OutOfMemory` after a
+// failing request. Long values are never written when a request fails.
 fn is_right<A: Allocator + Copy>(alloc: A, work: Work, ample: &Told, is_refused: bool) -> bool {
     let outcome = outcome(alloc, work);
     if outcome.0 == [0; 5] {
@@ -78,8 +78,8 @@ fn is_right<A: Allocator + Copy>(alloc: A, work: Work, ample: &Told, is_refused:
     is_refused && MEMORY.contains(&outcome.0)
 }
 
-// How many requests what is named makes, where it is right with nothing refused and with each
-// request refused in turn.
+// The number of requests that a work makes, if it is right without a failing request and with each
+// of them failing in turn.
 fn requests(alloc: Global, work: Work) -> Result<usize, usize> {
     let ample = outcome(alloc, work);
     each_refused(
@@ -88,7 +88,7 @@ fn requests(alloc: Global, work: Work) -> Result<usize, usize> {
     )
 }
 
-// Whether it makes more requests than so many.
+// Whether a work makes more requests than a count.
 fn makes_more_than(alloc: Global, work: Work, count: usize) -> bool {
     match requests(alloc, work) {
         Ok(requests) => requests > count,
@@ -108,7 +108,7 @@ const WORKS: [(Work, usize); 8] = [
     (Work::Section, 2),
 ];
 
-// Those of tables, indexes and filters refuse from then on; a section writer goes on.
+// Writers of tables, indexes and filters fail from then on; a section writer continues.
 #[test]
 fn a_writer_that_was_refused_memory_has_failed(rt: HostRuntime) {
     for &(work, count) in &WORKS {
@@ -116,7 +116,7 @@ fn a_writer_that_was_refused_memory_has_failed(rt: HostRuntime) {
     }
 }
 
-// An index of no handles takes the memory that the section writer takes, and no other.
+// An index without handles makes only the requests of its section writer.
 #[test]
 fn an_index_of_no_handles_takes_memory_for_sections_alone(rt: HostRuntime) {
     let of_section = requests(rt.alloc(), Work::SectionOf28);

@@ -1,4 +1,4 @@
-//! The same tables, however their entries are given and their options set.
+//! The tables are the same, however entries are passed and options are set.
 ghost use Rattle.std.specs.Prelude.{IfOk};
 ghost use Rattle.lsm_writers.specs.Tables.{IsFreshRun};
 
@@ -12,7 +12,8 @@ use std::alloc::Global;
 use test_tables::large::add;
 use test_tables::rows::{Row, entry};
 
-// Each kind, an empty key and an empty value, versions of a key, and keys that begin one another.
+// Each kind, an empty key and an empty value, versions of a key, and keys that are prefixes of
+// others.
 static ROWS: [Row<'static>; 9] = [
     (b"", 7, ValueType::Tombstone, b""),
     (b"a", 9, ValueType::WeakTombstone, b""),
@@ -30,8 +31,8 @@ static ROWS: [Row<'static>; 9] = [
     (b"c", 5, ValueType::Value, b"last"),
 ];
 
-// What writes the rows, and how many tables there are: a block for each entry, for some of them,
-// and for all; a table for each key, for some, for all.
+// Writers of the rows and their numbers of tables. A block for each entry, for some of them, and
+// for all; a table for each key, for some, for all.
 const WRITTEN: [(By, usize); 15] = [
     (By::Table(false, 0, 100), 1),
     (By::Table(false, 1, 100), 1),
@@ -50,7 +51,7 @@ const WRITTEN: [(By, usize); 15] = [
     (By::Tables(1, 4_096, 4_096), 1),
 ];
 
-// How many tables the rows give, if none is refused and they are the same either way.
+// The number of tables of the rows, if none fails and they are the same by value and by reference.
 fn count_of_same(alloc: Global, by: By) -> Option<usize> {
     let by_value = told(alloc, by, &ROWS, Given::ByValue);
     if by_value.0 != [0; 5] || by_value != told(alloc, by, &ROWS, Given::ByReference) {
@@ -66,7 +67,7 @@ fn tables_are_the_same_by_reference(rt: HostRuntime) {
     }
 }
 
-// A value that fills a block, and reaches a target of 1,024 bytes.
+// A value that fills a block and reaches a target of 1,024 bytes.
 const LONG: &[u8] = &[b'x'; 8_000];
 
 static VERSIONS: [Row<'static>; 6] = [
@@ -87,8 +88,8 @@ fn items_of(alloc: Global, from: usize, count: usize) -> Result<Vec<InternalValu
     Ok(items)
 }
 
-// The table of some of the versions alone. `Source(0)` where they cannot be written, `Source(1)`
-// where there are none.
+// The table of some of the versions alone. Fails with `Source(0)` if they cannot be written, and
+// with `Source(1)` if there are none.
 fn alone(alloc: Global, id: TableId, from: usize, count: usize) -> Result<Seen, Error> {
     let items = items_of(alloc, from, count)?;
     if !is_writable(&items) {
@@ -101,7 +102,8 @@ fn alone(alloc: Global, id: TableId, from: usize, count: usize) -> Result<Seen, 
     }
 }
 
-// The id of the table of each of their keys, where its rows begin, and how many these are.
+// For each of their keys, the id of its table, the index of its first row, and the number of its
+// rows.
 const ALONE: [(TableId, usize, usize); 3] = [(1, 0, 3), (2, 3, 1), (3, 4, 2)];
 
 #[test]
@@ -118,7 +120,7 @@ fn the_versions_of_a_key_stay_in_one_table(rt: HostRuntime) {
     }
 }
 
-// Options of which none is that of a new writer.
+// Options that all differ from those of a new writer.
 const OPTIONS: Options = Options {
     data_block_restart_interval: 8,
     index_block_restart_interval: 2,
@@ -129,14 +131,14 @@ const OPTIONS: Options = Options {
     bloom_policy: BloomConstructionPolicy::BitsPerKey(640),
 };
 
-// A writer of many tables that has no entry yet.
+// A writer of several tables without entries.
 fn new_tables(alloc: Global) -> Result<MultiWriter, Error>
     ensures { IfOk result (λ w. IsFreshRun w) }
 {
     MultiWriter::new(alloc, TableIds::new(1), 1 << 20, 0, Timestamp::from(0))
 }
 
-// Its options are set one by one.
+// Sets its options one by one.
 fn one_by_one(alloc: Global) -> Result<MultiWriter, Error> {
     Ok(
         new_tables(alloc)?
@@ -151,17 +153,17 @@ fn one_by_one(alloc: Global) -> Result<MultiWriter, Error> {
     )
 }
 
-// They are set at once.
+// Sets its options at once.
 fn at_once(alloc: Global) -> Result<MultiWriter, Error> {
     Ok(new_tables(alloc)?.use_options(OPTIONS))
 }
 
-// A writer of one table, whose options are set at once.
+// A writer of one table whose options are set at once.
 fn table_at_once(alloc: Global) -> Result<Writer, Error> {
     Ok(Writer::new(alloc, 1, 0, Timestamp::from(0))?.use_options(OPTIONS))
 }
 
-// A writer of one table with all its options set.
+// A writer of one table whose options are set one by one.
 fn with_options(alloc: Global) -> Result<Writer, Error> {
     Ok(
         Writer::new(alloc, 1, 3, Timestamp::from(5))?
@@ -180,7 +182,7 @@ static TWO_KEYS: [Row<'static>; 2] = [
     (b"b", 1, ValueType::Value, b"x"),
 ];
 
-// What a writer of tables answers whose options are set at once, and one by one.
+// The results of a writer of several tables with options set at once, and one by one.
 fn by_tables(alloc: Global) -> [Told; 2] {
     [
         told_by(at_once(alloc), &TWO_KEYS, Given::ByValue),
@@ -188,7 +190,7 @@ fn by_tables(alloc: Global) -> [Told; 2] {
     ]
 }
 
-// What a writer of one table answers.
+// The result of a writer of one table.
 fn by_table(alloc: Global) -> Told {
     told_by(table_at_once(alloc), &TWO_KEYS, Given::ByValue)
 }

@@ -1,4 +1,4 @@
-//! What writers count, cut, write and refuse.
+//! Writers: counts, block cuts, tables and errors.
 
 use crate::given::{Given, Refusals, Takes, number, put_rows, table};
 use crate::one_entry_v4;
@@ -31,8 +31,8 @@ fn one_entry_by_default(alloc: Global) -> Result<FinishedTable, Error> {
     )
 }
 
-// Whether a table is the stored one: its id and its checksum, and its bytes; and whether it prints
-// how many these are, and not which.
+// Whether a table equals the stored one: its id and checksum, and its bytes. Its `Debug` form shows
+// the number of bytes and not the bytes.
 fn is_the_stored(table: &FinishedTable, alloc: Global) -> Result<[bool; 3], Error> {
     let printed = format!(in alloc; "{table:?}")?;
     Ok([
@@ -49,10 +49,9 @@ fn writes_a_table_byte_for_byte_and_prints_it_without_its_bytes(rt: HostRuntime)
     assert!(rt; asked_with(one_entry(alloc), alloc, is_the_stored) == Ok([true; 3]));
 }
 
-// The position and the length of a section.
+// The offset and the length of a section.
 type Place = (u64, u64);
 
-// An absent section.
 const ABSENT: Place = (u64::MAX, u64::MAX);
 
 // The sections, in the order of the file.
@@ -66,7 +65,7 @@ const NAMES: [SectionName; 7] = [
     SectionName::Meta,
 ];
 
-// Where the sections of a table are, and how many bytes the table has.
+// The offsets of a table's sections, and the length of the table.
 fn layout(table: &FinishedTable) -> Result<([Place; 7], usize), Error> {
     let toc = Toc::of(table.bytes.as_slice())?;
     let mut places = [ABSENT; 7];
@@ -78,7 +77,7 @@ fn layout(table: &FinishedTable) -> Result<([Place; 7], usize), Error> {
     Ok((places, table.bytes.len()))
 }
 
-// The sections without a filter, and with the filter of a new writer.
+// The sections without a filter, and with the default filter.
 const PLAIN: [Place; 7] = [
     (0, 47),
     ABSENT,
@@ -108,7 +107,7 @@ fn writes_the_sections_without_gaps(rt: HostRuntime) {
 // The counts of a writer, in four parts:
 // - entries and blocks cut; keys, tombstones, weak tombstones and reclaimable values written; and
 //   the bytes of keys and values pending;
-// - the lowest and the highest number written, the length of the blocks and of their payloads;
+// - the lowest and the highest sequence number, the length of the blocks and of their payloads;
 // - the first bytes of the first and of the last key;
 // - whether no entry was written.
 type Counts = ([usize; 7], [u64; 4], [u8; 2], bool);
@@ -153,8 +152,8 @@ fn counts(writer: &Writer) -> Counts {
     )
 }
 
-// What is refused of some rows, behind one that is, of a cut and of the end; and the counts before
-// the cut and after it.
+// The error codes of some rows, of one after the first that fails, of a cut and of `finish`; and
+// the counts before and after the cut.
 type Counted = (Refusals, Counts, Counts);
 
 fn cut_after(writer: &mut Writer, rows: &[Row<'static>]) -> Counted {
@@ -164,7 +163,7 @@ fn cut_after(writer: &mut Writer, rows: &[Row<'static>]) -> Counted {
     ([first, again, other, cut, 0], before, counts(writer))
 }
 
-// That of a new writer with blocks of a size.
+// The codes and counts of a new writer with a data block size.
 fn counted(alloc: Global, size: u32, rows: &[Row<'static>]) -> Result<Counted, Error> {
     let mut writer = table(alloc, false, size, 0)?;
     let (mut refusals, before, after) = cut_after(&mut writer, rows);
@@ -195,7 +194,7 @@ const A5: Row<'static> = (b"a", 5, ValueType::Value, b"");
 
 const D7: Row<'static> = (b"d", 7, ValueType::Value, b"v");
 
-// No value, though it is directly after a weak tombstone of its key.
+// Not reclaimable, though it directly follows a weak tombstone of its key.
 const D8_ELSEWHERE: Row<'static> = (b"d", 8, ValueType::Indirection, b"v");
 
 const E5: Row<'static> = (b"e", 5, ValueType::WeakTombstone, b"");
@@ -203,7 +202,7 @@ const E5: Row<'static> = (b"e", 5, ValueType::WeakTombstone, b"");
 // A value after a weak tombstone of another key.
 const F1: Row<'static> = (b"f", 1, ValueType::Value, b"");
 
-// Before anything is written.
+// The counts before any entry.
 const NOTHING: Counts = ([0; 7], [SeqNo::MAX, 0, 0, 0], [0, 0], true);
 
 // The data block size, the rows, the errors, and the counts after the rows: before the pending
@@ -330,7 +329,8 @@ fn counts_and_cuts_what_is_written_and_what_tombstones_hide(rt: HostRuntime) {
     }
 }
 
-// The parts of an id, whether ids stand in order, those of a moment, and whether moments do.
+// The parts of an id, whether ids are in order, the parts of a timestamp, and whether timestamps
+// are in order.
 fn parts_of_ids_and_moments() -> ((u64, u64), [bool; 2], [u128; 2], bool) {
     let id = GlobalTableId::from((42, 7));
     let moment = Timestamp::from(1 << 100);
@@ -345,7 +345,7 @@ fn parts_of_ids_and_moments() -> ((u64, u64), [bool; 2], [u128; 2], bool) {
     )
 }
 
-// How many blocks an index of a@1 has, and how many bytes.
+// The number of blocks and of bytes of an index of a@1.
 #[tactic(auto, using(crate::proofs::HandleLemmas::one_handle_strict))]
 fn index_of_one(alloc: Global) -> Result<(usize, u64), Error> {
     let mut sections = SectionWriter::new(alloc)?;

@@ -1,5 +1,5 @@
-//! Data blocks: how entries are encoded, and what reads, seeks and cursors find in a loaded block
-//! and in its source.
+//! Data blocks: encoding of entries; point reads, seeks and cursors in a loaded block and in its
+//! source.
 
 use crate::blocks::large::{Size, Within, part};
 use crate::blocks::payloads::{data_block, source_of};
@@ -42,7 +42,7 @@ impl Within for InternalValue {
     }
 }
 
-// The bound on the block of some entries, which are encoded after the bytes that are there.
+// Encodes some entries at the end of `buf`. Returns the bound on their block, and the result.
 fn encoded<A: Allocator>(
     buf: &mut Vec<u8, A>,
     items: &[InternalValue<A>],
@@ -56,7 +56,7 @@ fn encoded<A: Allocator>(
     )
 }
 
-/// How some entries are encoded, compared with the payload that they should have.
+/// Encodes some entries and compares the bytes with the expected payload.
 pub(crate) fn told<A: Allocator>(
     alloc: A,
     entries: Result<Vec<InternalValue<A>, A>, Error>,
@@ -97,8 +97,8 @@ impl<A: Allocator> Walk for DataBlockIter<'_, A> {
     }
 }
 
-// A payload, the entries in it, keys and snapshots with the index of the entry that a point read
-// finds (99 where it finds none), and iterations.
+// A payload, its entries, iterations, and point reads: a key, a snapshot and the index of the entry
+// found (99 if none).
 struct Stored {
     version: TableVersion,
     payload: &'static [u8],
@@ -107,7 +107,7 @@ struct Stored {
     walks: &'static [Walked],
 }
 
-// Whether the wanted entry is found, or none; or `OutOfMemory`, where it may be.
+// Whether a point read finds the wanted entry, or none; or `OutOfMemory`, where it may fail.
 fn is_found<A: Allocator>(
     found: Option<IterItem<A>>,
     wanted: Option<&EntryRef<'static>>,
@@ -120,8 +120,8 @@ fn is_found<A: Allocator>(
     }
 }
 
-// Whether a block has its entries and no others, point reads find what they should, and its
-// iterators yield what they should.
+// Whether a block has its entries and no others, and its point reads and iterators return what they
+// should.
 fn is_read_so<A: Allocator>(block: &DataBlock<A>, stored: &Stored, may_fail: bool) -> bool {
     if block.len() != stored.rows.len() || block.is_empty() != stored.rows.is_empty() {
         return false;
@@ -147,7 +147,7 @@ fn is_read_so<A: Allocator>(block: &DataBlock<A>, stored: &Stored, may_fail: boo
     true
 }
 
-// Whether a cursor advances to an entry, lends it and shares it.
+// Whether a cursor advances to an entry, borrows it and shares it.
 fn lends_next<A: Allocator>(
     cursor: &mut DataBlockCursor<A>,
     row: &EntryRef<'static>,
@@ -158,7 +158,7 @@ fn lends_next<A: Allocator>(
         && is_found(Some(cursor.share()), Some(row), may_fail)
 }
 
-// Whether a cursor lends these entries, and then nothing.
+// Whether a cursor yields these entries and then nothing.
 fn lends_so<A: Allocator>(
     cursor: &mut DataBlockCursor<A>,
     rows: &[EntryRef<'static>],
@@ -171,14 +171,14 @@ fn lends_so<A: Allocator>(
     !cursor.advance() && cursor.entry().is_none() && is_so
 }
 
-// Whether a cursor that is ended after the first entry, if there is one, lends nothing more.
+// Whether a cursor that is ended after the first entry, if there is one, yields nothing more.
 fn lends_none_once_ended<A: Allocator>(cursor: &mut DataBlockCursor<A>, has_one: bool) -> bool {
     let begins = cursor.advance() == has_one;
     cursor.end();
     begins && cursor.entry().is_none() && !cursor.advance()
 }
 
-// Whether a cursor lends these entries from the front and from the back by turns, and then nothing.
+// Whether a cursor yields these entries, from the front and the back in turn, and then nothing.
 fn lends_by_turns<A: Allocator>(
     cursor: &mut DataBlockCursor<A>,
     rows: &[EntryRef<'static>],
@@ -199,14 +199,14 @@ fn lends_by_turns<A: Allocator>(
     is_so && cursor.entry().is_none() && !cursor.advance_back() && !cursor.advance()
 }
 
-// Whether a cursor of the entries from the second on lends these from both ends.
+// Whether a cursor from the second entry on yields these from both ends.
 fn lends_behind_the_first<A: Allocator>(block: DataBlock<A>, rows: &[EntryRef<'static>]) -> bool {
     let len = block.len();
     let mut cursor = block.into_cursor_of(1, len);
     lends_by_turns(&mut cursor, rows.get(1..).unwrap_or_default())
 }
 
-// Whether a clone, which outlives its block, is read as the block, and its cursor lends the same.
+// Whether a clone that outlives its block reads like it, and its cursor yields the same entries.
 fn is_cloned_so<A: Allocator>(
     copy: Result<DataBlock<A>, AllocError>,
     stored: &Stored,
@@ -224,7 +224,7 @@ fn is_cloned_so<A: Allocator>(
     }
 }
 
-// Whether a block, which is dropped, is read so, and then a clone of it.
+// Whether a block, which is dropped, reads as it should, and then its clone.
 fn both_are_read_so<A: Allocator>(block: DataBlock<A>, stored: &Stored, may_fail: bool) -> bool {
     let copy: Result<_, _> = block.clone();
     let is_so = is_read_so(&block, stored, may_fail);
@@ -239,13 +239,13 @@ fn both_are_read_so<A: Allocator>(block: DataBlock<A>, stored: &Stored, may_fail
     is_cloned_so(copy, stored, may_fail) && is_so && is_ended && is_part
 }
 
-// Whether entries are encoded as their payload; or `OutOfMemory`, where it may be.
+// Whether entries are encoded as their payload; or `OutOfMemory`, where it may fail.
 fn is_written_so(heap: &Refusing, stored: &Stored, may_fail: bool) -> bool {
     let told = told(heap, entries_of(heap, stored.rows), stored.payload);
     is_written(told, stored.payload, may_fail)
 }
 
-// Whether a payload is read as it should be; or `OutOfMemory`, where it may be.
+// Whether a payload reads as it should; or `OutOfMemory`, where it may fail.
 fn is_loaded_so<A: Allocator + Copy>(alloc: A, stored: &Stored, may_fail: bool) -> bool {
     match data_block(alloc, stored.version, stored.payload) {
         Ok(block) => both_are_read_so(block, stored, may_fail),
@@ -253,7 +253,7 @@ fn is_loaded_so<A: Allocator + Copy>(alloc: A, stored: &Stored, may_fail: bool) 
     }
 }
 
-// A key, a number, a kind and a value.
+// An entry of a key, a sequence number, a kind and a value.
 macro_rules! row {
     ($key:expr, $seqno:expr, $kind:ident, $value:expr) => {
         EntryRef {
@@ -287,8 +287,8 @@ const FIVE: &[EntryRef<'static>] = &[
     row!(b"e", 3, Indirection, b"far"),
 ];
 
-// The count, and then of each entry the tag, the number, the lengths of the key and of the value,
-// and both.
+// A count, and for each entry: tag, sequence number, length of the key, length of the value, key,
+// value.
 const FIVE_IN_V4: &[u8] = &[
     5, 0, 0, 0, //
     0, 9, 0, 0, 0, 0, 0, 0, 0, 1, 0, 0, 0, 6, 0, 0, 0, b'a', b'n', b'e', b'w', b'e', b's', b't', //
@@ -318,8 +318,8 @@ const READS_OF_FIVE: &[(&[u8], SeqNo, usize)] = &[
     (b"f", u64::MAX, 99),
 ];
 
-// A seek, and the numbers of the first entry and of the last, which is 99 where there are fewer
-// than two.
+// A seek, and the sequence numbers of the first and the last entry; the last is 99 where there are
+// fewer than two.
 macro_rules! ends {
     ($edge:ident, $key:expr, $first:expr, $last:expr) => {
         (
@@ -371,7 +371,7 @@ const WALKS_OF_FIVE: &[Walked] = &[
             (Back, 99),
         ],
     ),
-    // Edges that cross at the first key leave nothing, whatever a later seek is.
+    // Bounds that cross at the first key leave nothing, whatever a later seek is.
     (
         &[
             (Edge::Above, b"a", 0, true),
@@ -416,8 +416,8 @@ const STORED: &[Stored] = &[
 /// How many cases the table above has.
 pub(crate) const CASES: usize = STORED.len();
 
-/// Whether the entries of the case at an index are encoded, where their version is still written,
-/// and read so; or `OutOfMemory`, where it may be.
+/// Whether the case at an index reads as it should, and its entries are encoded so in a version
+/// that is still written; or `OutOfMemory`, where it may fail.
 pub(crate) fn is_so_at(heap: &Refusing, place: usize, may_fail: bool) -> bool {
     match STORED.get(place) {
         Some(stored) => {
@@ -431,8 +431,8 @@ pub(crate) fn is_so_at(heap: &Refusing, place: usize, may_fail: bool) -> bool {
 
 // ---- reads of a source
 
-// Whether the source has the entry that `point_read` returned at the place that `point_place`
-// returned, or both calls returned the same error.
+// Whether the source has the entry of `point_read` at the handle that `point_place` returns, or
+// both calls return the same error.
 fn is_placed(
     source: &BlockSource,
     place: Result<Option<EntryPlace>, Error>,
@@ -447,7 +447,7 @@ fn is_placed(
 }
 
 // The entry that a point read of a source returns. `Source(9)` where `point_place` differs from
-// `point_read`, or where either does not count one load.
+// `point_read`, or either does not count one load.
 fn found_in(
     source: &BlockSource,
     handle: &BlockHandle,
@@ -465,8 +465,8 @@ fn found_in(
     }
 }
 
-// Whether point reads of the source of a payload find what they should, also on a second call,
-// which does not test the block again.
+// Whether point reads of the source of a payload find what they should. The second call reads a
+// block that is already verified.
 fn is_found_in_source(alloc: Global, stored: &Stored) -> Result<bool, Error> {
     let source = source_of(alloc, stored.version, BlockType::Data, stored.payload)?;
     let handle = handle(0, size_of(stored.payload));
@@ -481,13 +481,12 @@ fn is_found_in_source(alloc: Global, stored: &Stored) -> Result<bool, Error> {
     Ok(true)
 }
 
-// The size of a block of a payload, its header of 24 bytes included.
+// The size of the block of a payload, with its header of 24 bytes.
 fn size_of(payload: &[u8]) -> u32 {
     u32::try_from(payload.len().saturating_add(24)).unwrap_or(0)
 }
 
-// Changes of a table of five entries, the position and the size of the block that is read, and the
-// error.
+// Changes of a table of five entries, the offset and size of the block that is read, and the error.
 type Refused = (&'static [(usize, u8)], u64, u32, Error);
 
 const REFUSED: &[Refused] = &[
@@ -498,7 +497,7 @@ const REFUSED: &[Refused] = &[
     (&[(5, 1)], 0, 127, Error::UnsupportedCompression),
 ];
 
-// Whether a point read fails so, at each key.
+// Whether a point read of each key fails with the expected error.
 fn is_refused(alloc: Global, refused: &Refused) -> Result<bool, Error> {
     let (changes, offset, size, error) = refused;
     let blocks = [(BlockType::Data, FIVE_IN_V4, 0, 127)];
@@ -512,8 +511,8 @@ fn is_refused(alloc: Global, refused: &Refused) -> Result<bool, Error> {
     Ok(is_so)
 }
 
-// Whether the last entry of the second of two blocks is read, and a shorter source, which ends
-// before it, has nothing at its place.
+// Whether the last entry of the second of two blocks is read. A source that ends before this entry
+// has nothing at its handle.
 fn is_not_there(alloc: Global) -> Result<bool, Error> {
     let blocks = [
         (BlockType::Data, FIVE_IN_V4, 0, 127),

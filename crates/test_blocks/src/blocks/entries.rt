@@ -1,14 +1,13 @@
-//! Entries by themselves: their shares, their order, and bytes that are compared with a slice.
+//! Entries alone: their shares, their order, and comparison with a slice.
 use sst_blocks::{InternalValue, SeqNo, Slice, ValueType};
 use std::alloc::{AllocError, Global};
 
-// A value `v` of a key and a number.
+// A value `v` of a key and a sequence number.
 fn entry(key: Slice, seqno: SeqNo) -> InternalValue {
     InternalValue::from_components(key, Slice::from_static(b"v"), seqno, ValueType::Value)
 }
 
-// Whether what was made is like a value. It is generic in it, so that none of its parts is looked
-// at.
+// Whether a result equals a value. It is generic, so that a proof looks at no part of the value.
 fn is_like<T: PartialEq + Drop>(made: Result<T, AllocError>, value: &T) -> bool {
     match made {
         Ok(made) => made == *value,
@@ -16,7 +15,7 @@ fn is_like<T: PartialEq + Drop>(made: Result<T, AllocError>, value: &T) -> bool 
     }
 }
 
-// Whether a share of an entry and one of its key are as they are.
+// Whether an entry and its key equal their shares.
 fn shares_are_alike(alloc: Global) -> bool {
     match Slice::from(alloc, b"a") {
         Ok(key) => {
@@ -27,12 +26,12 @@ fn shares_are_alike(alloc: Global) -> bool {
     }
 }
 
-// Whether one value is less than another. It is generic in them too.
+// Whether one value is less than another. It is generic, so that a proof looks at no part of them.
 fn is_less<T: PartialOrd + Drop>(one: T, other: T) -> bool {
     one < other
 }
 
-// Two keys with their numbers, and whether the first stands before the second.
+// Two keys with their sequence numbers, and whether the first sorts before the second.
 const ORDERS: &[((&[u8], SeqNo), (&[u8], SeqNo), bool)] = &[
     ((b"a", 1), (b"b", 2), true),
     ((b"a", 2), (b"a", 1), true),

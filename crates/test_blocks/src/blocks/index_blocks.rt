@@ -1,4 +1,4 @@
-//! Index blocks: what is written of handles, and what reads and seeks find.
+//! Index blocks: encoding of handles, reads and seeks.
 
 use crate::blocks::large::{Size, Within, part};
 use crate::blocks::payloads::index_block;
@@ -12,7 +12,7 @@ use sst_blocks::{
 use std::alloc::{AllocError, Allocator};
 use test_refusing::Refusing;
 
-// An end key, a number, and the position and the size of a block.
+// An end key, its sequence number, and the offset and size of the block.
 type Row = (&'static [u8], SeqNo, u64, u32);
 
 fn handle<A: Allocator>(row: &Row) -> KeyedBlockHandle<A> {
@@ -36,7 +36,7 @@ impl Within for KeyedBlockHandle {
     }
 }
 
-// The bound on the block of some handles, which are encoded behind what is there.
+// Encodes some handles at the end of `buf`. Returns the bound on their block, and the result.
 fn encoded<A: Allocator>(
     buf: &mut Vec<u8, A>,
     handles: &[KeyedBlockHandle<A>],
@@ -50,7 +50,7 @@ fn encoded<A: Allocator>(
     )
 }
 
-/// What is told of some handles that are written, and which payload that should be.
+/// Encodes some handles and compares the bytes with the expected payload.
 pub(crate) fn told<A: Allocator>(
     alloc: A,
     handles: Result<Vec<KeyedBlockHandle<A>, A>, Error>,
@@ -89,8 +89,8 @@ impl<A: Allocator> Walk for IndexBlockIter<'_, A> {
     }
 }
 
-// A payload, the handles in it, keys and numbers with the position of the first handle that reaches
-// them, if there is one, and walks.
+// A payload, its handles, iterations, and finds: a key, a sequence number and the block offset of
+// the first handle that reaches them (99 if none).
 struct Stored {
     version: TableVersion,
     payload: &'static [u8],
@@ -99,9 +99,8 @@ struct Stored {
     walks: &'static [Walked],
 }
 
-// Whether a block has its handles and no others, and finds each below the number above its own;
-// whether keys and numbers are reached where they should be, by a find and by a seek; and whether
-// it is walked so.
+// Whether a block has its handles and no others, and finds, seeks and iterators return what they
+// should. Each handle is found at the sequence number above its own.
 fn is_read_so<A: Allocator>(block: &IndexBlock<A>, stored: &Stored, may_fail: bool) -> bool {
     if block.len() != stored.rows.len() || block.is_empty() != stored.rows.is_empty() {
         return false;
@@ -137,7 +136,7 @@ fn is_read_so<A: Allocator>(block: &IndexBlock<A>, stored: &Stored, may_fail: bo
     true
 }
 
-// A clone of a value, which outlives it, where that takes no memory.
+// A clone of a value, which outlives it, if cloning makes no request for memory.
 fn cloned_without_memory<T: Clone + Drop>(heap: &Refusing, value: T) -> Result<T, AllocError> {
     let requests = heap.requests();
     let copy: Result<T, AllocError> = value.clone();
@@ -149,8 +148,8 @@ fn cloned_without_memory<T: Clone + Drop>(heap: &Refusing, value: T) -> Result<T
     }
 }
 
-// Whether a block is read so once it is loaded, by a clone that outlives it; or memory was refused
-// where it may be.
+// Whether a clone that outlives a loaded block reads as it should; or `OutOfMemory`, where it may
+// fail.
 fn is_loaded_so(heap: &Refusing, stored: &Stored, may_fail: bool) -> bool {
     match index_block(heap, stored.version, stored.payload) {
         Ok(block) => match cloned_without_memory(heap, block) {
@@ -165,7 +164,7 @@ fn is_loaded_so(heap: &Refusing, stored: &Stored, may_fail: bool) -> bool {
     }
 }
 
-// Whether handles are written as their payload, or memory was refused where it may be.
+// Whether handles are encoded as their payload; or `OutOfMemory`, where it may fail.
 fn is_written_so(heap: &Refusing, stored: &Stored, may_fail: bool) -> bool {
     let told = told(heap, handles_of(heap, stored.rows), stored.payload);
     is_written(told, stored.payload, may_fail)
@@ -179,7 +178,7 @@ const ONE_IN_V4: &[u8] = &[
     1, 0, 0, 0, 1, 0, 0, 0, 0, 0, 0, 0, 0, 0, 0, 0, 0, 0, 0, 0, 0x2f, 0, 0, 0, 1, 0, 0, 0, 0x61,
 ];
 
-// b@5, b@3, d@9 and f@1, and where their blocks lie.
+// b@5, b@3, d@9 and f@1, with the offsets and sizes of their blocks.
 const FOUR: &[Row] = &[
     (b"b", 5, 0, 10),
     (b"b", 3, 10, 10),
@@ -187,8 +186,7 @@ const FOUR: &[Row] = &[
     (b"f", 1, 30, 10),
 ];
 
-// The count, and then of each handle the number, the position, the size, the length of the end key
-// and that key.
+// A count, and for each handle: sequence number, offset, size, length of the end key, end key.
 const FOUR_IN_V4: &[u8] = &[
     4, 0, 0, 0, //
     5, 0, 0, 0, 0, 0, 0, 0, 0, 0, 0, 0, 0, 0, 0, 0, 10, 0, 0, 0, 1, 0, 0, 0, b'b', //
@@ -225,7 +223,8 @@ const WALKS_OF_FOUR: &[Walked] = &[
             (Front, 99),
         ],
     ),
-    // The last that is left is the first whose end key is above a key, or the last of all.
+    // The last handle that remains is the first whose end key is above the key, or else the last of
+    // all.
     (&[(Edge::AtMost, b"a", 0, true)], &[(Back, 0)]),
     (&[(Edge::AtMost, b"b", 0, true)], &[(Back, 20)]),
     (&[(Edge::AtMost, b"c", 0, true)], &[(Back, 20)]),
@@ -275,8 +274,8 @@ const STORED: &[Stored] = &[
 /// How many cases the table above has.
 pub(crate) const CASES: usize = STORED.len();
 
-/// Whether the handles at a place of the table above are written, where their version is, and read
-/// so; or memory was refused where it may be.
+/// Whether the case at an index reads as it should, and its handles are encoded so in a version
+/// that is still written; or `OutOfMemory`, where it may fail.
 pub(crate) fn is_so_at(heap: &Refusing, place: usize, may_fail: bool) -> bool {
     match STORED.get(place) {
         Some(stored) => {

@@ -1,12 +1,12 @@
-//! Long keys and large blocks, whose bytes share their memory.
+//! Long keys and large blocks, whose bytes share one buffer.
 
 use crate::blocks::payloads::once_done;
 use crate::blocks::{data_blocks, index_blocks};
 use sst_blocks::{BlockType, Error, Slice};
 use std::alloc::Global;
 
-/// How many entries or handles there are, how long the key of each is and of the last, and how long
-/// each value.
+/// The number of entries or handles, the lengths of their keys and of the last key, and the length
+/// of each value.
 pub(crate) struct Size {
     count: usize,
     key_len: usize,
@@ -14,7 +14,7 @@ pub(crate) struct Size {
     pub(crate) value_len: usize,
 }
 
-// 4,097 numbers, the high bytes first, and zeroes behind the last.
+// 4,097 big-endian numbers, and zeroes after the last.
 fn numbers(alloc: Global) -> Result<Slice, Error> {
     let mut bytes = Vec::new(alloc);
     for number in 0..=4096u16 {
@@ -24,7 +24,7 @@ fn numbers(alloc: Global) -> Result<Slice, Error> {
     Slice::from_vec(bytes)
 }
 
-/// So many of some bytes from a place on, which share their memory.
+/// A share of some bytes from a start, with a length.
 pub(crate) fn part(bytes: &Slice, start: usize, len: usize) -> Result<Slice, Error> {
     let end = start.saturating_add(len);
     if end > bytes.len() {
@@ -33,14 +33,14 @@ pub(crate) fn part(bytes: &Slice, start: usize, len: usize) -> Result<Slice, Err
     bytes.slice(start, end)
 }
 
-/// What is made of a part of some bytes.
+/// An item whose key and value share a part of some bytes.
 pub(crate) trait Within: Drop {
-    /// The key is so many of the bytes, from a place on; the value, if there is one, as many as a
-    /// size says, from the last of the numbers on.
+    /// The key has `key_len` bytes and begins at `start`. The value, if any, has the length of its
+    /// size and begins at the last of the numbers.
     fn within(bytes: &Slice, start: usize, size: &Size, key_len: usize) -> Result<Self, Error>;
 }
 
-// Adds as many items as a size says.
+// Adds the items of a size.
 fn put_all<T: Within>(items: &mut Vec<T>, bytes: &Slice, size: &Size) -> Result<(), Error> {
     for place in 0..size.count {
         let is_last = place.saturating_add(1) == size.count;
@@ -50,7 +50,7 @@ fn put_all<T: Within>(items: &mut Vec<T>, bytes: &Slice, size: &Size) -> Result<
     Ok(())
 }
 
-// As many items as a size says: the key of each begins with its number.
+// The items of a size: each key begins with its number.
 fn items_of<T: Within>(alloc: Global, size: &Size) -> Result<Vec<T>, Error> {
     let bytes = numbers(alloc)?;
     let mut items = Vec::new(alloc);
@@ -61,7 +61,7 @@ fn items_of<T: Within>(alloc: Global, size: &Size) -> Result<Vec<T>, Error> {
 
 const MEBIBYTE: usize = 1048576;
 
-// So many items, how long their keys are, the last one, and their values.
+// The number of items, the lengths of their keys, of the last key, and of each value.
 macro_rules! size {
     ($count:expr, $key_len:expr, $last_len:expr, $value_len:expr) => {
         Size {
@@ -73,7 +73,7 @@ macro_rules! size {
     };
 }
 
-// What is written, of which size, the bound on its block, and its length or how it is refused.
+// A kind of block, its size, the bound on the block, and its length or the error.
 type Row = (BlockType, Size, u64, Result<usize, Error>);
 
 const ROWS: &[Row] = &[
@@ -120,7 +120,7 @@ const ROWS: &[Row] = &[
         28 + 4096 * (24 + 1048576),
         Err(Error::BlockTooLarge),
     ),
-    // A key that is too long is told before the block.
+    // A key that is too long is reported before the block.
     (
         BlockType::Data,
         size!(4097, 2, MEBIBYTE + 1, MEBIBYTE),
@@ -129,7 +129,7 @@ const ROWS: &[Row] = &[
     ),
 ];
 
-// Whether a row is written or refused as it says.
+// Whether encoding a row returns its length or its error.
 fn is_so(alloc: Global, row: &Row) -> bool {
     let (kind, size, bound, length) = row;
     let told = match kind {

@@ -1,4 +1,4 @@
-//! Payloads that are loaded: how many entries or handles they have, or why they are refused.
+//! Loads of payloads: the number of entries or handles, or an error.
 
 use crate::blocks::payloads::source_of;
 use sst_blocks::BlockType::{Data, Filter, Index, Meta};
@@ -9,14 +9,14 @@ use sst_blocks::{
 use std::alloc::Allocator;
 use test_refusing::Refusing;
 
-// A version, a kind, a payload, and how many entries or handles it has, where it is none that is
-// refused.
+// A version, a kind, a payload, and the number of its entries or handles; `None` where the load
+// fails.
 type Row = (TableVersion, BlockType, &'static [u8], Option<usize>);
 
-// Payloads without room for what they count, and filters that are none: they are refused whatever
-// memory there is.
+// Payloads too short for their counts, and invalid filters: these fail without a request for
+// memory.
 const AT_ONCE: &[Row] = &[
-    // a count of 2^32 - 1, with nothing behind it and with a few bytes
+    // a count of 2^32 - 1, with nothing after it and with a few bytes
     (V4, Data, &[255, 255, 255, 255], None),
     (V4, Meta, &[255, 255, 255, 255], None),
     (V4, Index, &[255, 255, 255, 255], None),
@@ -48,8 +48,8 @@ const AT_ONCE: &[Row] = &[
     (V4, Filter, &[], None),
 ];
 
-// A payload of a count, and of entries by their tag, their number, both of their lengths and the
-// first of the two bytes behind them.
+// A payload of a count and entries. Each entry has its tag, sequence number, both lengths and the
+// first of the two bytes after them.
 macro_rules! entries {
     ($count:expr; $([$tag:expr, $seqno:expr, $key_len:expr, $value_len:expr, $first:expr]),*) => {
         &[
@@ -82,8 +82,8 @@ macro_rules! entries {
     };
 }
 
-// A payload of a count, and of handles by their end key, the key length that they claim and their
-// number.
+// A payload of a count and handles. Each handle has its end key, the key length that it claims and
+// its sequence number.
 macro_rules! handles {
     ($count:expr; $([$key:expr, $key_len:expr, $seqno:expr]),*) => {
         &[
@@ -185,8 +185,8 @@ const LOADED: &[Row] = &[
     (V4, Index, handles!(1; [b'a', 1, 1]), Some(1)),
     (V4, Index, handles!(2; [b'a', 1, 2], [b'a', 1, 1]), Some(2)),
     (V4, Index, handles!(2; [b'a', 1, 1], [b'b', 1, 2]), Some(2)),
-    // fewer handles or more than the count says, an end key that is cut short, a byte behind the
-    // last one, and handles that are not strict: the same twice, numbers upward, keys downward
+    // fewer handles or more than the count, a truncated end key, and a byte after the last handle;
+    // handles not strictly sorted: equal, with ascending sequence numbers, with descending keys
     (V4, Index, handles!(1;), None),
     (V4, Index, handles!(u32::MAX; [b'a', 1, 1]), None),
     (V4, Index, handles!(0; [b'a', 1, 1]), None),
@@ -195,8 +195,7 @@ const LOADED: &[Row] = &[
     (V4, Index, handles!(2; [b'a', 1, 1], [b'a', 1, 1]), None),
     (V4, Index, handles!(2; [b'a', 1, 1], [b'a', 1, 2]), None),
     (V4, Index, handles!(2; [b'b', 1, 1], [b'a', 1, 0]), None),
-    // fewer bytes than a count has, a head that is cut short, and the key length of the other
-    // version
+    // fewer bytes than a count has, a truncated header, and the key length of the other version
     (V4, Index, &[1, 0, 0], None),
     (
         V4,
@@ -215,7 +214,7 @@ const LOADED: &[Row] = &[
     (V4, Filter, &[30, 255], Some(0)),
 ];
 
-// How many entries or handles a block has.
+// The number of entries or handles of a block.
 fn count<A: Allocator>(block: Block<A>) -> usize {
     match block.kind() {
         Data | Meta => {
@@ -234,7 +233,7 @@ fn count<A: Allocator>(block: Block<A>) -> usize {
     }
 }
 
-// How many entries or handles a table's block has, and none where it is refused for its payload.
+// The number of entries or handles of a table's block; `None` where its payload is invalid.
 fn count_told<A: Allocator + Copy>(
     source: &BlockSource<A>,
     kind: BlockType,
@@ -246,7 +245,7 @@ fn count_told<A: Allocator + Copy>(
     }
 }
 
-// What a load of a row's payload comes to, and how many requests for memory it makes.
+// The result of loading a row's payload, and how many requests for memory the load makes.
 fn told(heap: &Refusing, row: &Row) -> Result<(Option<usize>, usize), Error> {
     let (version, kind, payload, _) = *row;
     let source = source_of(heap, version, kind, payload)?;
@@ -256,12 +255,11 @@ fn told(heap: &Refusing, row: &Row) -> Result<(Option<usize>, usize), Error> {
     Ok((count?, heap.requests().saturating_sub(before)))
 }
 
-/// How many cases both tables above have.
+/// The number of cases in both tables above.
 pub(crate) const CASES: usize = AT_ONCE.len() + LOADED.len();
 
-/// Whether what is at a place of both tables is loaded or refused as it should be, or memory was
-/// refused where it may be. What is refused at once asks for no memory before it is, once the table
-/// is made.
+/// Whether the load at an index of both tables returns its result; or `OutOfMemory`, where it may
+/// fail. The first table's loads make no request for memory once the table is made.
 pub(crate) fn is_so_at(heap: &Refusing, place: usize, may_fail: bool) -> bool {
     let is_at_once = place < AT_ONCE.len();
     let row = match AT_ONCE.get(place) {

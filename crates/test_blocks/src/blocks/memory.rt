@@ -1,19 +1,19 @@
-//! What is written, read and loaded with each request for memory refused.
+//! Encoding, reads and loads, with each request for memory failing in turn.
 
 use crate::blocks::{data_blocks, index_blocks, loads};
 use sst_blocks::BlockType;
 use std::alloc::Global;
 use test_refusing::each_refused;
 
-// The tables of cases, of data blocks, of index blocks and of loads, and how many each has.
+// The tables of cases: data blocks, index blocks and loads; and the number of cases of each.
 const TABLES: &[(BlockType, usize)] = &[
     (BlockType::Data, data_blocks::CASES),
     (BlockType::Index, index_blocks::CASES),
     (BlockType::Meta, loads::CASES),
 ];
 
-// How many requests for memory the case at a place of a table makes, each of which is refused in
-// turn.
+// The number of requests for memory that the case at an index of a table makes. Each of them fails
+// in turn.
 fn requests(alloc: Global, table: BlockType, place: usize) -> Result<usize, usize> {
     each_refused(alloc, move |heap, may_fail| match table {
         BlockType::Data => data_blocks::is_so_at(heap, place, may_fail),

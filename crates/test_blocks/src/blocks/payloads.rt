@@ -1,4 +1,4 @@
-//! Blocks of payloads that are spelled byte by byte.
+//! Blocks of payloads that tests write byte by byte.
 ghost use Rattle.std.specs.Prelude.{◌≡◌, []};
 
 use sst_blocks::{
@@ -7,14 +7,14 @@ use sst_blocks::{
 };
 use std::alloc::Allocator;
 
-/// A value, once what was done with it is not refused.
+/// Returns `value`, or the error in `done`.
 pub(crate) fn once_done<T: Drop, E>(value: T, done: Result<(), E>) -> Result<T, E> {
     done?;
     Ok(value)
 }
 
-// The header of a block of either version: its mark, its kind, its length twice and its payload's
-// hash.
+// The header of a block of either version: magic number, kind, length twice, and hash of the
+// payload.
 fn header(version: TableVersion, kind: BlockType, payload: &[u8]) -> [[u8; 4]; 6] {
     let len = u32::try_from(payload.len())
         .unwrap_or(u32::MAX)
@@ -45,7 +45,7 @@ fn write<A: Allocator + Copy>(
     writer.append(payload)
 }
 
-/// A table with this payload alone.
+/// A table of this payload alone.
 pub(crate) fn source_of<A: Allocator + Copy>(
     alloc: A,
     version: TableVersion,
@@ -58,7 +58,7 @@ pub(crate) fn source_of<A: Allocator + Copy>(
     BlockSource::new(alloc, bytes)
 }
 
-// The block that is loaded from a table with this payload alone.
+// The block loaded from a table of this payload alone.
 fn load<A: Allocator + Copy>(
     alloc: A,
     version: TableVersion,
@@ -71,7 +71,6 @@ fn load<A: Allocator + Copy>(
     block
 }
 
-/// The data block of a payload.
 pub(crate) fn data_block<A: Allocator + Copy>(
     alloc: A,
     version: TableVersion,
@@ -87,7 +86,6 @@ pub(crate) fn data_block<A: Allocator + Copy>(
     }
 }
 
-/// The index block of a payload.
 pub(crate) fn index_block<A: Allocator + Copy>(
     alloc: A,
     version: TableVersion,

@@ -1,17 +1,18 @@
-//! What is walked from both ends, by the numbers that it gives.
+//! Iterations from both ends, compared by one number per item: the sequence number of an entry, or
+//! the block offset of a handle.
 
 use sst_blocks::Direction::{Back, Front};
 use sst_blocks::{Direction, Error, SeqNo};
 
-/// What a walk gives at its end.
+/// Stands for the end of an iteration.
 pub(crate) const NONE: u64 = 99;
 
-// What it gives where memory is refused, and where something else is.
+// Stands for `OutOfMemory`; another constant stands for any other error.
 const NO_MEMORY: u64 = 98;
 
 const FAULT: u64 = 97;
 
-/// Where a seek narrows a walk: at its front or its back, to the key or past it.
+/// A bound that a seek sets: at the front or at the back, with the key or without it.
 #[derive(Clone, Copy)]
 pub(crate) enum Edge {
     AtLeast,
@@ -20,22 +21,22 @@ pub(crate) enum Edge {
     Below,
 }
 
-/// A seek: an edge, a key and a number, and whether it leaves something.
+/// A seek: an edge, a key, a sequence number, and whether an entry remains.
 pub(crate) type Seek = (Edge, &'static [u8], SeqNo, bool);
 
-/// The seeks of a walk, and then ends and what it gives there.
+/// The seeks of an iteration, and then ends and the numbers of the items there.
 pub(crate) type Walked = (&'static [Seek], &'static [(Direction, u64)]);
 
-/// What is walked.
+/// An iterator with two ends.
 pub(crate) trait Walk {
-    /// Seeks, and answers whether that leaves something.
+    /// Seeks, and returns whether an entry remains.
     fn narrow(&mut self, edge: Edge, key: &[u8], seqno: SeqNo) -> bool;
 
-    /// The number of what stands at an end.
+    /// The number of the next item at an end.
     fn give(&mut self, end: Direction) -> u64;
 }
 
-/// The number that says a refusal.
+/// The number that stands for an error.
 pub(crate) fn refusal(error: Error) -> u64 {
     match error {
         Error::OutOfMemory => NO_MEMORY,
@@ -43,8 +44,8 @@ pub(crate) fn refusal(error: Error) -> u64 {
     }
 }
 
-/// Whether seeks leave something or not, as wanted, and a walk then gives these numbers, up to a
-/// refusal, if there may be one, behind which it gives nothing.
+/// Whether seeks return what they should, and the iterator then yields items with these numbers. An
+/// error may end it early, if one may occur; nothing follows the error.
 pub(crate) fn walks_so<W: Walk>(
     walk: &mut W,
     seeks: &[Seek],

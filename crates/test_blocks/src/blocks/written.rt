@@ -1,12 +1,11 @@
-//! What was written behind the byte 7.
+//! Blocks that are encoded after the byte 7.
 
 use sst_blocks::Error;
 
-/// What is told of what was written: the bound on its block, its length or how it was refused, and
-/// whether it is the payload that it should be.
+/// The bound on a block, its length or the error, and whether it is the expected payload.
 pub(crate) type Told = (u64, Result<usize, Error>, bool);
 
-/// How many bytes were written behind the byte 7, or how that was refused and left the byte alone.
+/// The number of bytes written after the byte 7. On an error, the byte 7 is unchanged.
 pub(crate) fn length_behind_seven(written: &[u8], done: Result<(), Error>) -> Result<usize, Error> {
     match (written, done) {
         ([7, rest @ ..], Ok(())) => Ok(rest.len()),
@@ -15,7 +14,7 @@ pub(crate) fn length_behind_seven(written: &[u8], done: Result<(), Error>) -> Re
     }
 }
 
-/// Whether a payload was written, in a block of its bound; or memory was refused where it may be.
+/// Whether a payload was written within its bound; or `OutOfMemory`, where it may fail.
 pub(crate) fn is_written(told: Result<Told, Error>, payload: &[u8], may_fail: bool) -> bool {
     let size = 24 + payload.len() as u64;
     match told {

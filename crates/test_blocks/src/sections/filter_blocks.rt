@@ -1,4 +1,4 @@
-//! Filter blocks: written, loaded and asked.
+//! Filter blocks: encoding, loads and queries.
 use crate::sections::filters::{ONE_KEY, THREE_KEYS};
 use crate::sections::tables::{handle, table_of};
 use sst_blocks::{
@@ -17,7 +17,7 @@ fn filter_of(block: Block) -> Result<FilterBlock, Error> {
     }
 }
 
-// The filter that is loaded from a table of it alone.
+// The filter loaded from a table of it alone.
 fn load(alloc: Global, payload: &[u8]) -> Result<FilterBlock, Error> {
     let size = u32::try_from(payload.len()).unwrap_or(0).saturating_add(24);
     let blocks = [(BlockType::Filter, payload, 0, size)];
@@ -27,7 +27,7 @@ fn load(alloc: Global, payload: &[u8]) -> Result<FilterBlock, Error> {
     filter_of(block?)
 }
 
-// What is told of a filter: its size, and whether it and its clone admit a key.
+// The size of a filter, and whether the filter and its clone admit a key.
 type Told = (usize, bool, bool);
 
 fn told(filter: &FilterBlock, key: &[u8]) -> Result<Told, Error> {
@@ -42,7 +42,7 @@ fn told(filter: &FilterBlock, key: &[u8]) -> Result<Told, Error> {
     ))
 }
 
-// What is told of the filter that is loaded of a payload.
+// The size and the answers of the filter that is loaded from a payload.
 fn told_of(alloc: Global, payload: &[u8], key: &[u8]) -> Result<Told, Error> {
     let filter = load(alloc, payload)?;
     let told = told(&filter, key);
@@ -50,7 +50,7 @@ fn told_of(alloc: Global, payload: &[u8], key: &[u8]) -> Result<Told, Error> {
     told
 }
 
-// A payload, a key, and what is told of the filter, or how it is refused.
+// A payload, a key, and the results of the filter, or the error.
 const ASKED: &[(&[u8], &[u8], Result<Told, Error>)] = &[
     (&[1, 0], b"a", Ok((2, false, false))),
     (&[30, 255], b"a", Ok((2, true, true))),

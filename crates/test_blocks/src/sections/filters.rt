@@ -1,4 +1,4 @@
-//! Filters: their sizes, and their bits.
+//! Filters: their sizes and their bits.
 use sst_entries::Error;
 use sst_filters::{BloomConstructionPolicy, Builder, filter_bound};
 use std::alloc::{Allocator, Global};
@@ -8,7 +8,7 @@ fn tenths(tenths: u32) -> BloomConstructionPolicy {
     BloomConstructionPolicy::BitsPerKey(tenths)
 }
 
-// Tenths of a bit for each key, a number of keys, and the filter's size and bound.
+// Tenths of a bit per key, the number of keys, and the filter's size and bound.
 type Size = (u32, usize, usize, u64);
 
 const SIZES: &[Size] = &[
@@ -18,14 +18,14 @@ const SIZES: &[Size] = &[
     (100, 1_000, 1_250, 1_275),
     (0, 1_000, 8, 33),
     (1, 641, 9, 34),
-    // keys that have a byte each, in the largest block and in one that is too large
+    // keys of one byte each, in the largest block and in one that is too large
     (80, 4_294_967_270, 4_294_967_270, u32::MAX as u64),
     (80, 4_294_967_271, 4_294_967_271, 1 << 32),
     (u32::MAX, usize::MAX, usize::MAX, u64::MAX),
 ];
 
-// Whether a filter has this size and this bound, is active where a key has bits, and is refused
-// from four gigabytes on.
+// Whether a filter has this size and this bound, and is active where a key has bits. It fails from
+// four gigabytes on.
 fn is_sized(alloc: Global, case: &Size) -> bool {
     let (bits, keys, size, bound) = *case;
     let policy = tenths(bits);
@@ -46,10 +46,10 @@ fn sizes_of_filters(rt: HostRuntime) {
 /// The payload of a filter of one key, "a", at ten bits.
 pub(crate) const ONE_KEY: &[u8] = &[6, 1, 0x30, 0, 2, 0x40, 0, 8, 0];
 
-/// That of a filter of "apple", "fig" and "pear".
+/// The payload of a filter of "apple", "fig" and "pear".
 pub(crate) const THREE_KEYS: &[u8] = &[6, 0x81, 0x42, 0x18, 2, 0x92, 0x60, 0x24, 0x85];
 
-// Tenths of a bit for each key, keys, and the payload: the number of probes, then the bits.
+// Tenths of a bit per key, the keys, and the payload: the number of probes, then the bits.
 type Built = (u32, &'static [&'static [u8]], &'static [u8]);
 
 const BUILT: &[Built] = &[
@@ -72,7 +72,7 @@ fn payload_of<A: Allocator>(alloc: A, bits: u32, keys: &[&[u8]]) -> Result<Vec<u
     Ok(builder.build())
 }
 
-// Whether a filter is built, or memory was refused where it may be.
+// Whether a filter is built; or `OutOfMemory`, where it may fail.
 fn is_built(heap: &Refusing, case: &Built, may_fail: bool) -> bool {
     let (bits, keys, expected) = *case;
     match payload_of(heap, bits, keys) {

@@ -35,15 +35,16 @@ const BOTH: &[Written] = &[
     (BlockType::Filter, FILTER, 47, 26),
 ];
 
-// Whether some bytes begin with both blocks: header and payload, and a header more and the filter.
+// Whether some bytes begin with both blocks: the header and payload, then a second header and the
+// filter.
 fn begin_with_both(bytes: &[u8]) -> bool {
     bytes.get(..24) == Some(HEADER)
         && bytes.get(24..47) == Some(PAYLOAD)
         && bytes.get(71..73) == Some(FILTER)
 }
 
-// Whether both blocks are written. Two hashes are made at once here, the payload's and that of all
-// bytes.
+// Whether both blocks are written. The writer computes two hashes at once: of the payload and of
+// all bytes.
 fn are_written(alloc: Global) -> bool {
     match table_of(alloc, SectionName::Data, BOTH, &[]) {
         Ok(source) => {

@@ -1,4 +1,4 @@
-//! Loading the blocks of a stored table, and what its changed bytes are refused for.
+//! Loads of the blocks of a stored table, and errors of changed tables.
 use crate::sections::stored_table;
 use crate::sections::tables::{changed, changed_bytes, handle};
 use sst_blocks::BlockType::{Data, Index, Meta};
@@ -8,7 +8,7 @@ use sst_blocks::{
 use std::alloc::{AllocError, Allocator, Global};
 use test_refusing::Refusing;
 
-/// What a load answers: the kind and the size of the block's payload.
+/// The result of a load: the kind and the size of the block's payload.
 pub(crate) type Answer = Result<(BlockType, usize), Error>;
 
 fn told<A: Allocator>(loaded: Result<Block<A>, Error>) -> Answer {
@@ -18,8 +18,7 @@ fn told<A: Allocator>(loaded: Result<Block<A>, Error>) -> Answer {
     Ok(told)
 }
 
-/// What a source answers for the block at a position: of this size, or of the one that its header
-/// says.
+/// Loads the block at an offset, of this size, or of the size in its header.
 pub(crate) fn loaded(
     source: &BlockSource,
     offset: u64,
@@ -33,11 +32,11 @@ pub(crate) fn loaded(
     })
 }
 
-// Changes of the stored table, the position, the size if it is said, and the kind that a load is
-// told then, and what it answers.
+// Changes of the stored table; the offset, the size if any, and the kind that are passed to the
+// load; and its result.
 type Load = (&'static [(usize, u8)], u64, Option<u32>, BlockType, Answer);
 
-// Loads, and how many blocks were opened by these and by those before.
+// Loads, and how many blocks were opened up to and including them.
 const LOADS: &[(&[Load], Opened)] = &[
     (
         &[
@@ -103,10 +102,10 @@ const LOADS: &[(&[Load], Opened)] = &[
             ),
             (&[(16, 0)], 0, Some(45), Data, Err(Error::ChecksumMismatch)),
             (&[(44, 0)], 0, Some(45), Data, Err(Error::ChecksumMismatch)),
-            // The new mark over a payload of the old grammar, whose checksum is right.
+            // The new magic number before a payload of the old version, whose checksum is right.
             (&[(3, 0x32)], 0, Some(45), Data, Err(Error::InvalidBlock)),
-            // The trailer, whose slots begin at 1138 and its mark at 1250: another mark, a length of 2^32,
-            // one byte past the end of the body, and up to that end.
+            // The trailer: its slots begin at 1138, its magic number at 1250. Another magic
+            // number, a length of 2^32, one byte past the end of the body, and up to that end.
             (&[(1257, 0)], 0, Some(45), Data, Err(Error::InvalidTrailer)),
             (
                 &[(1178, 0), (1182, 1)],
@@ -129,7 +128,7 @@ const LOADS: &[(&[Load], Opened)] = &[
                 Data,
                 Ok((Data, 21)),
             ),
-            // the first position 2^64 - 1, whose sum with the length is 44 where it wraps
+            // the first offset 2^64 - 1, whose sum with the length wraps to 44
             (
                 &[
                     (1138, 0xff),
@@ -146,7 +145,7 @@ const LOADS: &[(&[Load], Opened)] = &[
                 Data,
                 Err(Error::InvalidTrailer),
             ),
-            // the first length as much too: no data section
+            // the first length 2^64 - 1 too: no data section
             (
                 &[
                     (1138, 0xff),
@@ -181,7 +180,7 @@ const LOADS: &[(&[Load], Opened)] = &[
     ),
 ];
 
-// Whether a load from the stored table answers as its case says.
+// Whether a load from the stored table returns the result of its case.
 fn is_loaded_so(alloc: Global, case: &Load, opened: &mut Opened) -> bool {
     let (changes, offset, size, kind, expected) = case;
     match changed(alloc, stored_table::bytes(), changes) {
@@ -194,7 +193,7 @@ fn is_loaded_so(alloc: Global, case: &Load, opened: &mut Opened) -> bool {
     }
 }
 
-// Each load is counted, by the kind that it is told, also where it is refused.
+// Each load is counted under the kind that is passed to it, also where it fails.
 #[test]
 fn loads_from_a_stored_table(rt: HostRuntime) {
     written_blocks_load();
@@ -216,7 +215,7 @@ fn bytes_that_end_early_have_no_trailer(rt: HostRuntime) {
     }
 }
 
-// What a load of each block is told: its kind and its size, another kind, and a size that is less.
+// The loads of each block: with its kind and size, with another kind, and with a smaller size.
 const BLOCKS: &[&[Load]] = &[
     &[
         (&[], 0, Some(45), Data, Ok((Data, 21))),
@@ -253,7 +252,7 @@ const BLOCKS: &[&[Load]] = &[
     ],
 ];
 
-// Whether the cases that change nothing are answered so three times over.
+// Whether the cases without changes have the same results three times.
 fn answers_again(source: &BlockSource, cases: &[Load], opened: &mut Opened) -> bool {
     for _ in 0..3u8 {
         for (changes, offset, size, kind, expected) in cases {
@@ -265,7 +264,7 @@ fn answers_again(source: &BlockSource, cases: &[Load], opened: &mut Opened) -> b
     true
 }
 
-// Whether each block is loaded again, of a source and then of its clone.
+// Whether each block loads again, from a source and then from its clone.
 fn both_load_again(source: &BlockSource, clone: &BlockSource, opened: &mut Opened) -> bool {
     let mut are_so = true;
     for (cases, _) in LOADS {
@@ -290,7 +289,7 @@ fn loads_again(source: &BlockSource, opened: &mut Opened) -> bool {
     }
 }
 
-// Whether the blocks of the stored table load again, of a clone of its source too.
+// Whether the blocks of the stored table load again, also from a clone of its source.
 fn stored_blocks_load_again(alloc: Global, opened: &mut Opened) -> bool {
     match changed(alloc, stored_table::bytes(), &[]) {
         Ok(source) => {
@@ -302,8 +301,7 @@ fn stored_blocks_load_again(alloc: Global, opened: &mut Opened) -> bool {
     }
 }
 
-// A block whose checksum was compared and whose grammar was tested loads as before, and each load
-// is counted.
+// A verified block loads as before, and each load is counted.
 #[test]
 fn a_block_loads_again(rt: HostRuntime) {
     let mut opened = Opened::none();
@@ -317,7 +315,7 @@ fn a_block_loads_again(rt: HostRuntime) {
     assert!(rt; opened == expected);
 }
 
-// What a load of the data block and one of the index block after it return, and the counts.
+// The results of a load of the data block and then of the index block, and the counts.
 type Counts = (Answer, Answer, Opened);
 
 fn both_loaded<L: LoadBlocks>(blocks: &mut L) -> (Answer, Answer) {
@@ -338,10 +336,10 @@ const ONE_OF_EACH: Opened = Opened {
     meta_loads: 0,
 };
 
-// Changes of the stored table, and what is loaded then.
+// Changes of the stored table, and the loads that follow.
 type Case = (&'static [(usize, u8)], Counts);
 
-// The table as it is, with a damaged data block, and with a damaged index block.
+// The table unchanged, with a damaged data block, and with a damaged index block.
 const COUNTED: &[Case] = &[
     (&[], (Ok((Data, 21)), Ok((Index, 27)), ONE_OF_EACH)),
     (
@@ -354,8 +352,7 @@ const COUNTED: &[Case] = &[
     ),
 ];
 
-// How many requests for memory the bytes take, and how many with the source over them; and what is
-// loaded.
+// How many requests for memory the bytes make, how many these and the source make, and the loads.
 fn counted_of(heap: &Refusing, case: &Case) -> Result<(usize, usize, Counts), Error> {
     let bytes = changed_bytes(heap, stored_table::bytes(), case.0)?;
     let first = heap.requests();
@@ -366,13 +363,13 @@ fn counted_of(heap: &Refusing, case: &Case) -> Result<(usize, usize, Counts), Er
     Ok((first, last, counts))
 }
 
-// Whether a load returns what is expected, or `OutOfMemory` where it may fail.
+// Whether a load has the expected result; or `OutOfMemory`, where it may fail.
 fn is_answer(answer: &Answer, expected: &Answer, may_fail: bool) -> bool {
     answer == expected || may_fail && *answer == Err(Error::OutOfMemory)
 }
 
-// Whether all is loaded and counted, or memory was refused where it may be, with this request
-// refused.
+// Whether all loads return and count what they should while this request fails; or `OutOfMemory`,
+// where it may fail.
 fn is_counted_but(alloc: Global, case: &Case, nth: usize, may_fail: bool) -> bool {
     let heap = Refusing::new(alloc, nth);
     let (first, second, opened) = &case.1;
@@ -387,8 +384,8 @@ fn is_counted_but(alloc: Global, case: &Case, nth: usize, may_fail: bool) -> boo
     is_so && heap.requests() >= nth
 }
 
-// Whether all is loaded and counted with each request refused in turn. A source that is refused
-// memory for its verified-block cache loads all the same, and compares each checksum.
+// Whether all loads return and count what they should while each request fails in turn. A source
+// without a verified-block cache loads too, and compares each checksum.
 fn is_counted(alloc: Global, case: &Case) -> Result<bool, Error> {
     let heap = Refusing::new(alloc, 0);
     let (first, last, counts) = counted_of(&heap, case)?;
@@ -406,7 +403,7 @@ fn a_source_that_counts_its_loads_with_each_request_refused(rt: HostRuntime) {
     }
 }
 
-// The refusals, each at the place before its number.
+// The errors by error code: each is at its code minus one.
 const ERRORS: &[Error] = &[
     Error::OutOfMemory,
     Error::Truncated,

@@ -1,9 +1,10 @@
-//! What is written and built with each request for memory refused.
+//! Writing sections and building filters, with each request for memory failing in turn.
 
 use crate::sections::{filters, sections};
 use test_refusing::{Refusing, each_refused};
 
-// Whether the stored table is written again and filters are built, where memory may be refused.
+// Whether the stored table is written again and filters are built; or `OutOfMemory`, where it may
+// fail.
 fn goes_so(heap: &Refusing, may_fail: bool) -> bool {
     sections::is_written_again(heap, may_fail) && filters::are_built(heap, may_fail)
 }

@@ -8,7 +8,6 @@ use sst_blocks::{BlockSource, Error, Section, SectionName, SectionWriter};
 use std::alloc::Allocator;
 use test_refusing::Refusing;
 
-// Writes a section.
 fn put_section<A: Allocator + Copy>(
     writer: &mut SectionWriter<A>,
     name: SectionName,
@@ -33,7 +32,7 @@ fn write_sections<A: Allocator + Copy>(writer: &mut SectionWriter<A>) -> Result<
     put_section(writer, SectionName::Meta, &bytes[97..1138])
 }
 
-// A section, and its position and length.
+// A section, and its offset and length.
 const SECTIONS: &[(SectionName, Option<(u64, u64)>)] = &[
     (SectionName::Data, Some((0, 45))),
     (SectionName::Index, None),
@@ -44,7 +43,7 @@ const SECTIONS: &[(SectionName, Option<(u64, u64)>)] = &[
     (SectionName::Meta, Some((97, 1041))),
 ];
 
-// Whether each section of a table lies where it was written.
+// Whether each section of a table is at its offset and has its length.
 fn lie_so<A: Allocator + Copy>(source: &BlockSource<A>) -> bool {
     let toc = source.toc();
     for &(name, lies) in SECTIONS {
@@ -59,8 +58,7 @@ fn lie_so<A: Allocator + Copy>(source: &BlockSource<A>) -> bool {
     true
 }
 
-// Whether the stored table is the same when its sections are written again, with its checksum, and
-// these are found in it.
+// Whether writing the sections again yields the stored table, its checksum and these sections.
 fn is_same<A: Allocator + Copy>(alloc: A) -> Result<bool, Error> {
     let mut writer = SectionWriter::new(alloc)?;
     let written = write_sections(&mut writer);
@@ -72,7 +70,7 @@ fn is_same<A: Allocator + Copy>(alloc: A) -> Result<bool, Error> {
     Ok(is_same && lie_so && checksum == 0x30fc_eabc_de57_bd50)
 }
 
-/// Whether the stored table is written again, or memory was refused where it may be.
+/// Whether the stored table is written again; or `OutOfMemory`, where it may fail.
 pub(crate) fn is_written_again(heap: &Refusing, may_fail: bool) -> bool {
     match is_same(heap) {
         Ok(is_same) => is_same,

@@ -1,7 +1,7 @@
 //! A table that was stored in version 3, for tests.
 
-/// The one entry `a` at number 1 with the value `x`. The sections are data (45 bytes), the top
-/// level of the index (51), the version (1) and the meta block (1,041).
+/// The one entry `a` at sequence number 1 with the value `x`. The sections are data (45 bytes), the
+/// top level of the index (51), the version (1) and the meta block (1,041).
 #[rattlefmt::skip]
 static BYTES: [u8; 1258] = [
     0x4c, 0x42, 0x4b, 0x31, 0x00, 0x00, 0x00, 0x00, 0x15, 0x00, 0x00, 0x00, 0x15, 0x00, 0x00, 0x00,
@@ -85,7 +85,6 @@ static BYTES: [u8; 1258] = [
     0x00, 0x00, 0x4c, 0x53, 0x4d, 0x54, 0x53, 0x45, 0x43, 0x31,
 ];
 
-/// The bytes of the table.
 pub(crate) fn bytes() -> &'static [u8; 1258] {
     &BYTES
 }

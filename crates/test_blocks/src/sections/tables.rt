@@ -1,4 +1,4 @@
-//! The bytes of tables: what is written of blocks, and bytes that are changed.
+//! The bytes of tables: written blocks and changed bytes.
 ghost use Rattle.std.specs.Prelude.{◌≡◌, []};
 
 use sst_blocks::{
@@ -7,12 +7,11 @@ use sst_blocks::{
 };
 use std::alloc::{Allocator, Global};
 
-/// A block of this size, header included, at a position.
+/// A block at an offset, of this size including the header.
 pub(crate) fn handle(offset: u64, size: u32) -> BlockHandle {
     BlockHandle::new(BlockOffset(offset), size)
 }
 
-// Changes some bytes.
 fn change(bytes: &mut [u8], changes: &[(usize, u8)]) {
     for (at, value) in changes {
         if let Some(byte) = bytes.get_mut(*at) {
@@ -21,7 +20,7 @@ fn change(bytes: &mut [u8], changes: &[(usize, u8)]) {
     }
 }
 
-/// A copy of some bytes, once some of them are changed: where, and to what.
+/// A copy of some bytes, with these changes: index and new value.
 pub(crate) fn changed_bytes<A: Allocator + Copy>(
     alloc: A,
     bytes: &[u8],
@@ -32,7 +31,7 @@ pub(crate) fn changed_bytes<A: Allocator + Copy>(
     Ok(Slice::from_vec(bytes)?)
 }
 
-/// A source of some bytes, once some of them are changed: where, and to what.
+/// A source of some bytes, with these changes: index and new value.
 pub(crate) fn changed(
     alloc: Global,
     bytes: &[u8],
@@ -41,7 +40,7 @@ pub(crate) fn changed(
     BlockSource::new(alloc, changed_bytes(alloc, bytes, changes)?)
 }
 
-/// What was told of what a writer wrote, the bytes and their checksum.
+/// The result of a writer's last call, the bytes and their checksum.
 pub(crate) fn finished<T: Drop, A: Allocator + Copy>(
     writer: SectionWriter<A>,
     written: Result<T, Error>,
@@ -51,7 +50,7 @@ pub(crate) fn finished<T: Drop, A: Allocator + Copy>(
     Ok((written, bytes, checksum.0))
 }
 
-/// A kind, a payload, and the position and the size of the block that is written of them.
+/// A kind, a payload, and the offset and size of the block that is written.
 pub(crate) type Written<'a> = (BlockType, &'a [u8], u64, u32);
 
 fn write_block(
@@ -65,7 +64,7 @@ fn write_block(
     Block::write_into(writer, payload, kind, CompressionType::None)
 }
 
-// Writes a section of these blocks, and answers whether each lies where it should.
+// Writes a section of these blocks, and returns whether each is at its offset.
 fn write(
     writer: &mut SectionWriter,
     name: SectionName,
@@ -81,8 +80,8 @@ fn write(
     Ok(lie_so)
 }
 
-/// A table of these blocks alone, once some of its bytes are changed. Refused [`Error::Source`]
-/// where a block lies elsewhere, or where the checksum is not the hash of all that was written.
+/// A table of these blocks alone, with some bytes changed. Fails with [`Error::Source`] if a block
+/// is at another offset, or if the checksum is not the hash of all bytes written.
 pub(crate) fn table_of(
     alloc: Global,
     name: SectionName,

@@ -1,4 +1,4 @@
-//! Checksums that are compared ahead of the loads: no load answers otherwise.
+//! Checksums compared ahead of the loads do not change the result of any load.
 use crate::sections::loading::loaded;
 use crate::sections::tables::{Written, handle, table_of};
 use sst_blocks::BlockType::{Filter, Index};
@@ -7,7 +7,8 @@ use std::alloc::Global;
 
 const TEXT: &[u8] = b"a run of bytes, which is walked over from both ends";
 
-// Whether the hash of a run is told from another, alone and beside a run of another length.
+// Whether the hash of some bytes differs from another hash, alone and beside bytes of another
+// length.
 fn is_compared(some: &[u8], all: &[u8]) -> bool {
     let sum = hash(some);
     let whole = hash(all);
@@ -26,7 +27,7 @@ fn sums_are_compared_from_both_ends(rt: HostRuntime) {
     }
 }
 
-// Four filters. Each payload passes the bytes that share a mark.
+// Four filters. Each payload exceeds the bytes that share one bit of the verified-block cache.
 const BLOCKS: [Written; 4] = [
     (Filter, &[6; 2100], 0, 2124),
     (Filter, &[6; 5000], 2124, 5024),
@@ -34,7 +35,7 @@ const BLOCKS: [Written; 4] = [
     (Filter, &[6; 4096], 9672, 4120),
 ];
 
-// The last byte of each payload, which is 7 where the block is damaged.
+// The last byte of each payload, which is 7 in a damaged block.
 fn last_bytes(damaged: u8) -> [(usize, u8); 4] {
     [
         (2123, 6 + (damaged & 1)),
@@ -44,8 +45,8 @@ fn last_bytes(damaged: u8) -> [(usize, u8); 4] {
     ]
 }
 
-// No block, then one of the four, one as of another kind, one of another size, and one past the
-// end.
+// Compares no block, then one of the four, one under another kind, one of another size, and one
+// past the end.
 fn compare_some(source: &BlockSource) {
     let some = [
         (handle(0, 2124), Filter),
@@ -57,7 +58,7 @@ fn compare_some(source: &BlockSource) {
     source.compare_together(&some);
 }
 
-// The four, and one of them again.
+// Compares the four, and one of them again.
 fn compare_all(source: &BlockSource) {
     let all = [
         (handle(0, 2124), Filter),
@@ -69,7 +70,7 @@ fn compare_all(source: &BlockSource) {
     source.compare_together(&all);
 }
 
-// Whether each block is loaded, or refused for its checksum where it is damaged, twice.
+// Whether each block loads, or fails with a checksum error where it is damaged, twice.
 fn load_so(source: &BlockSource, damaged: u8) -> bool {
     for i in 0..8usize {
         let (kind, payload, offset, size) = BLOCKS[i % 4];
@@ -85,8 +86,8 @@ fn load_so(source: &BlockSource, damaged: u8) -> bool {
     true
 }
 
-// Whether the blocks, of which those are damaged whose bits are set, load so once their sums were
-// compared.
+// Whether the blocks load as they should after their checksums were compared. The set bits of
+// `damaged` name the damaged blocks.
 fn load_so_behind(alloc: Global, damaged: u8) -> bool {
     match table_of(alloc, SectionName::Data, &BLOCKS, &last_bytes(damaged)) {
         Ok(source) => {

@@ -1,5 +1,5 @@
-//! Compactions of runs that nobody has verified: what the new tables have, the ids that are drawn,
-//! what a filter changes, what a callback and an observer are told, and runs that stay.
+//! Compactions of runs that are not verified: the entries of the new tables, the drawn ids,
+//! filters, callbacks, observers, and the unchanged source runs.
 use crate::tables::number_of;
 use logpurple::compaction::{
     CompactionObserver, CompactionOutcome, CompactionProgress, NoObserver, Rules,
@@ -17,15 +17,15 @@ use test_tables::large::asked;
 use test_tables::runs::{Lists, Tables, runs_of};
 use test_tables::tables::open;
 
-/// A key of one byte, 0 for any other, a number and a kind.
+/// A key of one byte, 0 for any other, a sequence number and a kind.
 pub(crate) type Version = (u8, SeqNo, ValueType);
 
-/// The first ten versions of a list, and how many it has.
+/// The first ten versions of a list, and the number of all.
 pub(crate) type Listed = ([Option<Version>; 10], usize);
 
 const NONE: Listed = ([None; 10], 0);
 
-// Puts an entry behind the others.
+// Appends an entry.
 fn put(listed: &mut Listed, item: &EntryRef<'_>) {
     let key = match item.user_key {
         [byte] => *byte,
@@ -38,7 +38,7 @@ fn put(listed: &mut Listed, item: &EntryRef<'_>) {
     *count = count.saturating_add(1);
 }
 
-/// Whether a list is of just these versions, ten at most.
+/// Whether a list has exactly these versions, ten at most.
 pub(crate) fn are(listed: &Listed, versions: &[Version]) -> bool {
     let (slots, count) = listed;
     for (slot, version) in slots.iter().zip(versions.iter()) {
@@ -49,7 +49,7 @@ pub(crate) fn are(listed: &Listed, versions: &[Version]) -> bool {
     *count == versions.len()
 }
 
-// Puts an entry behind the others; nothing follows a refusal.
+// Appends an entry, or returns the error; nothing follows an error.
 fn put_next<A: Allocator>(
     listed: Result<Listed, Error>,
     item: IterItem<A>,
@@ -59,7 +59,7 @@ fn put_next<A: Allocator>(
     Ok(listed)
 }
 
-// A list with what a scan gives.
+// A list with the entries of a scan appended.
 fn with_scan(
     listed: Result<Listed, Error>,
     scan: Result<Scanner<Global>, Error>,
@@ -81,7 +81,8 @@ pub(crate) fn entries_of(alloc: Global, tables: Vec<FinishedTable>) -> Result<Li
     listed
 }
 
-// Drops the version of one number, makes that of another a tombstone, and keeps all others.
+// Drops the version with one sequence number, replaces that with another one by a tombstone, and
+// keeps all others.
 #[derive(Clone, Copy)]
 struct DropsAndHides {
     dropped: SeqNo,
@@ -104,7 +105,7 @@ impl<A: Allocator> LentFilter<A> for DropsAndHides {
     }
 }
 
-// Remembers what it received.
+// Records the entries that it receives.
 #[derive(Clone, Copy)]
 struct Received {
     reports: Listed,
@@ -118,10 +119,10 @@ impl LentCallback for Received {
     }
 }
 
-// How many tables are finished, and how many entries they have; none where nothing was told.
+// The number of finished tables, and the number of their entries; zeros without a call.
 type Progress = (u64, u64);
 
-// Remembers what it is told, three times at most, and stops the compaction at one of these.
+// Records the progress of its calls, three at most, and stops the compaction at one of them.
 #[derive(Clone, Copy)]
 struct Told {
     progress: [Progress; 3],
@@ -142,11 +143,12 @@ impl CompactionObserver for Told {
     }
 }
 
-// How runs are compacted: a threshold, a target, the first id, the numbers that the filter drops
-// and hides, and where the observer stops it. Tombstones and numbers stay.
+// The arguments of a compaction: a threshold, a target, the first id, the sequence numbers that the
+// filter drops and hides, and the call at which the observer stops it. Tombstones and sequence
+// numbers are kept.
 type How = (SeqNo, u64, TableId, SeqNo, SeqNo, usize);
 
-// What a compaction comes to.
+// The outcome of a compaction.
 #[derive(Clone, Copy, PartialEq, Eq)]
 enum Came {
     Tables,
@@ -154,8 +156,8 @@ enum Came {
     Stopped,
 }
 
-// What it comes to, or its refusal; the entries of the new tables, their ids and the next one; what
-// the callback received; and what the observer was told, three times at most.
+// The outcome, or the error; the entries of the new tables, their ids and the next one. Then the
+// entries that the callback received, and the first three calls of the observer.
 type Wanted = (
     Result<Came, Error>,
     &'static [Version],
@@ -175,7 +177,7 @@ fn have_ids(tables: &[FinishedTable], ids: &[TableId]) -> bool {
     tables.len() == ids.len()
 }
 
-// What a compaction came to, if its tables, if any, are those that are wanted.
+// The outcome of a compaction, if its tables, if any, are the wanted ones.
 fn came_of(
     alloc: Global,
     outcome: CompactionOutcome,
@@ -200,7 +202,8 @@ fn rules_of(watermark: SeqNo) -> Rules {
     }
 }
 
-// What a compaction of some runs came to, if it and what was told on the way are as is wanted.
+// The outcome of a compaction of some runs, if its tables, callback and observer have the wanted
+// results.
 fn compacted(
     alloc: Global,
     runs: &[Tables<Global>],
@@ -228,8 +231,8 @@ fn compacted(
     Ok(if is_told { came } else { None })
 }
 
-// What a compaction of some runs into one came to that has no filter and no observer, if it and its
-// run are as is wanted.
+// The outcome of a compaction of some runs into one, without a filter and an observer, if its run
+// is the wanted one.
 fn compacted_to_run(
     alloc: Global,
     runs: &[Tables<Global>],
@@ -248,7 +251,7 @@ fn compacted_to_run(
     Ok(if count == wanted.2.len() { came } else { None })
 }
 
-// Whether that is the answer, or the refusal.
+// Whether the outcome or the error is the wanted one.
 fn is_wanted(came: Result<Option<Came>, Error>, wanted: &Wanted) -> bool {
     match (&came, &wanted.0) {
         (Ok(Some(came)), Ok(wanted)) => *came == *wanted,
@@ -257,24 +260,24 @@ fn is_wanted(came: Result<Option<Came>, Error>, wanted: &Wanted) -> bool {
     }
 }
 
-// What reads of `a`, `b` and `c` find.
+// The sequence numbers that reads of `a`, `b` and `c` find.
 type Numbers = [Option<SeqNo>; 3];
 
-// What they find in some runs.
+// The sequence numbers that these reads find in some runs.
 fn numbers_in<A: Allocator + Copy>(runs: &[Tables<A>]) -> Result<Numbers, Error> {
     let a = number_of(get_runs(runs, b"a", SeqNo::MAX))?;
     let b = number_of(get_runs(runs, b"b", SeqNo::MAX))?;
     Ok([a, b, number_of(get_runs(runs, b"c", SeqNo::MAX))?])
 }
 
-// A number that no entry has.
+// A sequence number of no entry.
 const NO: SeqNo = SeqNo::MAX;
 
-// How often an observer is told at most that stops nothing.
+// More calls than an observer gets, so that it stops nothing.
 const OFTEN: usize = 9;
 
-// Whether compactions of some runs come to what is wanted, one into a run only where nothing is
-// filtered and nothing stopped, and whether reads of the runs find the same before and after.
+// Whether compactions of some runs have the wanted outcome, and reads of the runs find the same
+// before and after. A compaction into one run is tested only without a filter and a stop.
 fn comes(alloc: Global, lists: &[Lists], how: How, wanted: &Wanted) -> bool {
     let Ok(runs) = runs_of(alloc, lists) else {
         return false;
@@ -294,14 +297,14 @@ const T: ValueType = ValueType::Tombstone;
 
 const W: ValueType = ValueType::WeakTombstone;
 
-// A value that fills a block, and reaches a target of 1,024 bytes.
+// A value that fills a block and reaches a target of 1,024 bytes.
 const LONG: [u8; 8000] = [b'v'; 8000];
 
-// The runs of cases, which go by their place: a table of cases costs a proof as much as it has
-// references.
+// The runs of cases, which refer to them by index: each reference in a table of cases makes its
+// proof slower.
 const RUNS: &[&[Lists]] = &[
     &[],
-    // `a`, `d` and `e` fill a block each; `b` and `c` go into that of `d`.
+    // `a`, `d` and `e` fill a block each; `b` and `c` are in the block of `d`.
     &[
         &[&[(b"a", 9, V, &LONG), (b"b", 6, V, b"x"), (b"d", 4, V, &LONG)]],
         &[&[(b"a", 5, V, b"x"), (b"c", 7, T, b""), (b"e", 1, V, &LONG)]],
@@ -365,12 +368,11 @@ const A10_ALONE: usize = 10;
 
 const A10_BEFORE_A3: usize = 11;
 
-// The runs at a place.
 fn lists_at(place: usize) -> &'static [Lists] {
     RUNS.get(place).copied().unwrap_or(&[])
 }
 
-// At threshold 5 what follows d@4 goes.
+// At threshold 5 the versions after d@4 are dropped.
 const KEPT: &[Version] = &[
     (b'a', 9, V),
     (b'a', 5, V),
@@ -398,7 +400,7 @@ const CASES: &[(usize, How, Wanted)] = &[
         (0, 0, 1, NO, NO, OFTEN),
         (Ok(Came::Tables), &[], &[], Some(2), &[], UNTOLD),
     ),
-    // At target 0 the first table stays without entries, and its id is drawn.
+    // At target 0 the first table has no entries, but its id is drawn.
     (
         THREE_RUNS,
         (5, 0, 5, NO, NO, OFTEN),
@@ -423,7 +425,7 @@ const CASES: &[(usize, How, Wanted)] = &[
             &[(1, 2), (2, 7), (0, 0)],
         ),
     ),
-    // The versions of a key stay in one table.
+    // The versions of a key are in one table.
     (
         VERSIONS_OF_A,
         (0, 1_024, 1, NO, NO, OFTEN),
@@ -461,11 +463,11 @@ const CASES: &[(usize, How, Wanted)] = &[
             &[(1, 3), (2, 4), (0, 0)],
         ),
     ),
-    // The tables of a run stand in the wrong order.
+    // The tables of a run are in the wrong order.
     (IN_WRONG_ORDER, (0, 0, 1, NO, NO, OFTEN), OUT_OF_ORDER),
-    // Two runs have a key under one number.
+    // Two runs have a key with the same sequence number.
     (OF_ONE_NUMBER, (0, 0, 1, NO, NO, OFTEN), OUT_OF_ORDER),
-    // What is dropped hides nothing: the version after it is kept.
+    // A dropped version hides nothing: the version after it is kept.
     (
         A10_A3,
         (5, 0, 1, 10, 9, OFTEN),
@@ -478,8 +480,8 @@ const CASES: &[(usize, How, Wanted)] = &[
             UNTOLD,
         ),
     ),
-    // What takes its place hides what is older; what is replaced by a tombstone is told and
-    // written.
+    // The version that is now the newest hides older ones. A version replaced by a tombstone is
+    // reported, and the tombstone is written.
     (
         FOUR_VERSIONS,
         (5, 0, 1, 10, 9, OFTEN),
@@ -492,7 +494,7 @@ const CASES: &[(usize, How, Wanted)] = &[
             &[(1, 1), (0, 0), (0, 0)],
         ),
     ),
-    // The filter is not asked of a weak tombstone.
+    // The filter is not called for a weak tombstone.
     (
         A10_WEAK,
         (5, 0, 1, 10, 9, OFTEN),
@@ -505,7 +507,7 @@ const CASES: &[(usize, How, Wanted)] = &[
             UNTOLD,
         ),
     ),
-    // Where all is dropped there is no table.
+    // If all entries are dropped, there is no table.
     (
         A10_ALONE,
         (5, 0, 1, 10, 9, OFTEN),
@@ -531,7 +533,7 @@ const CASES: &[(usize, How, Wanted)] = &[
             UNTOLD,
         ),
     ),
-    // The observer is told between two tables, and may stop there.
+    // The observer is called between two tables, and may stop the compaction there.
     (
         TWO_RUNS,
         (5, 0, 1, NO, NO, OFTEN),
@@ -568,7 +570,7 @@ const CASES: &[(usize, How, Wanted)] = &[
             &[(1, 2), (0, 0), (0, 0)],
         ),
     ),
-    // There are too few ids, and just enough.
+    // Too few ids, and just enough.
     (THREE_RUNS, (0, 0, TableId::MAX - 1, NO, NO, OFTEN), SPENT),
     (THREE_RUNS, (0, 0, TableId::MAX, NO, NO, OFTEN), SPENT),
     (
@@ -599,7 +601,7 @@ fn runs_that_nobody_verified_are_compacted(rt: HostRuntime) {
     }
 }
 
-// How many tables a compaction makes that nothing is asked of. `Source(9)` where it makes none.
+// The number of tables of a compaction. Fails with `Source(9)` if it makes none.
 fn count_of<A: Allocator + Copy>(alloc: A, runs: &[Tables<A>]) -> Result<usize, Error> {
     let writer = MultiWriter::new(alloc, TableIds::new(5), 0, 0, Timestamp::from(0))?;
     let (outcome, _) = compact_any_runs_with(
@@ -622,7 +624,7 @@ const TWO_KEYS: &[Lists] = &[
     &[&[(b"a", 5, V, b"y"), (b"c", 7, T, b"")]],
 ];
 
-/// Whether a compaction answers right, and its runs, whose memory is plenty, are read as before.
+/// Whether a compaction has its result, and its runs, which use ample memory, read as before.
 pub(crate) fn leaves_its_runs<A: Allocator + Copy>(
     alloc: A,
     plenty: A,

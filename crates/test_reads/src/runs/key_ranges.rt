@@ -1,4 +1,4 @@
-//! Ranges of numbers as keys, and reversed bounds.
+//! Key ranges of numbers, and reversed bounds.
 use lsm_ranges::KeyRange;
 use sst_blocks::{Error, Slice};
 use std::alloc::Global;
@@ -11,7 +11,7 @@ fn range_of(alloc: Global, min: &[u8], max: &[u8]) -> Result<KeyRange, Error> {
     Ok(KeyRange::new((min, Slice::from(alloc, max)?)))
 }
 
-// The ranges from a number to a number, whose eight bytes stand as keys, the greatest first.
+// The ranges between numbers, with their eight big-endian bytes as keys.
 fn ranges_of(alloc: Global, ends: &[(u64, u64)]) -> Result<Vec<KeyRange>, Error> {
     let mut ranges = Vec::new(alloc);
     for (min, max) in ends {
@@ -23,7 +23,7 @@ fn ranges_of(alloc: Global, ends: &[(u64, u64)]) -> Result<Vec<KeyRange>, Error>
     Ok(ranges)
 }
 
-// Whether some ranges are disjoint, and whether their aggregate reaches from one number to another.
+// Whether some ranges are disjoint, and whether their aggregate has these ends.
 fn together(ranges: &Vec<KeyRange>, by: (Global, (u64, u64))) -> Result<(bool, bool), Error> {
     let (alloc, (min, max)) = by;
     let all: Vec<&KeyRange> = ranges.iter().collect(alloc)?;
@@ -37,7 +37,7 @@ fn together(ranges: &Vec<KeyRange>, by: (Global, (u64, u64))) -> Result<(bool, b
 }
 
 // The ends of ranges, whether they are disjoint, and the ends of their aggregate. As decimal digits
-// 10 would be below 2, and as bytes with the least first 256 would be below 2.
+// 10 would be below 2, and as little-endian bytes 256 would be below 2.
 const AGGREGATES: &[(&[(u64, u64)], bool, (u64, u64))] = &[
     (&[(2, 4), (0, 4), (7, 10)], false, (0, 10)),
     (&[(2, 4), (7, 10)], true, (2, 10)),
@@ -62,8 +62,8 @@ fn overlaps(alloc: Global, bounds: Bounds<'_>) -> Result<bool, Error> {
     Ok(overlaps)
 }
 
-// Reversed bounds, and whether the range overlaps with them: each is held against its own edge
-// alone.
+// Reversed bounds, and whether the range overlaps with them: each bound is compared only with its
+// own edge.
 const REVERSED: &[(Bounds<'static>, bool)] = &[
     ((Bound::Included(b"m"), Bound::Included(b"a")), true),
     ((Bound::Included(b"z"), Bound::Included(b"a")), true),

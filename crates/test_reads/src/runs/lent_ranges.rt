@@ -1,4 +1,4 @@
-//! Ranges over runs that lend, beside those that give.
+//! Lending ranges over runs, compared with those by value.
 ghost use Rattle.std.specs.Iterator.{IsFinite};
 ghost use Rattle.sst_entries.specs.Stream.{CanDeal, nowhere};
 
@@ -15,8 +15,8 @@ const KEYS: &[&[u8]] = &[b"", b"a", b"b", b"bb", b"c", b"d"];
 
 const RUNS: u64 = 3;
 
-// Rows of a run that look random, and a last one, so that there is one. The versions of a key come
-// the newest first, and their numbers are those of one run.
+// Pseudorandom rows of a run, and a last row, so that there is one. The versions of a key are in
+// descending order, and the sequence numbers of different runs differ.
 fn rows_of(alloc: Global, seed: &mut u64, run: u64) -> Result<Vec<Row<'static>>, Error> {
     let mut rows = Vec::new(alloc);
     for key in KEYS {
@@ -45,8 +45,8 @@ fn random_runs(alloc: Global, mut seed: u64) -> Result<Vec<Tables<Global>>, Erro
     Ok(runs)
 }
 
-// The entries of newest versions that are given. Generic in what they are over: a whole concrete
-// stream costs a proof much where it is handed to a function that is generic in streams.
+// The entries of newest versions by value. It is generic in their sources, because a proof is slow
+// where a concrete stream is passed to a function that is generic in streams.
 fn all_given<S: Iterator<Item = IterItem<Global>> + Drop>(
     alloc: Global,
     items: NewestOf<S, Global>,
@@ -61,7 +61,7 @@ fn all_given<S: Iterator<Item = IterItem<Global>> + Drop>(
     Ok(given)
 }
 
-// The newest versions below a bound as they are given, from the front.
+// The newest versions below a bound by value, from the front.
 fn given_within(
     alloc: Global,
     runs: &[Tables<Global>],
@@ -73,7 +73,8 @@ fn given_within(
     all_given(alloc, given)
 }
 
-// Whether newest versions come lent as these, from the front. Generic as `all_given`.
+// Whether lending newest versions yield these entries, from the front. It is generic like
+// `all_given`.
 #[tactic(auto, using(sst_entries::proofs::FrontLemmas::can_in_front))]
 fn agree_newest<L: Lending + Drop>(
     given: Vec<IterItem<Global>>,
@@ -86,7 +87,7 @@ fn agree_newest<L: Lending + Drop>(
     agree(given.into_iter(), lent, KEYS.len() + 3)
 }
 
-// Whether the newest versions below a bound come lent as they are given, from the front.
+// Whether the newest versions below a bound are the same by value and borrowed, from the front.
 fn lends_what_it_gives(
     alloc: Global,
     runs: &[Tables<Global>],
@@ -106,7 +107,7 @@ const WITHIN: &[Bounds<'static>] = &[
     (Bound::Included(b"f"), Bound::Unbounded),
 ];
 
-// Whether they do within all bounds, and at all snapshots.
+// Whether they are the same within all bounds, and at all snapshots.
 fn lends_all(alloc: Global, seed: u64) -> Result<bool, Error> {
     let runs = random_runs(alloc, seed)?;
     for bounds in WITHIN {

@@ -1,5 +1,5 @@
-//! Lists that are written as runs, which are read as they are or compacted first, and how a target
-//! cuts them.
+//! Lists that are written as runs and then read, unchanged or compacted; and the tables that a
+//! target cuts.
 use example_calling::{compact_run_back, read_run_back};
 use logpurple::compaction::Rules;
 use logpurple::run::write_run_with;
@@ -13,16 +13,17 @@ use test_tables::lists::{list_of, read_names};
 use test_tables::rows::Row;
 use test_tables::runs::{ALL, Bounds, Name, owned_range};
 
-// How a list is read: as it is, with a global number, or as it is compacted.
+// How a list is read: unchanged with a global sequence number, or compacted.
 #[derive(Clone, Copy)]
 enum How {
     Written(SeqNo),
     Kept(Rules),
 }
 
-// The place of some rows, how they are read, a key and a bound, bounds, and the names that are
-// read: what is found, and the ends of the range; or nothing. Rows go by their place, since a table
-// of cases costs a proof as much as it has references.
+// The index of some rows, how they are read, a key and a snapshot, bounds, and the names that are
+// read. These are the found entry and the ends of the range, or nothing.
+//
+// Rows are given by index, because each reference in a table of cases makes its proof slower.
 type Case = (
     usize,
     How,
@@ -31,10 +32,10 @@ type Case = (
     &'static [Option<Name>],
 );
 
-// What is read; nothing where there is no table.
+// The names that are read; `None` without a table.
 type Names = Option<[Option<Name>; 3]>;
 
-// What rows give that are written as tables, each key in one of its own.
+// The names read from rows that are written with one table per key.
 fn read_written<A: Allocator + Copy>(
     alloc: A,
     case: &Case,
@@ -49,7 +50,7 @@ fn read_written<A: Allocator + Copy>(
     }
 }
 
-// What is kept of rows that are written so.
+// The names read from the compaction of such tables.
 fn read_kept<A: Allocator + Copy>(alloc: A, case: &Case, rules: Rules) -> Result<Names, Error> {
     let items = list_of(alloc, rows_at(case.0))?;
     let range = owned_range(alloc, case.3)?;
@@ -60,7 +61,7 @@ fn read_kept<A: Allocator + Copy>(alloc: A, case: &Case, rules: Rules) -> Result
     }
 }
 
-// Whether a case's rows are read as it says.
+// Whether a case has its names.
 fn reads<A: Allocator + Copy>(alloc: A, case: &Case) -> Result<bool, Error> {
     let read = match case.1 {
         How::Written(global_seqno) => read_written(alloc, case, global_seqno),
@@ -74,7 +75,7 @@ fn reads<A: Allocator + Copy>(alloc: A, case: &Case) -> Result<bool, Error> {
 
 const VALUE: ValueType = ValueType::Value;
 
-// A value that fills a block, and reaches a target of 1,024 bytes.
+// A value that fills a block and reaches a target of 1,024 bytes.
 const LONG: [u8; 8000] = [b'v'; 8000];
 
 const LISTS: &[&[Row<'static>]] = &[
@@ -115,12 +116,11 @@ const THREE_KEYS: usize = 4;
 
 const LONG_ROWS: usize = 5;
 
-// The rows at a place.
 fn rows_at(place: usize) -> &'static [Row<'static>] {
     LISTS.get(place).copied().unwrap_or(&[])
 }
 
-// Threshold 5; tombstones and numbers stay.
+// Threshold 5; tombstones and sequence numbers are kept.
 const KEPT: How = How::Kept(Rules {
     watermark: 5,
     evict: false,
@@ -134,14 +134,14 @@ const EVICTED: How = How::Kept(Rules {
     zeroing: false,
 });
 
-// Threshold 5; numbers below it become 0.
+// Threshold 5; sequence numbers below it become 0.
 const ZEROED: How = How::Kept(Rules {
     watermark: 5,
     evict: false,
     zeroing: true,
 });
 
-// Threshold 100; tombstones and numbers stay.
+// Threshold 100; tombstones and sequence numbers are kept.
 const KEPT_AT_100: How = How::Kept(Rules {
     watermark: 100,
     evict: false,
@@ -180,35 +180,35 @@ const C6: Option<Name> = Some((b'c', 6));
 
 const CASES: &[Case] = &[
     (ROWS, How::Written(0), (b"a", 8), ALL, &[A7, A9, B1]),
-    // Versions stay that a reader may see.
+    // Versions that a reader may see are kept.
     (VALUES, KEPT, (b"a", 7), ALL, &[A3, None, A10]),
     (VALUES, KEPT, (b"a", 11), ALL, &[A10, None, A10]),
     (VALUES, KEPT, (b"a", 3), ALL, &[None, None, A10]),
     (VALUES, KEPT_AT_100, (b"a", 7), ALL, &[None, None, A10]),
     (VALUES, KEPT_AT_100, (b"a", 11), ALL, &[A10, None, A10]),
-    // The numbers are lifted, and the range is within its bounds.
+    // The global sequence number is applied, and the range is within its bounds.
     (ROWS, How::Written(2), (b"a", 8), ALL, &[A7, A11, B3]),
     (ROWS, How::Written(0), (b"a", 8), BEFORE_B, &[A7, None, A9]),
     (NO_ROWS, How::Written(0), (b"a", 8), ALL, &[]),
-    // A tombstone goes or stays, and small numbers become 0.
+    // A tombstone is dropped or kept, and small sequence numbers become 0.
     (TOMBSTONE, EVICTED, (b"a", 7), ALL, &[]),
     (TOMBSTONE, KEPT, (b"a", 7), ALL, &[A4, None, A4]),
     (NO_ROWS, KEPT, (b"a", 7), ALL, &[]),
     (THREE_KEYS, ZEROED, (b"b", 1), ALL, &[B0, A10, C6]),
-    // What is kept is read within bounds.
+    // The compacted entries are read within bounds.
     (THREE_KEYS, ZEROED, (b"a", 11), FROM_B, &[A10, B0, C6]),
     (THREE_KEYS, ZEROED, (b"a", 11), BEFORE_C, &[A10, A10, B0]),
     (THREE_KEYS, ZEROED, (b"a", 11), JUST_B, &[A10, None, B0]),
     (THREE_KEYS, ZEROED, (b"a", 11), BEHIND_C, &[A10, None, None]),
 ];
 
-/// The place of the case of a list that is read as it is.
+/// The index of the case of an unchanged list.
 pub(crate) const AS_IT_IS: usize = 0;
 
-/// That of one that is compacted first.
+/// The index of the case of a compacted list.
 pub(crate) const KEPT_OF_IT: usize = 1;
 
-/// Whether the list at a place is read as its case says.
+/// Whether the case at an index has its names.
 pub(crate) fn case_is_read<A: Allocator + Copy>(alloc: A, place: usize) -> Result<bool, Error> {
     match CASES.get(place) {
         Some(case) => reads(alloc, case),
@@ -216,7 +216,7 @@ pub(crate) fn case_is_read<A: Allocator + Copy>(alloc: A, place: usize) -> Resul
     }
 }
 
-// A number that passes the largest one refuses the run.
+// Opening the run fails if a sequence number passes the largest one.
 const TOO_HIGH: Case = (ROWS, How::Written(u64::MAX - 8), (b"a", 8), ALL, &[]);
 
 #[test]
@@ -232,9 +232,9 @@ fn a_list_is_read_back_from_its_run(rt: HostRuntime) {
     );
 }
 
-// The place of some rows, a target and a global number; and how many tables are handed out, how
-// many entries each table of the run has and what its highest number is, of three, and the id that
-// is drawn next.
+// The index of some rows, a target and a global sequence number. Then the number of finished
+// tables; the number of entries and the highest sequence number of each table of the run, of three;
+// and the id that is drawn next.
 type Cut = (
     usize,
     u64,
@@ -244,7 +244,7 @@ type Cut = (
     Option<TableId>,
 );
 
-// How many entries each table of a run has, and its highest number, of three.
+// The number of entries and the highest sequence number of each table of a run, of three.
 fn told<A: Allocator + Clone>(run: &Option<Run<Table<A>, A>>) -> [(u64, SeqNo); 3] {
     let mut all = [(0, 0); 3];
     if let Some(run) = run {
@@ -255,7 +255,7 @@ fn told<A: Allocator + Clone>(run: &Option<Run<Table<A>, A>>) -> [(u64, SeqNo); 
     all
 }
 
-// Whether rows are cut so that are written from the id 5 on.
+// Whether rows that are written from the id 5 on are cut as they should.
 fn is_cut<A: Allocator + Copy>(alloc: A, cut: &Cut) -> Result<bool, Error> {
     let &(place, target, global_seqno, count, entries, next) = cut;
     let how = OpenOptions {
@@ -270,11 +270,11 @@ fn is_cut<A: Allocator + Copy>(alloc: A, cut: &Cut) -> Result<bool, Error> {
     Ok(tables.len() == count && told(&run).as_slice() == entries && ids.next() == next)
 }
 
-// How long the blocks of the versions of `a` are: each has a header of 24 bytes, a count of 4, and
+// The length of the blocks of the versions of `a`. Each has a header of 24 bytes, a count of 4, and
 // for its one entry 17 bytes, its key and its value.
 const OF_A: u64 = 3 * (24 + 4 + 17 + 1 + 8_000);
 
-// A table begins once the blocks have reached the target.
+// A table begins after the blocks have reached the target.
 const CUTS: &[Cut] = &[
     (LONG_ROWS, 1_024, 0, 3, &[(3, 2), (1, 0), (2, 1)], Some(8)),
     (
@@ -296,7 +296,8 @@ const CUTS: &[Cut] = &[
     ),
     (LONG_ROWS, 50_000, 0, 1, &[(6, 2), (0, 0), (0, 0)], Some(6)),
     (NO_ROWS, 1_024, 0, 0, &[(0, 0), (0, 0), (0, 0)], Some(6)),
-    // The numbers are lifted. At target 0 the first id is drawn for a table without entries.
+    // The global sequence number is applied. At target 0 the first id is drawn for a table without
+    // entries.
     (THREE_KEYS, 0, 10, 3, &[(1, 20), (2, 14), (1, 16)], Some(9)),
 ];
 

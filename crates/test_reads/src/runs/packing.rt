@@ -1,5 +1,5 @@
-//! Runs of tables that are packed: which tables go into which run, a run that stays as it is, and
-//! one without tables, which is left out.
+//! Packing of runs: the tables of each packed run, an unchanged run, and a run without tables,
+//! which is ignored.
 use logpurple::laws::packing_law;
 use logpurple::run::{pack_runs, write_run};
 use logpurple::table::Table;
@@ -14,7 +14,7 @@ use test_tables::runs::{Lists, Tables, runs_of};
 
 const V: ValueType = ValueType::Value;
 
-// Tables of two keys each, which are told from one another by their numbers.
+// Tables of two keys each, with different sequence numbers.
 const FOUR_RUNS: &[Lists] = &[
     &[
         &[(b"a", 1, V, b""), (b"c", 1, V, b"")],
@@ -32,7 +32,7 @@ const OVERLAPPING: &[Lists] = &[&[
 
 const ONE_KEY: &[Row<'static>] = &[(b"a", 1, V, b"")];
 
-// A run whose tables were taken out. `Source(2)` where it had none.
+// A run whose tables were removed. Fails with `Source(2)` if it had none.
 fn emptied(alloc: Global) -> Result<Tables<Global>, Error> {
     let items = list_of(alloc, ONE_KEY)?;
     let (run, _) = write_run(alloc, TableIds::new(1), 0, Timestamp::from(0), items, 0)?;
@@ -45,11 +45,11 @@ fn emptied(alloc: Global) -> Result<Tables<Global>, Error> {
     }
 }
 
-// Of the first four packed runs the numbers of the first three tables, 0 where there is none, and
-// how many runs there are.
+// For each of the first four packed runs, the sequence numbers of the first three tables, 0 if
+// there is none; and the number of runs.
 type Numbers = ([[SeqNo; 3]; 4], usize);
 
-// The numbers of the first three tables.
+// The sequence numbers of the first three tables.
 fn numbers_of(tables: &[Table<Global>]) -> [SeqNo; 3] {
     let mut numbers = [0; 3];
     for (slot, table) in numbers.iter_mut().zip(tables.iter()) {
@@ -58,7 +58,7 @@ fn numbers_of(tables: &[Table<Global>]) -> [SeqNo; 3] {
     numbers
 }
 
-// What some runs are packed into.
+// The packed form of some runs.
 fn packed(alloc: Global, runs: &[Tables<Global>]) -> Result<Numbers, Error> {
     let mut numbers = [[0; 3]; 4];
     let packed = pack_runs(alloc, runs)?;
@@ -68,7 +68,7 @@ fn packed(alloc: Global, runs: &[Tables<Global>]) -> Result<Numbers, Error> {
     Ok((numbers, packed.len()))
 }
 
-// Whether some runs are packed so, alone and with a run behind them that has no tables.
+// Whether some runs are packed as wanted, alone and with an empty run after them.
 fn are_packed(alloc: Global, lists: &[Lists], wanted: Numbers) -> bool {
     let Ok(mut runs) = runs_of(alloc, lists) else {
         return false;
@@ -80,7 +80,7 @@ fn are_packed(alloc: Global, lists: &[Lists], wanted: Numbers) -> bool {
     added.is_ok() && alone == Ok(wanted) && beside == Ok(wanted)
 }
 
-// One run stays as it is: of several runs its tables, which overlap, would not stay in one.
+// One run is unchanged. Among several runs, its overlapping tables would not remain in one run.
 const CASES: &[(&[Lists], Numbers)] = &[
     (&[], ([[0; 3]; 4], 0)),
     (FOUR_RUNS, ([[1, 2, 5], [3, 0, 0], [4, 0, 0], [0; 3]], 3)),

@@ -1,4 +1,4 @@
-//! What reads find before and after a part of several runs is compacted in its place.
+//! The results of reads before and after a part of several runs is replaced by its compaction.
 ghost use Rattle.std.specs.Prelude.{◌∷◌, [], IfOk, map};
 ghost use Rattle.std.specs.Arc.{arc_value};
 ghost use Rattle.lsm_compactions.specs.Compacted.{AreCompactable};
@@ -15,11 +15,11 @@ use test_tables::large::asked_with;
 use test_tables::lists::read_names;
 use test_tables::runs::{ALL, Bounds, Lists, Name, Tables, owned_range, runs_of};
 
-// The names of the entry that a point read finds, and of those at both ends of a range.
+// The names of the entry that a point read finds, and of the entries at both ends of a range.
 type Names = [Option<Name>; 3];
 
-// Rules, the first id, if one is left, a key, a bound of numbers, bounds of keys, and what is found
-// before and after.
+// Rules, the first id, if one is left, a key, a snapshot, bounds of keys, and the names that are
+// found before and after.
 type Around = (
     Rules,
     Option<TableId>,
@@ -29,7 +29,7 @@ type Around = (
     [Names; 2],
 );
 
-// A counter from an id on, or one whose last id was drawn.
+// A counter from an id on, or one without ids.
 fn ids_from(first: Option<TableId>) -> TableIds {
     let mut ids = TableIds::new(first.unwrap_or(TableId::MAX));
     if first.is_none() {
@@ -38,8 +38,8 @@ fn ids_from(first: Option<TableId>) -> TableIds {
     ids
 }
 
-// What a point read and a range within bounds find before and after some runs are compacted in
-// their place.
+// The names that a point read and a range within bounds find before and after some runs are
+// replaced by their compaction.
 fn found_around<A: Allocator + Copy>(
     alloc: A,
     front: &[Tables<A>],
@@ -61,7 +61,7 @@ fn found_around<A: Allocator + Copy>(
 
 const V: ValueType = ValueType::Value;
 
-// The part, and the runs in front of it and behind it.
+// The part, and the runs before it and after it.
 const PART: &[Lists] = &[&[&[(b"a", 6, ValueType::Tombstone, b"")]]];
 
 const BESIDE: &[Lists] = &[
@@ -75,7 +75,8 @@ const ALL_STAY: Rules = Rules {
     zeroing: false,
 };
 
-// A run that may be compacted, since it was. `Source(2)` where nothing was kept.
+// A run that may be compacted, because it is the result of a compaction. Fails with `Source(2)` if
+// that is empty.
 fn part_of<A: Allocator + Copy>(alloc: A) -> Result<Tables<A>, Error>
     ensures { IfOk result (λ run. AreCompactable (arc_value run ∷ [])) }
 {
@@ -89,8 +90,8 @@ fn part_of<A: Allocator + Copy>(alloc: A) -> Result<Tables<A>, Error>
     }
 }
 
-// Whether that is found around the part behind the first of two runs, and in front of the second.
-// The memory of the part is plenty.
+// Whether reads have their results with the part after the first of two runs and before the second.
+// The part uses ample memory.
 fn finds_between<A: Allocator + Copy>(
     runs: &Vec<Tables<A>, A>,
     by: (A, A, &Around),
@@ -104,7 +105,7 @@ fn finds_between<A: Allocator + Copy>(
     Ok(found? == wanted)
 }
 
-// Whether that is found around the part between both runs. Their memory is plenty.
+// Whether reads have their results with the part between both runs, which use ample memory.
 fn finds<A: Allocator + Copy>(alloc: A, plenty: A, around: &Around) -> Result<bool, Error> {
     asked_with(
         runs_of(plenty, BESIDE),
@@ -143,7 +144,7 @@ const A0: Option<Name> = Some((b'a', 0));
 
 const B2: Option<Name> = Some((b'b', 2));
 
-// A range has the newest version of each key, whatever a point read is bounded by.
+// A range has the newest version of each key, whatever the snapshot of the point read.
 const AROUND_A6: &[Around] = &[
     (ZEROING, Some(9), b"a", 8, ALL, [[A6, A6, B2], [A3, A3, B2]]),
     (KEEPING, Some(9), b"a", 8, ALL, [[A6, A6, B2]; 2]),
@@ -190,7 +191,7 @@ fn a_part_is_compacted_in_its_place(rt: HostRuntime) {
     }
 }
 
-/// Whether what is zeroed is found, by the first of these.
+/// Whether reads have the results of the first of these cases, whose rules zero sequence numbers.
 pub(crate) fn zeroed_is_found<A: Allocator + Copy>(alloc: A, plenty: A) -> Result<bool, Error> {
     match AROUND_A6.first() {
         Some(around) => finds(alloc, plenty, around),

@@ -1,5 +1,7 @@
-//! Point reads of several runs, of all of them and by age, and of one: what they find, by value,
-//! borrowed and by its place, the blocks that they load, and their error where a table is damaged.
+//! Point reads of several runs, of all of them and by age, and of one.
+//!
+//! They compare the entries by value, borrowed and by handle, the loaded blocks, and the error of a
+//! damaged table.
 use crate::tables::{cloned, lends_same, number_of};
 use example_calling::read_run;
 use logpurple::run::{
@@ -15,7 +17,7 @@ use test_tables::large::{add, asked_with};
 use test_tables::rows::Row;
 use test_tables::runs::{ALL, Lists, Tables, damaged_run_of, owned_range, run_of, runs_of};
 
-// Some runs, and a table of one of them that is damaged.
+// Some runs, and the damaged table of one of them.
 type DamagedRuns = (&'static [Lists], (usize, usize));
 
 // The runs.
@@ -29,24 +31,24 @@ fn damaged_runs_of(alloc: Global, runs: DamagedRuns) -> Result<Vec<Tables<Global
     Ok(all)
 }
 
-// What a read finds.
+// The sequence number that a read finds, or its error.
 type Found = Result<Option<SeqNo>, Error>;
 
-// What a read finds, and how many blocks of data it loads.
+// The result of a read, and the number of data blocks that it loads.
 type Read = (Found, u64);
 
-// A key, a bound, and the reads of all runs and of runs by age.
+// A key, a snapshot, and the reads of all runs and of runs by age.
 type Case = (&'static [u8], SeqNo, Read, Read);
 
-// Whether a read is so, and loads no other blocks.
+// Whether a read has this result, and loads no blocks of other kinds.
 fn is_so(read: (Result<Option<InternalValue>, Error>, Opened), wanted: &Read) -> bool {
     let (found, opened) = read;
     let others = (opened.index_loads, opened.filter_loads, opened.meta_loads);
     number_of(found) == wanted.0 && opened.data_loads == wanted.1 && others == (0, 0, 0)
 }
 
-// Whether the runs have the entry that `get_runs` returned at the place that `place_in_runs`
-// returned, or both calls returned the same error.
+// Whether the runs have the entry of `get_runs` at the handle that `place_in_runs` returns, or both
+// calls return the same error.
 fn is_placed(
     runs: &[Tables<Global>],
     place: Result<Option<RunPlace>, Error>,
@@ -62,8 +64,8 @@ fn is_placed(
     }
 }
 
-// Whether a read of all runs finds that, by value, borrowed and by its place, with the loads
-// counted and without.
+// Whether a read of all runs finds the wanted entry by value, borrowed and by handle, with the
+// loads counted and without.
 fn is_found_each_way(runs: &[Tables<Global>], key: &[u8], bound: SeqNo, wanted: &Found) -> bool {
     let (found, opened) = get_runs_counted(runs, key, bound);
     let (lent, lent_opened) = get_runs_ref_counted(runs, key, bound);
@@ -78,7 +80,7 @@ fn is_found_each_way(runs: &[Tables<Global>], key: &[u8], bound: SeqNo, wanted: 
         && number_of(found) == *wanted
 }
 
-// Whether runs are read as a case says, with the loads counted and without.
+// Whether reads of runs have the results of a case, with the loads counted and without.
 fn is_read(runs: &[Tables<Global>], case: &Case) -> bool {
     let (key, bound, of_all, by_age) = (case.0, case.1, &case.2, &case.3);
     is_so(get_runs_counted(runs, key, bound), of_all)
@@ -87,7 +89,7 @@ fn is_read(runs: &[Tables<Global>], case: &Case) -> bool {
         && number_of(get_runs_by_age(runs, key, bound)) == by_age.0
 }
 
-// Whether runs are read as some cases say.
+// Whether reads of runs have the results of some cases.
 fn are_read(alloc: Global, runs: DamagedRuns, cases: &[Case]) -> bool {
     let Ok(runs) = damaged_runs_of(alloc, runs) else {
         return false;
@@ -139,8 +141,8 @@ const READS: &[(DamagedRuns, &[Case])] = &[
     (
         (TWO_RUNS, (2, 0)),
         &[
-            // Both runs have a table for the key: each is read, also where the first one has it;
-            // by age the second one is not, where all that it has is older than the entry found.
+            // Both runs have a table for the key: each is read, also where the first one has it. By
+            // age the second one is not read if all its entries are older than the entry found.
             (b"a", 10, (Ok(Some(9)), 2), (Ok(Some(9)), 1)),
             (b"a", 9, (Ok(Some(5)), 2), (Ok(Some(5)), 2)),
             (b"b", 10, (Ok(Some(3)), 2), (Ok(Some(3)), 2)),
@@ -183,7 +185,7 @@ const READS: &[(DamagedRuns, &[Case])] = &[
     (
         (BY_AGE, (2, 0)),
         &[
-            // All that the older run has is older than what is found in the newer one.
+            // All entries of the older run are older than the entry found in the newer one.
             (b"a", SeqNo::MAX, (Ok(Some(9)), 2), (Ok(Some(9)), 1)),
             (b"a", 8, (Ok(Some(7)), 2), (Ok(Some(7)), 1)),
             // The newer run has the key, and no sequence number below the bound.
@@ -209,7 +211,7 @@ const READS: &[(DamagedRuns, &[Case])] = &[
             (b"d", 10, (Ok(Some(1)), 1), (Ok(Some(1)), 1)),
         ],
     ),
-    // Reads of a damaged table's keys fail.
+    // Reads of the keys of a damaged table fail.
     (
         (TWICE, (0, 1)),
         &[
@@ -226,7 +228,7 @@ fn reads_of_runs_load_a_block_of_each_table_that_is_asked(rt: HostRuntime) {
     }
 }
 
-// Whether some runs have an entry at a place.
+// Whether some runs have an entry at a handle.
 fn is_there(alloc: Global, lists: &[Lists], place: &RunPlace) -> Result<bool, Error> {
     let runs = runs_of(alloc, lists)?;
     Ok(entry_in_runs(&runs, place).is_some())
@@ -234,8 +236,8 @@ fn is_there(alloc: Global, lists: &[Lists], place: &RunPlace) -> Result<bool, Er
 
 const ONE_RUN: &[Lists] = &[&[A9_B3]];
 
-// A key and a bound of a read of three runs, and other runs, which have nothing at the place of the
-// entry: no runs, too few, and a run of too few tables.
+// A key and a snapshot of a read of three runs, and other runs without an entry at its handle.
+// These are no runs, too few, and a run of too few tables.
 const ELSEWHERE: &[(&[u8], SeqNo, &[Lists])] = &[
     (b"a", 10, &[]),
     (b"d", 10, TWO_RUNS),
@@ -243,7 +245,7 @@ const ELSEWHERE: &[(&[u8], SeqNo, &[Lists])] = &[
     (b"d", 4, &[&[A9_B3], &[A5_C2]]),
 ];
 
-// Whether three runs have an entry at its place, and other runs have none there.
+// Whether three runs have an entry at its handle, and other runs have none there.
 fn is_there_alone(
     alloc: Global,
     key: &[u8],
@@ -259,7 +261,7 @@ fn is_there_alone(
     Ok(is_there(alloc, THREE_RUNS, &place)? && !is_there(alloc, others, &place)?)
 }
 
-// Whether that is so for an entry with a long value, and a run of a table that ends before it.
+// Whether the same holds for an entry with a long value, and a run of a table that ends before it.
 fn long_is_there_alone(alloc: Global) -> Result<bool, Error> {
     let value = vec![in alloc; b'x'; 4_000]?;
     let rows: [Row<'_>; 1] = [(b"a", 1, VALUE, value.as_slice())];
@@ -280,7 +282,7 @@ fn a_place_past_the_end_of_other_runs_has_no_entry(rt: HostRuntime) {
     assert!(rt; long_is_there_alone(rt.alloc()) == Ok(true));
 }
 
-// A run of the same tables that is not shared. `Source(2)` where there are none.
+// A run of the same tables that is not shared. Fails with `Source(2)` if there are none.
 fn unshared(run: &Tables<Global>, alloc: Global) -> Result<Run<Table>, Error> {
     let mut tables = Vec::new(alloc);
     for table in run.as_slice() {

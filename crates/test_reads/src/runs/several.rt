@@ -1,5 +1,5 @@
-//! Several runs that are read as one, from both ends: the newest version of each key, whole, and
-//! what comes behind a refused step.
+//! Reads of several runs as one, from both ends: the newest version of each key, whole, and the
+//! items after a failing step.
 use crate::runs::walks::{Answer, is_given, row_at};
 use sst_blocks::{Direction, Error, IterItem, ValueType};
 use std::alloc::{Allocator, Global};
@@ -14,10 +14,12 @@ const F: Direction = Direction::Front;
 
 const B: Direction = Direction::Back;
 
-// The place of some runs, bounds, ends, and what the steps at these give: where no step is refused,
-// and where the first or the second is. A request for what a table remembers is none that a step
-// needs. What is given goes by letters, and runs by their place, since a table of cases costs a
-// proof as much as it has references.
+// The index of some runs, bounds, ends, and the items of the steps: without a failing step, and
+// with the first or the second one failing. A failing request for the verified-block cache makes no
+// step fail.
+//
+// Items are given by letters and runs by index, because each reference in a table of cases makes
+// its proof slower.
 type Case = (
     usize,
     Bounds<'static>,
@@ -25,7 +27,7 @@ type Case = (
     &'static [&'static [u8]],
 );
 
-// The row at a place in all tables of some runs.
+// The row at an index in all tables of some runs.
 fn row_of(lists: &[Lists], place: usize) -> Option<Row<'static>> {
     let mut left = place;
     for tables in lists {
@@ -37,8 +39,8 @@ fn row_of(lists: &[Lists], place: usize) -> Option<Row<'static>> {
     None
 }
 
-// What a letter stands for: the row at its place in all tables, `.` for nothing, and `?` for want
-// of memory.
+// The item of a letter: the row at its index in all tables, `.` for nothing, and `?` for
+// `OutOfMemory`.
 fn wanted_at(lists: &[Lists], letter: u8) -> Answer {
     match letter {
         b'.' => Ok(None),
@@ -47,7 +49,7 @@ fn wanted_at(lists: &[Lists], letter: u8) -> Answer {
     }
 }
 
-// Whether some answers are those that are wanted.
+// Whether some items are the wanted ones.
 fn are_answers<A: Allocator>(
     given: &[Option<IterItem<A>>],
     lists: &[Lists],
@@ -61,7 +63,7 @@ fn are_answers<A: Allocator>(
     given.len() == wanted.len()
 }
 
-// Which of some answers these are, if any.
+// The index of the first of some cases that has these items, if any.
 fn place_of<A: Allocator>(
     given: &[Option<IterItem<A>>],
     lists: &[Lists],
@@ -75,7 +77,7 @@ fn place_of<A: Allocator>(
     None
 }
 
-// Which of the answers of a case its runs give, if any; an error where there is no memory for the
+// The index of the items of a case that its runs yield, if any. Fails if there is no memory for the
 // runs.
 fn which<A: Allocator + Copy>(alloc: A, case: &Case) -> Result<Option<usize>, Error> {
     let &(place, bounds, ends, cases) = case;
@@ -102,7 +104,7 @@ const D3_X: Row<'static> = (b"d", 3, ValueType::Value, b"x");
 
 const E2_X: Row<'static> = (b"e", 2, ValueType::Value, b"x");
 
-// All rows of each kind in a run of two tables, and in two runs of two tables each; two runs, and
+// All rows of each kind in a run of two tables, and in two runs of two tables each. Two runs;
 // three, the third of two tables; two, the first of three tables; and none.
 const RUNS: &[&[Lists]] = &[
     &[&[&[A9, A7, B8, B6], &[C5, D3, D2]]],
@@ -129,7 +131,6 @@ const OF_THREE_TABLES: usize = 4;
 
 const NO_RUNS: usize = 5;
 
-// The runs at a place.
 fn lists_at(place: usize) -> &'static [Lists] {
     RUNS.get(place).copied().unwrap_or(&[])
 }
@@ -166,8 +167,8 @@ fn the_newest_version_of_each_key_comes_whole_from_both_ends(rt: HostRuntime) {
     }
 }
 
-// The steps behind the second one take no memory. The entry that waits at the other end comes
-// behind the refusal.
+// The steps after the second one make no request for memory. The entry that waits at the other end
+// is yielded after the error.
 const REFUSALS: &[Case] = &[
     (
         OF_THREE_TABLES,
@@ -195,8 +196,9 @@ const REFUSALS: &[Case] = &[
     ),
 ];
 
-// How many requests a case makes where one is refused, or none where it is 0, and notes which of
-// its answers come; `None` where others do. There may be no memory for the runs.
+// The number of requests of a case in which the `nth` one fails, or none if it is 0. Records the
+// case's items that the runs yield; `None` if they yield others. There may be no memory for the
+// runs.
 fn note(alloc: Global, nth: usize, case: &Case, met: &mut [bool; 3]) -> Option<usize> {
     let heap = Refusing::new(alloc, nth);
     match which(&heap, case) {
@@ -211,8 +213,8 @@ fn note(alloc: Global, nth: usize, case: &Case, met: &mut [bool; 3]) -> Option<u
     Some(heap.requests())
 }
 
-// Which of a case's answers come where nothing is refused, and which where each request is refused
-// in turn; `None` where once others come.
+// The items of a case that its runs yield without a failing request, and all that they yield with
+// each request failing in turn. `None` if they yield others.
 fn met(alloc: Global, case: &Case) -> Option<[[bool; 3]; 2]> {
     let mut first = [false; 3];
     let requests = note(alloc, 0, case, &mut first)?;

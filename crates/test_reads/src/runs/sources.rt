@@ -1,4 +1,4 @@
-//! Ranges of two runs and a table in memory, below a number.
+//! Ranges of two runs and a memtable, below a sequence number.
 ghost use Rattle.std.specs.Iterator.{IsFinite};
 
 use logpurple::merge::NewestOf;
@@ -20,11 +20,11 @@ const RUNS: &[Lists] = &[
     &[&[(b"a", 2, V, b""), (b"c", 5, V, b"")]],
 ];
 
-// What the table in memory has.
+// The entries of the memtable.
 const MEMORY: &[Row<'static>] = &[(b"a", 11, V, b""), (b"c", 6, V, b"")];
 
-// The entries of a stream, from the front on: each with its key of one byte, by its place in the
-// alphabet, and its number, as three digits.
+// The entries of a stream, from the front. Each is the index of its key in the alphabet, and its
+// sequence number as three digits.
 fn codes<I: Iterator<Item = IterItem<A>> + Drop, A: Allocator>(items: I) -> Result<u64, Error>
     requires can { I.can_next items }
     requires finite { IsFinite (I.remaining items) }
@@ -42,7 +42,7 @@ fn codes<I: Iterator<Item = IterItem<A>> + Drop, A: Allocator>(items: I) -> Resu
     Ok(all)
 }
 
-// The entries of the table in memory, as a source gives them.
+// The entries of the memtable, as a source yields them.
 fn in_memory(alloc: Global) -> Result<Vec<IterItem<Global>, Global>, Error> {
     let mut items = Vec::new(alloc);
     for row in MEMORY {
@@ -51,8 +51,8 @@ fn in_memory(alloc: Global) -> Result<Vec<IterItem<Global>, Global>, Error> {
     Ok(items)
 }
 
-// The entries of newest versions, as `codes`. Generic in what they are over: a whole concrete
-// stream costs a proof much where it is handed to a function that is generic in streams.
+// The entries of newest versions, as `codes`. It is generic in their sources, because a proof is
+// slow where a concrete stream is passed to a function that is generic in streams.
 fn codes_of<S: Iterator<Item = IterItem<A>> + Drop, A: Allocator>(
     items: NewestOf<S, A>,
 ) -> Result<u64, Error>
@@ -62,7 +62,7 @@ fn codes_of<S: Iterator<Item = IterItem<A>> + Drop, A: Allocator>(
     codes(items)
 }
 
-// What both runs and the table in memory have below a number.
+// The merged entries of both runs and the memtable below a sequence number.
 fn together(alloc: Global, seqno: SeqNo) -> Result<u64, Error> {
     let runs = runs_of(alloc, RUNS)?;
     let mut sources = Vec::new(alloc);

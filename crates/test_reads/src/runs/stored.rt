@@ -1,5 +1,5 @@
-//! A run of a table that was stored in version 3 and of one that is written now, which is read as
-//! one, and may be compacted: it is proved that the stored bytes are a table of their entries.
+//! A run of a table that was stored in version 3 and of a table that is written now. It is read as
+//! one and compacted: the proof shows that the stored bytes are a table of their entries.
 ghost use Rattle.std.specs.Prelude.{[], ◌∷◌, IfOk, List};
 ghost use Rattle.std.specs.Arc.{arc_value};
 ghost use Rattle.sst_entries.specs.Entry.{Entry};
@@ -25,7 +25,7 @@ use test_tables::tables::open;
 
 const V: ValueType = ValueType::Value;
 
-// The bytes of the stored table. They are a table of its entries.
+// The bytes of the stored table, which are a table of its entries.
 fn stored_bytes(alloc: Global) -> Result<Slice, Error>
     ensures { IfOk result (λ b. IsTable b stored_entries) }
 {
@@ -66,7 +66,7 @@ fn new_table(alloc: Global) -> Result<Table, Error>
     table(alloc, new_bytes(alloc)?)
 }
 
-// The run of both tables. `Source(2)` where they are no run.
+// The run of both tables. Fails with `Source(2)` if they are no run.
 fn run(alloc: Global) -> Result<Tables<Global>, Error>
     ensures { IfOk result (λ run. AreCompactable (arc_value run ∷ [])) }
 {
@@ -122,7 +122,7 @@ fn a_stored_table_and_a_new_one_are_read_as_one_run(rt: HostRuntime) {
     assert!(rt; asked_if_any(reader(rt.alloc()), yields_all) == Ok(Some(true)));
 }
 
-// What is kept of the run at threshold 0.
+// The compaction of the run at threshold 0.
 fn kept(alloc: Global) -> Result<Vec<FinishedTable>, Error> {
     let runs = [run(alloc)?];
     let writer = MultiWriter::new(alloc, TableIds::new(1), 0, 0, Timestamp::from(0))?;
@@ -144,7 +144,7 @@ fn are_new(alloc: Global, tables: &[FinishedTable]) -> Result<bool, Error> {
     Ok(true)
 }
 
-// Whether what is kept has these entries, in tables of version 4.
+// Whether the compaction has these entries, in tables of version 4.
 fn is_kept(alloc: Global, entries: &[Version]) -> Result<bool, Error> {
     let tables = kept(alloc)?;
     let are_new = are_new(alloc, &tables)?;

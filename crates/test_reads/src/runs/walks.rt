@@ -1,5 +1,7 @@
-//! Readers and scanners of one run: within bounds and of a span, from both ends, whole entries of
-//! each kind, with a damaged table, as lending iterators, and lending and by value in turn. Most
+//! Readers and scanners of one run: within bounds and of a span, from both ends, and with a damaged
+//! table.
+//!
+//! They yield whole entries of each kind, by value, as lending iterators, and both in turn. Most
 //! functions that call them are generic in them, so that a proof looks at none of their parts.
 ghost use Rattle.std.specs.Prelude.{◌≡◌, ◌-◌, ◌<◌, ◌≤◌, true, IfOk, length, unwrap_or};
 ghost use Rattle.std.specs.Arc.{arc_value};
@@ -26,7 +28,7 @@ pub(crate) fn is_given<A: Allocator>(given: &Option<IterItem<A>>, wanted: &Answe
     }
 }
 
-// That; the step's error, where another result is wanted.
+// Whether a step has the wanted result; the step's error if it has another one.
 fn answers<A: Allocator>(given: Option<IterItem<A>>, wanted: &Answer) -> Result<bool, Error> {
     if is_given(&given, wanted) {
         return Ok(true);
@@ -73,9 +75,9 @@ impl<A: Allocator + Copy> Walk for RunScanner<A> {
     }
 }
 
-// Some steps, three bytes each: `F` for the front or `B` for the back, a letter for the row that is
-// yielded, by its index in all tables, `.` for nothing or `!` for the error of a damaged block, and
-// how many tables were opened then.
+// Some steps, three bytes each. The first byte is the end: `F` for the front, `B` for the back. The
+// second is a letter for the index of the row in all tables, `.` for nothing or `!` for the error
+// of a damaged block. The third is the number of tables opened so far.
 type Steps = &'static [u8];
 
 /// The row at an index in all tables of a run, or which index it is after them.
@@ -122,8 +124,8 @@ fn is_over<W: Walk>(walk: &mut W) -> bool {
     walk.gives(F, &NOTHING) == Ok(true) && walk.gives(B, &NOTHING) == Ok(true)
 }
 
-// Whether the steps have these results, and nothing follows at either end. The error of a step that
-// should not fail, if nothing follows it.
+// Whether the steps have these results, and nothing follows at either end. Returns the error of a
+// step that should not fail, if nothing follows it.
 fn gives_or_ends<W: Walk>(walk: &mut W, tables: Lists, steps: Steps) -> Result<bool, Error> {
     let given = steps_give(walk, tables, steps);
     if is_over(walk) { given } else { Ok(false) }
@@ -181,10 +183,10 @@ enum How {
     Scan(Span),
 }
 
-// The tables of a run, and which of them is damaged.
+// The tables of a run, and the index of the damaged one.
 type Given = (Lists, usize);
 
-// Bounds, how a run is read, and the steps, if it can be read so.
+// Bounds, how a run is read, and the steps, if there is a reader.
 type Case = (Bounds<'static>, How, Option<Steps>);
 
 // The reader of the entries within bounds, if any table may have some.
@@ -197,7 +199,7 @@ fn reader_of<A: Allocator + Copy>(
     RunReader::new(damaged_run_of(alloc, given.0, given.1)?, range)
 }
 
-// The reader of a span within bounds. `Source(3)` where there is no such span.
+// The reader of a span within bounds. Fails with `Source(3)` if there is no such span.
 fn span_reader_of<A: Allocator + Copy>(
     alloc: A,
     given: Given,
@@ -209,7 +211,7 @@ fn span_reader_of<A: Allocator + Copy>(
     RunReader::culled(run, range, span)
 }
 
-// The scanner of a span. `Source(3)` where there is no such span.
+// The scanner of a span. Fails with `Source(3)` if there is no such span.
 fn scanner_of<A: Allocator + Copy>(
     alloc: A,
     given: Given,
@@ -221,12 +223,12 @@ fn scanner_of<A: Allocator + Copy>(
     )
 }
 
-// A value that there is, if any.
+// A value as an option.
 fn some<T: Drop>(made: Result<T, Error>) -> Result<Option<T>, Error> {
     Ok(Some(made?))
 }
 
-// Whether a run is read as a case has it; an error that is not in the case, if nothing follows it.
+// Whether a run reads as its case; or an error that is not in the case, if nothing follows it.
 fn reads<A: Allocator + Copy>(alloc: A, given: Given, case: &Case) -> Result<bool, Error> {
     let &(bounds, how, steps) = case;
     match how {
@@ -386,13 +388,13 @@ const OF_A_DAMAGED_ONE: &[Case] = &[
 /// The index of the case of a reader that is called at both ends in turn.
 pub(crate) const IN_TURN_WITHIN: usize = 0;
 
-/// That of a reader of a span.
+/// The index of the case of a reader of a span.
 pub(crate) const IN_TURN_BY_SPAN: usize = 1;
 
-/// That of a scan.
+/// The index of the case of a scan.
 pub(crate) const BY_SCAN: usize = 2;
 
-/// Whether a run is read as the case at an index has it, or is exhausted after an error.
+/// Whether a run reads as the case at an index, or is exhausted after an error.
 pub(crate) fn case_is_read<A: Allocator + Copy>(alloc: A, place: usize) -> Result<bool, Error> {
     match OF_FOUR.get(place) {
         Some(case) => reads(alloc, (FOUR_TABLES, 4), case),
@@ -400,7 +402,7 @@ pub(crate) fn case_is_read<A: Allocator + Copy>(alloc: A, place: usize) -> Resul
     }
 }
 
-// With a damaged first table no scan is made.
+// Making a scan fails if the first table is damaged.
 const REFUSED_SCAN: Case = (ALL, How::Scan(WHOLE), None);
 
 #[test]
@@ -425,7 +427,7 @@ const LENT_TABLES: Lists = &[
     ],
 ];
 
-// What a scan of a run by value and a lending one yield, with the table at an index damaged.
+// The result of a scan of a run by value and a lending one, with the table at an index damaged.
 fn lent(alloc: Global, damaged: usize) -> Result<Option<(usize, u8)>, Error> {
     walk_both(
         scanner_of(alloc, (LENT_TABLES, damaged), WHOLE),
@@ -440,7 +442,7 @@ fn a_scan_of_a_run_lends_what_it_gives(rt: HostRuntime) {
     }
 }
 
-// What a reader of a run by value and a lending one yield, with the table at an index damaged.
+// The result of a reader of a run by value and a lending one, with the table at an index damaged.
 fn range_lent(alloc: Global, damaged: usize) -> Result<Option<(usize, u8)>, Error> {
     walk_both(
         span_reader_of(alloc, (LENT_TABLES, damaged), ALL, WHOLE),
@@ -457,7 +459,8 @@ fn a_range_of_a_run_lends_what_it_gives(rt: HostRuntime) {
 
 // ---- a reader, lending and by value in turn
 
-// Whether a reader lends the entry of a row next, or nothing where there is no row.
+// Whether a reader, as a lending iterator, yields the entry of a row next, or nothing if there is
+// no row.
 fn lends_row(reader: &mut RunReader<Global>, row: Option<&Row<'_>>) -> Result<bool, Error> {
     let more = reader.advance()?;
     match (reader.entry(), row) {
@@ -470,8 +473,8 @@ fn lends_row(reader: &mut RunReader<Global>, row: Option<&Row<'_>>) -> Result<bo
     }
 }
 
-// Whether a reader yields the entry of a row at an end, or nothing where there is no row, and lends
-// nothing after that.
+// Whether a reader yields the entry of a row at an end, or nothing if there is no row, and has no
+// borrowed entry after that.
 fn gives_row(reader: &mut RunReader<Global>, end: Direction, row: Option<&Row<'_>>) -> bool {
     let given = match end {
         Direction::Front => reader.next(),
@@ -480,11 +483,11 @@ fn gives_row(reader: &mut RunReader<Global>, end: Direction, row: Option<&Row<'_
     is_answer(&given, row) && reader.entry().is_none()
 }
 
-// Turns, a byte each: `L` to lend, `F` and `B` for a step by value at the front and at the back;
-// and the row of each, by a letter for its index in all tables, or `.` for none.
+// Turns, a byte each: `L` for a lending step, `F` and `B` for a step by value at the front and at
+// the back. Then the row of each, by a letter for its index in all tables, or `.` for none.
 type Turns = (&'static [u8], &'static [u8]);
 
-// Whether a reader of all rows lends and yields that in turn.
+// Whether a reader of all rows yields these items in turn.
 fn takes_turns(alloc: Global, turns: &Turns) -> Result<bool, Error> {
     let mut reader = span_reader_of(alloc, (LENT_TABLES, 3), ALL, WHOLE)?;
     let mut is_so = reader.entry().is_none();

@@ -1,7 +1,8 @@
-//! The index of tables of one list, which has the same blocks, whichever index they are written
-//! with, and whether or not it is pinned: its kind, where its readers start, and the entries within
-//! bounds over an index iterator that was sought or advanced. `test_vectors` compares which blocks
-//! these are and their order.
+//! The index of tables of one list, written with each kind of index and pinned or not.
+//!
+//! It has the same blocks in each case. The tests compare its kind, the start of its readers, and
+//! the entries within bounds over an index iterator that was sought or advanced. `test_vectors`
+//! compares which blocks these are and their order.
 use crate::tables::walks::{Call, Walk, is_loaded, walked};
 use crate::tables::{Changed, KINDS, Of, Parted, Pins, opened};
 use logpurple::table::{
@@ -29,7 +30,8 @@ fn first_number(reader: &mut BlockIndexIterImpl) -> Result<Option<SeqNo>, Error>
     }
 }
 
-// That of the reader from a key and a sequence number on; `None` where there is no reader.
+// The sequence number of the first handle from a key and a sequence number on; `None` if there is
+// no reader.
 fn starts(
     index: &BlockIndexImpl,
     key: &[u8],
@@ -94,7 +96,7 @@ const INDEXES: &[(Of, Pins, Told)] = &[
     (Of::Levels, (true, true), (TWO_LEVELS, FOUND, NO_HANDLE)),
 ];
 
-// Whether a table's index is so, once the table itself is dropped.
+// Whether a table's index has its kind and readers, after the table is dropped.
 fn tells(alloc: Global, of: Of, pins: Pins, expected: Told) -> bool {
     let index = asked(opened(alloc, &(of, &[], pins, 0)), index_in);
     asked(index, told) == Ok(expected)
@@ -109,17 +111,16 @@ fn readers_of_the_index_of_each_kind(rt: HostRuntime) {
 
 // ---- an index iterator that was sought or advanced
 
-// Calls of an index iterator of a@9, a@7, a@5 and b@1, in a block each; and whether it is unsought
+// Calls of an index iterator of a@9, a@7, a@5 and b@1, in a block each. Then whether it is unsought
 // after them, over a pinned index of one block and over another.
 type Before = (&'static [Call], bool, bool);
 
-// The calls before; bounds, and the calls of the entries within them; and how many blocks are
-// loaded: data blocks over a pinned index of one block and over another, and index blocks of two
-// levels.
+// The calls before; bounds, and the calls of the entries within them. Then the loaded blocks: data
+// blocks over a pinned index of one block and over another, and index blocks of two levels.
 type Resumed = (Before, Bounds<'static>, &'static [Call], (u64, u64, u64));
 
-// Whether the calls of an index iterator return that, and it is then unsought or not as it should
-// be.
+// Whether the calls of an index iterator have their results, and it is then unsought or not as it
+// should be.
 fn is_before(
     handles: &mut BlockIndexIterImpl,
     before: &Before,
@@ -150,7 +151,7 @@ fn handles_after(
     }
 }
 
-// Sets a lower bound, where there is one.
+// Sets a lower bound, if there is one.
 fn set_lower(iter: &mut Iter, lower: Bound<UserKey>) {
     match lower {
         Bound::Included(key) => iter.set_lower_bound(Edge::Included(key)),
@@ -159,7 +160,7 @@ fn set_lower(iter: &mut Iter, lower: Bound<UserKey>) {
     }
 }
 
-// Sets an upper bound, where there is one.
+// Sets an upper bound, if there is one.
 fn set_upper(iter: &mut Iter, upper: Bound<UserKey>) {
     match upper {
         Bound::Included(key) => iter.set_upper_bound(Edge::Included(key)),
@@ -180,7 +181,7 @@ fn resumed_in(table: &Table, by: (Global, &Resumed, bool)) -> Result<Iter, Error
     Ok(iter)
 }
 
-// Whether they are yielded so, with as many loads, over the index of a table.
+// Whether these entries are yielded with the expected loads, over the index of a table.
 fn is_resumed(alloc: Global, changed: &Changed<'_>, resumed: &Resumed, index: u64) -> bool {
     let loaded = is_loaded(changed);
     let (whole, rest, _) = resumed.3;
@@ -189,8 +190,8 @@ fn is_resumed(alloc: Global, changed: &Changed<'_>, resumed: &Resumed, index: u6
     walked(iter, loaded, resumed.2) == Ok((data, index))
 }
 
-// Whether they are over each kind of index. A pinned one of one block is never loaded, and one on
-// demand once.
+// Whether the same entries are yielded over each kind of index. A pinned one of one block is never
+// loaded, and one on demand once.
 fn is_resumed_over_each(alloc: Global, resumed: &Resumed) -> bool {
     let (_, _, index) = resumed.3;
     for (kind, loads) in KINDS.iter().zip([0, 1, index, index]) {

@@ -9,7 +9,7 @@ use std::ops::Bound;
 use test_tables::lending::{Walk, walk_both};
 use test_tables::runs::{ALL, Bounds};
 
-// Whether a range lends what it yields by value; the error, where it cannot be made.
+// Whether a lending range yields the same as one by value; or the error of making it.
 fn lends(alloc: Global, changed: &Changed<'_>, bounds: Bounds<'_>) -> Result<bool, Error> {
     let giving = range_in(alloc, changed, bounds);
     let lending = range_in(alloc, changed, bounds);
@@ -26,7 +26,7 @@ const EDGES: &[Bound<&[u8]>] = &[
     Bound::Excluded(b"b"),
 ];
 
-// Whether each range between two of the edges does.
+// Whether the ranges between each two of the edges yield the same.
 fn lends_within(alloc: Global, changed: &Changed<'_>) -> bool {
     for lower in EDGES {
         for upper in EDGES {
@@ -38,7 +38,7 @@ fn lends_within(alloc: Global, changed: &Changed<'_>) -> bool {
     true
 }
 
-// What two ranges of a table with one byte changed yield, of which one borrows; none where they
+// The result of two ranges of a table with one byte changed, one of them lending; `None` if they
 // differ.
 fn walk_changed(
     alloc: Global,
@@ -53,11 +53,11 @@ fn walk_changed(
     walk_both(giving, range_in(alloc, &damaged, ALL))
 }
 
-// How many tables are not opened, how many ranges end with an error, and the sum of the numbers of
-// all errors.
+// The number of tables that fail to open, the number of ranges that end with an error, and the sum
+// of all error codes.
 type Counts = (usize, usize, u64);
 
-// The counts with one more table; none where its two ranges differ.
+// The counts with one more table; `None` if its two ranges differ.
 fn with_walk(counts: Counts, walk: Result<Option<Walk>, Error>) -> Option<Counts> {
     let (unopened, ended, sum) = counts;
     match walk {
@@ -72,7 +72,7 @@ fn plus(sum: u64, number: u8) -> u64 {
     sum.saturating_add(u64::from(number))
 }
 
-// Those of a table with each of its bytes changed in turn.
+// The counts of a table with each of its bytes changed in turn.
 fn counts_of(alloc: Global, changed: &Changed<'_>) -> Option<Counts> {
     let bytes = changed_bytes(alloc, changed).ok()?;
     let mut counts = (0, 0, 0);
@@ -82,7 +82,7 @@ fn counts_of(alloc: Global, changed: &Changed<'_>) -> Option<Counts> {
     Some(counts)
 }
 
-// Those of each of [`KINDS`], counted by the reader of tables in `.ci/answers`.
+// The counts of each of [`KINDS`], as counted by the reader of tables in `.ci/answers`.
 const COUNTS: [Counts; 4] = [
     (1339, 184, 8141),
     (1207, 316, 8141),
@@ -100,7 +100,7 @@ fn ranges_lend_what_they_give(rt: HostRuntime) {
 
 // ---- scans
 
-// A table, how many of its blocks are scanned, and what the scan yields.
+// A table, the number of its blocks that are scanned, and the result of the scan.
 type Case = (Changed<'static>, u64, Walk);
 
 const PINS: Pins = (true, true);
@@ -127,7 +127,8 @@ fn a_scan_lends_what_it_gives(rt: HostRuntime) {
 
 // ---- one range, lending and by value in turn
 
-// Whether a range lends next, at the back or at the front, what another yields next by value.
+// Whether a lending step of a range, at the back or at the front, yields the next item of another
+// range by value.
 fn lends_next(mixed: &mut Iter, plain: &mut Iter, back: bool) -> Result<bool, Error> {
     let (more, wanted) = if back {
         (mixed.advance_back()?, plain.next_back())
@@ -140,7 +141,7 @@ fn lends_next(mixed: &mut Iter, plain: &mut Iter, back: bool) -> Result<bool, Er
     }
 }
 
-// Whether a range lends, after a step by value, the entry that this step yielded.
+// Whether a range, after a step by value, borrows the entry that this step yielded.
 fn lends_given(mixed: &Iter, found: &Option<IterItem>) -> bool {
     match found {
         Some(Ok(item)) => mixed.entry() == Some(item.as_entry_ref()),
@@ -148,8 +149,8 @@ fn lends_given(mixed: &Iter, found: &Option<IterItem>) -> bool {
     }
 }
 
-// Whether a range yields next what another yields next, at the back or at the front, and then lends
-// what it should.
+// Whether a range yields the next item of another range, at the back or at the front, and then
+// borrows the right entry.
 fn gives_next(mixed: &mut Iter, plain: &mut Iter, back: bool) -> Result<bool, Error> {
     let (found, wanted) = if back {
         (mixed.next_back(), plain.next_back())
@@ -166,8 +167,8 @@ fn gives_next(mixed: &mut Iter, plain: &mut Iter, back: bool) -> Result<bool, Er
     }
 }
 
-// Whether two ranges yield the same, where one in turn lends at either end and yields by value at
-// either end.
+// Whether two ranges yield the same, if one of them takes lending steps and steps by value, at
+// either end, in turn.
 fn are_same_by_turns(
     mixed: Result<Iter, Error>,
     plain: Result<Iter, Error>,
@@ -187,7 +188,7 @@ fn are_same_by_turns(
     Ok(same && mixed.entry().is_none())
 }
 
-// Whether a range lends from its back all that another yields there by value.
+// Whether lending steps of a range from its back yield the items of another range by value.
 fn lends_from_back(
     lending: Result<Iter, Error>,
     plain: Result<Iter, Error>,

@@ -1,4 +1,4 @@
-//! Lists that are written as one table, opened and read, and what the tables say of themselves.
+//! Lists that are written as one table, opened and read, and the metadata of the tables.
 use example_calling::{read_back, write_and_find};
 use logpurple::table::{Scanner, Table, write_and_open};
 use lsm_formats::ItemName;
@@ -13,8 +13,8 @@ use test_tables::rows::Row;
 use test_tables::runs::Bounds;
 use test_tables::tables::open;
 
-// The lists of cases, which go by their place: a table of cases costs a proof as much as it has
-// references.
+// The lists of cases, which refer to them by index: each reference in a table of cases makes its
+// proof slower.
 const LISTS: &[&[Row<'static>]] = &[
     &[],
     &[
@@ -50,12 +50,11 @@ const TOMBSTONES: usize = 4;
 
 const A3: usize = 5;
 
-// The rows at a place.
 fn rows_at(place: usize) -> &'static [Row<'static>] {
     LISTS.get(place).copied().unwrap_or(&[])
 }
 
-// What a read finds, and the numbers that a scan gives, four at most; 0 where nothing comes.
+// The sequence numbers that a read finds and that a scan yields, four at most; 0 after the last.
 type Numbers = (Option<SeqNo>, [SeqNo; 5]);
 
 fn numbers<A: Allocator + Copy>(scanner: &mut Scanner<A>) -> Result<[SeqNo; 5], Error> {
@@ -80,8 +79,8 @@ fn all_numbers<A: Allocator + Copy>(
     Ok((found, numbers(&mut read.1)?))
 }
 
-// The number of the entry that a read of a list finds, and the numbers of a scan; `Source(0)` where
-// no table can be written.
+// The sequence number of the entry that a read of a list finds, and those of a scan. Fails with
+// `Source(0)` if no table can be written.
 fn read_rows<A: Allocator + Copy>(
     alloc: A,
     place: usize,
@@ -94,7 +93,7 @@ fn read_rows<A: Allocator + Copy>(
     asked_if_any(read, all_numbers)
 }
 
-// The place of rows, a global number, a key and a bound, and what is read.
+// The index of rows, a global sequence number, a key and a snapshot, and the result.
 type Case = (
     usize,
     SeqNo,
@@ -116,10 +115,10 @@ const CASES: &[Case] = &[
     ),
     (ROWS, 0, b"c", 8, Ok(Some((None, [9, 7, 5, 1, 0])))),
     (NO_ROWS, 3, b"a", 8, Ok(None)),
-    // It is not strict, or numbered too high.
+    // The list is not strictly sorted, or a sequence number is too high.
     (TWICE, 0, b"b", 2, NOT_WRITTEN),
     (TOO_HIGH, 0, b"a", 2, NOT_WRITTEN),
-    // A number passes the largest one, or none does.
+    // The sum of a sequence number and the global one passes the largest one, or none does.
     (ROWS, u64::MAX - 8, b"a", 8, Err(Error::GlobalSeqNoTooLarge)),
     (
         ROWS,
@@ -133,7 +132,7 @@ const CASES: &[Case] = &[
     ),
 ];
 
-// Whether a list is read as its case says.
+// Whether a list has the result of its case.
 fn is_read(alloc: Global, case: &Case) -> bool {
     read_rows(alloc, case.0, case.1, case.2, case.3) == case.4
 }
@@ -151,9 +150,9 @@ pub(crate) fn rows_are_read<A: Allocator + Copy>(alloc: A) -> Result<bool, Error
     Ok(read == Some((Some(7), [9, 7, 5, 1, 0])))
 }
 
-// ---- what is found by a key alone
+// ---- an entry found by its key alone
 
-// The number of the entry of a key below 8, in a list that is written and opened.
+// The sequence number of the entry of a key below 8, in a list that is written and opened.
 fn found_below_8(alloc: Global, key: &[u8]) -> Result<Option<SeqNo>, Error> {
     match write_and_find(alloc, list_of(alloc, rows_at(ROWS))?, key, 8)? {
         Some(Some(item)) => Ok(Some(item.key.seqno)),
@@ -167,11 +166,13 @@ fn what_is_written_is_found(rt: HostRuntime) {
     assert!(rt; found_below_8(rt.alloc(), b"c") == Ok(None));
 }
 
-// ---- what a table says
+// ---- the metadata of a table
 
-// What a table says: its id, how many entries, tombstones, weak ones, values behind those and keys
-// it has, and its lowest, its highest and, with the global number, its highest number; the ends of
-// its keys; and whether it may have keys within some bounds.
+// The metadata of a table: its id; how many entries, tombstones, weak tombstones, reclaimable weak
+// tombstones and keys it has; and its lowest and highest sequence number.
+//
+// Then its highest sequence number with the global one, the ends of its keys, and whether it may
+// have keys within some bounds.
 type Facts = ([u64; 9], [u8; 2], [bool; 6]);
 
 const BOUNDS: [Bounds<'static>; 6] = [
@@ -216,13 +217,13 @@ fn facts_of(table: &mut Table) -> Result<Facts, Error> {
     Ok((numbers_of(table)?, ends_of(table), overlaps))
 }
 
-// Whether a table shows its id.
+// Whether the `Debug` form of a table has its id.
 fn shows_its_id(alloc: Global, table: &Table) -> Result<bool, Error> {
     Ok(format!(in alloc; "{table:?}")?.starts_with("Table:3("))
 }
 
-// What a table says, if it shows its id, and one says the same that is opened from its bytes.
-// `Source(4)` where that is not so.
+// The metadata of a table, if its `Debug` form has its id and a table opened from its bytes has the
+// same metadata. Fails with `Source(4)` otherwise.
 fn facts_again(alloc: Global, table: &mut Table, global_seqno: SeqNo) -> Result<Facts, Error> {
     let facts = facts_of(table)?;
     let again = asked_mut(open(alloc, table.bytes()?, global_seqno), facts_of)?;
@@ -233,7 +234,7 @@ fn facts_again(alloc: Global, table: &mut Table, global_seqno: SeqNo) -> Result<
     }
 }
 
-// What a table of the rows at a place says.
+// The metadata of a table of the rows at an index.
 fn says(alloc: Global, place: usize, global_seqno: SeqNo) -> Result<Option<Facts>, Error> {
     let items = list_of(alloc, rows_at(place))?;
     let table = write_and_open(alloc, 3, Timestamp::from(5), items, global_seqno);
@@ -246,7 +247,7 @@ const UP_TO_D: [bool; 6] = [true, true, true, true, true, false];
 
 const ONLY_A: [bool; 6] = [true, false, false, false, false, false];
 
-// The place of rows, a global number, and what the table of them says.
+// The index of rows, a global sequence number, and the metadata of their table.
 const SAYS: &[(usize, SeqNo, Facts)] = &[
     (ROWS, 0, ([3, 4, 1, 0, 0, 2, 1, 9, 9], *b"ab", ROWS_OVERLAP)),
     (

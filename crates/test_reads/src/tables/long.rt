@@ -1,5 +1,5 @@
-//! The longest key and the empty one under each kind of index and of filter, very many versions of
-//! one key, and a longer key than a writer takes.
+//! The longest key and the empty one under each kind of index and of filter, 100,000 versions of
+//! one key, and a key that is too long for a writer.
 ghost use Rattle.std.specs.Prelude.{◌≡◌, []};
 
 use crate::tables::{ALL_PINS, Parted, open_with, written, written_by};
@@ -14,7 +14,8 @@ use test_tables::large::{asked, asked_with};
 use test_tables::rows::{self, Row, new_writer, put_rows};
 use test_tables::tables::{load_entries, read};
 
-// A key, a bound, the number that is found, if any, and how many data blocks are loaded.
+// A key, a snapshot, the sequence number that is found, if any, and the number of data blocks
+// loaded.
 type Read<'a> = (&'a [u8], SeqNo, Option<SeqNo>, u64);
 
 fn answers(table: &Table, reads: &[Read<'_>]) -> Result<bool, Error> {
@@ -26,7 +27,7 @@ fn answers(table: &Table, reads: &[Read<'_>]) -> Result<bool, Error> {
     Ok(true)
 }
 
-// Whether the table of some bytes answers some reads under each pair of pins.
+// Whether reads of the table of some bytes have their results under each pair of pins.
 fn all_answered(bytes: &Slice, by: (Global, &[Read<'_>])) -> Result<bool, Error> {
     for pins in ALL_PINS {
         let table = open_with(by.0, bytes.clone()?, pins, 0);
@@ -39,18 +40,19 @@ fn all_answered(bytes: &Slice, by: (Global, &[Read<'_>])) -> Result<bool, Error>
 
 // ---- the longest key and the empty one
 
-// How many bytes the longest key has that a writer takes.
+// The length in bytes of the longest key of a writer.
 const LONGEST: usize = 1_048_576;
 
-// One index block, without a filter and with one block of a filter; and a partition of the index
-// for each entry, and one of the filter for each key.
+// One index block, without a filter and with a full filter; and a partition of the index for each
+// entry, with a partition of the filter for each key.
 const EACH: [(Parted, u32); 3] = [
     (Parted::Nothing, 0),
     (Parted::Nothing, 100),
     (Parted::Both, 100),
 ];
 
-// Whether the tables of some rows answer some reads, with each kind of index and of filter.
+// Whether reads of the tables of some rows have their results, with each kind of index and of
+// filter.
 fn each_answers(alloc: Global, rows: &[Row<'_>], reads: &[Read<'_>]) -> bool {
     for (parted, bits) in EACH {
         let bytes = written(alloc, parted, rows, bits, 0);
@@ -61,7 +63,7 @@ fn each_answers(alloc: Global, rows: &[Row<'_>], reads: &[Read<'_>]) -> bool {
     true
 }
 
-// Whether two versions of the longest key and `b` behind it are read.
+// Whether two versions of the longest key and `b` after it are read.
 fn longest_is_read(alloc: Global) -> bool {
     let Ok(longest) = vec![in alloc; 0x61u8; LONGEST] else {
         return false;
@@ -90,7 +92,7 @@ const OF_EMPTY: &[Read<'static>] = &[
     (b"", 7, None, 0),
 ];
 
-// Ranges of such keys, and what a writer does behind a longer one, the tests in Python have.
+// The tests in Python have ranges of such keys, and a writer after a longer key.
 #[test]
 fn the_longest_key_and_the_empty_one_under_each_index_and_filter(rt: HostRuntime) {
     assert!(rt; longest_is_read(rt.alloc()));
@@ -112,7 +114,7 @@ fn put_versions(alloc: Global, writer: &mut Writer) -> Result<(), Error> {
     Ok(())
 }
 
-// The bytes of the table of them.
+// The bytes of the table of these versions.
 fn finished(alloc: Global, mut writer: Writer) -> Result<Slice, Error> {
     let answer = put_versions(alloc, &mut writer);
     written_by(rows::written(writer, answer)?, alloc, &[])
@@ -136,7 +138,7 @@ fn in_parts(alloc: Global) -> Result<Writer, Error> {
     Ok(writer.use_meta_partition_size(500))
 }
 
-// Whether reads of them are answered so.
+// Whether reads of these versions have their results.
 fn are_read(alloc: Global, writer: Result<Writer, Error>) -> Result<bool, Error> {
     asked_with(
         finished(alloc, writer?),
@@ -153,13 +155,14 @@ fn a_read_loads_one_block_of_many_versions(rt: HostRuntime) {
 
 // ---- a block that no writer makes
 
-// The front of a block of a@3 with a key of a letter more than the longest has, and without a
-// value: one entry, a value, its number, the key's length, no bytes of a value. The key follows.
+// The start of a block of a@3, whose key is one byte longer than the longest, without a value. It
+// has one entry: a value, its sequence number, the key's length, no bytes of a value. The key
+// follows.
 const FRONT: [u8; 21] = [
     1, 0, 0, 0, 0, 3, 0, 0, 0, 0, 0, 0, 0, 1, 0, 16, 0, 0, 0, 0, 0,
 ];
 
-// Writes a section of data of that block, and answers where it lies.
+// Writes a data section of that block, and returns its handle.
 fn put_block(alloc: Global, writer: &mut SectionWriter) -> Result<BlockHandle, Error>
     requires { writer.old.started ≡ [] }
 {
@@ -169,7 +172,7 @@ fn put_block(alloc: Global, writer: &mut SectionWriter) -> Result<BlockHandle, E
     Block::write_into(writer, &payload, BlockType::Data, CompressionType::None)
 }
 
-// A table of such a block alone, and where it lies.
+// A table of such a block alone, and the block's handle.
 fn table(alloc: Global) -> Result<(Slice, BlockHandle), Error> {
     let mut writer = SectionWriter::new(alloc)?;
     let handle = put_block(alloc, &mut writer);
@@ -177,7 +180,7 @@ fn table(alloc: Global) -> Result<(Slice, BlockHandle), Error> {
     Ok((bytes, handle?))
 }
 
-// The length of the first entry's key in a block, and its number.
+// The length of the first entry's key in a block, and its sequence number.
 fn first(block: &DataBlock<Global>) -> Result<Option<(usize, SeqNo)>, Error> {
     if block.is_empty() {
         return Ok(None);
@@ -186,7 +189,7 @@ fn first(block: &DataBlock<Global>) -> Result<Option<(usize, SeqNo)>, Error> {
     Ok(Some((entry.key.user_key.len(), entry.key.seqno)))
 }
 
-// Those of the block where a handle points.
+// The length of the first entry's key in the block at a handle, and its sequence number.
 fn first_in(source: &BlockSource, handle: &BlockHandle) -> Result<Option<(usize, SeqNo)>, Error> {
     let block = load_entries(source, handle, BlockType::Data, &mut Opened::none());
     asked(block, first)

@@ -17,8 +17,8 @@ const ROWS: &[Row<'static>] = &[
     (b"c", 2, ValueType::Value, b"x"),
 ];
 
-// What is in partitions, the filter's bits for a key, in tenths, and whether filter and index stay
-// loaded.
+// The partitioned parts, the filter's tenths of a bit per key, and whether filter and index are
+// pinned.
 type Kind = (Parted, u32, bool, bool);
 
 const KINDS: &[Kind] = &[
@@ -50,7 +50,7 @@ const ABOVE_A: &[Call] = &[
     Call::Back(None),
 ];
 
-// Whether some calls come out so.
+// Whether some calls have their results.
 fn gives<W: Walk>(walked: &mut W, calls: &[Call]) -> Result<bool, Error> {
     for call in calls {
         if !walked.comes(call, false)? {
@@ -60,11 +60,11 @@ fn gives<W: Walk>(walked: &mut W, calls: &[Call]) -> Result<bool, Error> {
     Ok(true)
 }
 
-// What a point read finds and a scan, and two ranges.
+// The results of a point read, a scan and two ranges.
 type Reads<S, R> = ((Option<InternalValue<Global>>, S), (R, R));
 
-// Whether reads give what they should: a point read of a below 19, from the back what lies above a
-// up to c, all entries, and what a scan gives.
+// Whether reads have their results: a point read of `a` below 19, a range from the back above `a`
+// up to `c`, a range of all entries, and a scan.
 fn all_give<S: Walk, R: Walk>(reads: &mut Reads<S, R>) -> Result<bool, Error> {
     match &reads.0.0 {
         Some(item) if item.key.seqno == 17 => {}
@@ -77,7 +77,7 @@ fn all_give<S: Walk, R: Walk>(reads: &mut Reads<S, R>) -> Result<bool, Error> {
     )
 }
 
-// Whether reads, if there are any, give what they should.
+// Whether reads, if they can be made, have their results.
 fn reads_give<S: Walk + Drop, R: Walk + Drop>(
     reads: Result<Reads<S, R>, Error>,
 ) -> Result<bool, Error> {
@@ -90,7 +90,7 @@ fn all_reads(table: &Table, alloc: Global) -> Result<Reads<Scanner<Global>, Iter
     read_each_way(table, b"a", 19, lower, upper)
 }
 
-// Whether the reads of a table of a kind, whose global number is 10, give what they should.
+// Whether the reads of a table of a kind, with the global sequence number 10, have their results.
 fn kind_gives(alloc: Global, kind: &Kind) -> Result<bool, Error> {
     let bytes = written(alloc, kind.0, ROWS, kind.1, 0)?;
     let table = open_with(alloc, bytes, (kind.2, kind.3), 10);

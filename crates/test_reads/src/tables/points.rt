@@ -1,5 +1,5 @@
-//! Point reads over a source that lists what it loads; point reads of tables where a request for
-//! memory is refused; and point reads that borrow the entry, or return where it is stored.
+//! Point reads over a source that lists its loads, with allocation failures, with borrowed entries,
+//! and with handles of entries.
 use crate::tables::{
     Changed, LOADED, ON_DEMAND, Of, Parted, Sought, TWO_LEVELS, counted_read, lends_same,
     number_of, open_with, opened, written,
@@ -50,7 +50,7 @@ const READS: &[Read] = &[
     ((b"c", 100), None, None),
 ];
 
-// Whether a read of a table finds that sequence number, and loads no block but that.
+// Whether a read of a table finds its sequence number, and loads no block but the expected one.
 fn is_right<A: Allocator + Copy>(
     table: &Table<A>,
     source: &BlockSource<A>,
@@ -81,7 +81,7 @@ fn all_right<A: Allocator + Copy>(
     Ok(true)
 }
 
-// Whether they are, over a source of their own.
+// Whether all reads are right, over a source of their own.
 fn reads_in<A: Allocator + Copy>(table: &Table<A>, alloc: A) -> Result<bool, Error> {
     let bytes = table.bytes()?;
     asked_with(BlockSource::new(alloc, bytes), table, all_right)
@@ -98,7 +98,7 @@ pub(crate) fn are_right<A: Allocator + Copy>(alloc: A) -> Result<bool, Error> {
 // A read, and the sequence number that is found, if any, or an error.
 type Found = (Sought, Result<Option<SeqNo>, Error>);
 
-// Whether a read finds that. A read that runs out of memory is made again.
+// Whether a read has its result. A read that runs out of memory is made again.
 fn is_found<A: Allocator + Copy>(table: &Table<A>, read: &Found) -> bool {
     let ((key, seqno), expected) = read;
     let mut found = counted_read(table, key, *seqno).0;
@@ -171,10 +171,10 @@ const TABLES: &[(Changed<'static>, &[Found])] = &[
 /// The index of the table whose index has two levels.
 pub(crate) const OF_TWO_LEVELS: usize = 0;
 
-/// That of the one with damaged blocks of data.
+/// The index of the table with damaged data blocks.
 pub(crate) const OF_DAMAGED_BLOCKS: usize = 1;
 
-/// Whether the reads of the table at an index find what they should, each on its second try at the
+/// Whether the reads of the table at an index have their results, each on its second try at the
 /// latest.
 pub(crate) fn table_is_read<A: Allocator + Copy>(alloc: A, at: usize) -> Result<bool, Error> {
     match TABLES.get(at) {
@@ -183,10 +183,10 @@ pub(crate) fn table_is_read<A: Allocator + Copy>(alloc: A, at: usize) -> Result<
     }
 }
 
-// ---- borrowed, and by the entry's place
+// ---- borrowed, and by the entry's handle
 
-// Whether the table has the entry that `get_counted` returned at the place that `get_place` returned,
-// or both calls returned the same error.
+// Whether the table has the entry of `get_counted` at the handle that `get_place` returns, or both
+// calls return the same error.
 fn is_placed(
     table: &Table,
     place: Result<Option<EntryPlace>, Error>,
@@ -202,8 +202,8 @@ fn is_placed(
     }
 }
 
-// Whether each kind of point read of a table finds that, and those that count their loads count the
-// same.
+// Whether each kind of point read of a table has this result, and those that count their loads
+// count the same.
 fn is_found_each_way(table: &Table, read: &Found) -> bool {
     let ((key, seqno), expected) = read;
     let key_hash = Table::<Global>::key_hash(key);
@@ -231,7 +231,7 @@ fn all_found_each_way(table: &Table, reads: &[Found]) -> Result<bool, Error> {
 // The length of a value that is longer than a small table.
 const LONG: usize = 4_000;
 
-// Whether a place has its entry in its own table, and none in a table that ends before it.
+// Whether a handle has its entry in its own table, and none in a table that ends before it.
 fn is_past_the_end(short: &Table, of: (&Table, Option<EntryPlace>)) -> Result<bool, Error> {
     let (long, place) = of;
     let Some(place) = place else {
@@ -250,7 +250,7 @@ fn is_in_its_table_alone(long: &Table, alloc: Global) -> Result<bool, Error> {
     asked_with(opened(alloc, &LOADED), (long, place), is_past_the_end)
 }
 
-// Whether that is so for the place of an entry with a long value.
+// Whether the same holds for the handle of an entry with a long value.
 fn long_is_in_its_table_alone(alloc: Global) -> Result<bool, Error> {
     let value = vec![in alloc; b'x'; LONG]?;
     let rows: [Row<'_>; 1] = [(b"a", 1, ValueType::Value, value.as_slice())];

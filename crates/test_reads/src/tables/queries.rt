@@ -1,4 +1,4 @@
-//! Many reads of one table at once, and what memory reads ask for.
+//! Many reads of one table at once, and the requests for memory of reads.
 use crate::tables::{Changed, Of, Parted, Pins, Sought, cloned, counted_read, opened};
 use logpurple::table::{Query, Table, get_many};
 use sst_blocks::{Error, InternalValue, Slice};
@@ -37,7 +37,7 @@ fn are_named<A: Allocator>(found: &[Option<InternalValue<A>>], names: &[Option<N
     found.len() == names.len()
 }
 
-// Whether queries find these names in a table.
+// Whether queries of a table find the entries with these names.
 fn finds<A: Allocator + Copy>(
     table: &Table<A>,
     by: (A, &[Sought], &[Option<Name>]),
@@ -50,10 +50,11 @@ fn finds<A: Allocator + Copy>(
 
 const PINS: Pins = (true, true);
 
-// A table of three versions of `a` and one of `b`, each in a block of its own of 46 bytes.
+// A table of three versions of `a` and one of `b`, each in its own block of 46 bytes.
 const WHOLE: Changed<'static> = (Of::Rows(Parted::Nothing), &[], PINS, 0);
 
-// That table where the last byte of the block of a@7 is changed, and the mark of that of b@1.
+// The table with the last byte of the block of a@7 changed, and the magic number of the block of
+// b@1.
 const TWO_DAMAGED: Changed<'static> = (
     Of::Rows(Parted::Nothing),
     &[(91, b"?"), (138, b"?")],
@@ -70,12 +71,12 @@ const A9: Option<Name> = Some((b'a', 9));
 
 const B1: Option<Name> = Some((b'b', 1));
 
-// Three queries, the first one again, and what they find.
+// Three queries, the first one again, and the names that they find.
 const SOUGHT: &[Sought] = &[(b"a", 8), (b"a", 5), (b"c", 100), (b"a", 8)];
 
 const FOUND: &[Option<Name>] = &[A7, None, None, A7];
 
-// A table, queries, and what they find, or a refusal.
+// A table, queries, and the names that they find, or an error.
 type Case = (
     Changed<'static>,
     &'static [Sought],
@@ -83,8 +84,8 @@ type Case = (
     Result<bool, Error>,
 );
 
-// None of them, some, one of them twice, and some from behind; the earliest refusal, and none where
-// no query rests on the damage.
+// No queries, some, one of them twice, and some in reverse order. The earliest error is returned,
+// and none if no query reads the damaged block.
 const CASES: &[Case] = &[
     (WHOLE, &[], &[], Ok(true)),
     (
@@ -121,7 +122,7 @@ const CASES: &[Case] = &[
     ),
 ];
 
-// Whether that comes of queries of a clone of a table, once the table itself is gone.
+// Whether queries of a clone of a table have this result after the table is dropped.
 fn comes_of_clone(alloc: Global, case: &Case) -> bool {
     let copy = asked(opened(alloc, &case.0), cloned);
     asked_with(copy, (alloc, case.1, case.2), finds) == case.3
@@ -134,7 +135,7 @@ fn each_query_has_its_answer_in_its_place(rt: HostRuntime) {
     }
 }
 
-// Whether they find these names. Where they are refused for want of memory, they are asked again.
+// Whether queries find these names. After `OutOfMemory` they are made again.
 fn repeated<A: Allocator + Copy>(
     table: &Table<A>,
     by: (A, &[Sought], &[Option<Name>]),
@@ -146,14 +147,14 @@ fn repeated<A: Allocator + Copy>(
     }
 }
 
-/// Whether some queries are answered.
+/// Whether some queries have their results.
 pub(crate) fn are_answered<A: Allocator + Copy>(alloc: A) -> Result<bool, Error> {
     asked_with(opened(alloc, &WHOLE), (alloc, SOUGHT, FOUND), repeated)
 }
 
-// ---- how many requests for memory reads make
+// ---- the number of requests for memory of reads
 
-// Reads what is sought one by one.
+// Reads the keys one by one.
 fn read_each<A: Allocator + Copy>(table: &Table<A>, sought: &[Sought]) -> Result<(), Error> {
     for one in sought {
         counted_read(table, one.0, one.1).0?;
@@ -161,7 +162,7 @@ fn read_each<A: Allocator + Copy>(table: &Table<A>, sought: &[Sought]) -> Result
     Ok(())
 }
 
-// How many requests for memory are made by reads one by one, and by all at once. Generic in the
+// The numbers of requests for memory of reads one by one, and of all at once. It is generic in the
 // allocator, which is the heap that counts them.
 fn requests_of<A: Allocator + Copy>(
     table: &Table<A>,
@@ -179,7 +180,7 @@ fn requests_of<A: Allocator + Copy>(
     found.and(Ok((one_by_one, at_once)))
 }
 
-// Those of a table that is made in that heap.
+// The numbers of requests of a table that is made in that heap.
 fn requests_on<A: Allocator + Copy>(
     alloc: A,
     heap: &Refusing,
@@ -190,7 +191,7 @@ fn requests_on<A: Allocator + Copy>(
     asked_with(table, (alloc, heap, sought), requests_of)
 }
 
-// More than there can be where anything is refused.
+// More requests than there can be, for a read that fails.
 const REFUSED: (usize, usize) = (usize::MAX, usize::MAX);
 
 fn requests_in(alloc: Global, of: Of, sought: &[Sought]) -> (usize, usize) {
@@ -202,16 +203,16 @@ const TWO: &[Sought] = &[(b"a", 10), (b"b", 2)];
 
 const FOUR: &[Sought] = &[(b"a", 10), (b"a", 8), (b"a", 6), (b"b", 2)];
 
-// A read asks for no memory, not for the places of a block's entries nor for those of a partition's
-// handles, and the entry shares the table's bytes; none is asked for where nothing is sought.
+// A read makes no request for memory, neither for the offsets of a block's entries nor for those of
+// a partition's handles. The entry shares the table's bytes. Without queries there is no request.
 fn asks_for_none(alloc: Global) -> bool {
     let none = requests_in(alloc, Of::Rows(Parted::Nothing), &[]);
     let in_parts = requests_in(alloc, Of::Rows(Parted::Index), TWO);
     none == (0, 0) && in_parts.0 == 0
 }
 
-// The block in which several keys stand is loaded, which takes memory for its entries' places, and
-// for all of them once; that of a lone key is not.
+// A block of several queried keys is loaded once, which allocates its entries' offsets. A block of
+// a single one is not loaded.
 fn loads_once(alloc: Global) -> bool {
     let two = requests_in(alloc, Of::Block, TWO);
     let four = requests_in(alloc, Of::Block, FOUR);

@@ -1,7 +1,8 @@
-//! What reading a table answers: tables that an independent program stored, as they are and with
-//! some of their bytes changed, where each read that rests on the damage is refused, and no other;
-//! and written ones, with what each read loads. `test_vectors` changes each byte in turn, and
-//! compares all that is read.
+//! Reads of tables: tables of an independent program, unchanged or with some of their bytes
+//! changed, and written tables.
+//!
+//! Each read that depends on a changed byte fails, and no other. Each read has its number of loads.
+//! `test_vectors` changes each byte in turn, and compares all reads.
 use crate::tables::refusals::{DATA_AT, FF};
 use crate::tables::{
     ALL_PINS, BELITTLED, Changed, Of, Parted, Pins, Sought, UNDERSTATED, cloned, counted_read,
@@ -12,7 +13,7 @@ use sst_blocks::{Error, SeqNo};
 use std::alloc::Global;
 use test_tables::large::{asked, asked_with};
 
-// What stays loaded.
+// The pinned parts.
 pub(crate) const BOTH: Pins = (true, true);
 
 const NO_FILTER: Pins = (false, true);
@@ -21,23 +22,23 @@ const NO_INDEX: Pins = (true, false);
 
 const NEITHER: Pins = (false, false);
 
-// A refusal to open, or what a read then answers: the number found, if any, and how many blocks of
-// data, of the index and of the filter it loads.
+// The error of opening, or the result of a read: the sequence number found, if any, and the numbers
+// of data, index and filter blocks loaded.
 type Answer = Result<(Result<Option<SeqNo>, Error>, [u64; 3]), Error>;
 
-// What a read of a table that was opened answers.
+// The result of a read of an open table.
 fn answer_of(table: &Table, sought: Sought) -> Answer {
     Ok(counted_read(table, sought.0, sought.1))
 }
 
-// Whether a read of a clone of a table is answered so, once the table itself is gone; or why that
-// is not opened.
+// Whether a read of a clone of a table has this result after the table is dropped; or whether
+// opening fails so.
 fn is_answered(table: Result<Table, Error>, sought: Sought, expected: &Answer) -> bool {
     asked_with(asked(table, cloned), sought, answer_of) == *expected
 }
 
-// Places of up to three bytes, and what these become. A reference in a table of cases costs a proof
-// more than all else in it, so most cases have none.
+// The offsets of up to three bytes, and their new values. A reference in a table of cases costs a
+// proof more than the rest of the case, so most cases have none.
 pub(crate) type Bytes = ((usize, u8), (usize, u8), (usize, u8));
 
 // No byte.
@@ -45,10 +46,10 @@ pub(crate) const NO: (usize, u8) = (usize::MAX, 0);
 
 const WHOLE: Bytes = (NO, NO, NO);
 
-// A table, some bytes, what stays loaded, and a global number.
+// A table, some bytes, the pins, and a global sequence number.
 pub(crate) type Damaged = (Of, Bytes, Pins, SeqNo);
 
-// The table of them.
+// The table with these bytes changed.
 pub(crate) fn damaged(alloc: Global, damaged: &Damaged) -> Result<Table, Error> {
     let (first, second, third) = damaged.1;
     let (one, two, three) = ([first.1], [second.1], [third.1]);
@@ -59,7 +60,7 @@ pub(crate) fn damaged(alloc: Global, damaged: &Damaged) -> Result<Table, Error> 
     )
 }
 
-// What a read of a@1 answers in the table of one entry.
+// The result of a read of a@1 in the table of one entry.
 const FINDS_1: Answer = Ok((Ok(Some(1)), [1, 0, 0]));
 
 const MISMATCH: Error = Error::ChecksumMismatch;
@@ -76,20 +77,20 @@ const WHOLE_FILTER: Damaged = (Of::Filtered, ((128, b'?'), NO, NO), NO_FILTER, 0
 // The last byte of the first partition of the filter.
 const PART_OF_FILTER: Damaged = (Of::FilterParts, ((328, b'?'), NO, NO), BOTH, 0);
 
-// The last byte of each of four blocks of data of 44 bytes but the second.
+// The last byte of each of four data blocks of 44 bytes, except the second.
 const THREE_BLOCKS: Bytes = ((43, b'?'), (131, b'?'), (175, b'?'));
 
 const IN_FILTER_PARTS: Damaged = (Of::FilterParts, THREE_BLOCKS, BOTH, 0);
 
 const IN_LEVELS: Damaged = (Of::Levels, THREE_BLOCKS, BOTH, 0);
 
-// The largest number.
+// The largest sequence number.
 pub(crate) const LARGEST: &[u8] = &[0xff; 8];
 
 const UNCHANGED: Damaged = (Of::FilterParts, WHOLE, BOTH, 0);
 
-// The first handle of the filter's top level, that of `a`, gets the largest number, and the block
-// its checksum.
+// The first handle of the filter's top level, that of `a`, gets the largest sequence number, and
+// the block its checksum.
 const LARGEST_AT_FIRST: Changed<'static> = (
     Of::FilterParts,
     &[
@@ -100,8 +101,8 @@ const LARGEST_AT_FIRST: Changed<'static> = (
     0,
 );
 
-// The last handle of the filter's top level, that of `b`, gets the largest number, and the block
-// its checksum.
+// The last handle of the filter's top level, that of `b`, gets the largest sequence number, and the
+// block its checksum.
 const LARGEST_AT_LAST: Changed<'static> = (
     Of::FilterParts,
     &[
@@ -112,11 +113,11 @@ const LARGEST_AT_LAST: Changed<'static> = (
     0,
 );
 
-// Further changes than of three bytes, a read, and its answer.
+// Changes of more than three bytes, a read, and its result.
 static CHANGED_READS: [(Changed<'static>, Sought, Answer); 12] = [
-    // changes that opening does not see: no data section;
+    // changes that opening does not detect: no data section;
     ((Of::One, &[(DATA_AT, &FF)], BOTH, 0), (b"a", 2), FINDS_1),
-    // an item of the meta block is read below the largest number, and whatever its tag is
+    // an item of the meta block is read below the largest sequence number, whatever its tag
     (
         (
             Of::One,
@@ -162,7 +163,7 @@ static CHANGED_READS: [(Changed<'static>, Sought, Answer); 12] = [
         (b"a", 2),
         FINDS_1,
     ),
-    // the partition of `b` is asked, and does not have `a`
+    // the partition of `b` is queried, and does not have `a`
     (LARGEST_AT_FIRST, (b"a", 10), Ok((Ok(None), [0, 0, 1]))),
     (
         LARGEST_AT_FIRST,
@@ -178,9 +179,10 @@ static CHANGED_READS: [(Changed<'static>, Sought, Answer); 12] = [
         Ok((Ok(None), [0, 0, 0])),
     ),
     (LARGEST_AT_LAST, (b"a", 10), Ok((Ok(Some(9)), [1, 0, 1]))),
-    // the bound less the global number is 0, which no entry is below: nothing is loaded
+    // the snapshot less the global sequence number is 0, which no entry is below: nothing is loaded
     (BELITTLED, (b"a", SeqNo::MAX), Ok((Ok(None), [0, 0, 0]))),
-    // it is above the lowest number that the meta block describes, and no handle is below it
+    // it is above the lowest sequence number that the meta block describes, and no handle is below
+    // it
     (UNDERSTATED, (b"a", SeqNo::MAX), Ok((Ok(None), [0, 0, 0]))),
 ];
 
@@ -196,11 +198,11 @@ fn key_of(letter: u8) -> &'static [u8] {
     }
 }
 
-// A damaged table, a key of one letter and a bound, and the answer.
+// A damaged table, a key of one letter and a snapshot, and the result.
 type Read = (Damaged, (u8, SeqNo), Answer);
 
 static READS: [Read; 57] = [
-    // changes that opening does not see: none; another version behind the index
+    // changes that opening does not detect: none; another version after the index
     ((Of::One, WHOLE, BOTH, 0), (b'a', 2), FINDS_1),
     ((Of::One, ((96, 9), NO, NO), BOTH, 0), (b'a', 2), FINDS_1),
     // the value, and the compression of the data block
@@ -214,7 +216,7 @@ static READS: [Read; 57] = [
         (b'a', 2),
         Ok((Err(Error::UnsupportedCompression), [1, 0, 0])),
     ),
-    // the global number is tested between the meta block and the index
+    // the global sequence number is tested between the meta block and the index
     (
         (Of::One, WHOLE, BOTH, SeqNo::MAX),
         (b'a', 2),
@@ -235,7 +237,7 @@ static READS: [Read; 57] = [
         (b'a', 2),
         Err(Error::GlobalSeqNoTooLarge),
     ),
-    // opening loads a whole index and a whole filter that are to stay loaded
+    // opening loads a full index and a full filter that are pinned
     (
         (Of::One, ((95, b'?'), NO, NO), BOTH, 0),
         (b'a', 2),
@@ -257,7 +259,7 @@ static READS: [Read; 57] = [
         (b'a', 2),
         Err(Error::UnsupportedCompression),
     ),
-    // and a top level, which stays loaded in any case
+    // and a top level, which is always pinned
     (
         (Of::Levels, ((499, b'?'), NO, NO), NEITHER, 0),
         (b'a', 2),
@@ -283,27 +285,29 @@ static READS: [Read; 57] = [
         (b'a', 2),
         Err(MISMATCH),
     ),
-    // the read behind the damaged partition of the index alone
+    // only the read of the damaged index partition fails
     (PART_OF_INDEX, (b'a', 8), Ok((Err(MISMATCH), [0, 1, 0]))),
     (PART_OF_INDEX, (b'a', 10), Ok((Ok(Some(9)), [1, 1, 0]))),
     (PART_OF_INDEX, (b'a', 6), Ok((Ok(Some(5)), [1, 1, 0]))),
     (PART_OF_INDEX, (b'b', 2), Ok((Ok(Some(1)), [1, 1, 0]))),
     (PART_OF_INDEX, (b'c', 8), Ok((Ok(None), [0, 0, 0]))),
-    // each read that comes to the index
+    // each read that loads the index fails
     (WHOLE_INDEX, (b'a', 2), Ok((Err(MISMATCH), [0, 1, 0]))),
     (WHOLE_INDEX, (b'c', 2), Ok((Err(MISMATCH), [0, 1, 0]))),
     (WHOLE_INDEX, (b'a', 1), Ok((Ok(None), [0, 0, 0]))),
-    // each read that comes to the filter; a bound at the lowest number asks nothing
+    // each read that loads the filter fails; a snapshot at the lowest sequence number queries
+    // nothing
     (WHOLE_FILTER, (b'a', 2), Ok((Err(MISMATCH), [0, 0, 1]))),
     (WHOLE_FILTER, (b'c', 2), Ok((Err(MISMATCH), [0, 0, 1]))),
     (WHOLE_FILTER, (b'a', 1), Ok((Ok(None), [0, 0, 0]))),
-    // the reads of the damaged partition's keys alone; behind the last partition nothing is asked
+    // only the reads of the damaged partition's keys fail; after the last partition nothing is
+    // queried
     (PART_OF_FILTER, (b'a', 8), Ok((Err(MISMATCH), [0, 0, 1]))),
     (PART_OF_FILTER, (EMPTY, 8), Ok((Err(MISMATCH), [0, 0, 1]))),
     (PART_OF_FILTER, (b'b', 2), Ok((Ok(Some(1)), [1, 0, 1]))),
     (PART_OF_FILTER, (b'a', 1), Ok((Ok(None), [0, 0, 0]))),
     (PART_OF_FILTER, (b'c', 8), Ok((Ok(None), [0, 0, 0]))),
-    // a damaged block of data refuses its own reads
+    // only the reads of a damaged data block fail
     (IN_FILTER_PARTS, (b'a', 8), Ok((Ok(Some(7)), [1, 0, 1]))),
     (IN_FILTER_PARTS, (b'a', 10), Ok((Err(MISMATCH), [1, 0, 1]))),
     (IN_FILTER_PARTS, (b'a', 6), Ok((Err(MISMATCH), [1, 0, 1]))),
@@ -314,11 +318,11 @@ static READS: [Read; 57] = [
     (IN_LEVELS, (b'a', 6), Ok((Err(MISMATCH), [1, 1, 0]))),
     (IN_LEVELS, (b'a', 5), Ok((Err(MISMATCH), [1, 1, 0]))),
     (IN_LEVELS, (b'b', 2), Ok((Err(MISMATCH), [1, 1, 0]))),
-    // which partition of a filter a read asks: that of the first handle whose end key is greater,
-    // or equal and numbered below `u64::MAX`
+    // a read queries the filter partition of the first handle whose end key is greater, or equal
+    // with a sequence number below `u64::MAX`
     (UNCHANGED, (b'a', 10), Ok((Ok(Some(9)), [1, 0, 1]))),
     (UNCHANGED, (b'b', 2), Ok((Ok(Some(1)), [1, 0, 1]))),
-    // the global number is added, up to the largest number, which is below no bound
+    // the global sequence number is added, up to the largest sum, which is below no snapshot
     (
         (Of::Numbered(SeqNo::MAX - 1), WHOLE, BOTH, 0),
         (b'a', SeqNo::MAX),
@@ -382,7 +386,7 @@ static READS: [Read; 57] = [
     ),
 ];
 
-// The place of the first read that is answered otherwise.
+// The index of the first read with another result.
 fn wrong_read(alloc: Global, reads: &[Read]) -> Option<usize> {
     for (place, (table, (letter, bound), expected)) in reads.iter().enumerate() {
         let sought = (key_of(*letter), *bound);
@@ -393,7 +397,7 @@ fn wrong_read(alloc: Global, reads: &[Read]) -> Option<usize> {
     None
 }
 
-// That of the first one of other changes.
+// The index of the first read after other changes with another result.
 fn wrong_changed_read(alloc: Global) -> Option<usize> {
     for (place, (changed, sought, expected)) in CHANGED_READS.iter().enumerate() {
         if !is_answered(opened(alloc, changed), *sought, expected) {
@@ -411,11 +415,11 @@ fn what_does_not_rest_on_the_damage_is_read(rt: HostRuntime) {
 
 // ---- each pair of pins
 
-// The length of the filter, and how many bytes of it and of the index are pinned.
+// The length of the filter, and the numbers of its bytes and of the index's bytes that are pinned.
 type Sizes = (u32, usize, usize);
 
-// A key, a bound, the number that is found, if any, and how many data, index and filter blocks
-// are loaded under each pair of pins.
+// A key, a snapshot, the sequence number that is found, if any, and the numbers of data, index and
+// filter blocks loaded under each pair of pins.
 type Pinned = (&'static [u8], SeqNo, Option<SeqNo>, [[u64; 3]; 4]);
 
 const NOTHING: [[u64; 3]; 4] = [[0; 3]; 4];
@@ -448,7 +452,7 @@ const OF_FILTER_PARTS: [Pinned; 8] = [
     (b"c", 100, None, NOTHING),
 ];
 
-// Whether a table has these sizes, and answers some reads under the pair of pins at a place.
+// Whether a table has these sizes, and reads have their results under the pair of pins at an index.
 fn answers(table: &Table, by: (&[Sizes; 4], &[Pinned], usize)) -> Result<bool, Error> {
     let sizes = (
         table.filter_size(),
@@ -476,16 +480,16 @@ fn all_answer(alloc: Global, of: Of, all: &[Sizes; 4], reads: &[Pinned]) -> bool
     true
 }
 
-// Reads of a@9, a@7 and a@5 by an index of two levels: a read loads one partition and one block of
-// data. Past the last key the top level, which is always pinned, has no handle.
+// Reads of a@9, a@7 and a@5 by a two-level index: a read loads one partition and one data block.
+// After the last key the top level, which is always pinned, has no handle.
 const BY_PARTITIONS: [Pinned; 3] = [
     (b"a", 8, Some(7), [[1, 1, 0]; 4]),
     (b"a", 5, None, [[1, 1, 0]; 4]),
     (b"c", 100, None, NOTHING),
 ];
 
-// The empty key in a table of `a`: by the filter it is not there; without one the first block of
-// data is searched.
+// The empty key in a table of `a`: the filter rejects it; without a filter the first data block is
+// searched.
 const FILTERED_OUT: [Pinned; 1] = [(b"", 2, None, [[0; 3], [0; 3], [0, 0, 1], [0, 0, 1]])];
 
 const NOT_FILTERED_OUT: [Pinned; 1] = [(b"", 2, None, UNFILTERED)];
@@ -495,7 +499,7 @@ const OF_FOUR: [Sizes; 4] = [(0, 0, 104), (0, 0, 0), (0, 0, 104), (0, 0, 0)];
 const OF_PARTS: [Sizes; 4] = [(66, 0, 104), (66, 0, 0), (66, 0, 104), (66, 0, 0)];
 
 // The top level of an index of one partition has a count of 4, and a key of one byte with 24 for
-// its handle; the partition of a filter has 33 bytes.
+// its handle. The partition of a filter has 33 bytes.
 const OF_FORGETTING: [Sizes; 4] = [(33, 0, 29); 4];
 
 const BY_ONE_PARTITION: [Pinned; 2] = [

@@ -1,4 +1,4 @@
-//! What opening a table refuses: the stored table of one entry with some of its bytes changed.
+//! Errors of opening a table: the stored table of one entry with some of its bytes changed.
 use crate::tables::reads::{BOTH, Bytes, LARGEST, NO, damaged};
 use crate::tables::{Changed, Changes, Of, bytes_of, open_with, opened};
 use logpurple::table::Table;
@@ -7,20 +7,20 @@ use std::alloc::{Allocator, Global};
 
 pub(crate) const FF: [u8; 16] = [0xff; 16];
 
-// What the trailer of the table of one entry says of the index and of the meta block.
+// The slots of the index and of the meta block in the trailer of the table of one entry.
 const TLI_SLOT: [u8; 16] = [45, 0, 0, 0, 0, 0, 0, 0, 51, 0, 0, 0, 0, 0, 0, 0];
 
 const META_SLOT: [u8; 16] = [97, 0, 0, 0, 0, 0, 0, 0, 0x11, 4, 0, 0, 0, 0, 0, 0];
 
-// The slots of the trailer begin at 1,138: that of the data, then, 32 bytes on, of the index, and
-// 64 bytes on of the meta block.
+// The slots of the trailer begin at 1,138 with that of the data. The slot of the index is 32 bytes
+// after it, and that of the meta block 64 bytes after that of the index.
 pub(crate) const DATA_AT: usize = 1138;
 
 const TLI_AT: usize = 1170;
 
 const META_AT: usize = 1234;
 
-// Changes of the table of one entry, and the fault.
+// Changes of the table of one entry, and the error.
 static FAULTS: [(Changes<'static>, Error); 5] = [
     (
         &[(TLI_AT, &META_SLOT), (META_AT, &TLI_SLOT)],
@@ -28,40 +28,41 @@ static FAULTS: [(Changes<'static>, Error); 5] = [
     ),
     (&[(TLI_AT, &FF)], Error::MissingSection),
     (&[(META_AT, &FF)], Error::MissingSection),
-    // of two faults the first
+    // of two faults the first is reported
     (&[(TLI_AT, &FF), (121, &[30])], Error::MissingSection),
     (&[(1250, b"l"), (META_AT, &FF)], Error::InvalidTrailer),
 ];
 
-// Bytes of that table, and the fault.
+// Changed bytes of that table, and the error.
 static BYTE_FAULTS: [(Bytes, Error); 11] = [
     // a length of 2^32
     (
         ((TLI_AT + 8, 0), (TLI_AT + 12, 1), NO),
         Error::InvalidTrailer,
     ),
-    // a length of 23, and one that is a byte too short
+    // a length of 23, and one that is too short by one byte
     (((META_AT + 8, 23), (META_AT + 9, 0), NO), Error::Truncated),
     (((TLI_AT + 8, 23), NO, NO), Error::Truncated),
     (((META_AT + 8, 0x10), NO, NO), Error::InvalidHeader),
-    // a position in the byte of the version
+    // an offset at the byte of the version
     (((META_AT, 96), NO, NO), Error::InvalidHeader),
-    // the mark, the kind, the compression and the payload of the meta block and of the index
+    // the magic number, the kind, the compression and the payload of the meta block and of the
+    // index
     (((97, b'l'), NO, NO), Error::InvalidHeader),
     (((101, 2), NO, NO), Error::InvalidTag(TagName::BlockType, 2)),
     (((102, 1), NO, NO), Error::UnsupportedCompression),
     (((121, 30), NO, NO), Error::ChecksumMismatch),
     (((50, 1), NO, NO), Error::UnsupportedCompression),
-    // of two faults the first: the meta block, then the index
+    // of two faults the first is reported: the meta block, then the index
     (((121, 30), (50, 1), NO), Error::ChecksumMismatch),
 ];
 
-// Whether a table is not opened for a fault.
+// Whether opening a table fails with this error.
 fn has_fault(table: Result<Table, Error>, fault: &Error) -> bool {
     table.err().as_ref() == Some(fault)
 }
 
-// The place of the first fault that is not told.
+// The index of the first changes with another result than their error.
 fn wrong_fault(alloc: Global, faults: &[(Changes<'static>, Error)]) -> Option<usize> {
     for (place, (changes, fault)) in faults.iter().enumerate() {
         if !has_fault(opened(alloc, &(Of::One, *changes, BOTH, 0)), fault) {
@@ -71,7 +72,7 @@ fn wrong_fault(alloc: Global, faults: &[(Changes<'static>, Error)]) -> Option<us
     None
 }
 
-// That of the first one of bytes.
+// The index of the first changed bytes with another result than their error.
 fn wrong_byte_fault(alloc: Global, faults: &[(Bytes, Error)]) -> Option<usize> {
     for (place, (bytes, fault)) in faults.iter().enumerate() {
         if !has_fault(damaged(alloc, &(Of::One, *bytes, BOTH, 0)), fault) {
@@ -114,10 +115,10 @@ fn a_prefix_of_a_table_has_no_trailer(rt: HostRuntime) {
     assert!(rt; first_other(rt.alloc(), Of::Numbered(1)) == Some(1320));
 }
 
-// The checksum of the meta block of that table, the place of a byte or, where there is none, of
-// the largest number, and the fault.
+// The checksum of the meta block of that table, the offset of a byte and its value, or of the
+// largest number if there is no value; and the error.
 static ITEMS: [([u8; 8], usize, Option<[u8; 1]>, Error); 26] = [
-    // one item with another value; a length is told where it is read as a number
+    // one item with another value; its length is an error when it is read as a number
     (
         [117, 94, 140, 178, 166, 191, 24, 178],
         970,
@@ -154,7 +155,7 @@ static ITEMS: [([u8; 8], usize, Option<[u8; 1]>, Error); 26] = [
         Some([1]),
         Error::UnsupportedCompression,
     ),
-    // an item that is read has the largest number, below which items are looked for
+    // an item that is read has the largest sequence number, below which items are looked up
     (
         [79, 42, 223, 161, 69, 142, 167, 138],
         126,
@@ -277,8 +278,8 @@ static ITEMS: [([u8; 8], usize, Option<[u8; 1]>, Error); 26] = [
     ),
 ];
 
-// Further changes of that block, with its checksum, and the fault. Where a value is shorter, that
-// of an item which is not read is longer.
+// Further changes of that block, with its checksum, and the error. If a value is shorter, the value
+// of an item that is not read is longer.
 static ITEM_FAULTS: [(Changes<'static>, Error); 11] = [
     (
         &[
@@ -344,7 +345,7 @@ static ITEM_FAULTS: [(Changes<'static>, Error); 11] = [
         ],
         Error::UnsupportedChecksumType,
     ),
-    // `checksum_type` is gone, so there are 28 items, and one that is not read is longer
+    // without `checksum_type`: there are 28 items, and one that is not read is longer
     (
         &[
             (113, &[86, 55, 36, 10, 226, 119, 83, 55]),
@@ -380,7 +381,7 @@ static ITEM_FAULTS: [(Changes<'static>, Error); 11] = [
         ],
         Error::InvalidMetaValue,
     ),
-    // of two faults the first
+    // of two faults the first is reported
     (
         &[
             (113, &[142, 209, 40, 219, 161, 189, 104, 236]),
@@ -445,7 +446,7 @@ static ITEM_FAULTS: [(Changes<'static>, Error); 11] = [
     ),
 ];
 
-// The place of the first item whose fault is not told.
+// The index of the first item with another result than its error.
 fn wrong_item(alloc: Global, items: &[([u8; 8], usize, Option<[u8; 1]>, Error)]) -> Option<usize> {
     for (place, (checksum, at, byte, fault)) in items.iter().enumerate() {
         let written: &[u8] = match byte {
@@ -463,7 +464,7 @@ fn wrong_item(alloc: Global, items: &[([u8; 8], usize, Option<[u8; 1]>, Error)])
     None
 }
 
-// How each item is read, with any length of its value, the tests in Python have.
+// The tests in Python read each item with any length of its value.
 #[test]
 fn the_first_fault_of_items(rt: HostRuntime) {
     assert!(rt; wrong_item(rt.alloc(), &ITEMS) == None);
@@ -478,7 +479,7 @@ const OTHER_CHECKSUMS: Changed<'static> = (
     0,
 );
 
-/// Whether opening a table of a kind of checksum that is not known is refused so.
+/// Whether opening a table with an unknown kind of checksum fails with its error.
 pub(crate) fn checksums_are_refused<A: Allocator + Copy>(alloc: A) -> Result<bool, Error> {
     match opened(alloc, &OTHER_CHECKSUMS).map(drop) {
         Err(Error::UnsupportedChecksumType) => Ok(true),

@@ -1,5 +1,5 @@
-//! The layout of written tables: how long they are, where their sections are, and how many blocks of
-//! the index and of the filter their meta blocks count.
+//! The layout of written tables: their lengths, the offsets of their sections, and the numbers of
+//! index and filter blocks in their meta blocks.
 use crate::tables::{Of, Parted, opened};
 use logpurple::table::Table;
 use lsm_formats::ItemName;
@@ -18,8 +18,7 @@ const NAMES: [SectionName; 4] = [
 // The offset and the length of a section, if there is one.
 type Place = Option<(u64, u64)>;
 
-// How many bytes a table has, where the sections of [`NAMES`] are, and how many blocks of the index
-// and of the filter are counted.
+// The length of a table, the sections of [`NAMES`], and the numbers of index and filter blocks.
 type Layout = (usize, &'static [Place], u64, u8);
 
 fn places_of(toc: &Toc) -> [Place; 4] {
@@ -46,9 +45,9 @@ fn is_laid(table: &Table, layout: &Layout) -> Result<bool, Error> {
     )
 }
 
-// Tables and their layouts. The first five have four data blocks of 46 bytes, the last two one of 47.
-// A block of one handle for a key of one byte has 53 bytes, and 25 more for each further handle. A
-// filter of one or two keys has 33.
+// Tables and their layouts. The first five have four data blocks of 46 bytes, the last two one of
+// 47. A block of one handle for a key of one byte has 53 bytes, and 25 more for each further
+// handle. A filter of one or two keys has 33.
 const LAYOUTS: &[(Of, Layout)] = &[
     // A partition of the index for each block of data.
     (

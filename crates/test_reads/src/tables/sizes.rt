@@ -1,4 +1,4 @@
-//! How many bytes the data blocks of a range take, by each kind of index.
+//! The size in bytes of the data blocks of a range, by each kind of index.
 use crate::tables::{Parted, open_with, written};
 use logpurple::table::Table;
 use sst_blocks::{Error, ValueType};
@@ -8,19 +8,19 @@ use test_tables::large::asked;
 use test_tables::rows::Row;
 use test_tables::runs::{ALL, Bounds};
 
-// Each row has a data block of its own, of 46 bytes and the value's.
+// Each row has its own data block, of 46 bytes and the value.
 const ROWS: &[Row<'static>] = &[
     (b"b", 3, ValueType::Value, b""),
     (b"d", 2, ValueType::Value, b"12"),
     (b"f", 1, ValueType::Value, b"1234"),
 ];
 
-// Bounds, and what the blocks between them take.
+// Bounds, and the size of the blocks between them.
 const CASES: &[(Bounds<'static>, u64)] = &[
     (ALL, 144),
     ((Bound::Included(b"c"), Bound::Unbounded), 98),
     ((Bound::Unbounded, Bound::Excluded(b"a")), 46),
-    // The block behind `b` may have `b` too, for all that the index says.
+    // As far as the index shows, the block after `b` may have `b` too.
     ((Bound::Included(b"b"), Bound::Included(b"b")), 94),
     ((Bound::Included(b"e"), Bound::Included(b"e")), 50),
     ((Bound::Excluded(b"f"), Bound::Unbounded), 50),
@@ -28,7 +28,7 @@ const CASES: &[(Bounds<'static>, u64)] = &[
     ((Bound::Included(b"f"), Bound::Included(b"b")), 0),
 ];
 
-// The first of the cases whose answer is wrong.
+// The index of the first case with another result.
 fn wrong_case(table: &Table) -> Result<Option<usize>, Error> {
     for (place, &((lower, upper), size)) in CASES.iter().enumerate() {
         if table.approximate_size(lower, upper)? != size {
@@ -38,8 +38,8 @@ fn wrong_case(table: &Table) -> Result<Option<usize>, Error> {
     Ok(None)
 }
 
-// The first case that a table answers otherwise, its index in one block or in a partition for each
-// block of data, kept loaded or not.
+// The first case with another result, with an index of one block or of a partition for each data
+// block, pinned or not.
 fn wrong_in(alloc: Global, parted: Parted, pin_index: bool) -> Result<Option<usize>, Error> {
     let bytes = written(alloc, parted, ROWS, 0, 0)?;
     asked(open_with(alloc, bytes, (false, pin_index), 0), wrong_case)

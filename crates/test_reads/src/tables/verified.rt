@@ -1,4 +1,4 @@
-//! What tables are verified to have, and what is wrong first with tables whose bytes were changed.
+//! Results of verifying tables, and the first fault of tables whose bytes were changed.
 use crate::tables::{Changed, Changes, Of, Pins, opened};
 use logpurple::table::{Fault, Finding, Table, Verified, VerifyError};
 use lsm_formats::ItemName;
@@ -6,7 +6,7 @@ use sst_blocks::{Checksum, Error, SectionName};
 use std::alloc::Global;
 use test_tables::large::asked_with;
 
-// What a table is verified to have, with a checksum of its file where there is one.
+// The result of verifying a table, with a checksum of its file if there is one.
 fn verified(table: &Table, checksum: Option<u128>) -> Result<Result<Verified, VerifyError>, Error> {
     Ok(match checksum {
         Some(checksum) => table.verify_with(Checksum(checksum)),
@@ -16,15 +16,14 @@ fn verified(table: &Table, checksum: Option<u128>) -> Result<Result<Verified, Ve
 
 const PINS: Pins = (true, true);
 
-// A table of one entry, and one of four in a block each, of which the second block of data is
-// damaged.
+// A table of one entry; and one of four in a block each, whose second data block is damaged.
 const ONE: Changed<'static> = (Of::One, &[], PINS, 0);
 
 const DAMAGED: Changed<'static> = (Of::Levels, &[(87, b"?")], PINS, 0);
 
 const WRITTEN: Changed<'static> = (Of::Numbered(1), &[], PINS, 0);
 
-// The checksum of the table of a@1: `test_vectors` has it of another program.
+// The checksum of the table of a@1. `test_vectors` has the same from another program.
 const OF_WRITTEN: u128 = 1_866_175_774_685_508_454;
 
 const ONE_ITEM: Result<Verified, VerifyError> = Ok(Verified {
@@ -32,7 +31,7 @@ const ONE_ITEM: Result<Verified, VerifyError> = Ok(Verified {
     item_count: 1,
 });
 
-// A table, a checksum of its file, and what is verified.
+// A table, a checksum of its file, and the result.
 type Told = (
     Changed<'static>,
     Option<u128>,
@@ -58,7 +57,7 @@ const UNLOADED: Result<Verified, VerifyError> = Err(VerifyError::Found(Finding {
     fault: Fault::Unloaded(Error::ChecksumMismatch),
 }));
 
-// The place of the first table of which something else is found.
+// The index of the first table with another result.
 fn wrong_table(alloc: Global, rows: &[Told]) -> Option<usize> {
     for (place, (changed, checksum, expected)) in rows.iter().enumerate() {
         match asked_with(opened(alloc, changed), *checksum, verified) {
@@ -74,9 +73,9 @@ fn a_table_is_verified_or_its_first_fault_is_found(rt: HostRuntime) {
     assert!(rt; wrong_table(rt.alloc(), &SOUND_AND_NOT) == None);
 }
 
-// Changes of the meta block of the table of one entry, with its checksum, and the item that the
-// entry bears out no more: the counts and numbers are 0 or 3, and the keys are empty, for which the
-// count of keys has a byte more.
+// Changes of the meta block of the table of one entry, with its checksum, and the item that no
+// longer matches the entry. The counts and numbers become 0 or 3, and the keys empty; then the
+// count of keys is one byte longer.
 static UNBORNE: [(Changes<'static>, ItemName); 12] = [
     (
         &[(113, &[234, 147, 139, 237, 2, 77, 208, 19]), (156, &[0])],
@@ -152,7 +151,7 @@ static UNBORNE: [(Changes<'static>, ItemName); 12] = [
     ),
 ];
 
-// An item of the meta block, which lies at 97.
+// The mismatch of an item of the meta block, which starts at 97.
 fn unborne(item: ItemName) -> VerifyError {
     VerifyError::Found(Finding {
         section: SectionName::Meta,
@@ -161,7 +160,7 @@ fn unborne(item: ItemName) -> VerifyError {
     })
 }
 
-// Whether the table of one entry, so changed, does not bear an item out.
+// Whether verifying the table of one entry with these changes finds a mismatch of an item.
 fn is_unborne(alloc: Global, changes: Changes<'_>, item: ItemName) -> bool {
     let table = opened(alloc, &(Of::One, changes, PINS, 0));
     asked_with(table, None, verified) == Ok(Err(unborne(item)))

@@ -1,5 +1,5 @@
-//! Ranges, scans and index iterators, from both ends: what they yield and load, and that an error
-//! exhausts them. What calls them is generic in them, so that a proof looks at none of their parts.
+//! Ranges, scans and index iterators, from both ends: their items and loads, and that an error
+//! exhausts them. Their callers are generic, so that a proof looks at none of their parts.
 use crate::tables::{
     BELITTLED, Changed, KINDS, LOADED, OLDER, ON_DEMAND, Of, Parted, Pins, TWO_LEVELS, UNDERSTATED,
     changed_bytes, opened,
@@ -12,9 +12,10 @@ use test_refusing::Refusing;
 use test_tables::large::{asked, asked_with};
 use test_tables::runs::{ALL, Bounds, Name, name_of, owned_range};
 
-/// A call and its result: the name that a step at the front or at the back yields, if any; and
-/// whether a seek of the lower or of the upper edge, before the first step, leaves anything. A seek
-/// in an index that is loaded later returns true.
+/// A call and its result: the name that a step at the front or at the back yields, if any; or
+/// whether a seek before the first step leaves anything.
+///
+/// A seek sets the lower or the upper bound. A seek in an index that is loaded later returns true.
 pub(crate) enum Call {
     Front(Option<Name>),
     Back(Option<Name>),
@@ -26,7 +27,7 @@ pub(crate) enum Call {
 
 /// An iterator with both ends.
 pub(crate) trait Walk {
-    /// Whether a call has that result.
+    /// Whether a call has its result.
     fn comes(&mut self, call: &Call, is_loaded: bool) -> Result<bool, Error>;
 
     /// How many blocks were loaded: of data, and of the index.
@@ -107,8 +108,10 @@ impl<A: Allocator + Clone> Walk for BlockIndexIterImpl<A> {
     }
 }
 
-/// The outcome of some calls: how many blocks were loaded, where each has its result; or how many
-/// have it, and the error of the next one, after which nothing was yielded and nothing was loaded.
+/// The outcome of some calls. If each has its result, the number of loaded blocks. Otherwise the
+/// number of those that have it, and the error of the next one, after which nothing was yielded and
+/// nothing was loaded.
+///
 /// `Source(9)` is another result, and `UNMADE` the call that makes the iterator.
 pub(crate) type Came = Result<(u64, u64), (usize, Error)>;
 
@@ -136,7 +139,7 @@ fn is_over<W: Walk>(walk: &mut W) -> bool {
 
 const ENDS: &[Call] = &[Call::Front(None), Call::Back(None), Call::Front(None)];
 
-// Whether that is so, also after further seeks.
+// Whether nothing is yielded or loaded, also after further seeks.
 fn stays_over<W: Walk>(walk: &mut W) -> bool {
     is_over(walk)
         && walk
@@ -169,8 +172,8 @@ pub(crate) fn walked<W: Walk + Drop>(
     }
 }
 
-/// What is iterated: a range, the handles of the index, and a scan of a table that is dropped
-/// before the first step; and a scan of so many blocks of its bytes.
+/// The iterator under test: a range, the handles of the index, or a scan, each of a table that is
+/// dropped before the first step. Or a scan of some blocks of its bytes.
 pub(crate) enum Subject {
     Range(Bounds<'static>),
     Handles,
@@ -202,7 +205,7 @@ fn handles_of<A: Allocator + Copy>(table: &Table<A>) -> Result<BlockIndexIterImp
     iter
 }
 
-// The scan of so many blocks, with a global sequence number.
+// The scan of a number of blocks, with a global sequence number.
 fn scan_of<A: Allocator + Copy>(
     source: &BlockSource<A>,
     of: (u64, SeqNo),
@@ -210,7 +213,7 @@ fn scan_of<A: Allocator + Copy>(
     Scanner::new(source, of.0, CompressionType::None, of.1)
 }
 
-/// The scan of so many blocks of a table's bytes.
+/// The scan of a number of blocks of a table's bytes.
 pub(crate) fn blocks_in<A: Allocator + Copy>(
     alloc: A,
     changed: &Changed<'_>,
@@ -220,7 +223,7 @@ pub(crate) fn blocks_in<A: Allocator + Copy>(
     asked_with(BlockSource::new(alloc, bytes), (count, changed.3), scan_of)
 }
 
-/// Whether the index is one pinned block, so that a seek knows what it leaves.
+/// Whether the index is one pinned block, so that a seek can tell if it leaves anything.
 pub(crate) fn is_loaded(changed: &Changed<'_>) -> bool {
     match changed.0 {
         Of::Rows(Parted::Nothing) => changed.2.1,
@@ -272,7 +275,7 @@ const FROM_BOTH_ENDS: &[Call] = &[
 
 const NOTHING: &[Call] = &[Call::Front(None), Call::Back(None)];
 
-// What is iterated, calls, and how many blocks they load: of data, and of an index of two levels.
+// An iterator, calls, and how many blocks they load: data blocks, and blocks of a two-level index.
 type Case = (Subject, &'static [Call], u64, u64);
 
 const CASES: &[Case] = &[
@@ -429,7 +432,7 @@ fn each_kind_of_index_leaves_what_lies_between_edges(rt: HostRuntime) {
 
 // ---- sequence numbers, and blocks of other kinds
 
-// What is iterated, calls, and their outcome.
+// A table, an iterator, calls, and their outcome.
 type Told = (Changed<'static>, Subject, &'static [Call], Came);
 
 const A_AT_1: Call = Call::Front(Some((b'a', 1)));
@@ -588,8 +591,8 @@ fn numbers_are_lifted_and_a_refusal_ends_what_is_walked(rt: HostRuntime) {
 
 // ---- out of memory
 
-// What is iterated, calls, and which of them run out of memory in some run where one allocation
-// fails, and which in none: 1 is the first one, 2 the second one, 4 any after them.
+// An iterator and calls. Then the calls that run out of memory in some run where one allocation
+// fails, and those that never do. 1 is the first call, 2 the second, 4 any after them.
 type Refused = (Changed<'static>, Subject, &'static [Call], u8, u8);
 
 const WITHIN: Bounds<'static> = (Bound::Included(A_KEY), Bound::Included(B_KEY));

@@ -1,4 +1,4 @@
-//! How many comparisons a merge through a queue makes, counted where they are made.
+//! The number of comparisons of a merge through a queue, counted by the entries.
 ghost use Rattle.std.specs.Prelude.{◌≡◌, ℕ};
 ghost use Rattle.std.proofs.Common.{refl};
 ghost use Rattle.std.specs.Cmp.{partial_order_from_total, partial_equiv_from_equiv};
@@ -12,7 +12,8 @@ use std::cell::Cell;
 use std::cmp::Ordering;
 use std::marker::Model;
 
-// An entry by its key, its source and its place there. Each comparison of two entries is counted.
+// An entry by its key, its source and its index in the source. It counts each comparison of two
+// entries.
 #[derive(Drop)]
 struct Counted<'a> {
     key: u64,
@@ -61,15 +62,15 @@ impl<'a> Eq for Counted<'a> {
     ghost laws = { eq_by_cmp_equiv (on_total (λ e. e.key) nat_cmp_total) };
 }
 
-// In which order the entries of all sources come: one of each source in turn, in the order of the
-// sources or in another one each time, or source after source.
+// The order of the entries of all sources: one of each source in turn, in the sources' order or in
+// another one each time; or source after source.
 enum Order {
     InTurn,
     Mixed,
     OneAfterAnother,
 }
 
-// So many sources, a power of two, of so many entries each.
+// A number of sources, a power of two, and the number of entries of each.
 struct Sources {
     count: u64,
     each: u64,
@@ -77,7 +78,7 @@ struct Sources {
 }
 
 impl Sources {
-    // The key of an entry. Those of a source ascend, and no two are the same.
+    // The key of an entry. The keys of a source ascend, and all keys differ.
     fn key_of(&self, source: u64, place: u64) -> u64 {
         let turn = place.wrapping_mul(self.count);
         match self.order {
@@ -91,7 +92,8 @@ impl Sources {
     }
 }
 
-// A merge of sources through a queue with room for two entries a source, as a merger has.
+// A merge of sources through a queue with room for two entries per source, like the queue of a
+// merger.
 #[derive(Drop)]
 struct Merge<'a> {
     queue: LazyTournament<Counted<'a>>,
@@ -109,7 +111,7 @@ impl<'a> Model for Merge<'a> {
 }
 
 impl<'a> Merge<'a> {
-    // Puts an entry of a source in, where the source has it.
+    // Pushes an entry of a source, if the source has it.
     fn push(&mut self, source: u64, place: u64) {
         if place < self.sources.each && self.queue.len() < self.room {
             let key = self.sources.key_of(source, place);
@@ -122,7 +124,8 @@ impl<'a> Merge<'a> {
         }
     }
 
-    // Takes the least entry out and puts the next of its source in, as a merger does: the key.
+    // Pops the least entry and pushes the next one of its source, as a merger does. Returns the
+    // key.
     fn next(&mut self) -> u64 {
         match self.queue.pop_min() {
             Some(entry) => {
@@ -134,8 +137,8 @@ impl<'a> Merge<'a> {
     }
 }
 
-// What a merge comes to: how many of so many entries came in the order of their keys, how many are
-// left, how many comparisons were made, and how many the queue counted.
+// The outcome of a merge: the number of entries in key order, the number left in the queue, and the
+// comparisons made and as counted by the queue.
 fn merged(mut merge: Merge<'_>, entries: u64) -> (u64, usize, u64, u64) {
     for source in 0..merge.sources.count {
         merge.push(source, 0);
@@ -155,12 +158,11 @@ fn merged(mut merge: Merge<'_>, entries: u64) -> (u64, usize, u64, u64) {
     )
 }
 
-// Sources, the room of the queue, how many comparisons an entry takes at most, and how many are
-// made in all.
+// Sources, the room of the queue, the most comparisons per entry, and the comparisons in all.
 struct Compared(Sources, usize, u64, u64);
 
 impl Example for Compared {
-    // All entries come in order, and the comparisons are those that the queue counts.
+    // Whether all entries are in order, and the comparisons are those that the queue counts.
     fn is_so(&self, alloc: Global) -> bool {
         let Compared(sources, room, an_entry, comparisons) = self;
         let entries = sources.count.saturating_mul(sources.each);
@@ -181,14 +183,15 @@ impl Example for Compared {
     }
 }
 
-// Of n sources in twice as many slots, n - 1 matches are played at the first pop. From then on a
-// push plays the h above its slot, 3 for 8 sources and 6 for 64, as long as all sources have
-// entries. A source that ends leaves its matches to the others: above its slot one fewer is played,
-// and fewer and fewer as more of them end. Where they end in the order of their slots that makes 5
-// matches for 8 sources, and 129 for 64. Where one source comes after another, a push plays only
-// the matches against the later ones: half of them for a source on the average.
+// With n sources in twice as many slots, the first pop plays n - 1 matches. After that a push plays
+// the h matches above its slot, 3 for 8 sources and 6 for 64, while all sources have entries.
 //
-// In each row h stands as what an entry takes at most.
+// A source that ends leaves its matches to the others: above its slot one match fewer is played,
+// and ever fewer as more sources end. If they end in the order of their slots, that makes 5 matches
+// for 8 sources, and 129 for 64.
+//
+// If one source comes after another, a push plays only the matches against the later ones: half of
+// them per source on average. In each row, h is the most comparisons per entry.
 const COMPARISONS: &[Compared] = &[
     Compared(
         Sources {

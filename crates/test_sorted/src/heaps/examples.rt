@@ -1,15 +1,14 @@
-//! Worked examples, and which of some goes wrong.
+//! Worked examples, and the first of some that fails.
 
 use std::alloc::Global;
 use test_refusing::{Refusing, each_refused};
 
-/// A worked example.
 pub(crate) trait Example {
-    /// Whether all that is asked is answered as it should be.
+    /// Whether all results are as expected.
     fn is_so(&self, alloc: Global) -> bool;
 }
 
-/// The place of the first of some examples that is not as it should be.
+/// The index of the first of some examples that fails.
 pub(crate) fn first_wrong<E: Example>(alloc: Global, examples: &[E]) -> Option<usize> {
     for place in 0..examples.len() {
         if !examples[place].is_so(alloc) {
@@ -19,13 +18,13 @@ pub(crate) fn first_wrong<E: Example>(alloc: Global, examples: &[E]) -> Option<u
     None
 }
 
-/// What is asked where a request for memory may be refused.
+/// A test in which a request for memory may fail.
 pub(crate) trait Refused {
-    /// Whether what is asked is answered as it should be where a refusal is to come, or none.
+    /// Whether the results are as expected, with a request that fails or with none.
     fn answers(&self, memory: &Refusing, fails: bool) -> bool;
 }
 
-/// How many requests for memory that makes, each of which is refused in turn.
+/// The number of requests for memory of a test, if it passes with each of them failing in turn.
 pub(crate) fn requests<R: Refused>(alloc: Global, refused: &R) -> Result<usize, usize> {
     each_refused(alloc, |memory, fails| refused.answers(memory, fails))
 }

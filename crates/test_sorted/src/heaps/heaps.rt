@@ -1,5 +1,5 @@
-//! The priority queues against a count of each number, the matches that they play, and what they
-//! take of memory.
+//! The priority queues compared with a count of each number, their matches, and their requests for
+//! memory.
 
 use crate::heaps::examples::{Example, Refused, first_wrong, requests};
 use crate::heaps::queues::{Counts, Queue, Turn, interval_heap, lazy_tournament, tournament};
@@ -7,7 +7,7 @@ use sst_entries::Error;
 use std::alloc::Global;
 use test_refusing::Refusing;
 
-// Which queue is asked.
+// The queue under test.
 enum Kind {
     Tournament,
     IntervalHeap,
@@ -16,37 +16,36 @@ enum Kind {
 
 const KINDS: &[Kind] = &[Kind::Tournament, Kind::IntervalHeap, Kind::Lazy];
 
-// What is done, the number that is taken out, how many numbers there are then, and how many steps
-// were made.
+// A turn, the number that it takes out, how many numbers are left, and how many comparisons were
+// made.
 type Step = (Turn, Option<u8>, usize, u64);
 
-// What is asked of a queue.
+// The test of a queue.
 enum Asked {
-    // To give up as many numbers as it has room for, the digits of a code, the least and the
-    // greatest in turn as a pattern has it.
+    // Push as many numbers as there is room for, the digits of a code. Then pop them all, the least
+    // and the greatest as a pattern has it.
     All,
-    // To add and give up numbers as the digits of a code have it, in so many turns.
+    // Push and pop numbers as the digits of a code have it, in this many turns.
     Turns(u8),
     // To take these steps.
     Steps(&'static [Step]),
 }
 
-// A code, and a pattern where there is one.
+// A code, and a pattern if there is one.
 type Order = (u32, u32);
 
-// Which queues are asked, the room that they have, what they are asked, and how many codes and
-// patterns there are.
+// The queues under test, their room, the test, and the numbers of codes and of patterns.
 struct Case(&'static [Kind], usize, Asked, Order);
 
-// Whether a queue takes a turn as it is counted.
+// Whether a queue has the same result of a turn as the counts.
 fn takes_so<Q: Queue>(queue: &mut Q, counts: &mut Counts, turn: Turn) -> bool {
     let wanted = counts.take(turn);
     let (taken, count, _) = queue.take(turn);
     taken == wanted && count == counts.len()
 }
 
-// Whether a queue gives up all numbers that are added to it, the digits of a code, as the pattern
-// has it, and then none.
+// Whether a queue returns all numbers that are pushed, the digits of a code, as the pattern has it,
+// and then none.
 fn gives_up_all<Q: Queue>(queue: &mut Q, numbers: usize, order: Order) -> bool {
     let (mut code, mut pattern) = order;
     let mut counts = Counts { of: [0; 3] };
@@ -70,9 +69,9 @@ fn gives_up_all<Q: Queue>(queue: &mut Q, numbers: usize, order: Order) -> bool {
     is_so && takes_so(queue, &mut counts, Turn::Greatest)
 }
 
-// Whether a queue gives up what is counted, while numbers are added and given up as the digits of
-// the code have it: a number is added where the digit is 0 and there is room, else one is given up,
-// the least where the digit is 1.
+// Whether a queue agrees with the counts while the digits of a code push and pop numbers. The digit
+// 0 pushes a number if there is room. Otherwise the digit 1 pops the least number, and another
+// digit the greatest.
 fn follows<Q: Queue>(queue: &mut Q, room: usize, code: u32, turns: u8) -> bool {
     let mut counts = Counts { of: [0; 3] };
     let mut code = code;
@@ -99,7 +98,7 @@ fn takes_steps<Q: Queue>(queue: &mut Q, steps: &[Step]) -> bool {
     is_so
 }
 
-// Whether a queue answers what is asked.
+// Whether a queue passes a test.
 fn answers<Q: Queue>(queue: &mut Q, room: usize, asked: &Asked, order: Order) -> bool {
     match asked {
         Asked::All => gives_up_all(queue, room, order),
@@ -108,8 +107,8 @@ fn answers<Q: Queue>(queue: &mut Q, room: usize, asked: &Asked, order: Order) ->
     }
 }
 
-// Whether a queue that is made answers what is asked, and takes no memory for it; or is refused,
-// where it is to be.
+// Whether a new queue passes a test without a further request for memory; or making it fails with
+// `OutOfMemory`, where `fails` is set.
 fn answers_once_made<Q: Queue + Drop>(
     heap: &Refusing,
     made: Result<Q, Error>,
@@ -127,7 +126,7 @@ fn answers_once_made<Q: Queue + Drop>(
     }
 }
 
-// Whether a queue of a kind answers so.
+// Whether a queue of a kind passes a test.
 fn is_so(
     heap: &Refusing,
     kind: &Kind,
@@ -149,7 +148,8 @@ fn is_so(
     }
 }
 
-// Whether a queue of a kind answers so by each code and pattern, where no memory is refused.
+// Whether a queue of a kind passes a test with each code and pattern, where no request for memory
+// fails.
 fn answers_each(alloc: Global, kind: &Kind, case: &Case) -> bool {
     let Case(_, room, asked, (codes, patterns)) = case;
     for code in 0..*codes {
@@ -186,8 +186,8 @@ const CASES: &[Case] = &[
     // Pushes and pops in turns.
     Case(KINDS, 4, Asked::Turns(8), (6561, 1)),
     // Each match is played for the least and for the greatest, but not above one that another slot
-    // wins as before: the last push leaves the final of the greatest as it is. The matches above an
-    // emptied slot are played at the next call.
+    // wins as before. So the last push leaves the final of the greatest as it is. The matches above
+    // an emptied slot are played at the next call.
     Case(
         &[Kind::Tournament],
         4,
@@ -201,7 +201,7 @@ const CASES: &[Case] = &[
         ]),
         (1, 1),
     ),
-    // One number takes no step.
+    // One number needs no comparison.
     Case(
         &[Kind::Tournament],
         1,
@@ -211,8 +211,8 @@ const CASES: &[Case] = &[
         ]),
         (1, 1),
     ),
-    // An end that is not asked plays no match: three at the first pop, and one after 'a' has gone.
-    // Then one more for the least, after 'b' has gone, and one for the greatest: the others have no
+    // An end that is not polled plays no match: three at the first pop, and one after 'a' is gone.
+    // Then one more for the least, after 'b' is gone, and one for the greatest: the others have no
     // opponent. None at the last.
     Case(
         &[Kind::Lazy],
@@ -237,11 +237,11 @@ fn queues_give_up_what_is_counted_by_the_matches_that_they_play(rt: HostRuntime)
     assert!(rt; wrong.is_none(), "{wrong:?}");
 }
 
-// Two numbers are added, and the greatest and the least given up, five times.
+// Pushes two numbers, and pops the greatest and the least, five times.
 const FIVE_TIMES: Order = (45 * (1 + 81 + 6561 + 531441 + 43046721), 0);
 
-// A kind, the room that it has, and the requests that it makes for it, and for no more while it is
-// filled and emptied over and over.
+// A kind, its room, and the requests for memory of making it. Filling and emptying it many times
+// makes no more.
 struct Made(Kind, usize, usize);
 
 impl Refused for Made {

@@ -1,5 +1,5 @@
-//! The priority queues over numbers, each with what room it was made with, and a count of the
-//! numbers that are in one.
+//! The priority queues over numbers, each with the room that it was made with, and a count of the
+//! numbers in a queue.
 ghost use Rattle.std.specs.Prelude.{◌≡◌, ℕ};
 
 use lsm_merge::{IntervalHeap, LazyTournament, Tournament};
@@ -7,8 +7,7 @@ use sst_entries::Error;
 use std::alloc::Allocator;
 use std::marker::Model;
 
-/// What is done to a queue: a number is added, where there is room, or the least or the greatest is
-/// taken out.
+/// A turn of a queue: pushes a number if there is room, or pops the least or the greatest.
 #[derive(Clone, Copy)]
 pub(crate) enum Turn {
     Add(u8),
@@ -16,10 +15,10 @@ pub(crate) enum Turn {
     Greatest,
 }
 
-/// A queue of numbers, which has room for some.
+/// A queue of numbers, with room for some.
 pub(crate) trait Queue {
-    /// Takes a turn: the number that is taken out, how many numbers there are then, and how many
-    /// steps were made, where they are counted.
+    /// Takes a turn. Returns the number that was popped, how many numbers are left, and how many
+    /// comparisons were made, if they are counted.
     fn take(&mut self, turn: Turn) -> (Option<u8>, usize, u64);
 }
 
@@ -131,14 +130,14 @@ impl<A: Allocator> Queue for Lazy<A> {
     }
 }
 
-/// Some of the numbers 0 to 2, as how often each is there.
+/// A multiset of the numbers 0 to 2, by their counts.
 #[derive(Drop)]
 pub(crate) struct Counts {
     pub(crate) of: [usize; 3],
 }
 
 impl Counts {
-    /// Counts a number that is added, or takes the least or the greatest out.
+    /// Counts a number that is pushed, or removes the least or the greatest.
     pub(crate) fn take(&mut self, turn: Turn) -> Option<u8> {
         let numbers = match turn {
             Turn::Add(number) => {
@@ -161,7 +160,6 @@ impl Counts {
         None
     }
 
-    /// How many numbers there are.
     pub(crate) fn len(&self) -> usize {
         let [zeros, ones, twos] = self.of;
         zeros.saturating_add(ones).saturating_add(twos)

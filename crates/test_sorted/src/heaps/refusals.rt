@@ -1,10 +1,10 @@
-//! What the allocator of tests refuses: the request that it is told to, and no other.
+//! The allocator of tests fails the request that it is set to, and no other.
 
 use crate::heaps::examples::{Example, Refused, first_wrong, requests};
 use std::alloc::{Allocator, Global};
 use test_refusing::Refusing;
 
-// How many of so many requests are granted before one is refused, and how many in all; and whether
+// How many of some requests succeed before the first that fails, and how many in all; and whether
 // each is counted.
 fn granted(memory: &Refusing, requests: usize) -> (usize, usize, bool) {
     let mut before = 0usize;
@@ -20,7 +20,8 @@ fn granted(memory: &Refusing, requests: usize) -> (usize, usize, bool) {
     (before, all, are_counted && memory.requests() == requests)
 }
 
-// Makes a list with room for one number, which is one request, and for two, which is one more.
+// Makes a list with room for one number, which is one request, and grows it for a second, which is
+// one more.
 fn grows<A: Allocator>(memory: A) -> (bool, bool) {
     let Ok(mut list) = Vec::with_capacity(memory, 1) else {
         return (false, false);
@@ -30,11 +31,11 @@ fn grows<A: Allocator>(memory: A) -> (bool, bool) {
     (first, second)
 }
 
-// A request that is refused, and what comes of it.
+// A request that fails, and the outcome.
 enum Refusal {
-    // How many requests of six are granted before it, and how many in all.
+    // How many of six requests succeed before it, and how many in all.
     OfSix(usize, usize, usize),
-    // Whether a list is made, and grows, and how many requests that makes.
+    // Whether a list is made and grows, and the number of requests.
     Growth(usize, (bool, bool), usize),
 }
 
@@ -73,8 +74,8 @@ fn the_request_that_it_is_told_to_is_refused_and_no_other(rt: HostRuntime) {
     assert!(rt; wrong.is_none(), "{wrong:?}");
 }
 
-// Whether what a list answers while it grows counts as right without a refusal, and with one; and
-// what is told where each of its requests is refused in turn.
+// Whether the results of a growing list count as right without a failing request and with one; and
+// the result with each of its requests failing in turn.
 struct Growing(bool, bool, Result<usize, usize>);
 
 impl Refused for Growing {

@@ -1,4 +1,4 @@
-//! Packing runs and chains of tables on worked examples, also where memory is refused.
+//! Worked examples of packing runs and of chains of tables, also with allocation failures.
 
 use crate::ranges::tables::{
     Example, FakeTable, first_wrong, has_ids, number_of, requests, run_of,
@@ -8,9 +8,9 @@ use sst_entries::Error;
 use std::alloc::Allocator;
 use test_refusing::Refusing;
 
-// The tables of some runs, each up to a `/`, which may be emptied ones; the ids of the runs that
-// they are packed into, where that is looked at; how many places a chain has at least and at most;
-// and, where there is but one chain of several tables, the runs that it goes through.
+// The tables of some runs, each run up to a `/`, possibly emptied ones. The ids of the runs that
+// they are packed into, if these are compared. The least and the greatest length of a chain. If
+// there is only one chain of several tables, the runs that it passes through.
 struct Packing(
     &'static str,
     Option<&'static str>,
@@ -30,7 +30,7 @@ fn runs_of<A: Allocator + Copy>(
     Ok(runs)
 }
 
-// What is not as it should be: nothing, memory alone, or an answer.
+// The fault of a result: 0 for none, 1 for `OutOfMemory` and 2 for any other.
 fn fault_of(answer: Result<bool, Error>) -> u32 {
     match answer {
         Ok(true) => 0,
@@ -39,9 +39,8 @@ fn fault_of(answer: Result<bool, Error>) -> u32 {
     }
 }
 
-// Whether there is a table at each of some places, which overlaps with the one at the place before,
-// in an earlier run; and whether the places lie in the runs of these digits, as far as there are
-// any.
+// Whether each position has a table that overlaps with the one before it, which is in an earlier
+// run. The positions are in the runs of these digits, as far as there are digits.
 fn is_chain<A: Allocator>(
     runs: &[Run<FakeTable<A>, A>],
     chain: &[(usize, usize)],
@@ -72,7 +71,7 @@ fn is_chain<A: Allocator>(
     true
 }
 
-// What is not as it should be of the chain of some runs.
+// The fault of the chain of some runs.
 fn chain_faults<A: Allocator + Copy>(
     alloc: A,
     runs: &[Run<FakeTable<A>, A>],
@@ -103,7 +102,7 @@ fn have_ids<A: Allocator>(runs: &[Run<FakeTable<A>, A>], text: &str) -> bool {
     count == runs.len()
 }
 
-// What is not as it should be of the runs that some runs are packed into.
+// The fault of the runs that some runs are packed into.
 fn packing_faults<A: Allocator + Copy>(
     alloc: A,
     runs: Vec<Run<FakeTable<A>, A>, A>,
@@ -119,8 +118,8 @@ fn packing_faults<A: Allocator + Copy>(
 }
 
 impl Example for Packing {
-    // The chain and the packing each go on where memory was refused to the other: no more than that
-    // refusal is not as it should be.
+    // The chain and the packing each continue after an allocation failure of the other. There is no
+    // other fault.
     fn is_so(&self, heap: &Refusing, may_fail: bool) -> bool {
         let faults = match runs_of(heap, self.0) {
             Ok(runs) => {
@@ -159,14 +158,14 @@ const PACKINGS: &[Packing] = &[
     Packing("/ 0:a-b 1:c-d /", None, 1, 1, ""),
     Packing("0:a-z / / 1:c-d /", None, 2, 2, "02"),
     Packing("/ 2:m-p / / 1:a-z / 0:a-c /", None, 3, 3, "134"),
-    // A range that ends before it starts, alone and among others.
+    // A range that ends before it starts, alone and with others.
     Packing("0:z-a /", None, 1, 1, ""),
     Packing("/ 0:z-a / /", None, 1, 1, ""),
     Packing("0:z-a 1:b-c /", None, 1, 1, ""),
     Packing("0:z-a / 1:a-z / 2:m-p /", None, 1, 3, ""),
     Packing("0:a-z / 1:p-m / 2:a-z /", None, 1, 3, ""),
     Packing("0:z-a / 1:y-b / 2:x-c /", None, 1, 3, ""),
-    // Ranges of one run that overlap, and a run that is out of order.
+    // Overlapping ranges in one run, and a run that is out of order.
     Packing("0:a-f 1:c-h /", None, 1, 1, ""),
     Packing("0:a-f 1:c-h / 2:d-e /", None, 1, 2, ""),
     Packing("0:m-p 1:a-c / 2:b-n / /", None, 1, 2, ""),

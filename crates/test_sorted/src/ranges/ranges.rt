@@ -1,4 +1,4 @@
-//! Key ranges on worked examples.
+//! Worked examples of key ranges.
 
 use crate::ranges::tables::{
     Example, FakeTable, ends_of, first_wrong, is_like, range_of, tables_of,
@@ -12,9 +12,9 @@ use test_refusing::Refusing;
 // contains it.
 type Told = (bool, bool, bool, bool);
 
-// What is asked of key ranges, and what they answer.
+// A query of key ranges, and its result.
 enum Asked {
-    // What a range tells of another one.
+    // A range compared with another one.
     Of(&'static str, &'static str, Told),
     // Whether at most three ranges are disjoint, and their aggregate.
     Together(&'static str, bool, &'static str),
@@ -22,7 +22,7 @@ enum Asked {
     Within(Bound<&'static [u8]>, Bound<&'static [u8]>, bool),
 }
 
-// What the range of a table tells of another one, as the table stands in a run.
+// Compares the range of a table in a run with another one.
 fn told_by<A: Allocator>(table: &Indexed<FakeTable<A>>, other: &KeyRange<A>) -> Told {
     let range = table.key_range();
     (
@@ -33,15 +33,14 @@ fn told_by<A: Allocator>(table: &Indexed<FakeTable<A>>, other: &KeyRange<A>) -> 
     )
 }
 
-// Whether a table, as it stands in a run, shows its id and the ends of its range, and a clone of
-// the range is the same.
+// Whether a table in a run has its id and the ends of its range, and the range equals its clone.
 fn shows<A: Allocator>(table: &Indexed<FakeTable<A>>, range: &'static str) -> bool {
     let (min, max) = ends_of(range);
     let own = table.key_range();
     table.id == 7 && own.min().equals(min) && own.max().equals(max) && is_like(own.clone(), own)
 }
 
-// What a range tells of another one, and whether a table with the range shows it.
+// Compares a range with another one; and whether a table with the range has its ends.
 fn told_of(range: &'static str, other: &'static str) -> (Told, bool) {
     let table: Indexed<FakeTable> = Indexed::new(FakeTable {
         id: 7,
@@ -51,7 +50,7 @@ fn told_of(range: &'static str, other: &'static str) -> (Told, bool) {
     (told_by(&table, &other), shows(&table, range))
 }
 
-// Whether some ranges are disjoint, and whether their aggregate is the one that is given.
+// Whether some ranges are disjoint, and whether their aggregate is the wanted one.
 fn reach<A: Allocator>(ranges: &[&KeyRange<A>], wanted: &KeyRange<A>) -> (bool, bool) {
     (
         KeyRange::is_disjoint(ranges),
@@ -59,7 +58,8 @@ fn reach<A: Allocator>(ranges: &[&KeyRange<A>], wanted: &KeyRange<A>) -> (bool, 
     )
 }
 
-// Whether the ranges of at most three tables are disjoint, and aggregate to the one that is given.
+// Whether the ranges of at most three tables are disjoint, and whether their aggregate is the
+// wanted one.
 fn reach_together<A: Allocator>(tables: &[FakeTable<A>], wanted: &KeyRange<A>) -> (bool, bool) {
     match tables {
         [] => reach(&[], wanted),

@@ -1,5 +1,4 @@
-//! Runs on worked examples: what is found in them, and what changes them, also where memory is
-//! refused.
+//! Worked examples of runs: lookups and changes, also with allocation failures.
 
 use crate::ranges::tables::{
     Example, FakeTable, first_wrong, has_ids, is_like, range_of, run_of, table_of, tables_of,
@@ -10,36 +9,35 @@ use std::alloc::{Allocator, Global};
 use std::ops::Bound;
 use test_refusing::Refusing;
 
-// What is done to a run.
+// A change of a run.
 enum Change {
-    // A table is pushed.
+    // Pushes a table.
     Push(&'static str),
-    // Some tables are put behind.
+    // Appends some tables.
     Extend(&'static str),
-    // The table at a place, which has an id, is removed.
+    // Removes the table at an index, which has an id.
     Remove(usize, u64),
-    // The tables with the ids 0 to 3 are kept.
+    // Keeps the tables with the ids 0 to 3.
     Keep,
-    // All tables go.
+    // Removes all tables.
     Clear,
 }
 
-// What is done, how many requests for memory that makes (one for tables that are put behind, and
-// one where the list grows past the room that it has), the ids of the tables then, and whether they
-// are in order.
+// A change, its number of requests for memory, the ids of the tables after it, and whether they are
+// in order. Appending tables makes one request, and so does growing the list past its capacity.
 type Step = (Change, usize, &'static str, bool);
 
-// What is sought in a run, and what is found.
+// A lookup in a run, and its result.
 enum Sought {
     // A key, and the id of the table that has it.
     Key(&'static str, Option<u64>),
-    // A lower and an upper bound, and the places of the first and the last table between them.
+    // A lower and an upper bound, and the indexes of the first and the last table between them.
     Between(Bound<&'static [u8]>, Bound<&'static [u8]>, Option<(usize, usize)>),
     // A range, and the ids of the tables that overlap with it, and of those inside it.
     Across(&'static str, &'static str, &'static str),
 }
 
-// Tables and their ids, what is done to their run, and what is sought in it then.
+// Tables and their ids, the changes of their run, and the lookups after them.
 struct Changed {
     tables: &'static str,
     ids: &'static str,
@@ -51,7 +49,7 @@ fn is_kept<A: Allocator>(table: &FakeTable<A>) -> bool {
     table.id < 4
 }
 
-// Changes a run. Refused where another table is removed.
+// Changes a run. Fails if another table is removed.
 fn make_change<A: Allocator>(
     alloc: A,
     run: &mut Run<FakeTable<A>, A>,
@@ -81,8 +79,8 @@ fn make_change<A: Allocator>(
     }
 }
 
-// Whether the steps change a run as they should, and ask for as much memory. None where one is
-// refused, as it may be, and leaves the run as it was.
+// Whether the steps change a run as they should, with this number of requests for memory. `None` if
+// a request fails, as it may, and leaves the run unchanged.
 fn are_changed_so<'h>(
     heap: &'h Refusing,
     run: &mut Run<FakeTable<&'h Refusing>, &'h Refusing>,
@@ -106,7 +104,7 @@ fn are_changed_so<'h>(
     Some(are_so)
 }
 
-// Whether what is sought in a run is found.
+// Whether a lookup in a run has its result.
 fn finds<A: Allocator>(run: &Run<FakeTable<A>, A>, sought: &Sought) -> bool {
     match sought {
         Sought::Key(key, id) => match run.get_for_key(key.as_bytes()) {
@@ -122,7 +120,7 @@ fn finds<A: Allocator>(run: &Run<FakeTable<A>, A>, sought: &Sought) -> bool {
     }
 }
 
-// Whether all that is sought in a run is found.
+// Whether all lookups in a run have their results.
 fn finds_all<A: Allocator>(run: &Run<FakeTable<A>, A>, all: &[Sought]) -> bool {
     for sought in all {
         if !finds(run, sought) {
@@ -185,7 +183,7 @@ const SOUGHT: &[Sought] = &[
     Sought::Across("zzz-zzzz", "", ""),
 ];
 
-// What is done to the run of four tables, behind which nothing more is sought.
+// The changes of the run of four tables, without lookups.
 macro_rules! changed {
     ($($step:expr),*) => {
         Changed {
@@ -224,7 +222,7 @@ const CHANGED: &[Changed] = &[
             Sought::Between(Bound::Unbounded, Bound::Unbounded, None),
         ],
     },
-    // Tables of one least key keep their order.
+    // Tables with the same least key keep their order.
     Changed {
         tables: "0:a-b",
         ids: "0",
@@ -235,7 +233,7 @@ const CHANGED: &[Changed] = &[
         ],
         sought: &[],
     },
-    // Tables are put behind, and those from before kept.
+    // Appended tables are after those of before, which are kept.
     changed!(
         (Change::Extend("4:b-c"), 2, "01234", false),
         (Change::Keep, 0, "0123", true)
@@ -248,7 +246,7 @@ const CHANGED: &[Changed] = &[
     changed!((Change::Push("4:zz-zzz"), 1, "01234", true)),
     changed!((Change::Push("4:0-1"), 1, "40123", true)),
     changed!((Change::Push("4:k-l"), 1, "01243", false)),
-    // No tables want no memory.
+    // Appending no tables makes no request for memory.
     changed!((Change::Extend(""), 0, "0123", true)),
 ];
 
@@ -258,7 +256,7 @@ fn runs_are_changed_and_searched_with_each_request_for_memory_refused(rt: HostRu
     assert!(rt; wrong.is_none(), "{wrong:?}");
 }
 
-// Whether a run of four tables is as another one, and reaches from the least to the greatest of
+// Whether a run of four tables equals another one, and extends from the least to the greatest of
 // their keys.
 fn reaches_so(alloc: Global) -> Result<bool, Error> {
     let run = run_of(alloc, FOUR)?;

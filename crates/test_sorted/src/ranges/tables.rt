@@ -1,5 +1,4 @@
-//! Tables that have an id and a range alone, their runs, and what the tests ask of these, as the
-//! words of a text.
+//! Tables of an id and a range alone, and their runs, written as the words of a text.
 //!
 //! `a-d` is the range from the key `a` to the key `d`, and `2:a-d` the table 2 with that range. An
 //! id is a digit.
@@ -48,7 +47,7 @@ impl<A: Allocator> Clone for FakeTable<A> {
     }
 }
 
-// The ends of the range that a word stands for.
+// The ends of the range of a word.
 pub fn ends_of(word: &'static str) -> (&'static [u8], &'static [u8]) {
     match word.split_once('-') {
         Some((min, max)) => (min.as_bytes(), max.as_bytes()),
@@ -56,18 +55,18 @@ pub fn ends_of(word: &'static str) -> (&'static [u8], &'static [u8]) {
     }
 }
 
-// The range that a word stands for.
+// The range of a word.
 pub fn range_of<A: Allocator>(word: &'static str) -> KeyRange<A> {
     let (min, max) = ends_of(word);
     KeyRange::new((Slice::from_static(min), Slice::from_static(max)))
 }
 
-// The number that a digit stands for.
+// The value of a digit.
 pub fn number_of(digit: u8) -> usize {
     usize::from(digit.wrapping_sub(b'0'))
 }
 
-// The table that a word stands for.
+// The table of a word.
 pub fn table_of<A: Allocator>(word: &'static str) -> FakeTable<A> {
     let (id, ends) = word.split_once(':').unwrap_or(("", word));
     let id = match id.as_bytes() {
@@ -78,7 +77,7 @@ pub fn table_of<A: Allocator>(word: &'static str) -> FakeTable<A> {
     FakeTable { id, range }
 }
 
-// The tables that the words of a text stand for.
+// The tables of the words of a text.
 pub fn tables_of<A: Allocator>(
     alloc: A,
     text: &'static str,
@@ -90,8 +89,8 @@ pub fn tables_of<A: Allocator>(
     Ok(tables)
 }
 
-// A run of the tables that the words of a text stand for. One of none is a run of a table that is
-// emptied.
+// A run of the tables of the words of a text. Without words it is a run whose only table was
+// removed.
 pub fn run_of<A: Allocator>(alloc: A, text: &'static str) -> Result<Run<FakeTable<A>, A>, Error> {
     let is_emptied = text.trim().is_empty();
     let tables = tables_of(alloc, if is_emptied { "0:a-b" } else { text })?;
@@ -120,8 +119,7 @@ pub fn has_ids<A: Allocator>(tables: &[FakeTable<A>], digits: &str) -> bool {
     true
 }
 
-// Whether what was made is like a value. It is generic in it, so that none of its parts is looked
-// at.
+// Whether a result equals a value. It is generic, so that a proof looks at no part of the value.
 pub fn is_like<T: PartialEq + Drop, E: Drop>(made: Result<T, E>, value: &T) -> bool {
     match made {
         Ok(made) => made == *value,
@@ -129,19 +127,17 @@ pub fn is_like<T: PartialEq + Drop, E: Drop>(made: Result<T, E>, value: &T) -> b
     }
 }
 
-// A worked example.
 pub trait Example {
-    // Whether all that is asked is answered as it should be, or memory was refused where it may be.
+    // Whether all results are as expected; or `OutOfMemory`, where it may occur.
     fn is_so(&self, heap: &Refusing, may_fail: bool) -> bool;
 }
 
-// How many requests for memory an example makes, each of which is refused in turn.
+// The number of requests for memory of an example, if it passes with each of them failing in turn.
 pub fn requests<E: Example>(alloc: Global, example: &E) -> Result<usize, usize> {
     each_refused(alloc, |heap, may_fail| example.is_so(heap, may_fail))
 }
 
-// The place of the first of some examples that is not as it should be, with each request for memory
-// refused in turn.
+// The index of the first of some examples that fails with some request for memory failing.
 pub fn first_wrong<E: Example>(alloc: Global, examples: &[E]) -> Option<usize> {
     for place in 0..examples.len() {
         if requests(alloc, &examples[place]).is_err() {

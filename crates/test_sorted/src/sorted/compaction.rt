@@ -1,4 +1,4 @@
-//! Compaction of some results, with filters and callbacks, by value and lent.
+//! Compaction of some results, with filters and callbacks, by value and borrowed.
 ghost use Rattle.std.specs.Iterator.{IsFinite};
 ghost use Rattle.sst_entries.specs.Stream.{CanDeal, nowhere};
 
@@ -17,7 +17,7 @@ use std::alloc::Global;
 use std::str::SplitWhitespace;
 use test_lent::lent_list;
 
-// Compares what it receives to the words that it is to receive.
+// Compares the entries that it receives with words.
 #[derive(Drop)]
 struct Received {
     words: SplitWhitespace<'static>,
@@ -25,7 +25,7 @@ struct Received {
 }
 
 impl Received {
-    // A callback that is to receive these.
+    // A callback that expects these entries.
     fn new(wanted: &'static str) -> Received {
         Received {
             words: wanted.split_whitespace(),
@@ -33,13 +33,13 @@ impl Received {
         }
     }
 
-    // Compares an entry to the next word.
+    // Compares an entry with the next word.
     fn receive(&mut self, entry: &EntryRef<'_>) {
         let said = said_of_lent(entry);
         self.is_right &= said == said_by(self.words.next().unwrap_or(""));
     }
 
-    // Whether all that was wanted was received, and nothing else.
+    // Whether it received all expected entries, and no others.
     fn is_done(mut self) -> bool {
         self.is_right && self.words.next().is_none()
     }
@@ -61,25 +61,26 @@ impl LentCallback for Received {
     }
 }
 
-// Acts on some entries, and keeps all others.
+// A filter that acts on some entries and keeps all others.
 #[derive(Clone, Copy)]
 enum Plan {
     // Keeps all.
     KeepAll,
-    // Drops what has this number.
+    // Drops the entry with this sequence number.
     DropAt(u64),
-    // Refuses what has this number.
+    // Fails at the entry with this sequence number.
     FailAt(u64),
-    // Puts tombstones for what is below this number.
+    // Replaces entries below this sequence number with tombstones.
     ReplaceBelow(u64),
-    // Drops a key, and puts tombstones for what is below this number.
+    // Drops a key, and replaces entries below this sequence number with tombstones.
     DropKeyReplaceBelow(u8, u64),
-    // Five keys in a row are versions of one, the newest first: drops each below the watermark that
-    // a newer one precedes.
+    // Five consecutive keys are versions of one, the newest first. Drops each below the watermark
+    // that is after a newer one.
     NewestOfFive(Option<u8>, u8),
 }
 
-// Whether a key is a version below the watermark of what the key before it is a version of.
+// Whether a key is a version below the watermark, and the key before it is a newer version of the
+// same.
 fn is_older_of_five(previous: &mut Option<u8>, watermark: u8, key: u8) -> bool {
     let letter = key.saturating_sub(b'a');
     let is_of_previous = *previous == Some(letter / 5);
@@ -98,7 +99,7 @@ impl Plan {
         }
     }
 
-    // What becomes of an entry.
+    // The verdict on an entry.
     fn says_of(&mut self, entry: &EntryRef<'_>) -> Result<StreamFilterVerdict, Error> {
         if self.drops(byte_of(entry.user_key), entry.seqno) {
             return Ok(StreamFilterVerdict::Drop);
@@ -129,7 +130,7 @@ impl LentFilter<Global> for Plan {
     }
 }
 
-// How a compaction is done: by value; lent; or lent without a filter and a callback.
+// The form of a compaction: by value; borrowed; or borrowed without a filter and a callback.
 #[derive(Clone, Copy)]
 enum How {
     ByValue,
@@ -137,8 +138,8 @@ enum How {
     Lent,
 }
 
-// How, for which threshold and with which filter a compaction is done, and whether it evicts
-// tombstones and zeroes numbers; what is compacted, the results, and what is reported.
+// The form of a compaction, its threshold and its filter, and whether it evicts tombstones and
+// zeroes sequence numbers. Then the source, the results, and the reported entries.
 type Row = (
     How,
     u64,
@@ -150,8 +151,7 @@ type Row = (
     &'static str,
 );
 
-// Whether a compaction of this source, whatever it is, gives the results of a row and reports its
-// entries.
+// Whether a compaction of any source yields the results of a row and reports its entries.
 fn gives_and_reports<I: Iterator<Item = IterItem> + Drop>(row: &Row, source: I) -> bool
     requires can { CanDeal I.next_gives nowhere I.can_next I.can_next source }
     requires finite { IsFinite (I.remaining source) }
@@ -173,7 +173,7 @@ fn rules_of(row: &Row) -> Rules {
     }
 }
 
-// Whether a compaction lends the results of a row and reports its entries.
+// Whether a lending compaction yields the results of a row and reports its entries.
 fn lends_and_reports(alloc: Global, row: &Row) -> Result<bool, Error> {
     let source = lent_list(results_of(alloc, row.5)?);
     let received = Received::new(row.7);
@@ -183,14 +183,14 @@ fn lends_and_reports(alloc: Global, row: &Row) -> Result<bool, Error> {
     Ok(lending.into_callback().is_done() && is_right)
 }
 
-// Whether a compaction without a filter and a callback lends the results of a row.
+// Whether a lending compaction without a filter and a callback yields the results of a row.
 fn lends_unfiltered(alloc: Global, row: &Row) -> Result<bool, Error> {
     let source = lent_list(results_of(alloc, row.5)?);
     let mut lending = LendingCompaction::new(alloc, source, rules_of(row))?;
     Ok(lends_so(&mut lending, row.6))
 }
 
-// Whether a row is compacted as it says.
+// Whether a row has its results.
 fn compacts(alloc: Global, row: &Row) -> Result<bool, Error> {
     match row.0 {
         How::ByValue => Ok(gives_and_reports(row, forward_of(alloc, row.5)?)),

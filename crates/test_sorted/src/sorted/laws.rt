@@ -1,5 +1,5 @@
-//! What the public laws say together of sources that are taken from the front alone, whatever
-//! errors are among them.
+//! Combines the public laws on sources that are read from the front only, whatever errors are among
+//! them.
 ghost use Rattle.std.specs.Prelude.{◌≡◌, Bool, List, [], IfOk};
 ghost use Rattle.sst_entries.specs.Stream.{Deals, nowhere, answer_stops, ok_results};
 ghost use Rattle.sst_entries.specs.declared.error.Error.{Error};
@@ -16,8 +16,8 @@ use sst_entries::{Error, IterItem, SeqNo, from_the_front};
 use std::alloc::{Allocator, Global};
 use std::vec::IntoIter;
 
-// What readers at the threshold need of several sources. The proof cites clauses of the calls
-// alone.
+// The compaction of several sources for readers at a threshold. The proof cites only clauses of the
+// calls.
 fn compaction_of<I: Iterator<Item = IterItem<A>>, A: Allocator + Clone>(
     alloc: A,
     iterators: Vec<I, A>,
@@ -29,7 +29,7 @@ fn compaction_of<I: Iterator<Item = IterItem<A>>, A: Allocator + Clone>(
         Deals (answer_stops stops)
         ⟦<CompactionStream<Merger<I, A>, NoFilter, NoCallback> as Iterator>⟧.next_gives nowhere s
         (ok_results (kept (rules_of s) (unfiltered (union_of lists))))) }
-    // With errors among it: of the entries up to the first error that is met, and this error.
+    // With errors among the items: the entries up to the first error that is met, and this error.
     ensures past { IfOk result (λ s.
         GivesUpToGap I.next_gives nowhere iterators.items (rules_of s)
         ⟦<CompactionStream<Merger<I, A>, NoFilter, NoCallback> as Iterator>⟧.next_gives s) }
@@ -41,8 +41,8 @@ fn compaction_of<I: Iterator<Item = IterItem<A>>, A: Allocator + Clone>(
     Ok(stream)
 }
 
-// A merger of sources of two ends that is taken from the front alone: as long as no answer is an
-// error it deals what they have together. The proof cites clauses of the calls alone.
+// A merger of double-ended sources that is read from the front only. It yields their merged items
+// as long as no item is an error. The proof cites only clauses of the calls.
 fn merged_from_the_front<I: DoubleEndedIterator<Item = IterItem<A>>, A: Allocator + Clone>(
     alloc: A,
     iterators: Vec<I, A>,
@@ -62,12 +62,12 @@ fn merged_from_the_front<I: DoubleEndedIterator<Item = IterItem<A>>, A: Allocato
     Ok(merger)
 }
 
-// Whether a value is made, of which nothing more is asked.
+// Whether a value is made. It is not used further.
 fn is_made<T: Drop>(made: Result<T, Error>) -> bool {
     made.is_ok()
 }
 
-// Whether no sources are merged from the front, and compacted.
+// Whether no sources can be merged from the front, and compacted.
 fn compose(alloc: Global) -> bool {
     is_made(compaction_of(alloc, Vec::<IntoIter<IterItem>>::new(alloc), 5))
         && is_made(merged_from_the_front(alloc, Vec::<IntoIter<IterItem>>::new(alloc)))

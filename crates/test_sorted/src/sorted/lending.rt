@@ -42,8 +42,7 @@ fn list_of(alloc: Global, mut seed: u64, count: u8, value: u8) -> Result<Vec<Ite
     Ok(list)
 }
 
-// Two values, or the first error. It is generic in them, so that a proof looks at none of their
-// parts.
+// Two values, or the first error. It is generic, so that a proof looks at no part of them.
 fn both<T: Drop>(one: Result<T, Error>, other: Result<T, Error>) -> Result<(T, T), Error> {
     let one = one?;
     let other = other?;
@@ -58,7 +57,7 @@ fn two_lists(alloc: Global, seed: u64, count: u8) -> Result<(Vec<IterItem>, Vec<
     )
 }
 
-// Whether the newest versions of a list are the same.
+// Whether the newest versions of a list are the same by value and borrowed.
 fn newest_agree(alloc: Global, seed: u64, count: u8) -> Result<bool, Error> {
     let (list, lent) = two_lists(alloc, seed, count)?;
     let lending = LendingNewest::new(alloc, lent_list(lent));
@@ -69,7 +68,7 @@ fn newest_agree(alloc: Global, seed: u64, count: u8) -> Result<bool, Error> {
     )
 }
 
-// Whether a compaction of a list keeps the same.
+// Whether a compaction of a list is the same by value and borrowed.
 fn compactions_agree(alloc: Global, seed: u64, count: u8, rules: Rules) -> Result<bool, Error> {
     let (list, lent) = two_lists(alloc, seed, count)?;
     let lending = LendingCompaction::new(alloc, lent_list(lent), rules)?;
@@ -79,7 +78,7 @@ fn compactions_agree(alloc: Global, seed: u64, count: u8, rules: Rules) -> Resul
     agree(by_value, lending, usize::from(count) + 2)
 }
 
-// So many lists.
+// A number of lists.
 fn lists_of(alloc: Global, seed: u64, count: u8) -> Result<Vec<Vec<IterItem>>, Error> {
     let mut lists = Vec::new(alloc);
     for place in 0..count {
@@ -116,16 +115,16 @@ fn lending_merger_of(
     LendingMerger::new(alloc, sources)
 }
 
-// Whether mergers of so many lists yield the same.
+// Whether mergers of a number of lists yield the same by value and borrowed.
 fn mergers_agree(alloc: Global, seed: u64, count: u8) -> Result<bool, Error> {
     let by_value = merger_of(alloc, lists_of(alloc, seed, count)?)?;
     let lending = lending_merger_of(alloc, lists_of(alloc, seed, count)?)?;
     agree(by_value, lending, 40 * usize::from(count) + 2)
 }
 
-// The lending iterator that is compared: the newest versions of a list; a compaction of it at a
-// watermark, and whether it evicts tombstones and zeroes sequence numbers; and a merger of several
-// lists.
+// The lending iterator that is compared: the newest versions of a list, a merger of several lists,
+// or a compaction of a list. A compaction has a watermark, and flags to evict tombstones and to
+// zero sequence numbers.
 #[derive(Clone, Copy)]
 enum Kind {
     Newest,
@@ -133,7 +132,8 @@ enum Kind {
     Merged,
 }
 
-// Whether the lending iterator yields the same as the one by value, of so many entries or lists.
+// Whether the lending iterator yields the same as the one by value, over a number of entries or of
+// lists.
 fn kinds_agree(alloc: Global, kind: Kind, seed: u64, count: u8) -> Result<bool, Error> {
     match kind {
         Kind::Newest => newest_agree(alloc, seed, count),
@@ -189,7 +189,7 @@ fn what_lends_gives_what_is_given_by_value(rt: HostRuntime) {
     }
 }
 
-// The lists that a text spells, each up to a `/`.
+// The lists of a text, each up to a `/`.
 fn spelled(alloc: Global, text: &'static str) -> Result<Vec<Vec<IterItem>>, Error> {
     let mut lists = Vec::new(alloc);
     for part in text.split_terminator('/') {
@@ -198,23 +198,23 @@ fn spelled(alloc: Global, text: &'static str) -> Result<Vec<Vec<IterItem>>, Erro
     Ok(lists)
 }
 
-// Whether a lending merger of the sources that a text spells yields that.
+// Whether a lending merger of the sources of a text yields the wanted items.
 fn merges(alloc: Global, text: &'static str, wanted: &str) -> Result<bool, Error> {
     let mut lending = lending_merger_of(alloc, spelled(alloc, text)?)?;
     Ok(lending.entry().is_none() && lends_so(&mut lending, wanted))
 }
 
-// Sources, and what their merger yields.
+// Sources, and the items of their merger.
 const LENT: &[(&str, &str)] = &[
     ("", ""),
     ("aV1 dV1 / bV1 / cV1 /", "aV1 bV1 cV1 dV1"),
-    // An error comes right after the entry before it, and nothing follows it.
+    // An error is yielded right after the entry before it, and nothing follows it.
     ("aV1 dV1 !7 / bV1 / cV1 eV1 /", "aV1 bV1 cV1 dV1 !7"),
     ("aV1 dV1 / bV1 !7 fV1 / cV1 /", "aV1 bV1 !7"),
     ("aV1 cV1 !7 / bV1 !7 / eV1 /", "aV1 bV1 !7"),
     ("aV1 aV1 !7 / aV1 bV1 /", "aV1 aV1 !7"),
     ("aV1 bV1 / aV1 !7 /", "aV1 aV1 !7"),
-    // At the head of a source it is the first item.
+    // At the front of a source it is the first item.
     ("aV1 / !7 bV1 / !7 /", "!7"),
 ];
 
@@ -243,11 +243,11 @@ fn source_of(alloc: Global, text: &'static str, is_lent: bool) -> Result<LentLis
     Ok(source)
 }
 
-// A text, whether its source made a step already, and a bound; the entry that is borrowed before
-// the first step, and what the steps yield.
+// A text, whether its source made a step already, and a bound; the entry borrowed before the first
+// step, and the items of the steps.
 type LentBelow = (&'static str, bool, SeqNo, &'static str, &'static str);
 
-// Whether the entries below the bound are borrowed so, and no others.
+// Whether exactly the entries below the bound are borrowed.
 fn lends_below(alloc: Global, case: &LentBelow) -> Result<bool, Error> {
     let &(text, is_lent, seqno, before, wanted) = case;
     let mut below = Below::lending(source_of(alloc, text, is_lent)?, seqno);
@@ -261,9 +261,10 @@ const LENT_BELOW: &[LentBelow] = &[
     ("aV5 aV4 bT3", false, 6, "-", "aV5 aV4 bT3"),
     ("aV5 aV4 bT3", false, 3, "-", ""),
     ("aV5 aV4 bT3", false, 0, "-", ""),
-    // Entries at the bound or above are between others, and before an error.
+    // Entries at the bound or above it, between others and before an error.
     ("aV1 bV7 cV5 dV2 eV5 !3", false, 5, "-", "aV1 dV2 !3"),
-    // The source lends an entry before the first step. It is lent on only if it is below the bound.
+    // The source has a current entry before the first step. It is yielded only if it is below the
+    // bound.
     ("aV4 bV3", true, 5, "aV4", "bV3"),
     ("aV5 bV3", true, 5, "-", "bV3"),
     ("aV6 bV3", true, 5, "-", "bV3"),

@@ -1,11 +1,11 @@
-//! Sources of results that a text spells.
+//! Sources of the results of a text.
 
 use crate::sorted::words::results_of;
 use sst_entries::{Error, IterItem};
 use std::alloc::Allocator;
 use std::vec::IntoIter;
 
-/// The results that a text spells, from both ends.
+/// The results of a text, from both ends.
 pub fn listed_of<A: Allocator>(
     alloc: A,
     text: &'static str,
@@ -13,7 +13,7 @@ pub fn listed_of<A: Allocator>(
     Ok(results_of(alloc, text)?.into_iter())
 }
 
-/// A source that passes on what a list holds, from the front alone.
+/// A source that yields the items of a list, from the front only.
 #[derive(Drop)]
 pub struct Forward<A: Allocator> {
     items: IntoIter<IterItem<A>, A>,
@@ -34,13 +34,13 @@ impl<A: Allocator> Iterator for Forward<A> {
     }
 }
 
-/// The source that passes on the results that a text spells.
+/// The source of the results of a text, from the front only.
 pub fn forward_of<A: Allocator>(alloc: A, text: &'static str) -> Result<Forward<A>, Error> {
     let items = results_of(alloc, text)?.into_iter();
     Ok(Forward { items })
 }
 
-/// The lists that a text spells, each up to a `/`.
+/// The lists of a text, each up to a `/`.
 pub fn lists_of<A: Allocator + Copy>(
     alloc: A,
     text: &'static str,
@@ -52,7 +52,7 @@ pub fn lists_of<A: Allocator + Copy>(
     Ok(lists)
 }
 
-/// The sources without a back that a text spells, each up to a `/`.
+/// The sources of a text, from the front only, each up to a `/`.
 pub fn forwards_of<A: Allocator + Copy>(
     alloc: A,
     text: &'static str,

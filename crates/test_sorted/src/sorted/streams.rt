@@ -1,5 +1,5 @@
-//! What several sources have together, its newest versions and what a compaction keeps of it, with
-//! each request for memory refused.
+//! Merged sources, their newest versions and compactions, with each request for memory failing in
+//! turn.
 ghost use Rattle.std.specs.Prelude.{All};
 ghost use Rattle.std.specs.Iterator.{IsFinite};
 ghost use Rattle.sst_entries.specs.Stream.{CanDeal, nowhere};
@@ -12,7 +12,7 @@ use sst_entries::{Error, IterItem};
 use std::alloc::{Allocator, Global};
 use test_refusing::{Refusing, each_refused};
 
-// Whether a merger of these sources, whatever they are, answers so at the ends.
+// Whether a merger of any sources yields these items at the ends.
 fn merger_answers_so<I: DoubleEndedIterator<Item = IterItem<A>> + Drop, A: Allocator + Copy>(
     alloc: A,
     sources: Vec<I, A>,
@@ -28,7 +28,7 @@ fn merger_answers_so<I: DoubleEndedIterator<Item = IterItem<A>> + Drop, A: Alloc
     Ok(answers_so(merger, ends, wanted))
 }
 
-// Whether a stream over this source, whatever it is, answers so at the ends.
+// Whether a stream over any source yields these items at the ends.
 fn stream_answers_so<A: Allocator, I: DoubleEndedIterator<Item = IterItem<A>> + Drop>(
     source: I,
     ends: &str,
@@ -42,7 +42,7 @@ fn stream_answers_so<A: Allocator, I: DoubleEndedIterator<Item = IterItem<A>> + 
     answers_so(stream, ends, wanted)
 }
 
-// Whether the newest versions of these sources, whatever they are, are these at the ends.
+// Whether the newest versions of any sources are these at the ends.
 fn newest_answers_so<I: DoubleEndedIterator<Item = IterItem<A>> + Drop, A: Allocator + Copy>(
     alloc: A,
     sources: Vec<I, A>,
@@ -58,8 +58,8 @@ fn newest_answers_so<I: DoubleEndedIterator<Item = IterItem<A>> + Drop, A: Alloc
     Ok(answers_so(stream, ends, wanted))
 }
 
-// Whether a compaction of this source, whatever it is, gives these for readers at the threshold,
-// without a filter and a callback.
+// Whether a compaction of any source, without a filter and a callback, yields these items for
+// readers at the threshold.
 fn compaction_gives_so<A: Allocator, I: Iterator<Item = IterItem<A>> + Drop>(
     source: I,
     threshold: u64,
@@ -72,23 +72,23 @@ fn compaction_gives_so<A: Allocator, I: Iterator<Item = IterItem<A>> + Drop>(
     gives_all(&mut stream, wanted)
 }
 
-// Which stream is asked.
+// The stream under test.
 #[derive(Clone, Copy)]
 enum Kind {
-    // Of several lists, from both ends: what they have together, and the newest versions of it.
+    // Several lists, from both ends: merged, and the newest versions.
     Merged,
     NewestOf,
-    // Of one list: the newest versions, and what a compaction for readers at a threshold keeps.
+    // One list: the newest versions, and a compaction for readers at a threshold.
     Newest,
     Compacted(u64),
-    // Of several sources without a back: what they have together, the newest versions of it, and
-    // what a compaction for readers at 5 keeps.
+    // Several sources without a back: merged, the newest versions, and a compaction for readers at
+    // 5.
     MergedForward,
     NewestForward,
     CompactedForward,
 }
 
-// Whether a stream of the lists that a text spells answers so at the ends.
+// Whether a stream of the lists of a text yields these items at the ends.
 fn lists_answer_so<A: Allocator + Copy>(alloc: A, kind: Kind, row: &Row) -> Result<bool, Error> {
     let lists = lists_of(alloc, row.0)?;
     match kind {
@@ -97,7 +97,7 @@ fn lists_answer_so<A: Allocator + Copy>(alloc: A, kind: Kind, row: &Row) -> Resu
     }
 }
 
-// Whether a stream, which is let go of, gives these and then nothing.
+// Whether a stream, which is dropped, yields these items and then nothing.
 fn gives_before_it_goes<A: Allocator, I: Iterator<Item = IterItem<A>> + Drop>(
     mut stream: I,
     wanted: &str,
@@ -107,8 +107,8 @@ fn gives_before_it_goes<A: Allocator, I: Iterator<Item = IterItem<A>> + Drop>(
     gives_so(&mut stream, wanted)
 }
 
-// Whether a merger of the sources without a back that a text spells gives these, or a compaction of
-// it for readers at 5.
+// Whether a merger of the sources of a text, without a back, or its compaction for readers at 5
+// yields these items.
 fn merger_gives_so<A: Allocator + Copy>(
     alloc: A,
     is_compacted: bool,
@@ -122,13 +122,13 @@ fn merger_gives_so<A: Allocator + Copy>(
     }
 }
 
-// Whether the newest versions of the sources without a back that a text spells are these.
+// Whether the newest versions of the sources of a text, without a back, are these.
 fn newest_gives_so<A: Allocator + Copy>(alloc: A, row: &Row) -> Result<bool, Error> {
     let sources = forwards_of(alloc, row.0)?;
     Ok(gives_before_it_goes(newest_of(alloc, sources)?, row.2))
 }
 
-// Whether a stream of what a text spells answers so.
+// Whether a stream of a text yields the items of its row.
 fn answers<A: Allocator + Copy>(alloc: A, kind: Kind, row: &Row) -> Result<bool, Error> {
     match kind {
         Kind::Newest => Ok(stream_answers_so(listed_of(alloc, row.0)?, row.1, row.2)),
@@ -142,7 +142,7 @@ fn answers<A: Allocator + Copy>(alloc: A, kind: Kind, row: &Row) -> Result<bool,
     }
 }
 
-// Whether a stream answers so, or memory was refused where it may be.
+// Whether a stream yields the items of its line; or `OutOfMemory`, where it may fail.
 fn is_so(heap: &Refusing, kind: Kind, line: &'static str, may_fail: bool) -> bool {
     match answers(heap, kind, &row_of(line)) {
         Ok(answer) => answer,
@@ -150,8 +150,8 @@ fn is_so(heap: &Refusing, kind: Kind, line: &'static str, may_fail: bool) -> boo
     }
 }
 
-// How many requests for memory a stream makes, with its sources, each of which may be refused,
-// while it answers so.
+// The number of requests for memory of a stream and its sources, if it passes with each of them
+// failing in turn.
 fn requests(alloc: Global, kind: Kind, line: &'static str) -> Result<usize, usize> {
     each_refused(
         alloc,
@@ -159,18 +159,18 @@ fn requests(alloc: Global, kind: Kind, line: &'static str) -> Result<usize, usiz
     )
 }
 
-// What a text spells, the ends that are asked, and the answers. Sources without a back are asked
-// from the front until they have no more.
+// The text of the sources, the ends that are polled, and the items. Sources without a back are
+// polled from the front until they are exhausted.
 type Row = (&'static str, &'static str, &'static str);
 
-// The row of a line: its three parts, with bars between.
+// The row of a line: its three parts, separated by bars.
 fn row_of(line: &'static str) -> Row {
     let (sources, rest) = line.split_once('|').unwrap_or((line, ""));
     let (ends, wanted) = rest.split_once('|').unwrap_or((rest, ""));
     (sources.trim(), ends.trim(), wanted.trim())
 }
 
-// Several lists: their entries in order up to an error.
+// Several lists: their entries in order, up to an error.
 const MERGED: &str = "\
 | FB | - -
 aV0 / bV0 / | FFF | aV0 bV0 -
@@ -199,7 +199,7 @@ aV1x aV1y / aV1z / | FFFF | aV1x aV1y aV1z -
 aV1x aV1y / aV1z / | BFBB | aV1z aV1x aV1y -
 ";
 
-// One list with errors among it: each is answered in the place of its key.
+// One list with errors among it: each is yielded at the position of its key.
 const WITH_ERRORS: &str = "\
 aV999 !1 | FFB | !1 - -
 aV999 !1 | BBBF | !1 aV999 - -
@@ -270,7 +270,7 @@ aV0 bV0 cV0 dV0 eT1 !4 eV0 / | BBBBBBB | !4 - - - - - -
 !4 aV0 bV0 cV0 dV0 eT1 eV0 / | BBBBBB | eT1 dV0 cV0 !4 - -
 ";
 
-// Several sources without a back: their entries in order, and an error behind those before it.
+// Several sources without a back: their entries in order, and an error after those before it.
 const FROM_THE_FRONT: &str = "\
 |  | - -
 aV1 dV1 / bV1 / cV1 / |  | aV1 bV1 cV1 dV1 -
@@ -285,7 +285,7 @@ aV1 / !7 bV1 / !8 / |  | !7 - -
 aV3 aV1 ?1 / aV2 / bV1 / |  | aV3 aV2 ?1 -
 ";
 
-// Their newest versions.
+// The newest versions of such sources.
 const NEWEST_FROM_THE_FRONT: &str = "\
 |  | - -
 aV3 bV1 cV4 / aV7 bV2 / dV1 / |  | aV7 bV2 cV4 dV1 -
@@ -293,7 +293,7 @@ aV2 cV3 !7 dV1 / bV1 / |  | aV2 !7 - -
 aV1 bV1 / cV1 dV1 !7 / |  | aV1 bV1 !7 -
 ";
 
-// What readers at 5 need of them.
+// The compaction of such sources for readers at 5.
 const COMPACTED: &str = "\
 |  |
 aV9 bV4 / aV4 bV3 / aV2 bT1 / |  | aV9 aV4 bV4
@@ -303,7 +303,7 @@ aV9 bV4 / aV4 cV3 dV1 !7 / aV2 bT1 / |  | aV9 aV4 bV4 !7
 aV9 bV4 / aV4 cV3 dV1 ?1 / aV2 bT1 / |  | aV9 aV4 bV4 ?1
 ";
 
-// Each kind with its rows, a line each; what stands behind `#` says what the next lines are.
+// Each kind with its rows, one per line; a line with `#` describes the next lines.
 const STREAMS: &[(Kind, &str)] = &[
     (Kind::Merged, MERGED),
     (Kind::Newest, WITH_ERRORS),
@@ -329,7 +329,7 @@ fn streams_answer_so_with_each_request_for_memory_refused(rt: HostRuntime) {
     }
 }
 
-// Two sources that are merged, and asked besides.
+// Two sources that are merged, and in the second line polled too.
 const MADE: &str = "aV1 cV1 / bV2 / | |";
 
 const ANSWERED: &str = "aV1 cV1 / bV2 / | FBFB | aV1 cV1 bV2 -";

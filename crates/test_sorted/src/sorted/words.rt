@@ -1,9 +1,9 @@
-//! Entries, errors and items in short for tests, as the words of a text.
+//! Entries, errors and items for tests, as the words of a text.
 //!
-//! `aV9` is an entry of the key `a` and the number 9, a value that is its key, and `aV9x` has the
-//! value `x`. `T` and `W` are the tombstones and `I` an indirection, which have no value unless it
-//! is spelled. `!4` is the error 4 of a caller's own source, `?1` is `OutOfMemory`, and `-` is no
-//! item.
+//! `aV9` is an entry of the key `a` and the sequence number 9, with its key as the value; `aV9x`
+//! has the value `x`. `T` and `W` are the tombstones and `I` an indirection. They have no value
+//! unless it is given. `!4` is the error 4 of a caller's own source, `?1` is `OutOfMemory`, and `-`
+//! is no item.
 ghost use Rattle.std.specs.Iterator.{IsFinite};
 ghost use Rattle.sst_entries.specs.Stream.{CanDeal, nowhere};
 
@@ -25,7 +25,7 @@ pub fn byte_of(bytes: &[u8]) -> u8 {
     }
 }
 
-// The number that some digits spell, and the byte after them, or 0.
+// The number of some digits, and the byte after them, or 0.
 fn number_and_byte(text: &[u8]) -> (u64, u8) {
     let mut number = 0u64;
     for byte in text {
@@ -51,7 +51,6 @@ pub fn said_by(word: &str) -> Said {
     }
 }
 
-// The kind of a letter.
 fn kind_of(letter: u8) -> ValueType {
     match letter {
         b'T' => ValueType::Tombstone,
@@ -61,7 +60,7 @@ fn kind_of(letter: u8) -> ValueType {
     }
 }
 
-// The result that a word stands for. Its key and value stay in the text.
+// The result of a word. Its key and value are slices of the text.
 fn result_of<A: Allocator>(word: &'static str) -> IterItem<A> {
     let (sign, kind, number, byte) = said_by(word);
     match sign {
@@ -80,7 +79,7 @@ fn result_of<A: Allocator>(word: &'static str) -> IterItem<A> {
     Ok(InternalValue::from_components(key, value, number, kind_of(kind)))
 }
 
-/// The results that the words of a text stand for.
+/// The results of the words of a text.
 pub fn results_of<A: Allocator>(
     alloc: A,
     text: &'static str,
@@ -92,7 +91,6 @@ pub fn results_of<A: Allocator>(
     Ok(results)
 }
 
-// The letter of a kind.
 fn letter_of(kind: ValueType) -> u8 {
     match kind {
         ValueType::Value => b'V',
@@ -132,7 +130,7 @@ fn said_of<A: Allocator>(answer: Option<IterItem<A>>) -> Said {
     }
 }
 
-/// The word of the entry that a lending iterator lends now.
+/// The word of the current entry of a lending iterator.
 pub fn said_lent<L: Lending>(source: &L) -> Said {
     match source.entry() {
         Some(entry) => said_of_lent(&entry),
@@ -151,7 +149,7 @@ fn said_next<L: Lending>(source: &mut L) -> Said
     }
 }
 
-/// Whether a lending iterator yields these, and then nothing.
+/// Whether a lending iterator yields these items, and then nothing.
 pub fn lends_so<L: Lending>(source: &mut L, wanted: &str) -> bool
     requires { CanDeal L.advances nowhere L.can_advance L.can_advance source.old }
 {
@@ -162,7 +160,7 @@ pub fn lends_so<L: Lending>(source: &mut L, wanted: &str) -> bool
     said_next(source) == NOTHING && is_right
 }
 
-/// Whether a stream yields these at the ends that `F` and `B` stand for.
+/// Whether a stream yields these items at the ends `F` and `B`.
 pub fn answers_so<A: Allocator, I: DoubleEndedIterator<Item = IterItem<A>> + Drop>(
     mut stream: I,
     ends: &str,
@@ -192,7 +190,7 @@ fn said_first<A: Allocator, I: Iterator<Item = IterItem<A>>>(stream: &mut I) -> 
     said_of(stream.next())
 }
 
-/// Whether a stream yields these, and then nothing.
+/// Whether a stream yields these items, and then nothing.
 pub fn gives_so<A: Allocator, I: Iterator<Item = IterItem<A>>>(stream: &mut I, wanted: &str) -> bool
     requires { CanDeal I.next_gives nowhere I.can_next I.can_next stream.old }
 {
@@ -203,7 +201,7 @@ pub fn gives_so<A: Allocator, I: Iterator<Item = IterItem<A>>>(stream: &mut I, w
     said_first(stream) == NOTHING && is_right
 }
 
-/// Whether a stream yields these to its end.
+/// Whether a stream yields these items up to its end.
 pub fn gives_all<A: Allocator, I: Iterator<Item = IterItem<A>>>(
     stream: &mut I,
     wanted: &str,

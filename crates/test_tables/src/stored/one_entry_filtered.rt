@@ -1,7 +1,7 @@
 //! A table that was stored in version 3, with a full index and a full filter.
 
-/// The one entry `a` at number 1 with the value `x`. The sections are data (45 bytes), the top
-/// level of the index (51), the filter (33), the version (1) and the meta block (1,041).
+/// The one entry `a` at sequence number 1 with the value `x`. The sections are data (45 bytes), the
+/// top level of the index (51), the filter (33), the version (1) and the meta block (1,041).
 #[rattlefmt::skip]
 pub static BYTES: [u8; 1291] = [
     0x4c, 0x42, 0x4b, 0x31, 0x00, 0x00, 0x00, 0x00, 0x15, 0x00, 0x00, 0x00, 0x15, 0x00, 0x00, 0x00,

@@ -1,4 +1,4 @@
-//! What is compacted by which rules, and what comes of it.
+//! Compactions: rules, sources and results.
 use super::{How, Plan, Row};
 
 const SINGLES: &str = "aV999 bV999 cV999";
@@ -10,7 +10,7 @@ const WEAK: &str = "aW999 aV998 bW999 bV998 cW999 cV998";
 const VALUES: &str = "aV999 aV998 bV999 bV998 cV999 cV998 cV997";
 
 pub(super) const ROWS: &[Row] = &[
-    // What readers at the threshold see is kept.
+    // Versions that readers at the threshold see are kept.
     (
         How::ByValue,
         5,
@@ -82,7 +82,7 @@ pub(super) const ROWS: &[Row] = &[
         "",
     ),
     (How::ByValue, 5, Plan::KeepAll, false, false, "", "", ""),
-    // Tombstones are evicted, and numbers zeroed.
+    // Tombstones are evicted, and sequence numbers become 0.
     (
         How::ByValue,
         5,
@@ -134,7 +134,7 @@ pub(super) const ROWS: &[Row] = &[
         "aV0 bV5",
         "",
     ),
-    // What the filter says is done.
+    // The verdicts of the filter are applied.
     (
         How::ByValue,
         5,
@@ -185,7 +185,7 @@ pub(super) const ROWS: &[Row] = &[
         "aV999u aV998v aV997w aT996 aT995 aT994",
         "aV996x aV995y aV994z bV999",
     ),
-    // A value directly after a weak tombstone lets it go, and an indirection does not.
+    // A value directly after a weak tombstone drops it, and an indirection does not.
     (
         How::ByValue,
         5,
@@ -206,7 +206,7 @@ pub(super) const ROWS: &[Row] = &[
         "aW0 bI0x",
         "aI3x bV3 cI3x",
     ),
-    // The filter is asked of values and indirections, and of no tombstone.
+    // The filter is called for values and indirections, and not for tombstones.
     (
         How::ByValue,
         5,
@@ -288,7 +288,8 @@ pub(super) const ROWS: &[Row] = &[
         TOMBSTONES,
         "",
     ),
-    // Numbered at the threshold, the head is no cut, whatever it is and whatever is below it.
+    // A newest version with the threshold as its sequence number is no cut, whatever its kind and
+    // whatever is below it.
     (
         How::ByValue,
         999,
@@ -389,7 +390,7 @@ pub(super) const ROWS: &[Row] = &[
         VALUES,
         "",
     ),
-    // The filter keeps a state.
+    // The filter has a state.
     (
         How::ByValue,
         995,
@@ -410,7 +411,7 @@ pub(super) const ROWS: &[Row] = &[
         "aV2353 bV2353 fV2353 gV2353 nV2353 tV2353",
         "cV2353 hV2353",
     ),
-    // What is kept, dropped and told of a filtered compaction that lends its entries.
+    // A lending compaction with a filter: the entries that are kept, dropped and reported.
     (How::Filtered, 5, Plan::KeepAll, false, false, "", "", ""),
     (
         How::Filtered,
@@ -492,7 +493,7 @@ pub(super) const ROWS: &[Row] = &[
         "aV999u aV998v aV997w aT996 aT995 aT994",
         "aV996x aV995y aV994z bV999",
     ),
-    // It asks no filter of a tombstone either.
+    // A lending compaction does not call the filter for a tombstone either.
     (
         How::Filtered,
         5,
@@ -513,7 +514,7 @@ pub(super) const ROWS: &[Row] = &[
         "aT9 bW9 cT9",
         "cI9x",
     ),
-    // Without a filter and a callback, what is kept is lent.
+    // Without a filter and a callback, a lending compaction yields the kept entries.
     (How::Lent, 5, Plan::KeepAll, false, false, "", "", ""),
     (
         How::Lent,
@@ -535,7 +536,7 @@ pub(super) const ROWS: &[Row] = &[
         "aV9 aV0 bV0",
         "",
     ),
-    // An error stands behind the entry before it, and hides nothing.
+    // An error is yielded after the entry before it, and hides nothing.
     (
         How::Lent,
         5,
@@ -546,7 +547,7 @@ pub(super) const ROWS: &[Row] = &[
         "aV9 aV4 !7 aV3 bV1",
         "",
     ),
-    // A weak tombstone goes where it hides a value, and stays before any other version.
+    // A weak tombstone is dropped if it hides a value, and kept before any other version.
     (
         How::Lent,
         5,
@@ -597,7 +598,7 @@ pub(super) const ROWS: &[Row] = &[
         "aW0x bV0",
         "",
     ),
-    // It waits for what follows, so an error takes its place.
+    // A weak tombstone waits for the next item, so an error is yielded in its stead.
     (
         How::Lent,
         5,
@@ -608,7 +609,7 @@ pub(super) const ROWS: &[Row] = &[
         "!7 aV3",
         "",
     ),
-    // Under eviction a tombstone goes where no version follows it, or where it hides them.
+    // Under eviction a tombstone is dropped if no version follows it, or if it hides them.
     (
         How::Lent,
         5,
