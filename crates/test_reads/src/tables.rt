@@ -6,8 +6,7 @@
 //!
 //! The tables are those of an independent program, unchanged or with some of their bytes changed,
 //! and tables of a few rows.
-ghost use Rattle.lsm_writers.specs.Filtering.{IsSmallFilter};
-ghost use Rattle.lsm_writers.specs.Writing.{IsSmallIndex};
+ghost use Rattle.test_reads.specs.Words as spec;
 
 mod indexes;
 mod lending;
@@ -61,7 +60,7 @@ pub(crate) enum Parted {
 }
 
 fn index_kind(parted: Parted) -> IndexKind
-    ensures { IsSmallIndex result }
+    ensures { spec.IsSmallIndex result }
 {
     match parted {
         Parted::Index | Parted::Both => IndexKind::Partitioned(1),
@@ -70,7 +69,7 @@ fn index_kind(parted: Parted) -> IndexKind
 }
 
 fn filter_kind(parted: Parted) -> FilterKind
-    ensures { IsSmallFilter result }
+    ensures { spec.IsSmallFilter result }
 {
     match parted {
         Parted::Filter | Parted::Both => FilterKind::Partitioned(1),

@@ -1,8 +1,6 @@
 //! Lists of numbers as the parts of an iteration.
 ghost use Rattle.std.specs.Prelude.{Option, Result};
-ghost use Rattle.sst_entries.specs.declared.error.Error.{Error};
-ghost use Rattle.lsm_walks.specs.Parts.{Loading};
-ghost use Rattle.test_walks.specs.Rows.{coming_rows, row_remains};
+ghost use Rattle.test_walks.specs.Words as spec;
 
 use lsm_walks::{Ends, Parts};
 use sst_entries::{Direction, Error};
@@ -25,7 +23,7 @@ pub struct Rows {
 impl Ends for Row {
     type Item = u8;
 
-    ghost left = { row_remains };
+    ghost left = { spec.row_remains };
 
     fn step(&mut self, at: Direction) -> Option<Result<u8, Error>> {
         self.loads = 0;
@@ -45,7 +43,7 @@ impl Ends for Row {
 impl Parts for Rows {
     type Part = Row;
 
-    ghost coming = { coming_rows };
+    ghost coming = { spec.coming_rows };
 
     ghost keeps = { λ s named t. Unit {0} };
 

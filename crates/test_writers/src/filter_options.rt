@@ -1,8 +1,6 @@
 //! Partitioned filters whose options change between keys.
 ghost use Rattle.std.specs.Prelude.{ℕ, List, [], ◌∷◌, ◌++◌, IfOk};
-ghost use Rattle.lsm_section_writers.specs.Held.{HoldsParts};
-ghost use Rattle.lsm_section_writers.specs.Rising.{Rises};
-ghost use Rattle.test_writers.specs.Keys.{WasGiven};
+ghost use Rattle.test_writers.specs.Words as spec;
 
 use lsm_writers::{BloomConstructionPolicy, FilterWriter, PartitionedFilterWriter};
 use sst_blocks::{
@@ -24,9 +22,9 @@ fn add(
     setting: Setting,
     key: &UserKey,
 ) -> Result<PartitionedFilterWriter, Error>
-    requires { Rises (HoldsParts writer) key.now }
-    ensures { IfOk result (λ w. (keys : List (List ℕ)) → WasGiven writer keys →
-        WasGiven w (keys ++ key.now ∷ [])) }
+    requires { spec.Rises (spec.HoldsParts writer) key.now }
+    ensures { IfOk result (λ w. (keys : List (List ℕ)) → spec.WasGiven writer keys →
+        spec.WasGiven w (keys ++ key.now ∷ [])) }
 {
     let (size, tenths) = setting;
     let sized = writer.use_partition_size(size);

@@ -2,12 +2,7 @@
 //! later requests succeed. An index or filter writer fails from then on. A section writer keeps its
 //! bytes.
 ghost use Rattle.std.specs.Prelude.{◌≡◌, ◌++◌, ◌∷◌, [], IfOk};
-ghost use Rattle.sst_blocks.specs.Handles.{AreStrictHandles};
-ghost use Rattle.lsm_section_writers.specs.FilterEither.{HoldsBy};
-ghost use Rattle.lsm_section_writers.specs.Given.{no_keys};
-ghost use Rattle.lsm_section_writers.specs.IndexEither.{registered_by};
-ghost use Rattle.lsm_section_writers.specs.Rising.{Rises};
-ghost use Rattle.lsm_formats.specs.File.{HasNoFilter, HasNoIndex};
+ghost use Rattle.test_writers.specs.Words as spec;
 
 use crate::given::{Refusals, Seen, number};
 use lsm_writers::{
@@ -59,8 +54,8 @@ fn register_key<A: Allocator, W: FilterWriter<A>>(
     key: &UserKey<A>,
     sections: &mut SectionWriter<A>,
 ) -> Refusals
-    requires rises { Rises (W.Holds writer) key.now }
-    requires unwritten { HasNoFilter sections.old }
+    requires rises { spec.Rises (W.Holds writer) key.now }
+    requires unwritten { spec.HasNoFilter sections.old }
 {
     let mut refusals = [0; 5];
     if let Err(error) = writer.register_key(key) {
@@ -78,8 +73,8 @@ fn register_block<A: Allocator, W: BlockIndexWriter<A>>(
     is_registered: bool,
     sections: &mut SectionWriter<A>,
 ) -> Refusals
-    requires strict { AreStrictHandles (W.registered writer ++ handle.now ∷ []) }
-    requires unwritten { HasNoIndex sections.old }
+    requires strict { spec.AreStrictHandles (W.registered writer ++ handle.now ∷ []) }
+    requires unwritten { spec.HasNoIndex sections.old }
 {
     let mut refusals = [0; 5];
     if is_registered {
@@ -97,7 +92,7 @@ fn filter_writer<A: Allocator + Copy>(
     alloc: A,
     is_partitioned: bool,
 ) -> Result<FilterWriterImpl<A>, Error>
-    ensures { IfOk result (λ w. HoldsBy w no_keys) }
+    ensures { IfOk result (λ w. spec.HoldsBy w spec.no_keys) }
 {
     let policy = BloomConstructionPolicy::default();
     if !is_partitioned {
@@ -117,7 +112,7 @@ pub(crate) fn filter<A: Allocator + Copy>(alloc: A, is_partitioned: bool) -> Res
 
 // A writer of an index without handles, partitioned or not.
 fn index_writer<A: Allocator>(alloc: A, is_partitioned: bool) -> IndexWriterImpl<A>
-    ensures { (registered_by result).handles ≡ [] }
+    ensures { (spec.registered_by result).handles ≡ [] }
 {
     if is_partitioned {
         IndexWriterImpl::Partitioned(PartitionedIndexWriter::new(alloc))

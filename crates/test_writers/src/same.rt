@@ -1,6 +1,6 @@
 //! The tables are the same, however entries are passed and options are set.
 ghost use Rattle.std.specs.Prelude.{IfOk};
-ghost use Rattle.lsm_writers.specs.Tables.{IsFreshRun};
+ghost use Rattle.test_writers.specs.Words as spec;
 
 use crate::given::{By, Given, NO_TABLES, Seen, Told, seen_of, told, told_by};
 use lsm_writers::{
@@ -133,7 +133,7 @@ const OPTIONS: Options = Options {
 
 // A writer of several tables without entries.
 fn new_tables(alloc: Global) -> Result<MultiWriter, Error>
-    ensures { IfOk result (λ w. IsFreshRun w) }
+    ensures { IfOk result (λ w. spec.IsFreshRun w) }
 {
     MultiWriter::new(alloc, TableIds::new(1), 1 << 20, 0, Timestamp::from(0))
 }

@@ -1,6 +1,5 @@
 //! Lending ranges over runs, compared with those by value.
-ghost use Rattle.std.specs.Iterator.{IsFinite};
-ghost use Rattle.sst_entries.specs.Stream.{CanDeal, nowhere};
+ghost use Rattle.test_reads.specs.Words as spec;
 
 use logpurple::merge::NewestOf;
 use logpurple::run::{LentNewestOf, lend_runs_at, range_runs_at};
@@ -52,7 +51,7 @@ fn all_given<S: Iterator<Item = IterItem<Global>> + Drop>(
     items: NewestOf<S, Global>,
 ) -> Result<Vec<IterItem<Global>>, Error>
     requires can { ⟦<NewestOf<S, Global> as Iterator>⟧.can_next items }
-    requires finite { IsFinite (⟦<NewestOf<S, Global> as Iterator>⟧.remaining items) }
+    requires finite { spec.IsFinite (⟦<NewestOf<S, Global> as Iterator>⟧.remaining items) }
 {
     let mut given = Vec::new(alloc);
     for item in items {
@@ -80,7 +79,7 @@ fn agree_newest<L: Lending + Drop>(
     given: Vec<IterItem<Global>>,
     lent: LentNewestOf<L, Global>,
 ) -> Result<bool, Error>
-    requires lent { CanDeal ⟦<LentNewestOf<L, Global> as Lending>⟧.advances nowhere
+    requires lent { spec.CanDeal ⟦<LentNewestOf<L, Global> as Lending>⟧.advances spec.nowhere
         ⟦<LentNewestOf<L, Global> as Lending>⟧.can_advance
         ⟦<LentNewestOf<L, Global> as Lending>⟧.can_advance lent }
 {

@@ -1,7 +1,6 @@
 //! The results of reads before and after a part of several runs is replaced by its compaction.
 ghost use Rattle.std.specs.Prelude.{◌∷◌, [], IfOk, map};
-ghost use Rattle.std.specs.Arc.{arc_value};
-ghost use Rattle.lsm_compactions.specs.Compacted.{AreCompactable};
+ghost use Rattle.test_reads.specs.Words as spec;
 
 use example_calling::compact_part_back;
 use logpurple::compaction::{Rules, compact_to_run_with};
@@ -47,7 +46,7 @@ fn found_around<A: Allocator + Copy>(
     behind: &[Tables<A>],
     around: &Around,
 ) -> Result<[Names; 2], Error>
-    requires { AreCompactable (map arc_value part.now) }
+    requires { spec.AreCompactable (map spec.arc_value part.now) }
 {
     let &(rules, first, key, seqno, bounds, _) = around;
     let (ids, moment) = (ids_from(first), Timestamp::from(0));
@@ -78,7 +77,7 @@ const ALL_STAY: Rules = Rules {
 // A run that may be compacted, because it is the result of a compaction. Fails with `Source(2)` if
 // that is empty.
 fn part_of<A: Allocator + Copy>(alloc: A) -> Result<Tables<A>, Error>
-    ensures { IfOk result (λ run. AreCompactable (arc_value run ∷ [])) }
+    ensures { IfOk result (λ run. spec.AreCompactable (spec.arc_value run ∷ [])) }
 {
     let runs = runs_of(alloc, PART)?;
     let writer = MultiWriter::new(alloc, TableIds::new(1), 0, 0, Timestamp::from(0))?;

@@ -1,5 +1,5 @@
 //! Ranges of two runs and a memtable, below a sequence number.
-ghost use Rattle.std.specs.Iterator.{IsFinite};
+ghost use Rattle.test_reads.specs.Words as spec;
 
 use logpurple::merge::NewestOf;
 use logpurple::run::range_sources_at;
@@ -27,7 +27,7 @@ const MEMORY: &[Row<'static>] = &[(b"a", 11, V, b""), (b"c", 6, V, b"")];
 // sequence number as three digits.
 fn codes<I: Iterator<Item = IterItem<A>> + Drop, A: Allocator>(items: I) -> Result<u64, Error>
     requires can { I.can_next items }
-    requires finite { IsFinite (I.remaining items) }
+    requires finite { spec.IsFinite (I.remaining items) }
 {
     let mut all = 0u64;
     for item in items {
@@ -57,7 +57,7 @@ fn codes_of<S: Iterator<Item = IterItem<A>> + Drop, A: Allocator>(
     items: NewestOf<S, A>,
 ) -> Result<u64, Error>
     requires can { ⟦<NewestOf<S, A> as Iterator>⟧.can_next items }
-    requires finite { IsFinite (⟦<NewestOf<S, A> as Iterator>⟧.remaining items) }
+    requires finite { spec.IsFinite (⟦<NewestOf<S, A> as Iterator>⟧.remaining items) }
 {
     codes(items)
 }

@@ -1,12 +1,7 @@
 //! A run of a table that was stored in version 3 and of a table that is written now. It is read as
 //! one and compacted: the proof shows that the stored bytes are a table of their entries.
 ghost use Rattle.std.specs.Prelude.{[], ◌∷◌, IfOk, List};
-ghost use Rattle.std.specs.Arc.{arc_value};
-ghost use Rattle.sst_entries.specs.Entry.{Entry};
-ghost use Rattle.lsm_formats.specs.Table.{IsTable};
-ghost use Rattle.lsm_compactions.specs.Compacted.{AreCompactable};
-ghost use Rattle.lsm_runs.specs.RunLists.{HoldsList};
-ghost use Rattle.test_reads.specs.Stored.{new_entries, stored_entries};
+ghost use Rattle.test_reads.specs.Words as spec;
 
 use crate::runs::compactions::{Version, are, entries_of};
 use logpurple::compaction::compact_runs;
@@ -27,14 +22,14 @@ const V: ValueType = ValueType::Value;
 
 // The bytes of the stored table, which are a table of its entries.
 fn stored_bytes(alloc: Global) -> Result<Slice, Error>
-    ensures { IfOk result (λ b. IsTable b stored_entries) }
+    ensures { IfOk result (λ b. spec.IsTable b spec.stored_entries) }
 {
     Slice::from(alloc, &two_levels::BYTES)
 }
 
 // The bytes of a table of c@2.
 fn new_bytes(alloc: Global) -> Result<Slice, Error>
-    ensures { IfOk result (λ b. IsTable b new_entries) }
+    ensures { IfOk result (λ b. spec.IsTable b spec.new_entries) }
 {
     let (key, value) = (Slice::from(alloc, b"c")?, Slice::from(alloc, b"")?);
     let mut items = Vec::new(alloc);
@@ -47,7 +42,8 @@ fn new_bytes(alloc: Global) -> Result<Slice, Error>
 
 // The table of some bytes.
 fn table(alloc: Global, bytes: Slice) -> Result<Table, Error>
-    ensures { (es : List Entry) → IsTable bytes es → IfOk result (λ t. HoldsList t es) }
+    ensures { (es : List spec.Entry) → spec.IsTable bytes es →
+        IfOk result (λ t. spec.HoldsList t es) }
 {
     let table = Table::recover(alloc, bytes, Checksum(0), 0, 0, true, true)?;
     table.tells_its_list();
@@ -55,20 +51,20 @@ fn table(alloc: Global, bytes: Slice) -> Result<Table, Error>
 }
 
 fn stored_table(alloc: Global) -> Result<Table, Error>
-    ensures { IfOk result (λ t. HoldsList t stored_entries) }
+    ensures { IfOk result (λ t. spec.HoldsList t spec.stored_entries) }
 {
     table(alloc, stored_bytes(alloc)?)
 }
 
 fn new_table(alloc: Global) -> Result<Table, Error>
-    ensures { IfOk result (λ t. HoldsList t new_entries) }
+    ensures { IfOk result (λ t. spec.HoldsList t spec.new_entries) }
 {
     table(alloc, new_bytes(alloc)?)
 }
 
 // The run of both tables. Fails with `Source(2)` if they are no run.
 fn run(alloc: Global) -> Result<Tables<Global>, Error>
-    ensures { IfOk result (λ run. AreCompactable (arc_value run ∷ [])) }
+    ensures { IfOk result (λ run. spec.AreCompactable (spec.arc_value run ∷ [])) }
 {
     let stored = stored_table(alloc)?;
     let new = new_table(alloc)?;

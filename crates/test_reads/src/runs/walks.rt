@@ -4,8 +4,7 @@
 //! They yield whole entries of each kind, by value, as lending iterators, and both in turn. Most
 //! functions that call them are generic in them, so that a proof looks at none of their parts.
 ghost use Rattle.std.specs.Prelude.{◌≡◌, ◌-◌, ◌<◌, ◌≤◌, true, IfOk, length, unwrap_or};
-ghost use Rattle.std.specs.Arc.{arc_value};
-ghost use Rattle.lsm_ranges.specs.Run.{ArePlacesOf};
+ghost use Rattle.test_reads.specs.Words as spec;
 
 use logpurple::run::{RunReader, RunScanner};
 use sst_blocks::{Direction, Error, IterItem, Lending, ValueType};
@@ -164,8 +163,8 @@ fn has_span(count: usize, span: Span) -> bool
 
 // The run, where it has a span. `Source(3)` where it has none.
 fn spanned<A: Allocator>(run: Result<Tables<A>, Error>, span: Span) -> Result<Tables<A>, Error>
-    ensures { IfOk result (λ run. let tables = arc_value run in
-        ArePlacesOf tables (unwrap_or span.0 0, unwrap_or span.1 (length tables - 1))) }
+    ensures { IfOk result (λ run. let tables = spec.arc_value run in
+        spec.ArePlacesOf tables (unwrap_or span.0 0, unwrap_or span.1 (length tables - 1))) }
 {
     let run = run?;
     if has_span(run.as_slice().len(), span) {

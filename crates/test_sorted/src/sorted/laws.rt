@@ -1,13 +1,12 @@
 //! Combines the public laws on sources that are read from the front only, whatever errors are among
 //! them.
 ghost use Rattle.std.specs.Prelude.{◌≡◌, Bool, List, [], IfOk};
-ghost use Rattle.sst_entries.specs.Stream.{Deals, nowhere, answer_stops, ok_results};
+ghost use Rattle.lsm_sorted.specs.Words as spec;
+ghost use Rattle.sst_entries.specs.Stream.{ok_results};
 ghost use Rattle.sst_entries.specs.declared.error.Error.{Error};
-ghost use Rattle.lsm_merge.specs.Ends.{R};
 ghost use Rattle.lsm_merge.specs.Union.{all_errors, union_of};
 ghost use Rattle.lsm_merge.specs.MergeLaws.{CanMerge, DealSorted, every_error};
 ghost use Rattle.lsm_sorted.specs.Compaction.{kept, unfiltered};
-ghost use Rattle.lsm_sorted.specs.CompactionState.{rules_of};
 ghost use Rattle.lsm_sorted.specs.Gap.{GivesUpToGap};
 
 use lsm_sorted::compaction::stream::{CompactionStream, NoCallback, NoFilter};
@@ -23,15 +22,15 @@ fn compaction_of<I: Iterator<Item = IterItem<A>>, A: Allocator + Clone>(
     iterators: Vec<I, A>,
     threshold: SeqNo,
 ) -> Result<CompactionStream<Merger<I, A>, NoFilter, NoCallback>, Error>
-    ensures kept { IfOk result (λ s. (stops : Error → Bool) (lists : List (List R)) →
-        DealSorted I.next_gives nowhere stops iterators.items lists →
+    ensures kept { IfOk result (λ s. (stops : Error → Bool) (lists : List (List spec.R)) →
+        DealSorted I.next_gives spec.nowhere stops iterators.items lists →
         all_errors lists ≡ [] →
-        Deals (answer_stops stops)
-        ⟦<CompactionStream<Merger<I, A>, NoFilter, NoCallback> as Iterator>⟧.next_gives nowhere s
-        (ok_results (kept (rules_of s) (unfiltered (union_of lists))))) }
+        spec.Deals (spec.answer_stops stops)
+        ⟦<CompactionStream<Merger<I, A>, NoFilter, NoCallback> as Iterator>⟧.next_gives
+        spec.nowhere s (ok_results (kept (spec.rules_of s) (unfiltered (union_of lists))))) }
     // With errors among the items: the entries up to the first error that is met, and this error.
     ensures past { IfOk result (λ s.
-        GivesUpToGap I.next_gives nowhere iterators.items (rules_of s)
+        GivesUpToGap I.next_gives spec.nowhere iterators.items (spec.rules_of s)
         ⟦<CompactionStream<Merger<I, A>, NoFilter, NoCallback> as Iterator>⟧.next_gives s) }
 {
     let merger = Merger::new(alloc, iterators)?;
@@ -47,13 +46,13 @@ fn merged_from_the_front<I: DoubleEndedIterator<Item = IterItem<A>>, A: Allocato
     alloc: A,
     iterators: Vec<I, A>,
 ) -> Result<Merger<I, A>, Error>
-    ensures deals { IfOk result (λ m. (stops : Error → Bool) (lists : List (List R)) →
+    ensures deals { IfOk result (λ m. (stops : Error → Bool) (lists : List (List spec.R)) →
         DealSorted I.next_gives I.next_back_gives stops iterators.items lists →
-        Deals (answer_stops every_error) ⟦<Merger<I, A> as Iterator>⟧.next_gives nowhere m
-        (ok_results (union_of lists))) }
+        spec.Deals (spec.answer_stops every_error) ⟦<Merger<I, A> as Iterator>⟧.next_gives
+        spec.nowhere m (ok_results (union_of lists))) }
     ensures can { IfOk result (λ m.
-        CanMerge I.next_gives nowhere I.can_next I.can_next I.remaining iterators.items
-        ⟦<Merger<I, A> as Iterator>⟧.next_gives nowhere ⟦<Merger<I, A> as Iterator>⟧.can_next
+        CanMerge I.next_gives spec.nowhere I.can_next I.can_next I.remaining iterators.items
+        ⟦<Merger<I, A> as Iterator>⟧.next_gives spec.nowhere ⟦<Merger<I, A> as Iterator>⟧.can_next
         ⟦<Merger<I, A> as Iterator>⟧.can_next m) }
 {
     let merger = Merger::new(alloc, iterators)?;
