@@ -1,16 +1,16 @@
 //! Tables that are made.
 ghost use Rattle.std.specs.Prelude.{◌≡◌, IfErr, OnOk};
-ghost use Rattle.sst.specs.Making.{DoesCompact, DoesWrite, RefusesCompact, RefusesWrite};
+ghost use Rattle.tool_files.specs.declared.made.Made.{Made as MadeTables};
+ghost use Rattle.sst.specs.Making.{CompactsTables, RefusesCompact, RefusesPack, RefusesWrite};
+ghost use Rattle.sst.specs.Making.{WritesTables};
 ghost use Rattle.sst.specs.Options.{compact_by, format_of, write_by};
-ghost use Rattle.sst.specs.Packing.{DoesPack, RefusesPack};
 
 use crate::System;
-use crate::failure::Failure;
 use logpurple::{BloomConstructionPolicy, IndexKind, Rules, Timestamp};
 use std::alloc::Global;
 use std::io::{Read, Write};
 use std::rt::{Clock, Files};
-use tool_files::{Place, print_made};
+use tool_files::{Place, ToolError, print_made};
 use tool_lines::Format;
 use tool_make::{
     CompactOptions, WriteOptions, compact_files, pack_files, print_packed, write_entries,
@@ -74,9 +74,9 @@ pub(crate) fn write<'a, R: Files, C: Clock, P: Place, I: Read + Drop, W: Write>(
     task: &WriteTask<'a>,
     input: I,
     output: &mut W,
-) -> Result<(), Failure<'a>>
-    ensures does { OnOk result (DoesWrite task.now (I.remaining input) (P.there place.old)
-        (P.done place.old) (P.done place.new) (W.contents output.old) (W.contents output.new)) }
+) -> Result<(), ToolError<'a>>
+    ensures does { OnOk result ((made : MadeTables) × WritesTables task.now (I.remaining input)
+        (P.there place.old) made (P.done place.old) (P.done place.new)) }
     ensures refused { IfErr result (λ e. RefusesWrite task.now (I.remaining input)
         (P.there place.old) (P.done place.old) e (P.done place.new)) }
 {
@@ -92,9 +92,9 @@ pub(crate) fn compact<'a, R: Files, C: Clock, P: Place, W: Write>(
     place: &mut P,
     task: &CompactTask<'a>,
     output: &mut W,
-) -> Result<(), Failure<'a>>
-    ensures does { OnOk result (DoesCompact task.now (P.content place.old) (P.done place.old)
-        (P.done place.new) (W.contents output.old) (W.contents output.new)) }
+) -> Result<(), ToolError<'a>>
+    ensures does { OnOk result ((made : MadeTables) × CompactsTables task.now (P.content place.old)
+        made (P.done place.old) (P.done place.new)) }
     ensures refused { IfErr result (λ e. RefusesCompact task.now (P.content place.old)
         (P.there place.old) (P.done place.old) e (P.done place.new)) }
 {
@@ -111,10 +111,8 @@ pub(crate) fn pack<'a, P: Place, W: Write>(
     place: &P,
     task: &PackTask<'a>,
     output: &mut W,
-) -> Result<(), Failure<'a>>
-    ensures does { OnOk result (DoesPack task.now (P.content place.now) (W.contents output.old)
-        (W.contents output.new)) }
-    ensures refused { IfErr result (RefusesPack task.now (P.content place.now)) }
+) -> Result<(), ToolError<'a>>
+    ensures { IfErr result (RefusesPack task.now (P.content place.now)) }
 {
     let files = task.files.as_slice();
     let packed = pack_files(place, alloc, files)?;

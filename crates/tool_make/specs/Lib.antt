@@ -5,7 +5,6 @@ pub mod Faults
 pub mod Filled
 pub mod NotCompacted
 pub mod Packed
-pub mod Printed
 pub mod Refusing
 pub mod Scanned
 pub mod Sorting

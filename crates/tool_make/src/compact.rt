@@ -8,7 +8,7 @@ ghost use Rattle.lsm_compactions.specs.Compacted.{FitsBy};
 ghost use Rattle.logpurple.specs.Words.{AreCompactable, AreTablesBy, CameInOrder, Entry, Faults};
 ghost use Rattle.logpurple.specs.Words.{GoesThrough, HasMade, HaveEntries, OpenTable, OutOfMemory};
 ghost use Rattle.logpurple.specs.Words.{RunsHoldLists, highest_seqno, kept_in, run_with_fault};
-ghost use Rattle.tool_make.specs.declared.compact_error.CompactError.TheVariants.{Refused};
+ghost use Rattle.tool_files.specs.declared.error.ToolError.TheVariants.{Refused};
 ghost use Rattle.tool_files.specs.declared.file_error.FileFault.TheVariants.{Taken};
 ghost use Rattle.tool_files.specs.Placed.{TellsFound};
 ghost use Rattle.tool_make.specs.Blamed.{BlamesNone, BlamesNoneForMemory, IsBlame, KeepsRefusal};
@@ -22,16 +22,16 @@ ghost use Rattle.tool_make.specs.NotCompacted.{RefusesToCompact};
 ghost use Rattle.tool_make.specs.Scanned.{NamesOrder};
 ghost use Rattle.lsm_compactions.specs.declared.any_runs.CompactionOutcome.TheVariants.{Tables};
 
+use crate::CompactOptions;
 use crate::fill::{check_folder, write_tables};
 use crate::print::path_at;
 use crate::scanned::{has_order, refusal_of};
-use crate::{CompactError, CompactOptions};
 use logpurple::{
     CompactionOutcome, Error, FinishedTable, OpenOptions, Run, Table, compact_to_run_with,
 };
 use std::alloc::Allocator;
 use std::sync::Arc;
-use tool_files::{Made, Place, open_tables};
+use tool_files::{Made, Place, ToolError, open_tables};
 use tool_show::refused_at;
 
 // Runs of tables.
@@ -93,7 +93,7 @@ fn blame<'a, A: Allocator + Copy>(
     paths: &[&'a str],
     tables: &[Table<A>],
     error: Error,
-) -> CompactError<'a>
+) -> ToolError<'a>
     ensures memory { error ≡ OutOfMemory → result ≡ Refused OutOfMemory }
     ensures order { IfOutOfOrder result ⊥ }
     // The first file is named that cannot be read to its end, if there is one, want of memory
@@ -105,33 +105,33 @@ fn blame<'a, A: Allocator + Copy>(
     ensures named { BlamesNoneForMemory result }
 {
     if error == Error::OutOfMemory {
-        return CompactError::Refused(error);
+        return ToolError::Refused(error);
     }
     for (place, table) in tables.iter().enumerate() {
         match refusal_of(table) {
             None => {}
             // Which file it is stays unknown.
-            Some(Error::OutOfMemory) => return CompactError::Unplaced(error),
+            Some(Error::OutOfMemory) => return ToolError::Unplaced(error),
             Some(error) => return blame_file(alloc, path_at(paths, place), table, error),
         }
     }
-    CompactError::Refused(error)
+    ToolError::Refused(error)
 }
 
-// A file and its refusal, with the block that is refused so.
+// A file and its refusal, with the block that is refused so, as far as that is found.
 fn blame_file<'a, A: Allocator + Copy>(
     alloc: A,
     path: &'a str,
     table: &Table<A>,
     error: Error,
-) -> CompactError<'a>
+) -> ToolError<'a>
     requires { MeetsFirst table.now error }
     ensures names { NamesBlame path.now table.now result }
     ensures order { IfOutOfOrder result ⊥ }
     ensures memory { BlamesNoneForMemory result }
 {
     let at = refused_at(alloc, table, &error);
-    CompactError::Unreadable {
+    ToolError::Unreadable {
         name: path,
         at,
         error,
@@ -143,7 +143,7 @@ fn blame_order<'a, A: Allocator + Copy>(
     alloc: A,
     paths: &[&'a str],
     tables: &[Table<A>],
-) -> CompactError<'a>
+) -> ToolError<'a>
     ensures none { BlamesNone result }
     ensures memory { BlamesNoneForMemory result }
     ensures misses { MissesNone tables.now result }
@@ -154,12 +154,12 @@ fn blame_order<'a, A: Allocator + Copy>(
     for (place, table) in tables.iter().enumerate() {
         match has_order(alloc, table) {
             Ok(true) => {}
-            Ok(false) => return CompactError::OutOfOrder(path_at(paths, place)),
+            Ok(false) => return ToolError::OutOfOrder(path_at(paths, place)),
             // Which file it is stays unknown.
-            Err(_) => return CompactError::Unordered,
+            Err(_) => return ToolError::Unordered,
         }
     }
-    CompactError::Repeated
+    ToolError::Repeated
 }
 
 // What came of some tables, and how many entries what is made has.
@@ -227,7 +227,7 @@ fn compact_opened<'a, A: Allocator + Copy>(
     paths: &[&'a str],
     tables: &[Table<A>],
     options: &CompactOptions,
-) -> Result<NewTables<A>, CompactError<'a>>
+) -> Result<NewTables<A>, ToolError<'a>>
     ensures made { IfOk result (λ made. AreCompactedOf options.now tables.now made.tables.items) }
     ensures count { IfOk result (λ made. TellCount made.tables.items made.entries) }
     ensures order { IfErr result (TellsOrder options.now tables.now) }
@@ -254,7 +254,7 @@ fn open_and_compact<'a, P: Place, A: Allocator + Copy>(
     alloc: A,
     paths: &[&'a str],
     options: &CompactOptions,
-) -> Result<NewTables<A>, CompactError<'a>>
+) -> Result<NewTables<A>, ToolError<'a>>
     ensures made { IfOk result (λ made.
         AreOfFiles options.now (P.content place.now) paths.now made.tables.items) }
     ensures count { IfOk result (λ made. TellCount made.tables.items made.entries) }
@@ -282,7 +282,7 @@ pub fn compact_files<'a, P: Place, A: Allocator + Copy>(
     paths: &[&'a str],
     folder: &'a str,
     options: &CompactOptions,
-) -> Result<Made, CompactError<'a>>
+) -> Result<Made, ToolError<'a>>
     // So many tables of a list that can be written were made of the tables of these files, opened
     // in their order; of tables of lists, those of what is kept of all entries together. As many
     // entries are answered as these tables tell. A folder was made beside the folder's name, the

@@ -6,7 +6,7 @@ ghost use Rattle.sst_entries.specs.Entry.{Entry};
 ghost use Rattle.sst_entries.specs.Strict.{version_cmp};
 ghost use Rattle.lsm_writers.specs.Tables.{all_written, took, took_fault};
 ghost use Rattle.lsm_writers.specs.Writing.{may_be_written};
-ghost use Rattle.tool_make.specs.declared.make_error.LineFault.TheVariants.{OutOfOrder, Repeated};
+ghost use Rattle.tool_files.specs.declared.error.LineFault.TheVariants.{OutOfOrder, Repeated};
 ghost use Rattle.tool_make.specs.Entries.{HasEntries, HasRows, LineSpells, ReadsInputLine};
 ghost use Rattle.tool_make.specs.Entries.{numbered, row_entries};
 ghost use Rattle.tool_make.specs.Faults.{IsOfInput, StopsAmong, StopsIn, StopsReading, TellsEntry};
@@ -15,12 +15,12 @@ ghost use Rattle.tool_make.specs.Sorting.{IsSortOf, is_row_before};
 ghost use Rattle.tool_make.specs.Taken.{TookAll};
 ghost use Rattle.tool_make.specs.Written.{TookLine};
 
-use crate::{LineFault, MakeError};
 use logpurple::{Error, InternalValue, MultiWriter, SeqNo};
 use std::alloc::{AllocError, Allocator};
 use std::cmp::Ordering;
 use std::io;
 use std::io::{BufRead, ErrorKind};
+use tool_files::{LineFault, ToolError};
 use tool_lines::{Format, LineError, parse_entry};
 
 /// An entry, and the number of its line.
@@ -34,15 +34,19 @@ pub(crate) struct Numbered<A: Allocator> {
 fn read_line<I: BufRead, A: Allocator>(
     input: &mut I,
     line: &mut Vec<u8, A>,
-) -> Result<bool, MakeError<'static>>
+) -> Result<bool, ToolError<'static>>
     ensures ok { IfOk result (ReadsInputLine
         (I.remaining input.old) (I.remaining input.new) line.new.items) }
     ensures refused { IfErr result IsOfInput }
 {
     line.clear();
-    let length = input.read_until(b'\n', line)?;
-    strip_end(line);
-    Ok(length > 0)
+    match input.read_until(b'\n', line) {
+        Ok(length) => {
+            strip_end(line);
+            Ok(length > 0)
+        }
+        Err(error) => Err(ToolError::Input(error)),
+    }
 }
 
 // Takes away the end of a line, which the last line may lack.
@@ -55,10 +59,10 @@ fn strip_end<A: Allocator>(line: &mut Vec<u8, A>)
 }
 
 // There are more lines than can be counted.
-fn too_many() -> MakeError<'static>
+fn too_many() -> ToolError<'static>
     ensures { IsOfInput result }
 {
-    MakeError::Input(io::Error::from(ErrorKind::FileTooLarge))
+    ToolError::Input(io::Error::from(ErrorKind::FileTooLarge))
 }
 
 // The entry that a line spells.
@@ -67,15 +71,15 @@ fn parse_line<A: Allocator + Copy>(
     number: u64,
     line: &[u8],
     format: Format,
-) -> Result<InternalValue<A>, MakeError<'static>>
+) -> Result<InternalValue<A>, ToolError<'static>>
     ensures ok { IfOk result (λ entry. LineSpells format line.now entry) }
     ensures refused { IfErr result (λ error. TellsSpelling number format line.now error) }
 {
     match parse_entry(alloc, line, format) {
         Ok(entry) => Ok(entry),
         // That says nothing of the line.
-        Err(LineError::OutOfMemory) => Err(MakeError::Refused(Error::OutOfMemory)),
-        Err(error) => Err(MakeError::Line {
+        Err(LineError::OutOfMemory) => Err(ToolError::Refused(Error::OutOfMemory)),
+        Err(error) => Err(ToolError::Line {
             number,
             fault: LineFault::Spelling(error),
         }),
@@ -101,7 +105,7 @@ fn write_entry<A: Allocator + Copy>(
     number: u64,
     entry: &InternalValue<A>,
     sorted: bool,
-) -> Result<(), MakeError<'static>>
+) -> Result<(), ToolError<'static>>
     ensures ok { OnOk result (writer.new ≡ took writer.old entry.now) }
     ensures listed { OnOk result
         (all_written writer.new ≡ all_written writer.old ++ entry.now ∷ []) }
@@ -114,18 +118,18 @@ fn write_entry<A: Allocator + Copy>(
     let entry = entry.as_entry_ref();
     if entry.seqno == SeqNo::MAX {
         let fault = LineFault::TooHigh;
-        return Err(MakeError::Line { number, fault });
+        return Err(ToolError::Line { number, fault });
     }
     if !writer.can_follow_ref(&entry) {
         let fault = order_fault(sorted);
-        return Err(MakeError::Line { number, fault });
+        return Err(ToolError::Line { number, fault });
     }
     match writer.write_ref(&entry) {
         Ok(()) => Ok(()),
-        Err(Error::OutOfMemory) => Err(MakeError::Refused(Error::OutOfMemory)),
+        Err(Error::OutOfMemory) => Err(ToolError::Refused(Error::OutOfMemory)),
         Err(error) => {
             let fault = LineFault::Refused(error);
-            Err(MakeError::Line { number, fault })
+            Err(ToolError::Line { number, fault })
         }
     }
 }
@@ -138,7 +142,7 @@ fn write_line<A: Allocator + Copy>(
     line: &[u8],
     format: Format,
     writer: &mut MultiWriter<A>,
-) -> Result<(), MakeError<'static>>
+) -> Result<(), ToolError<'static>>
     ensures ok { OnOk result (TookLine format line.now writer.old writer.new) }
     ensures refused { IfErr result (λ error.
         TellsLine number format writer.old line.now error) }
@@ -157,7 +161,7 @@ pub(crate) fn write_lines<I: BufRead, A: Allocator + Copy>(
     input: &mut I,
     format: Format,
     writer: &mut MultiWriter<A>,
-) -> Result<u64, MakeError<'static>>
+) -> Result<u64, ToolError<'static>>
     ensures ok { IfOk result (λ n. (es : List Entry) × HasEntries format (I.remaining input.old) es
         × (n ≡ length es) × TookAll writer.old es writer.new) }
     // Where a line is named, it is the first that is wrong, and so it is.
@@ -184,7 +188,7 @@ pub(crate) fn collect_lines<I: BufRead, A: Allocator + Copy>(
     alloc: A,
     input: &mut I,
     format: Format,
-) -> Result<Vec<Numbered<A>, A>, MakeError<'static>>
+) -> Result<Vec<Numbered<A>, A>, ToolError<'static>>
     ensures entries { IfOk result (λ rows.
         HasEntries format (I.remaining input.old) (row_entries rows.items)) }
     // Each has the number of its line.
@@ -233,7 +237,7 @@ pub(crate) fn sort_rows<A: Allocator>(rows: &mut Vec<Numbered<A>, A>) -> Result<
 pub(crate) fn write_rows<A: Allocator + Copy>(
     rows: &[Numbered<A>],
     writer: &mut MultiWriter<A>,
-) -> Result<u64, MakeError<'static>>
+) -> Result<u64, ToolError<'static>>
     ensures ok { IfOk result (λ n.
         (n ≡ length rows.now) × TookAll writer.old (row_entries rows.now) writer.new) }
     // Those before the one that is named were taken.

@@ -6,14 +6,13 @@ ghost use Rattle.tool_make.specs.Filled.{IsFilled, StaysUnfilled, TellsFolder};
 ghost use Rattle.tool_files.specs.declared.file_error.FileFault.TheVariants.{Taken};
 ghost use Rattle.tool_files.specs.Placed.{TellsFound};
 
-use crate::CompactError;
 use logpurple::FinishedTable;
 use std::alloc::Allocator;
-use tool_files::{FileError, FileFault, FileName, Place, check_free, place_folder};
+use tool_files::{FileError, FileFault, FileName, Place, ToolError, check_free, place_folder};
 
 /// Refused where anything has a folder's path, and where that is not told.
 #[tactic(auto, using(crate::proofs::Blaming::found_memory))]
-pub(crate) fn check_folder<'a, P: Place>(place: &P, folder: &'a str) -> Result<(), CompactError<'a>>
+pub(crate) fn check_folder<'a, P: Place>(place: &P, folder: &'a str) -> Result<(), ToolError<'a>>
     ensures free { OnOk result
         (IfSome (P.there place.now folder.now) (λ there. there ≡ false)) }
     ensures taken { IfErr result
@@ -23,7 +22,7 @@ pub(crate) fn check_folder<'a, P: Place>(place: &P, folder: &'a str) -> Result<(
 {
     match check_free(place, folder, FileFault::Taken) {
         Ok(()) => Ok(()),
-        Err(fault) => Err(CompactError::File(FileError {
+        Err(fault) => Err(ToolError::File(FileError {
             name: FileName::Plain(folder),
             fault,
         })),
@@ -37,7 +36,7 @@ pub(crate) fn write_tables<'a, P: Place, A: Allocator + Copy>(
     alloc: A,
     folder: &'a str,
     tables: &[FinishedTable<A>],
-) -> Result<(), CompactError<'a>>
+) -> Result<(), ToolError<'a>>
     ensures filled { OnOk result
         (IsFilled folder.now tables.now (P.done place.old) (P.done place.new)) }
     ensures refused { IfErr result (λ e.

@@ -1,14 +1,13 @@
 //! What is asked for.
 ghost use Rattle.std.specs.Prelude.{◌≡◌, ◌↔◌, ◌≤◌, IfErr, IfOk, OnOk};
 ghost use Rattle.lsm_writers.specs.Writing.{IsSmallIndex};
-ghost use Rattle.tool_make.specs.declared.make_error.MakeError.TheVariants.{SizeTooLarge};
+ghost use Rattle.tool_files.specs.declared.error.ToolError.TheVariants.{SizeTooLarge};
 ghost use Rattle.tool_make.specs.Refusing.{TellsSizes};
 ghost use Rattle.tool_make.specs.Written.{HasSmallSizes, options_of, writer_by};
 
-use crate::MakeError;
 use logpurple::{BloomConstructionPolicy, IndexKind, MultiWriter, Options, TableIds, Timestamp};
 use std::alloc::Allocator;
-use tool_files::largest_table;
+use tool_files::{ToolError, largest_table};
 use tool_lines::Format;
 
 // The largest size of a block and of a partition, in bytes.
@@ -59,12 +58,12 @@ impl WriteOptions {
     }
 
     /// Refused where a block or a partition would be too large, and only there.
-    pub(crate) fn check_sizes(&self) -> Result<(), MakeError<'static>>
+    pub(crate) fn check_sizes(&self) -> Result<(), ToolError<'static>>
         ensures ok { OnOk result (HasSmallSizes self.now) }
         ensures large { IfErr result (λ e. (e ≡ SizeTooLarge) × ¬ HasSmallSizes self.now) }
     {
         if self.block_size > LARGEST || partition_size(self.index) > LARGEST {
-            return Err(MakeError::SizeTooLarge);
+            return Err(ToolError::SizeTooLarge);
         }
         Ok(())
     }
@@ -74,7 +73,7 @@ impl WriteOptions {
     pub(crate) fn writer<A: Allocator + Copy>(
         &self,
         alloc: A,
-    ) -> Result<MultiWriter<A>, MakeError<'static>>
+    ) -> Result<MultiWriter<A>, ToolError<'static>>
         ensures ok { IfOk result (λ w. w ≡ writer_by self.now) }
         ensures small { OnOk result (HasSmallSizes self.now) }
         ensures refused { IfErr result (TellsSizes self.now) }

@@ -6,21 +6,20 @@ ghost use Rattle.logpurple.specs.Words.{OpenTable, range_of};
 ghost use Rattle.tool_files.specs.Opened.{AreOpenedFrom};
 ghost use Rattle.tool_make.specs.Packed.{NamesTurned, RefusesToPack};
 
-use crate::CompactError;
 use crate::print::path_at;
 use logpurple::{Packed, Ranged, Table, pack_each};
 use std::alloc::Allocator;
-use tool_files::{Place, open_tables};
+use tool_files::{Place, ToolError, open_tables};
 
 // Refused where the range of a file's keys ends before it begins.
-fn check_ranges<'a, T: Ranged>(paths: &[&'a str], tables: &[T]) -> Result<(), CompactError<'a>>
+fn check_ranges<'a, T: Ranged>(paths: &[&'a str], tables: &[T]) -> Result<(), ToolError<'a>>
     ensures ok { OnOk result (AreTablesWellFormed T.range tables.now) }
     // A refusal names a file whose range is turned.
     ensures err { IfErr result (NamesTurned T.range paths.now tables.now) }
 {
     for (place, table) in tables.iter().enumerate() {
         if !table.key_range().is_well_formed() {
-            return Err(CompactError::Range(path_at(paths, place)));
+            return Err(ToolError::Range(path_at(paths, place)));
         }
     }
     Ok(())
@@ -36,7 +35,7 @@ pub fn pack_files<'a, P: Place, A: Allocator + Copy>(
     place: &P,
     alloc: A,
     paths: &[&'a str],
-) -> Result<Packed<Table<A>, A>, CompactError<'a>>
+) -> Result<Packed<Table<A>, A>, ToolError<'a>>
     // They are the tables of these files, packed.
     ensures ok { IfOk result (λ packed. (opened : List OpenTable)
         × (length opened ≡ length paths.now)

@@ -9,7 +9,7 @@ ghost use Rattle.tool_files.specs.Numbered.{named_bytes, numbered_path};
 ghost use Rattle.tool_files.specs.Modes.{AreModesKept};
 ghost use Rattle.tool_files.specs.Placed.{ArePlaced, IfLeft};
 ghost use Rattle.logpurple.specs.Words.{OutOfMemory};
-ghost use Rattle.tool_make.specs.declared.make_error.MakeError.TheVariants.{Refused, SizeTooLarge};
+ghost use Rattle.tool_files.specs.declared.error.ToolError.TheVariants.{Refused, SizeTooLarge};
 ghost use Rattle.tool_make.specs.Entries.{HasEntries};
 ghost use Rattle.tool_make.specs.Faults.{StopsInOrder, StopsLines};
 ghost use Rattle.tool_make.specs.Refusing.{RefusesLines, RefusesToWrite, TellsEnd};
@@ -20,13 +20,13 @@ ghost use Rattle.tool_make.specs.TableFiles.{files_from, table_file_name};
 ghost use Rattle.tool_make.specs.Taken.{TookAll};
 ghost use Rattle.tool_make.specs.Written.{AreOfLines, AreTablesOf, HasSmallSizes, TookLines};
 
+use crate::WriteOptions;
 use crate::entries::{collect_lines, sort_rows, write_lines, write_rows};
-use crate::{MakeError, WriteOptions};
 use logpurple::{FinishedTable, MultiWriter};
 use std::alloc::Allocator;
 use std::io::{BufRead, BufReader, Read};
 use tool_files::{
-    FileError, FileName, Made, NewFile, Place, place_files, place_series, table_files,
+    FileError, FileName, Made, NewFile, Place, ToolError, place_files, place_series, table_files,
 };
 use tool_lines::Format;
 
@@ -36,7 +36,7 @@ fn write_sorted<I: BufRead, A: Allocator + Copy>(
     input: &mut I,
     format: Format,
     writer: &mut MultiWriter<A>,
-) -> Result<u64, MakeError<'static>>
+) -> Result<u64, ToolError<'static>>
     ensures ok { IfOk result (λ n. (es : List Entry) × HasEntries format (I.remaining input.old) es
         × (n ≡ length es)
         × ((sorted : List Entry) × IsSortOf is_before es sorted
@@ -55,7 +55,7 @@ fn fill<I: BufRead, A: Allocator + Copy>(
     input: &mut I,
     options: &WriteOptions,
     writer: &mut MultiWriter<A>,
-) -> Result<u64, MakeError<'static>>
+) -> Result<u64, ToolError<'static>>
     ensures ok { IfOk result (λ n.
         TookLines options.now (I.remaining input.old) writer.old writer.new n) }
     ensures refused { IfErr result
@@ -75,7 +75,7 @@ type Tables<A> = (Vec<FinishedTable<A>, A>, u64);
 fn finish<A: Allocator + Copy>(
     writer: MultiWriter<A>,
     count: u64,
-) -> Result<Tables<A>, MakeError<'static>>
+) -> Result<Tables<A>, ToolError<'static>>
     ensures ok { IfOk result (λ r. (r.1 ≡ count) × AreTablesOf writer r.0.items) }
     ensures refused { IfErr result (TellsEnd writer) }
 {
@@ -88,7 +88,7 @@ fn tables_of<I: BufRead, A: Allocator + Copy>(
     alloc: A,
     input: &mut I,
     options: &WriteOptions,
-) -> Result<Tables<A>, MakeError<'static>>
+) -> Result<Tables<A>, ToolError<'static>>
     ensures lines { IfOk result (λ r.
         AreOfLines options.now (I.remaining input.old) r.0.items r.1) }
     ensures small { OnOk result (HasSmallSizes options.now) }
@@ -109,7 +109,7 @@ fn read_tables<I: Read + Drop, A: Allocator + Copy>(
     alloc: A,
     input: I,
     options: &WriteOptions,
-) -> Result<Tables<A>, MakeError<'static>>
+) -> Result<Tables<A>, ToolError<'static>>
     ensures lines { IfOk result (λ r. AreOfLines options.now (I.remaining input) r.0.items r.1) }
     ensures some { IfOk result (λ r. 0 < length r.0.items) }
     ensures small { OnOk result (HasSmallSizes options.now) }
@@ -119,7 +119,7 @@ fn read_tables<I: Read + Drop, A: Allocator + Copy>(
     let (tables, entries) = tables_of(alloc, &mut input, options)?;
     drop(input);
     if tables.is_empty() {
-        return Err(MakeError::NoEntries);
+        return Err(ToolError::NoEntries);
     }
     Ok((tables, entries))
 }
@@ -141,7 +141,7 @@ fn files_of<'a, 'b, A: Allocator + Copy>(
     path: &'a str,
     target: Option<u64>,
     tables: &'b [FinishedTable<A>],
-) -> Result<Vec<NewFile<'a, 'b>, A>, MakeError<'a>>
+) -> Result<Vec<NewFile<'a, 'b>, A>, ToolError<'a>>
     ensures files { IfOk result (λ wanted.
         map named_bytes wanted.items ≡ files_from path.now target 1 tables.now) }
     ensures refused { IfErr result (λ e. e ≡ Refused OutOfMemory) }
@@ -190,7 +190,7 @@ fn put_tables<'a, P: Place, A: Allocator + Copy>(
     path: &'a str,
     target: Option<u64>,
     tables: &[FinishedTable<A>],
-) -> Result<(), MakeError<'a>>
+) -> Result<(), ToolError<'a>>
     ensures placed { OnOk result (AreTablesPlaced path.now target tables.now
         (P.there place.old) (P.done place.old) (P.done place.new)) }
     ensures kept { OnOk result
@@ -219,7 +219,7 @@ pub fn write_entries<'a, P: Place, I: Read + Drop, A: Allocator + Copy>(
     input: I,
     path: &'a str,
     options: &WriteOptions,
-) -> Result<Made, MakeError<'a>>
+) -> Result<Made, ToolError<'a>>
     // Where it answers, so many tables were made of so many entries, which the lines spell, and
     // just their files were placed, with their bytes.
     ensures lines { IfOk result (λ made. (fs : List (FinishedTable A))

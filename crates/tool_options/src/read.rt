@@ -1,9 +1,8 @@
 //! What the matches of a command say, as a task.
-ghost use Rattle.std.specs.Prelude.{◌≡◌, ◌↔◌, IfErr, IfOk, IfSome, IfNone, IsTrue, Some, codes, ℕ};
-ghost use Rattle.std.specs.Prelude.{option_map};
+ghost use Rattle.std.specs.Prelude.{◌≡◌, ◌↔◌, IfOk, IfSome, IsTrue, Some, codes};
 ghost use Rattle.clap.specs.Words.{Text, first_of, found_of, one_of, rows_of};
-ghost use Rattle.tool_options.specs.Tasks.{AsksFor, Has, Misreads, Spells, SpellsBits};
-ghost use Rattle.tool_options.specs.Tasks.{placed, text_in, texts_of};
+ghost use Rattle.tool_options.specs.Tasks.{AsksFor, Has, Spells, SpellsBits, placed, text_in};
+ghost use Rattle.tool_options.specs.Tasks.{texts_of};
 
 use crate::tasks::{
     CompactTask, DumpTask, GetTask, PackTask, StatTask, Task, VerifyTask, WriteTask,
@@ -39,8 +38,7 @@ pub(crate) fn read_task<'a>(
     name: &str,
     matches: &ArgMatches<'a>,
 ) -> Result<Task<'a>, Misread>
-    ensures asks { IfOk result (λ t. AsksFor name.now (rows_of (found_of matches.now)) t) }
-    ensures refuses { IfErr result (Misreads name.now (rows_of (found_of matches.now))) }
+    ensures { IfOk result (λ t. AsksFor name.now (rows_of (found_of matches.now)) t) }
 {
     match name {
         "write" => read_write(matches),
@@ -55,8 +53,7 @@ pub(crate) fn read_task<'a>(
 }
 
 fn read_write<'a>(matches: &ArgMatches<'a>) -> Result<Task<'a>, Misread>
-    ensures asks { IfOk result (λ t. AsksFor (codes "write") (rows_of (found_of matches.now)) t) }
-    ensures refuses { IfErr result (Misreads (codes "write") (rows_of (found_of matches.now))) }
+    ensures { IfOk result (λ t. AsksFor (codes "write") (rows_of (found_of matches.now)) t) }
 {
     Ok(Task::Write(WriteTask {
         file: text(matches, "file").ok_or(Misread::Absent)?,
@@ -72,8 +69,7 @@ fn read_write<'a>(matches: &ArgMatches<'a>) -> Result<Task<'a>, Misread>
 }
 
 fn read_dump<'a>(alloc: Global, matches: &ArgMatches<'a>) -> Result<Task<'a>, Misread>
-    ensures asks { IfOk result (λ t. AsksFor (codes "dump") (rows_of (found_of matches.now)) t) }
-    ensures refuses { IfErr result (Misreads (codes "dump") (rows_of (found_of matches.now))) }
+    ensures { IfOk result (λ t. AsksFor (codes "dump") (rows_of (found_of matches.now)) t) }
 {
     Ok(Task::Dump(DumpTask {
         files: files(alloc, matches)?,
@@ -87,8 +83,7 @@ fn read_dump<'a>(alloc: Global, matches: &ArgMatches<'a>) -> Result<Task<'a>, Mi
 
 // The last word is the key.
 fn read_get<'a>(alloc: Global, matches: &ArgMatches<'a>) -> Result<Task<'a>, Misread>
-    ensures asks { IfOk result (λ t. AsksFor (codes "get") (rows_of (found_of matches.now)) t) }
-    ensures refuses { IfErr result (Misreads (codes "get") (rows_of (found_of matches.now))) }
+    ensures { IfOk result (λ t. AsksFor (codes "get") (rows_of (found_of matches.now)) t) }
 {
     let mut files = files(alloc, matches)?;
     let key = files.pop().ok_or(Misread::Absent)?;
@@ -102,8 +97,7 @@ fn read_get<'a>(alloc: Global, matches: &ArgMatches<'a>) -> Result<Task<'a>, Mis
 }
 
 fn read_stat<'a>(alloc: Global, matches: &ArgMatches<'a>) -> Result<Task<'a>, Misread>
-    ensures asks { IfOk result (λ t. AsksFor (codes "stat") (rows_of (found_of matches.now)) t) }
-    ensures refuses { IfErr result (Misreads (codes "stat") (rows_of (found_of matches.now))) }
+    ensures { IfOk result (λ t. AsksFor (codes "stat") (rows_of (found_of matches.now)) t) }
 {
     Ok(Task::Stat(StatTask {
         files: files(alloc, matches)?,
@@ -112,8 +106,7 @@ fn read_stat<'a>(alloc: Global, matches: &ArgMatches<'a>) -> Result<Task<'a>, Mi
 }
 
 fn read_verify<'a>(alloc: Global, matches: &ArgMatches<'a>) -> Result<Task<'a>, Misread>
-    ensures asks { IfOk result (λ t. AsksFor (codes "verify") (rows_of (found_of matches.now)) t) }
-    ensures refuses { IfErr result (Misreads (codes "verify") (rows_of (found_of matches.now))) }
+    ensures { IfOk result (λ t. AsksFor (codes "verify") (rows_of (found_of matches.now)) t) }
 {
     Ok(Task::Verify(VerifyTask {
         files: files(alloc, matches)?,
@@ -121,8 +114,7 @@ fn read_verify<'a>(alloc: Global, matches: &ArgMatches<'a>) -> Result<Task<'a>, 
 }
 
 fn read_compact<'a>(alloc: Global, matches: &ArgMatches<'a>) -> Result<Task<'a>, Misread>
-    ensures asks { IfOk result (λ t. AsksFor (codes "compact") (rows_of (found_of matches.now)) t) }
-    ensures refuses { IfErr result (Misreads (codes "compact") (rows_of (found_of matches.now))) }
+    ensures { IfOk result (λ t. AsksFor (codes "compact") (rows_of (found_of matches.now)) t) }
 {
     let folder = text(matches, "to").ok_or(Misread::Absent)?;
     let watermark = number(matches, "watermark").ok_or(Misread::Absent)?;
@@ -137,8 +129,7 @@ fn read_compact<'a>(alloc: Global, matches: &ArgMatches<'a>) -> Result<Task<'a>,
 }
 
 fn read_pack<'a>(alloc: Global, matches: &ArgMatches<'a>) -> Result<Task<'a>, Misread>
-    ensures asks { IfOk result (λ t. AsksFor (codes "pack") (rows_of (found_of matches.now)) t) }
-    ensures refuses { IfErr result (Misreads (codes "pack") (rows_of (found_of matches.now))) }
+    ensures { IfOk result (λ t. AsksFor (codes "pack") (rows_of (found_of matches.now)) t) }
 {
     Ok(Task::Pack(PackTask {
         files: files(alloc, matches)?,
@@ -182,18 +173,15 @@ fn files<'a>(alloc: Global, matches: &ArgMatches<'a>) -> Result<Vec<&'a str>, Al
 
 // How many bits the filter is to have for a key.
 fn filter(matches: &ArgMatches<'_>) -> Option<u32>
-    ensures some { let found = first_of (codes "filter") (rows_of (found_of matches.now)) in
+    ensures { let found = first_of (codes "filter") (rows_of (found_of matches.now)) in
         IfSome result (λ bits. (text : Text) × (found ≡ Some text) × SpellsBits text bits) }
-    ensures none { let found = first_of (codes "filter") (rows_of (found_of matches.now)) in
-        IfNone result ((text : Text) → (bits : ℕ) → found ≡ Some text → SpellsBits text bits → ⊥) }
 {
     filter_bits(text(matches, "filter")?)
 }
 
 // How many bits a filter has for a key: a number from 1 to 100, or 0 at `none`.
 fn filter_bits(text: &str) -> Option<u32>
-    ensures some { IfSome result (SpellsBits text.now) }
-    ensures none { IfNone result ((bits : ℕ) → SpellsBits text.now bits → ⊥) }
+    ensures { IfSome result (SpellsBits text.now) }
 {
     if text == "none" {
         return Some(0);
