@@ -3,8 +3,6 @@
 #![tactic(auto)]
 
 mod bar;
-mod failure;
-mod lines;
 mod make;
 mod running;
 mod show;

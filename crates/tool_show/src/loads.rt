@@ -1,19 +1,13 @@
 //! Which blocks a read of a key loads.
-ghost use Rattle.std.specs.Prelude.{◌≡◌, ◌++◌, IfErr, IfOk, OnOk};
-ghost use Rattle.sst_entries.specs.declared.error.Error.TheVariants.{OutOfMemory};
-ghost use Rattle.sst_sections.specs.Sections.{body_of};
-ghost use Rattle.sst_sections.specs.declared.section.SectionName.TheVariants.{Data, Filter};
-ghost use Rattle.tool_show.specs.Loads.{block_if, blocks_loaded, data_by};
-ghost use Rattle.tool_show.specs.Loads.{data_place, filter_place, index_place, index_section};
-ghost use Rattle.tool_show.specs.Loads.{loads_told};
-ghost use Rattle.tool_show.specs.Loads.{reached};
-
-use crate::BlockPlace;
 use crate::blocks::{handles_in, source_of};
+use crate::members::{line_of, write_number, write_text};
+use json::Writer;
 use lsm_ranges::Ranged;
-use lsm_readers::{ParsedRegions, Table};
+use lsm_readers::Table;
 use sst_blocks::{BlockHandle, BlockSource, Error, Opened, SectionName, SeqNo};
 use std::alloc::{AllocError, Allocator, Global};
+use std::io::{self, Write};
+use tool_files::{BlockPlace, section_name};
 
 /// What a read of a key loads of a table.
 #[derive(Drop)]
@@ -30,69 +24,75 @@ pub(crate) fn loaded_by<A: Allocator + Copy>(
     table: &Table<A>,
     key: &[u8],
     seqno: SeqNo,
-) -> Result<TableLoads<A>, Error>
-    ensures opened { IfOk result (λ l. l.opened ≡ loads_told table.now key.now seqno) }
-    ensures places { IfOk result (λ l. l.places.items ≡ blocks_loaded table.now key.now seqno) }
-    ensures err { IfErr result (λ e. e ≡ OutOfMemory) }
-{
+) -> Result<TableLoads<A>, Error> {
     let opened = loads_of_read(table, key, seqno)?;
     let low = seqno.saturating_sub(table.global_seqno());
-    let asked = asked_places(alloc, table, key, low)?;
-    let places = places_of_loads(alloc, opened, &asked)?;
+    let mut places = Vec::new(alloc);
+    add_places(alloc, &mut places, table, key, low, opened)?;
     Ok(TableLoads { opened, places })
 }
 
-// How many blocks a read of a table loads, if its range has the key; else it is not asked. Refused
-// for want of memory alone, since not all is loaded then.
+// How many blocks a read of a table loads, if its range has the key; else it is not asked.
 fn loads_of_read<A: Allocator + Copy>(
     table: &Table<A>,
     key: &[u8],
     seqno: SeqNo,
-) -> Result<Opened, Error>
-    ensures ok { IfOk result (λ o. o ≡ loads_told table.now key.now seqno) }
-    ensures err { IfErr result (λ e. e ≡ OutOfMemory) }
-{
+) -> Result<Opened, Error> {
     if !table.key_range().contains_key(key) {
         return Ok(Opened::none());
     }
     let (found, opened) = table.get_counted(key, seqno, Table::<A>::key_hash(key));
     match found {
+        // Not all is loaded then.
         Err(Error::OutOfMemory) => Err(Error::OutOfMemory),
         _ => Ok(opened),
     }
 }
 
-// Of the places that are asked those of blocks that were loaded.
-fn places_of_loads<A: Allocator + Copy>(
+// Adds where the blocks begin that were loaded, of those that a read asks of a key below a stored
+// number.
+fn add_places<A: Allocator + Copy>(
     alloc: A,
+    places: &mut Vec<BlockPlace, A>,
+    table: &Table<A>,
+    key: &[u8],
+    seqno: SeqNo,
     opened: Opened,
-    asked: &AskedPlaces,
-) -> Result<Vec<BlockPlace, A>, AllocError>
-    ensures { IfOk result (λ places. places.items
-        ≡ block_if Filter opened.filter_loads asked.now.filter
-        ++ (block_if asked.now.index_section opened.index_loads asked.now.index
-        ++ block_if Data opened.data_loads asked.now.data)) }
-{
-    let mut places = Vec::new(alloc);
-    add_loaded(
-        &mut places,
-        SectionName::Filter,
-        opened.filter_loads,
-        asked.filter,
-    )?;
-    add_loaded(
-        &mut places,
-        asked.index_section,
-        opened.index_loads,
-        asked.index,
-    )?;
-    add_loaded(
-        &mut places,
-        SectionName::Data,
-        opened.data_loads,
-        asked.data,
-    )?;
-    Ok(places)
+) -> Result<(), Error> {
+    let source = source_of(alloc, table)?;
+    let regions = &table.regions;
+    let filter = match regions.filter_tli {
+        None => regions.filter,
+        Some(tops) => reached(&source, Some(tops), key, SeqNo::MAX)?,
+    };
+    let (section, index) = if regions.index.is_some() {
+        let partition = reached(&source, Some(regions.tli), key, seqno)?;
+        (SectionName::Index, partition)
+    } else {
+        (SectionName::Tli, Some(regions.tli))
+    };
+    let data = reached(&source, index, key, seqno)?;
+    add_loaded(places, SectionName::Filter, opened.filter_loads, filter)?;
+    add_loaded(places, section, opened.index_loads, index)?;
+    add_loaded(places, SectionName::Data, opened.data_loads, data)?;
+    Ok(())
+}
+
+// Where the first block lies whose handle in a block reaches a key and a number, if that block
+// loads.
+fn reached<A: Allocator + Copy>(
+    source: &BlockSource<A>,
+    place: Option<BlockHandle>,
+    key: &[u8],
+    seqno: SeqNo,
+) -> Result<Option<BlockHandle>, Error> {
+    let Some(place) = place else {
+        return Ok(None);
+    };
+    match handles_in(source, &place)? {
+        Some(handles) => Ok(handles.find(key, seqno)),
+        None => Ok(None),
+    }
 }
 
 // Adds a block, where one was loaded and its place is known.
@@ -101,10 +101,7 @@ fn add_loaded<A: Allocator>(
     section: SectionName,
     loads: u64,
     place: Option<BlockHandle>,
-) -> Result<(), AllocError>
-    ensures { OnOk result
-        (places.new.items ≡ places.old.items ++ block_if section loads place) }
-{
+) -> Result<(), AllocError> {
     match place {
         Some(place) if loads > 0 => {
             let offset = place.offset().0;
@@ -115,146 +112,58 @@ fn add_loaded<A: Allocator>(
     }
 }
 
-// Where the blocks lie that a read of a key asks, if it comes to them.
-#[derive(Clone, Copy)]
-struct AskedPlaces {
-    // The block of the filter.
-    filter: Option<BlockHandle>,
-    // The block of the index: a partition, or the one block of a full index.
-    index: Option<BlockHandle>,
-    // The section that it is a part of.
-    index_section: SectionName,
-    // The data block.
-    data: Option<BlockHandle>,
+/// Writes which blocks were loaded of a file, on a line of words.
+pub(crate) fn print_words<A: Allocator, W: Write>(
+    output: &mut W,
+    name: &str,
+    loaded: &TableLoads<A>,
+) -> io::Result<()> {
+    let opened = loaded.opened;
+    let (data, index) = (opened.data_loads, opened.index_loads);
+    let (filter, meta) = (opened.filter_loads, opened.meta_loads);
+    write!(
+        output,
+        "{name}: loaded data {data}, index {index}, filter {filter}, meta {meta}"
+    )?;
+    for place in &loaded.places {
+        write!(output, "; {place}")?;
+    }
+    output.write_all(b"\n")
 }
 
-// Where the blocks of a table lie that a read of a key below a stored number asks. Refused for want
-// of memory alone.
-fn asked_places<A: Allocator + Copy>(
+/// Which blocks were loaded of a file, as an object of JSON on a line.
+pub(crate) fn object_of<A: Allocator + Copy>(
     alloc: A,
-    table: &Table<A>,
-    key: &[u8],
-    seqno: SeqNo,
-) -> Result<AskedPlaces, Error>
-    ensures filter { let t = table.now in IfOk result (λ p.
-        p.filter ≡ filter_place (body_of t.bytes) t.parts.regions key.now) }
-    ensures index { let t = table.now in IfOk result (λ p.
-        p.index ≡ index_place (body_of t.bytes) t.parts.regions key.now seqno) }
-    ensures section { IfOk result (λ p.
-        p.index_section ≡ index_section table.now.parts.regions) }
-    ensures data { let t = table.now in IfOk result (λ p.
-        p.data ≡ data_place (body_of t.bytes) t.parts.regions key.now seqno) }
-    ensures err { IfErr result (λ e. e ≡ OutOfMemory) }
-{
-    let source = source_of(alloc, table)?;
-    let asked = asked_in(&source, &table.regions, key, seqno);
-    drop(source);
-    asked
-}
-
-// Where the blocks of some regions of a table's bytes lie that such a read asks. Refused for want
-// of memory alone.
-fn asked_in<A: Allocator + Copy>(
-    source: &BlockSource<A>,
-    regions: &ParsedRegions,
-    key: &[u8],
-    seqno: SeqNo,
-) -> Result<AskedPlaces, Error>
-    ensures filter { IfOk result (λ p.
-        p.filter ≡ filter_place (body_of source.now) regions.now key.now) }
-    ensures index { IfOk result (λ p.
-        p.index ≡ index_place (body_of source.now) regions.now key.now seqno) }
-    ensures section { IfOk result (λ p. p.index_section ≡ index_section regions.now) }
-    ensures data { IfOk result (λ p.
-        p.data ≡ data_place (body_of source.now) regions.now key.now seqno) }
-    ensures err { IfErr result (λ e. e ≡ OutOfMemory) }
-{
-    let filter = filter_place(source, regions, key)?;
-    let index = index_place(source, regions, key, seqno)?;
-    let data = data_place(source, &index, key, seqno)?;
-    Ok(AskedPlaces {
-        filter,
-        index,
-        index_section: index_section(regions),
-        data,
-    })
-}
-
-// The section of the block of the index that a read asks.
-fn index_section(regions: &ParsedRegions) -> SectionName
-    ensures { result ≡ index_section regions.now }
-{
-    if regions.index.is_some() {
-        SectionName::Index
-    } else {
-        SectionName::Tli
+    name: &str,
+    loaded: &TableLoads<A>,
+) -> Result<Vec<u8, A>, AllocError> {
+    let mut writer = Writer::new(Vec::new(alloc));
+    writer.begin_object()?;
+    write_text(&mut writer, "name", name)?;
+    writer.key("loaded")?;
+    write_counts(&mut writer, loaded.opened)?;
+    writer.key("blocks")?;
+    writer.begin_array()?;
+    for place in &loaded.places {
+        write_place(&mut writer, *place)?;
     }
+    writer.end_array()?;
+    writer.end_object()?;
+    line_of(writer)
 }
 
-// Where the block of the filter lies that is asked for a key. Refused for want of memory alone.
-fn filter_place<A: Allocator + Copy>(
-    source: &BlockSource<A>,
-    regions: &ParsedRegions,
-    key: &[u8],
-) -> Result<Option<BlockHandle>, Error>
-    ensures ok { IfOk result (λ p.
-        p ≡ filter_place (body_of source.now) regions.now key.now) }
-    ensures err { IfErr result (λ e. e ≡ OutOfMemory) }
-{
-    match regions.filter_tli {
-        None => Ok(regions.filter),
-        Some(tops) => reached(source, &tops, key, SeqNo::MAX),
-    }
+fn write_counts<A: Allocator>(writer: &mut Writer<A>, opened: Opened) -> Result<(), AllocError> {
+    writer.begin_object()?;
+    write_number(writer, "data", opened.data_loads)?;
+    write_number(writer, "index", opened.index_loads)?;
+    write_number(writer, "filter", opened.filter_loads)?;
+    write_number(writer, "meta", opened.meta_loads)?;
+    writer.end_object()
 }
 
-// Where the block of the index lies that names the data block. Refused for want of memory alone.
-fn index_place<A: Allocator + Copy>(
-    source: &BlockSource<A>,
-    regions: &ParsedRegions,
-    key: &[u8],
-    seqno: SeqNo,
-) -> Result<Option<BlockHandle>, Error>
-    ensures ok { IfOk result (λ p.
-        p ≡ index_place (body_of source.now) regions.now key.now seqno) }
-    ensures err { IfErr result (λ e. e ≡ OutOfMemory) }
-{
-    let tli = regions.tli;
-    if regions.index.is_none() {
-        return Ok(Some(tli));
-    }
-    reached(source, &tli, key, seqno)
-}
-
-// Where the data block lies that a block of the index names, if there is one. Refused for want of
-// memory alone.
-fn data_place<A: Allocator + Copy>(
-    source: &BlockSource<A>,
-    index: &Option<BlockHandle>,
-    key: &[u8],
-    seqno: SeqNo,
-) -> Result<Option<BlockHandle>, Error>
-    ensures ok { IfOk result (λ p. p ≡ data_by (body_of source.now) index.now key.now seqno) }
-    ensures err { IfErr result (λ e. e ≡ OutOfMemory) }
-{
-    match index {
-        None => Ok(None),
-        Some(place) => reached(source, place, key, seqno),
-    }
-}
-
-// Where the first block lies whose handle in a block reaches a key and a number, if that block
-// loads. Refused for want of memory alone.
-fn reached<A: Allocator + Copy>(
-    source: &BlockSource<A>,
-    place: &BlockHandle,
-    key: &[u8],
-    seqno: SeqNo,
-) -> Result<Option<BlockHandle>, Error>
-    ensures ok { IfOk result (λ p. p ≡ reached (body_of source.now) place.now key.now seqno) }
-    ensures err { IfErr result (λ e. e ≡ OutOfMemory) }
-{
-    match handles_in(source, place)? {
-        Some(handles) => Ok(handles.find(key, seqno)),
-        None => Ok(None),
-    }
+fn write_place<A: Allocator>(writer: &mut Writer<A>, place: BlockPlace) -> Result<(), AllocError> {
+    writer.begin_object()?;
+    write_text(writer, "section", section_name(place.section))?;
+    write_number(writer, "offset", place.offset)?;
+    writer.end_object()
 }
