@@ -12,6 +12,7 @@ ghost use Rattle.sst_c.specs.declared.held.What.TheVariants.{Runs as RunsOf};
 use crate::asked::Asked;
 use crate::entries::entry_of;
 use crate::run_list::RunList;
+use crate::runs_scan::{RunsScan, lent_by};
 use crate::verifier::Verifier;
 use lsm_iters::Iter;
 use lsm_ranges::Packed;
@@ -93,6 +94,8 @@ pub enum What {
     /// What runs of tables have together within bounds, read from both ends; nothing once a read
     /// was refused.
     Merged(Option<Asked>),
+    /// The same, borrowed from the front.
+    RunsScan(Option<RunsScan>),
     /// Tables that are written: those that are finished, and the one that is not.
     Files(Files),
     /// Runs of tables, the newest first.
@@ -130,6 +133,7 @@ fn lent(what: &What) -> Option<EntryRef<'_>>
     match what {
         What::Scan(scanner) => scanner.entry(),
         What::Range(iter) => iter.entry(),
+        What::RunsScan(scan) => lent_by(scan),
         _ => None,
     }
 }

@@ -192,8 +192,8 @@ pub extern "C" fn sst_runs_range_open(
     code
 }
 
-// Lets go what is kept.
-fn give_up<T: Drop>(kept: &mut Option<T>)
+/// Drops what is kept.
+pub(crate) fn give_up<T: Drop>(kept: &mut Option<T>)
     ensures { kept.new ≡ None }
 {
     *kept = None;

@@ -9,8 +9,8 @@ use crate::entries::EntryTold;
 use crate::held::{Held, What};
 use crate::takes::{Reads, take_from};
 use crate::{ranges, scans};
-use lsm_runs::NewestOfRunsAt;
-use sst_blocks::EntryRef;
+use lsm_runs::{LentNewestOfRunsAt, NewestOfRunsAt};
+use sst_blocks::{EntryRef, Lending};
 use std::alloc::Global;
 
 impl Held {
@@ -18,7 +18,7 @@ impl Held {
     pub(crate) fn is_scan(&self) -> bool
         ensures { result ≡ is_scan self.now.what }
     {
-        matches!(&self.what, What::Scan(_))
+        matches!(&self.what, What::Scan(_) | What::RunsScan(_))
     }
 
     /// Whether it is a range.
@@ -34,6 +34,7 @@ impl Reads for Held {
     ghost reads = { λ back h code found k. ReadsOn
         ⟦<NewestOfRunsAt<Global> as Iterator>⟧.next_gives
         ⟦<NewestOfRunsAt<Global> as DoubleEndedIterator>⟧.next_back_gives
+        ⟦<LentNewestOfRunsAt<Global> as Lending>⟧.advances
         back h.what code found k.what };
 
     ghost found = { found_by };
@@ -61,7 +62,8 @@ pub(crate) fn take_held(
 ) -> u32
     ensures { let front = ⟦<NewestOfRunsAt<Global> as Iterator>⟧.next_gives in
         let last = ⟦<NewestOfRunsAt<Global> as DoubleEndedIterator>⟧.next_back_gives in
-        ReadsMany (ReadsOn front last back) held.old.what entries.old entries.new
+        let advances = ⟦<LentNewestOfRunsAt<Global> as Lending>⟧.advances in
+        ReadsMany (ReadsOn front last advances back) held.old.what entries.old entries.new
         bytes.old bytes.new count.new result (found_by held.new) held.new.what }
 {
     match take_from(held, back, entries, bytes, count) {

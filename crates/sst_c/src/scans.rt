@@ -1,6 +1,6 @@
-//! Scans: all entries of a table, block after block.
+//! Scans: all entries of a table, block after block; and the steps of scans of several runs.
 ghost use Rattle.std.specs.Prelude.{◌≡◌, ◌≢◌, ◌<◌, ◌⊎◌, false, IfErr, IfOk, IsSomeAnd, List};
-ghost use Rattle.std.specs.Prelude.{None, Some, is_some, length, true};
+ghost use Rattle.std.specs.Prelude.{None, Option, Some, is_some, length, true};
 ghost use Rattle.sst_entries.specs.Error.{Faults, FaultsFirst};
 ghost use Rattle.sst_entries.specs.Stream.{ok_results};
 ghost use Rattle.sst_entries.specs.declared.error.Error.TheVariants.{OutOfMemory};
@@ -8,21 +8,26 @@ ghost use Rattle.lsm_readers.specs.Scan.{IsEndedScan};
 ghost use Rattle.lsm_readers.specs.Words.{Entry, OpenTable, Scan, ScansLent, StoresList, lift};
 ghost use Rattle.lsm_runs.specs.RunScan.{early_scan_fault, scan_fault, table_scan};
 ghost use Rattle.sst_c.specs.Codes.{TellsFirst};
+ghost use Rattle.sst_c.specs.Newest.{LentNewestAt};
+ghost use Rattle.sst_c.specs.Reads.{MergedReads};
 ghost use Rattle.sst_c.specs.Scans.{DealsScan, IsBegunScan};
-ghost use Rattle.sst_c.specs.Steps.{StepsBy};
+ghost use Rattle.sst_c.specs.Steps.{StepsAs, StepsBy};
 ghost use Rattle.sst_c.specs.Takes.{ReadsMany};
 ghost use Rattle.sst_c.specs.Told.{entry_facts, found_by, found_in};
-ghost use Rattle.sst_c.specs.What.{IsScanWhere, is_scan, is_table};
+ghost use Rattle.sst_c.specs.What.{IsRunsScanAs, IsScanWhere, is_scan, is_table};
 ghost use Rattle.sst_c.specs.Writing.{FaultTold};
 ghost use Rattle.sst_c.specs.declared.held.Held.{Held as HeldValue};
-ghost use Rattle.sst_c.specs.declared.held.What.TheVariants.{Scan as ScanOf, Table as TableOf};
+ghost use Rattle.sst_c.specs.declared.held.What.TheVariants.{RunsScan as RunsScanOf, Scan as ScanOf};
+ghost use Rattle.sst_c.specs.declared.held.What.TheVariants.{Table as TableOf};
 
 use crate::codes::{CLOSED, OPEN, OTHER_KIND};
 use crate::entries::{EntryTold, tell};
 use crate::handle::Handle;
 use crate::held::{Held, What};
 use crate::reads::take_held;
+use crate::runs_scan::step_runs;
 use lsm_readers::{Scanner, Table};
+use lsm_runs::LentNewestOfRunsAt;
 use sst_blocks::{Error, Lending};
 use std::alloc::Global;
 
@@ -161,12 +166,21 @@ pub(crate) fn step(held: &mut Held) -> u32
         IsScanWhere IsEndedScan held.new.what }
     ensures over { (s : Scan) → held.old.what ≡ ScanOf s → IsEndedScan s →
         (result ≡ 0) × (found_by held.new ≡ None) }
+    ensures runs { (s : LentNewestAt) → held.old.what ≡ RunsScanOf (Some s) →
+        let advances = ⟦<LentNewestOfRunsAt<Global> as Lending>⟧.advances in
+        IsRunsScanAs (StepsAs advances s result (found_by held.new)) held.new.what }
+    ensures over_runs { held.old.what ≡ RunsScanOf None →
+        (result ≡ 0) × (found_by held.new ≡ None) × (held.new.what ≡ RunsScanOf None) }
     ensures fine { is_some (found_by held.new) ≡ true → result ≡ 0 }
 {
     match &mut held.what {
         What::Scan(scanner) => {
             held.found.set_lent();
             step_scan(scanner)
+        }
+        What::RunsScan(scan) => {
+            held.found.set_lent();
+            step_runs(scan)
         }
         _ => {
             held.found.clear();
@@ -177,8 +191,8 @@ pub(crate) fn step(held: &mut Held) -> u32
 
 /// Goes on to the next entry of a scan, which the scan lends from the table's memory, with no share
 /// of its own, and writes its kind, number and lengths; zeros at the end. Fails with 100 if the
-/// handle is closed, with 102 if it holds no scan, and as `Scanner::advance`; the scan is at its
-/// end then, nothing is found, and zeros are written.
+/// handle is closed, with 102 if it holds no scan, and as `Scanner::advance`, or of several runs as
+/// a step of `lend_runs_at`; the scan is at its end then, nothing is found, and zeros are written.
 #[unsafe(no_mangle)]
 pub extern "C" fn sst_scan_next(alloc: Global, scan: &mut Handle, entry: &mut EntryTold) -> u32
     ensures shut { scan.old.boxed.value ≡ None →
@@ -199,6 +213,16 @@ pub extern "C" fn sst_scan_next(alloc: Global, scan: &mut Handle, entry: &mut En
     ensures over { (h : HeldValue) (s : Scan) → scan.old.boxed.value ≡ Some h →
         h.what ≡ ScanOf s → IsEndedScan s →
         (result ≡ 0) × (found_in scan.new.boxed.value ≡ None) }
+    // Of several runs it is one step of what `lend_runs_at` returns, which is dropped if it fails;
+    ensures runs { (h : HeldValue) (s : LentNewestAt) → scan.old.boxed.value ≡ Some h →
+        h.what ≡ RunsScanOf (Some s) →
+        let advances = ⟦<LentNewestOfRunsAt<Global> as Lending>⟧.advances in
+        IsSomeAnd scan.new.boxed.value (λ k.
+        IsRunsScanAs (StepsAs advances s result (found_by k)) k.what) }
+    // from then on the scan is at its end.
+    ensures over_runs { (h : HeldValue) → scan.old.boxed.value ≡ Some h →
+        h.what ≡ RunsScanOf None → (result ≡ 0) × IsSomeAnd scan.new.boxed.value (λ k.
+        (found_by k ≡ None) × (k.what ≡ RunsScanOf None)) }
 {
     *entry = tell(None);
     let Some(mut held) = scan.take(alloc) else {
@@ -221,6 +245,10 @@ fn take(held: &mut Held, entries: &mut [EntryTold], bytes: &mut [u8], count: &mu
         count.new result (found_by held.new)) held.new.what }
     ensures ends { (s : Scan) → held.old.what ≡ ScanOf s → found_by held.new ≡ None →
         count.new < length entries.old → IsScanWhere IsEndedScan held.new.what }
+    ensures runs { (m : Option LentNewestAt) → held.old.what ≡ RunsScanOf m →
+        let advances = ⟦<LentNewestOfRunsAt<Global> as Lending>⟧.advances in
+        IsRunsScanAs (ReadsMany (MergedReads advances) m entries.old entries.new
+        bytes.old bytes.new count.new result (found_by held.new)) held.new.what }
 {
     if !held.is_scan() {
         held.found.clear();
@@ -268,6 +296,12 @@ pub extern "C" fn sst_scan_take(
         h.what ≡ ScanOf s → found_in scan.new.boxed.value ≡ None →
         count.new < length entries.old →
         IsSomeAnd scan.new.boxed.value (λ k. IsScanWhere IsEndedScan k.what) }
+    // Of several runs it is as many of their steps.
+    ensures runs { (h : HeldValue) (m : Option LentNewestAt) → scan.old.boxed.value ≡ Some h →
+        h.what ≡ RunsScanOf m → let advances = ⟦<LentNewestOfRunsAt<Global> as Lending>⟧.advances in
+        IsSomeAnd scan.new.boxed.value (λ k. IsRunsScanAs
+        (ReadsMany (MergedReads advances) m entries.old entries.new
+        bytes.old bytes.new count.new result (found_by k)) k.what) }
 {
     *count = 0;
     *found = tell(None);
