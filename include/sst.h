@@ -155,10 +155,10 @@ void sst_close(sst_handle *handle);
 
 /* What a read found. A handle has the entry that the last read by it found (`sst_table_get`,
  * `sst_runs_get`, `sst_range_next`, `sst_range_take`, `sst_scan_next`, `sst_scan_take`) until the
- * next one. Point reads, scans, and ranges of one table borrow the entry from the table's memory:
- * no bytes are copied, and no reference to it is counted. Ranges of several tables hold a counted
- * reference. Where the last read found nothing, or none was made, the two calls answer SST_NOTHING,
- * whatever is held.
+ * next one. Point reads, scans of one table or of several, and ranges of one table borrow the entry
+ * from the table's memory: no bytes are copied, and no reference to it is counted. Ranges of several
+ * tables hold a counted reference. Where the last read found nothing, or none was made, the two
+ * calls answer SST_NOTHING, whatever is held.
  */
 
 /* Copies the key and the value of what the last read by a handle found. SST_NOTHING where nothing
@@ -400,8 +400,8 @@ uint32_t sst_range_take(sst_handle *range, bool back, sst_entry *entries, size_t
 uint32_t sst_scan_open(sst_handle *table, sst_handle *scan);
 
 /* Takes the next entry of a scan, and keeps it: by key up, and of one key by number down, every
- * version. At the end it answers 0, and the kind is SST_NO_ENTRY. Where it is refused nothing more
- * comes.
+ * version; of a scan of a list of runs one version of each key. At the end it answers 0, and the
+ * kind is SST_NO_ENTRY. Where it is refused nothing more comes.
  */
 uint32_t sst_scan_next(sst_handle *scan, sst_entry *entry);
 
@@ -437,6 +437,15 @@ uint32_t sst_runs_get(sst_handle *runs, const uint8_t *key, size_t key_len, uint
 uint32_t sst_runs_range_open(sst_handle *runs, uint32_t lower_kind, const uint8_t *lower,
                              size_t lower_len, uint32_t upper_kind, const uint8_t *upper,
                              size_t upper_len, uint64_t seqno, sst_handle *range);
+
+/* Begins to read the same entries as `sst_runs_range_open` does, from the front alone, into a
+ * handle that holds nothing. `sst_scan_next` takes them. It borrows each entry from the memory of
+ * its table, where the range holds a reference to it. So threads that read the same tables change
+ * no common counter for each entry: a scan is the faster of the two.
+ */
+uint32_t sst_runs_scan_open(sst_handle *runs, uint32_t lower_kind, const uint8_t *lower,
+                            size_t lower_len, uint32_t upper_kind, const uint8_t *upper,
+                            size_t upper_len, uint64_t seqno, sst_handle *scan);
 
 /* Packing: the tables of a list go in as few runs as there can be, so that each key keeps the order
  * of its tables. Each goes behind the last run that has one which overlaps it, or into the first.

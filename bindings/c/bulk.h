@@ -91,9 +91,38 @@ static void test_takes(const uint8_t *file, size_t len) {
       sst_close(&bulk);
       sst_close(&single);
     }
+    CHECK(sst_runs_scan_open(&runs, 0, file, 0, 0, file, 0, SST_NEWEST, &bulk) == 0);
+    CHECK(sst_runs_range_open(&runs, 0, file, 0, 0, file, 0, SST_NEWEST, &single) == 0);
+    read_beside(&bulk, true, &single, false, rooms[i][0], rooms[i][1]);
+    sst_close(&bulk);
+    sst_close(&single);
   }
   sst_close(&table);
   sst_close(&runs);
+}
+
+/* A bulk read of a scan of several runs stops at an entry that does not fit, which is lent then, and
+ * goes on after it. A read of another kind has the scan forget it.
+ */
+static void test_runs_scan_refused(const uint8_t *file, sst_handle *table) {
+  sst_handle runs = {0}, scan = {0};
+  sst_entry entries[2], found;
+  sst_lent lent;
+  uint8_t room[64];
+  uint64_t count = 7;
+  CHECK(sst_runs_open(&runs) == 0 && sst_runs_add(&runs, table) == 0);
+  CHECK(sst_runs_scan_open(&runs, 0, file, 0, 0, file, 0, 2, &scan) == 0);
+  CHECK(sst_scan_take(&scan, entries, 0, room, 64, &count, &found) == 0 && count == 0);
+  CHECK(sst_scan_take(&scan, entries, 2, room, 22, &count, &found) == 0 && count == 1);
+  CHECK(memcmp(room, "key000000value 1 of 0", 21) == 0 && entries[0].seqno == 1);
+  CHECK(found.kind == SST_VALUE && sst_found_lend(&scan, &lent) == 0 && lent.value_len == 12);
+  CHECK(memcmp(lent.key, "key000001", 9) == 0);
+  CHECK(sst_range_take(&scan, false, entries, 2, room, 64, &count, &found) == SST_OTHER_KIND);
+  CHECK(count == 0 && found.kind == SST_NO_ENTRY && sst_found_lend(&scan, &lent) == SST_NOTHING);
+  CHECK(sst_scan_take(&scan, entries, 2, room, 64, &count, &found) == 0 && count == 2);
+  CHECK(memcmp(room, "key000002value 1 of 2key000003", 30) == 0);
+  sst_close(&runs);
+  sst_close(&scan);
 }
 
 /* With no place nothing is read. Closed handles, and those of another kind, report nothing; a read
@@ -121,6 +150,7 @@ static void test_takes_refused(const uint8_t *file, size_t len) {
   CHECK(sst_found_lend(&scan, &lent) == SST_NOTHING);
   CHECK(sst_scan_take(&range, entries, 2, room, 64, &count, &found) == SST_OTHER_KIND);
   CHECK(sst_range_take(&range, false, entries, 2, room, 64, &count, &found) == 0 && count == 2);
+  test_runs_scan_refused(file, &table);
   sst_close(&table);
   sst_close(&scan);
   sst_close(&range);

@@ -142,7 +142,7 @@ static bool is_found_within(sst_handle *handle, const uint8_t *file, size_t len)
  * next read by that handle, whatever other handles read.
  */
 static void test_found(const uint8_t *file, size_t len) {
-  sst_handle table = {0}, range = {0}, scan = {0}, runs = {0};
+  sst_handle table = {0}, range = {0}, scan = {0}, runs = {0}, merged = {0};
   sst_entry entry, told;
   char key[16], value[32];
   sst_lent lent;
@@ -169,8 +169,16 @@ static void test_found(const uint8_t *file, size_t len) {
   CHECK(sst_runs_get(&runs, bytes("key000004"), 9, 2, &told) == 0);
   CHECK(has_found(&runs, &told, "key000004", "value 1 of 4"));
   CHECK(is_found_within(&runs, file, len));
+  CHECK(sst_runs_scan_open(&runs, SST_INCLUDED, bytes("key000004"), 9, 0, file, 0, 2, &merged) ==
+        0);
+  CHECK(sst_scan_next(&merged, &told) == 0);
+  CHECK(sst_runs_get(&runs, bytes("key000001"), 9, 2, &entry) == 0); /* another handle's read */
+  CHECK(has_found(&merged, &told, "key000004", "value 1 of 4"));
+  CHECK(is_found_within(&merged, file, len));
   sst_close(&runs);
   sst_close(&table);
+  CHECK(is_found_within(&merged, file, len));
+  sst_close(&merged);
   CHECK(is_found_within(&range, file, len) && is_found_within(&scan, file, len));
   while (sst_range_next(&range, false, &entry) == 0 && entry.kind != SST_NO_ENTRY) {
   }
@@ -411,7 +419,9 @@ static bool has_tables(sst_handle *packing, uint64_t run, const uint64_t *tables
   return sst_packing_table(packing, run, count, &table) == SST_NO_SUCH;
 }
 
-/* Both lists find the same: each letter at each number, and all of them from both ends. */
+/* Both lists find the same: each letter at each number, and all of them from both ends. A scan of
+ * the one finds what a range of the other has from the front.
+ */
 static void compare_runs(sst_handle *runs, sst_handle *packed) {
   sst_handle one = {0}, other = {0};
   sst_entry entry, same;
@@ -429,6 +439,14 @@ static void compare_runs(sst_handle *runs, sst_handle *packed) {
     CHECK(sst_range_next(&other, i % 3 == 1, &same) == 0);
     CHECK(memcmp(&entry, &same, sizeof entry) == 0);
   }
+  sst_close(&one);
+  sst_close(&other);
+  CHECK(sst_runs_scan_open(runs, 0, bytes(""), 0, 0, bytes(""), 0, SST_NEWEST, &one) == 0);
+  CHECK(sst_runs_range_open(packed, 0, bytes(""), 0, 0, bytes(""), 0, SST_NEWEST, &other) == 0);
+  do {
+    CHECK(sst_scan_next(&one, &entry) == 0 && sst_range_next(&other, false, &same) == 0);
+    CHECK(memcmp(&entry, &same, sizeof entry) == 0);
+  } while (entry.kind != SST_NO_ENTRY);
   sst_close(&one);
   sst_close(&other);
 }
@@ -490,6 +508,63 @@ static void test_packing(const sst_options *options) {
   sst_close(&again);
   sst_close(&packing);
   sst_close(&packed);
+}
+
+/* Takes the next entry of a scan, which is this one. */
+static bool is_next_scanned(sst_handle *scan, const char *key, const char *value,
+                            uint64_t seqno) {
+  sst_entry entry;
+  return sst_scan_next(scan, &entry) == 0 && entry.seqno == seqno &&
+         has_found(scan, &entry, key, value);
+}
+
+/* Whether a scan is at its end, and stays there. */
+static bool is_scanned(sst_handle *scan) {
+  sst_entry entry;
+  sst_lent lent;
+  for (int i = 0; i < 2; i++) {
+    if (sst_scan_next(scan, &entry) != 0 || entry.kind != SST_NO_ENTRY) return false;
+    if (sst_found_lend(scan, &lent) != SST_NOTHING) return false;
+  }
+  return true;
+}
+
+/* A scan of a list of two runs, which is closed before the scan. */
+static void test_runs_scan(sst_handle *runs) {
+  sst_handle scan = {0}, later = {0}, closed = {0}, table = {0};
+  sst_entry entry;
+  uint8_t none = 0;
+  CHECK(sst_runs_scan_open(&closed, 0, &none, 0, 0, &none, 0, 1, &scan) == SST_CLOSED);
+  CHECK(sst_runs_scan_open(&closed, 3, &none, 0, 0, &none, 0, 1, runs) == SST_OPEN);
+  CHECK(sst_runs_scan_open(runs, 3, &none, 0, 0, &none, 0, 1, &scan) == SST_NO_SUCH);
+  CHECK(sst_runs_scan_open(runs, 0, &none, 0, 3, &none, 0, 1, &scan) == SST_NO_SUCH);
+  CHECK(sst_scan_next(&scan, &entry) == SST_CLOSED && entry.kind == SST_NO_ENTRY);
+  CHECK(sst_runs_scan_open(runs, SST_EXCLUDED, bytes("key000000"), 9, SST_INCLUDED,
+                           bytes("key000003"), 9, SST_NEWEST, &scan) == 0);
+  CHECK(sst_runs_scan_open(runs, 0, &none, 0, SST_EXCLUDED, bytes("key000002"), 9, 9, &later) ==
+        0);
+  CHECK(sst_runs_scan_open(&later, 0, &none, 0, 0, &none, 0, 1, &closed) == SST_OTHER_KIND);
+  CHECK(sst_runs_scan_open(runs, SST_INCLUDED, bytes("key000003"), 9, SST_EXCLUDED,
+                           bytes("key000003"), 9, SST_NEWEST, &closed) == 0);
+  CHECK(is_scanned(&closed));
+  sst_close(&closed);
+  CHECK(sst_runs_scan_open(runs, SST_INCLUDED, bytes("key000004"), 9, 0, &none, 0, SST_NEWEST,
+                           &table) == 0);
+  sst_close(runs); /* the scans have shares */
+  CHECK(is_next_scanned(&scan, "key000001", "new", 20));
+  CHECK(is_next_scanned(&later, "key000000", "value 2 of 0", 2));
+  CHECK(sst_runs_get(&scan, &none, 0, 1, &entry) == SST_OTHER_KIND);
+  CHECK(is_next_scanned(&scan, "key000002", "value 2 of 2", 2));
+  CHECK(is_next_scanned(&later, "key000001", "value 2 of 1", 2) && is_scanned(&later));
+  CHECK(sst_range_next(&scan, false, &entry) == SST_OTHER_KIND && entry.kind == SST_NO_ENTRY);
+  CHECK(is_next_scanned(&scan, "key000003", "value 2 of 3", 2) && is_scanned(&scan));
+  CHECK(is_next_scanned(&table, "key000004", "value 2 of 4", 2));
+  CHECK(is_next_scanned(&table, "other", "more", 21) && is_scanned(&table));
+  sst_close(&scan);
+  sst_close(&scan);
+  CHECK(sst_scan_next(&scan, &entry) == SST_CLOSED);
+  sst_close(&later);
+  sst_close(&table);
 }
 
 /* A list of two runs, as one range and as what it is compacted to. */
@@ -601,6 +676,7 @@ static void test_runs(const sst_options *options, const uint8_t *file, size_t le
   CHECK(sst_table_get(&runs, bytes("other"), 5, SST_NEWEST, &entry) == SST_OTHER_KIND);
   CHECK(sst_runs_get(&writer, bytes("other"), 5, SST_NEWEST, &entry) == SST_OTHER_KIND);
   test_merged(&runs, options);
+  test_runs_scan(&runs);
   free(newer_file);
   sst_close(&runs);
   sst_close(&writer);
@@ -682,6 +758,7 @@ static void fill_from_itself(sst_handle *handle, const sst_options *options, uin
   CHECK(sst_range_open(handle, 0, &key, 0, 0, &key, 0, handle) == code);
   CHECK(sst_scan_open(handle, handle) == code);
   CHECK(sst_runs_range_open(handle, 0, &key, 0, 0, &key, 0, 9, handle) == code);
+  CHECK(sst_runs_scan_open(handle, 0, &key, 0, 0, &key, 0, 9, handle) == code);
   CHECK(sst_runs_pack(handle, handle) == code);
   CHECK(sst_packing_open(handle, handle) == code);
   CHECK(sst_compact(handle, options, 9, false, false, 1, handle, &next_id) == code);
@@ -715,7 +792,7 @@ static void test_damage(const uint8_t *file, size_t len, uint64_t items) {
   sst_verified verified;
   sst_entry entry;
   for (size_t i = 0; i < len; i++) {
-    sst_handle table = {0}, range = {0};
+    sst_handle table = {0}, range = {0}, runs = {0}, scan = {0};
     memcpy(damaged, file, len);
     damaged[i] = (uint8_t)~damaged[i];
     uint32_t opened = sst_table_open(damaged, len, 0, i % 2 == 0, i % 3 == 0, &table);
@@ -730,8 +807,17 @@ static void test_damage(const uint8_t *file, size_t len, uint64_t items) {
     while ((code = sst_range_next(&range, i % 2 == 1, &entry)) == 0 && entry.kind != 0) {
     }
     CHECK(code <= 24);
+    CHECK(sst_runs_open(&runs) == 0);
+    code = sst_runs_add(&runs, &table);
+    CHECK(code == 0 || code == SST_OUT_OF_ORDER);
+    CHECK(sst_runs_scan_open(&runs, 0, file, 0, 0, file, 0, SST_NEWEST, &scan) == 0);
+    while ((code = sst_scan_next(&scan, &entry)) == 0 && entry.kind != 0) {
+    }
+    CHECK(code <= 24 && is_scanned(&scan)); /* behind an error nothing comes */
     sst_close(&table);
     sst_close(&range);
+    sst_close(&runs);
+    sst_close(&scan);
   }
   free(damaged);
 }

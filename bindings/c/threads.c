@@ -4,6 +4,7 @@
 #include "sst.h"
 
 #include <pthread.h>
+#include <stdbool.h>
 #include <stdio.h>
 #include <stdlib.h>
 #include <string.h>
@@ -37,11 +38,37 @@ static uint8_t *write_table(size_t *len) {
   return file;
 }
 
-/* Reads every key, by a point read, by a range and by a scan, and a share of the handle that it is
+/* Whether the next entry of a scan is that of the key at a place. */
+static bool is_key(sst_handle *scan, int i) {
+  sst_entry entry;
+  uint8_t key[9], found[9], value[9];
+  key_of(i, key);
+  return sst_scan_next(scan, &entry) == 0 && sst_found_copy(scan, found, 9, value, 9) == 0 &&
+         memcmp(key, found, 9) == 0;
+}
+
+/* Reads every key by a scan of a table, and by one of the table as a list of runs, twice. */
+static size_t scan_all(sst_handle *table) {
+  sst_handle runs = {0}, scan = {0}, merged = {0};
+  uint8_t none = 0;
+  size_t wrong = 0;
+  if (sst_scan_open(table, &scan) != 0 || sst_runs_open(&runs) != 0) wrong++;
+  if (sst_runs_add(&runs, table) != 0 || sst_runs_add(&runs, table) != 0) wrong++;
+  if (sst_runs_scan_open(&runs, 0, &none, 0, 0, &none, 0, SST_NEWEST, &merged) != 0) wrong++;
+  sst_close(&runs);
+  for (int i = 0; i < KEYS; i++) {
+    if (!is_key(&scan, i) || !is_key(&merged, i)) wrong++;
+  }
+  sst_close(&scan);
+  sst_close(&merged);
+  return wrong;
+}
+
+/* Reads every key, by a point read, by a range and by scans, and a share of the handle that it is
  * given, which it closes.
  */
 static void *read_all(void *handle) {
-  sst_handle *table = handle, share = {0}, range = {0}, scan = {0};
+  sst_handle *table = handle, share = {0}, range = {0};
   sst_entry entry;
   uint8_t key[9], found[9], value[9];
   size_t wrong = 0;
@@ -61,15 +88,7 @@ static void *read_all(void *handle) {
     if (sst_range_next(&range, i % 2 == 1, &entry) != 0 || entry.kind != SST_VALUE) wrong++;
   }
   sst_close(&range);
-  if (sst_scan_open(table, &scan) != 0) wrong++;
-  for (int i = 0; i < KEYS; i++) {
-    key_of(i, key);
-    if (sst_scan_next(&scan, &entry) != 0 || sst_found_copy(&scan, found, 9, value, 9) != 0 ||
-        memcmp(key, found, 9) != 0) {
-      wrong++;
-    }
-  }
-  sst_close(&scan);
+  wrong += scan_all(table);
   sst_close(table);
   return (void *)wrong;
 }

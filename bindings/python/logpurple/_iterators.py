@@ -70,7 +70,7 @@ class _Room:
         entry = steps._entry
         is_over = code != 0 or not entry.kind and self._count.value < self._size
         if entry.kind:
-            steps._check(_calls.found_lend(steps._ref, steps._lent_ref))
+            steps._check(_calls.found_lend(steps._reader(back), steps._lent_ref))
             lent = steps._lent
             rows.extend((entry.kind, entry.seqno, lent.key_len, lent.value_len))
             keys, values = rows[2::4], rows[3::4]
@@ -100,6 +100,14 @@ class Steps(Returned):
     # The call that copies the next entries into some room.
     def _call(self, back: bool, *room: int) -> int:
         raise NotImplementedError
+
+    # The handle that reads an end.
+    def _reader(self, back: bool) -> int:
+        return self._ref
+
+    # Returns those of the entries that an end has fetched which the other end has not.
+    def _unread(self, entries: Iterator[Entry], back: bool) -> Iterable[Entry]:
+        return entries
 
     def close(self) -> None:
         """Releases what the iterator reads, and drops the entries that it has fetched.
@@ -172,9 +180,13 @@ class Steps(Returned):
         if code:
             self._pending = self._error(code)
         if is_over:
-            self._room = None
-            self._release()
+            self._finish()
         return batch
+
+    # Releases the source at its end. What was fetched stays.
+    def _finish(self) -> None:
+        self._is_over, self._room = True, None
+        self._release()
 
     # Yields each batch at an end.
     def _batches(self, back: bool) -> Iterator[Batch]:
@@ -198,7 +210,7 @@ class Steps(Returned):
                     continue
                 batch = self._batch(back)
                 if batch is not None:
-                    queue.extend(entries_of(batch))
+                    queue.extend(self._unread(entries_of(batch), back))
                     continue
             # At the end of the source, only what the other end has fetched is left.
             try:
@@ -261,6 +273,11 @@ class Entries(Steps):
     _maker = "made by Table.entries and Runs.entries"
     _bounds: Bounds = (0, b"", 0, 0, b"", 0)
     _reverse = False
+    # The scan that reads the front of several tables, if there is one: the range then reads the
+    # back alone. The keys that the front and the back have fetched last.
+    _scan: Optional[_calls.Handle] = None
+    _scan_ref = 0
+    _last: List[Optional[bytes]]
 
     def take(self, reverse: bool = False) -> Optional[Entry]:
         """Returns the next entry from the front or, if `reverse`, from the back.
@@ -275,8 +292,39 @@ class Entries(Steps):
         """
         return self._step(bool(reverse))
 
+    # Has the front read by a scan, and returns its handle, which a call is to fill.
+    def _scanned(self) -> int:
+        self._scan, self._last = _calls.Handle(), [None, None]
+        self._scan_ref = addressof(self._scan)
+        return self._scan_ref
+
     def _call(self, back: bool, *room: int) -> int:
-        return _calls.range_take(self._ref, back, *room)
+        if back or self._scan is None:
+            return _calls.range_take(self._ref, back, *room)
+        return _calls.scan_take(self._scan_ref, *room)
+
+    def _reader(self, back: bool) -> int:
+        return self._ref if back or self._scan is None else self._scan_ref
+
+    # The scan and the range read the same entries, each key once. They end where they meet.
+    def _unread(self, entries: Iterator[Entry], back: bool) -> Iterable[Entry]:
+        if self._scan is None:
+            return entries
+        found, met = list(entries), self._last[not back]
+        if met is not None:
+            left = [entry for entry in found if (entry.key > met if back else entry.key < met)]
+            if len(left) < len(found):
+                self._pending = None
+                self._finish()
+            found = left
+        if found:
+            self._last[back] = found[-1].key
+        return found
+
+    def _release(self) -> None:
+        if self._scan is not None:
+            _calls.close(self._scan_ref)
+        super()._release()
 
     def __next__(self) -> Entry:
         found = self._step(self._reverse)
@@ -299,13 +347,13 @@ class Entries(Steps):
 Pairs = Generator[Tuple[bytes, bytes], None, None]
 
 
-def visible(entries: Entries, at: int, reverse: bool) -> Pairs:
+def visible(entries: Steps, at: int, reverse: bool) -> Pairs:
     """Yields the keys and values that are visible at a snapshot, and closes the entries."""
     return _visible_backward(entries, at) if reverse else _visible_forward(entries, at)
 
 
 # From the front the first version of a key that is visible is the newest.
-def _visible_forward(entries: Entries, at: int) -> Pairs:
+def _visible_forward(entries: Steps, at: int) -> Pairs:
     last: Optional[bytes] = None
     with entries:
         for rows, data in entries._batches(False):
@@ -323,7 +371,7 @@ def _visible_forward(entries: Entries, at: int) -> Pairs:
 
 
 # From the back the last version of a key that is visible is the newest.
-def _visible_backward(entries: Entries, at: int) -> Pairs:
+def _visible_backward(entries: Steps, at: int) -> Pairs:
     last: Optional[bytes] = None
     kind, value = 0, b""
     with entries:

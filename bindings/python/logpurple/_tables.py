@@ -14,7 +14,7 @@ from typing import (Any, Callable, Generator, Generic, Iterable, Iterator, List,
 from . import _calls
 from ._calls import copied
 from ._errors import Faulty, check, faulty
-from ._iterators import DELETIONS, KINDS, Batch, Bounds, Entries, Scan, visible
+from ._iterators import DELETIONS, KINDS, Batch, Bounds, Entries, Scan, Steps, visible
 from ._records import NEWEST, Entry, Facts, Fault, Finding, Memory, Packing, Section, Verified
 from ._resources import Resource, Returned, number, plain
 
@@ -117,7 +117,7 @@ class _Reader(Resource):
 
     # Begins to read the entries of a range: those that are visible at a snapshot, or more.
     def _range(self, lower: Optional[BytesLike], upper: Optional[BytesLike], reverse: bool,
-               at: int) -> Entries:
+               at: int) -> Steps:
         raise NotImplementedError
 
     def entry(self, key: BytesLike, at: int = NEWEST) -> Optional[Entry]:
@@ -727,17 +727,26 @@ class Runs(_Reader):
         >>> [entry.kind.name for entry in runs.entries(at=2)]
         ['VALUE']
         """
-        return self._range(lower, upper, reverse, number(at))
-
-    def _range(self, lower: Optional[BytesLike], upper: Optional[BytesLike], reverse: bool,
-               at: int) -> Entries:
+        at = number(at)
         bounds = _bounds(lower, upper)
         entries = Entries._empty()
         entries._bounds, entries._reverse = bounds, bool(reverse)
         with self._turn:
             entries._kept = self._kept
             self._check(_calls.runs_range_open(self._ref, *bounds, at, entries._ref))
+            if not reverse:
+                self._check(_calls.runs_scan_open(self._ref, *bounds, at, entries._scanned()))
         return entries
+
+    def _range(self, lower: Optional[BytesLike], upper: Optional[BytesLike], reverse: bool,
+               at: int) -> Steps:
+        bounds = _bounds(lower, upper)
+        steps: Steps = Entries._empty() if reverse else Scan._empty()
+        open_steps = _calls.runs_range_open if reverse else _calls.runs_scan_open
+        with self._turn:
+            steps._kept = self._kept
+            self._check(open_steps(self._ref, *bounds, at, steps._ref))
+        return steps
 
     def packed(self) -> Runs:
         """Returns the same tables in as few runs as possible.

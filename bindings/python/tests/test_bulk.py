@@ -24,6 +24,28 @@ class Bulk(unittest.TestCase):
             self.assertIsNone(entries.take())
             self.assertIsNone(entries.take(reverse=True))
 
+    def test_ends_of_several(self):
+        """Each end of several tables is read by a handle of its own. They end where they meet."""
+        newest = ENTRIES[::2]
+        runs = Runs(table_of(newest[::2]), table_of(newest[1::2]), table_of(ENTRIES[1::2]))
+        for seed in range(20):
+            ends, left = random.Random(seed), list(newest)
+            entries = runs.entries(reverse=seed % 2 == 1)
+            share = ends.random()
+            while left:
+                back = ends.random() < share
+                self.assertEqual(entries.take(reverse=back), left.pop(-1 if back else 0))
+            self.assertIsNone(entries.take())
+            self.assertIsNone(entries.take(reverse=True))
+        # One end reads so many entries, and the other one the rest.
+        for count in (0, 1, 16, 17, 80, 336, 700, 749, 750):
+            for back in (False, True):
+                entries, order = runs.entries(), newest[::-1] if back else newest
+                self.assertEqual([entries.take(back) for _ in range(count)], order[:count])
+                rest = list(iter(lambda: entries.take(not back), None))
+                self.assertEqual(rest, order[count:][::-1])
+                self.assertTrue(entries.closed)
+
     def test_left_at_any_time(self):
         table = table_of(ENTRIES)
         for count in (0, 1, 16, 17, 80, 81, 336, 337, 1499, 1500):
@@ -43,6 +65,11 @@ class Bulk(unittest.TestCase):
         self.assertEqual(list(table.entries(reverse=True)), entries[::-1])
         self.assertEqual(list(table.scan()), entries)
         self.assertEqual(list(Runs(table).entries()), entries)
+        self.assertEqual(list(Runs(table).entries(reverse=True)), entries[::-1])
+        both = Runs(table).entries()
+        self.assertEqual([both.take(place % 2 == 1) for place in range(8)],
+                         [entries[place // 2 if place % 2 == 0 else -1 - place // 2]
+                          for place in range(8)])
         self.assertEqual(table.get_many([entry.key for entry in entries]),
                          [entry.value for entry in entries])
 
@@ -52,12 +79,14 @@ class Bulk(unittest.TestCase):
             writer.add(entry.key, entry.value, entry.seqno)
         file = bytearray(writer.finish())
         file[len(file) // 3] ^= 1
-        for steps in (Table.open(file).entries(), Table.open(file).scan()):
+        for steps, whole in ((Runs(Table.open(file)).entries(), ENTRIES[::2]),
+                             (Table.open(file).entries(), ENTRIES),
+                             (Table.open(file).scan(), ENTRIES)):
             found = []
             with self.assertRaises(ChecksumMismatch):
                 for entry in steps:
                     found.append(entry)
-            self.assertEqual(found, ENTRIES[:len(found)])
+            self.assertEqual(found, whole[:len(found)])
             self.assertGreater(len(found), 100)
             self.assertTrue(steps.closed)
             self.assertEqual(list(steps), [])
@@ -79,7 +108,8 @@ class Bulk(unittest.TestCase):
         self.assertIsNone(entries.take(reverse=True))
 
     def test_closed(self):
-        for steps in (table_of(ENTRIES).entries(), table_of(ENTRIES).scan()):
+        for steps in (table_of(ENTRIES).entries(), table_of(ENTRIES).scan(),
+                      Runs(table_of(ENTRIES)).entries()):
             next(steps)
             steps.close()
             for _ in range(2):

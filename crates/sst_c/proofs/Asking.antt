@@ -2,7 +2,6 @@
 use Rattle.std.proofs.Common.{◌≡◌, Option, Some, None, ◌∷◌, [], refl, sym, ap, ◌∙◌}
 use Rattle.sst_entries.specs.Stream.{CanDeal}
 use Rattle.sst_entries.specs.declared.stream.Direction.TheVariants.{Back, Front}
-use Rattle.sst_c.specs.Newest.{NewestAt}
 
 module _ {S A : Type 0} (front back : S → Option A → S → Type 0) (can can_back : S → Type 0) where
   pub behind_front : (s : S) (r : Option A) (t : S) → CanDeal front back can can_back s
@@ -25,10 +24,10 @@ module _ {S A : Type 0} (front back : S → Option A → S → Type 0) (can can_
 
 pub ruleset asking = (behind_front, behind_back, may_front, may_back)
 
-abbrev source_or : NewestAt → Option NewestAt → NewestAt
-source_or s (Some t) = t
-source_or s None = s
+abbrev source_or : {S : Type 0} → S → Option S → S
+source_or {S} s (Some t) = t
+source_or {S} s None = s
 
--- a range of several runs is over one source
-pub same_source : (kept : Option NewestAt) (a s : NewestAt) → kept ≡ Some a → kept ≡ Some s → a ≡ s
-same_source kept a s is same = ap (source_or s) (sym is) ∙ ap (source_or s) same
+-- what reads several runs is one source
+pub same_source : {S : Type 0} (kept : Option S) (a s : S) → kept ≡ Some a → kept ≡ Some s → a ≡ s
+same_source {S} kept a s is same = ap (source_or s) (sym is) ∙ ap (source_or s) same

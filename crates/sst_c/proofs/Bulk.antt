@@ -8,15 +8,15 @@ use Rattle.lsm_iters.specs.Range.{Range, RangeGives, back_next, front_next}
 use Rattle.lsm_iters.specs.Words.{back_of, front_of}
 use Rattle.lsm_readers.specs.Scan.{IsEndedScan, Scan, ScansLent}
 use Rattle.sst_c.proofs.Scanning.{ends_by}
-use Rattle.sst_c.specs.Newest.{NewestAt}
+use Rattle.sst_c.specs.Newest.{LentNewestAt, NewestAt}
 use Rattle.sst_c.specs.Reads.{IsMergedAs, MergedReads, ReadsOn, gives_at}
-use Rattle.sst_c.specs.Steps.{StepsBy}
+use Rattle.sst_c.specs.Steps.{StepsAs, StepsBy}
 use Rattle.sst_c.specs.Takes.{EndsWith, ReadsMany, Yields}
-use Rattle.sst_c.specs.What.{IsRangeWhere, IsScanWhere, MergedStepsBy, is_scan}
+use Rattle.sst_c.specs.What.{IsRangeWhere, IsRunsScanAs, IsScanWhere, MergedStepsBy, is_scan}
 use Rattle.sst_c.specs.declared.entries.EntryTold.{EntryTold}
 use Rattle.sst_c.specs.declared.held.What.{What}
 use Rattle.sst_c.specs.declared.held.What.TheVariants.{Answers, Files, Merged, Packing, Range as RangeOf}
-use Rattle.sst_c.specs.declared.held.What.TheVariants.{Runs, Scan as ScanOf, Table, Verification}
+use Rattle.sst_c.specs.declared.held.What.TheVariants.{Runs, RunsScan as RunsScanOf, Scan as ScanOf, Table, Verification}
 
 -- a bulk read of one source is that of another, if each read of the one is one of the other
 module _ {S T : Type 0} (A : S → ℕ → Option Entry → S → Type 0) (B : T → ℕ → Option Entry → T → Type 0)
@@ -83,6 +83,7 @@ scan_where (Runs x) P is = absurd is
 scan_where (Answers x) P is = absurd is
 scan_where (Verification x) P is = absurd is
 scan_where (Packing x) P is = absurd is
+scan_where (RunsScanOf x) P is = absurd is
 
 range_where : (w : What) (P : Range Global → Type 0) → IsRangeWhere P w → (s : Range Global) × (w ≡ RangeOf s) × P s
 range_where (RangeOf s) P is = (s, refl, is)
@@ -94,6 +95,7 @@ range_where (Runs x) P is = absurd is
 range_where (Answers x) P is = absurd is
 range_where (Verification x) P is = absurd is
 range_where (Packing x) P is = absurd is
+range_where (RunsScanOf x) P is = absurd is
 
 merged_where : (w : What) (P : Option NewestAt → Type 0) → IsMergedAs P w → (m : Option NewestAt) × (w ≡ Merged m) × P m
 merged_where (Merged m) P is = (m, refl, is)
@@ -105,46 +107,74 @@ merged_where (Runs x) P is = absurd is
 merged_where (Answers x) P is = absurd is
 merged_where (Verification x) P is = absurd is
 merged_where (Packing x) P is = absurd is
+merged_where (RunsScanOf x) P is = absurd is
 
-module _ (front back : NewestAt → Option (Result Entry Error) → NewestAt → Type 0) (at_back : Bool) where
+runs_scan_where : (w : What) (P : Option LentNewestAt → Type 0) → IsRunsScanAs P w
+    → (m : Option LentNewestAt) × (w ≡ RunsScanOf m) × P m
+runs_scan_where (RunsScanOf m) P is = (m, refl, is)
+runs_scan_where (Table x) P is = absurd is
+runs_scan_where (ScanOf x) P is = absurd is
+runs_scan_where (RangeOf x) P is = absurd is
+runs_scan_where (Merged x) P is = absurd is
+runs_scan_where (Files x) P is = absurd is
+runs_scan_where (Runs x) P is = absurd is
+runs_scan_where (Answers x) P is = absurd is
+runs_scan_where (Verification x) P is = absurd is
+runs_scan_where (Packing x) P is = absurd is
+
+module _ (front back : NewestAt → Option (Result Entry Error) → NewestAt → Type 0)
+    (advances : LentNewestAt → Option (Result Entry Error) → LentNewestAt → Type 0) (at_back : Bool) where
   -- what a bulk read of a handle is, by what the handle holds
   pub scan_many : (w v : What) (s : Scan) (places told : List EntryTold) (room copied : List ℕ)
       (count code : ℕ) (found : Option Entry) → w ≡ ScanOf s
-      → ReadsMany (ReadsOn front back at_back) w places told room copied count code found v
+      → ReadsMany (ReadsOn front back advances at_back) w places told room copied count code found v
       → IsScanWhere (ReadsMany (StepsBy ScansLent) s places told room copied count code found) v
   scan_many w v s places told room copied count code found is many =
       let P : Scan → Type 0 = ReadsMany (StepsBy ScansLent) s places told room copied count code found in
-      let so = many_so (ReadsOn front back at_back) (StepsBy ScansLent) (λ (x : What) (y : Scan). x ≡ ScanOf y)
+      let so = many_so (ReadsOn front back advances at_back) (StepsBy ScansLent) (λ (x : What) (y : Scan). x ≡ ScanOf y)
       (λ x y t c f same step. scan_where y (StepsBy ScansLent t c f) (step.scan t same))
       w v s places told room copied count code found is many in
       subst (IsScanWhere P) (sym so.1) so.2
 
   pub range_many : (w v : What) (s : Range Global) (places told : List EntryTold) (room copied : List ℕ)
       (count code : ℕ) (found : Option Entry) → w ≡ RangeOf s
-      → ReadsMany (ReadsOn front back at_back) w places told room copied count code found v
+      → ReadsMany (ReadsOn front back advances at_back) w places told room copied count code found v
       → IsRangeWhere (ReadsMany (StepsBy (gives_at (RangeGives front_of front_next)
       (RangeGives back_of back_next) at_back)) s places told room copied count code found) v
   range_many w v s places told room copied count code found is many =
       let gives : Range Global → Option (Result Entry Error) → Range Global → Type 0 =
       gives_at (RangeGives front_of front_next) (RangeGives back_of back_next) at_back in
       let P : Range Global → Type 0 = ReadsMany (StepsBy gives) s places told room copied count code found in
-      let so = many_so (ReadsOn front back at_back) (StepsBy gives) (λ (x : What) (y : Range Global). x ≡ RangeOf y)
+      let so = many_so (ReadsOn front back advances at_back) (StepsBy gives) (λ (x : What) (y : Range Global). x ≡ RangeOf y)
       (λ x y t c f same step. range_where y (StepsBy gives t c f) (step.range t same))
       w v s places told room copied count code found is many in
       subst (IsRangeWhere P) (sym so.1) so.2
 
   pub merged_many : (w v : What) (m : Option NewestAt) (places told : List EntryTold)
       (room copied : List ℕ) (count code : ℕ) (found : Option Entry) → w ≡ Merged m
-      → ReadsMany (ReadsOn front back at_back) w places told room copied count code found v
+      → ReadsMany (ReadsOn front back advances at_back) w places told room copied count code found v
       → IsMergedAs (ReadsMany (MergedReads (gives_at front back at_back)) m places told room copied
       count code found) v
   merged_many w v m places told room copied count code found is many =
       let reads : Option NewestAt → ℕ → Option Entry → Option NewestAt → Type 0 = MergedReads (gives_at front back at_back) in
       let P : Option NewestAt → Type 0 = ReadsMany reads m places told room copied count code found in
-      let so = many_so (ReadsOn front back at_back) reads (λ (x : What) (y : Option NewestAt). x ≡ Merged y)
+      let so = many_so (ReadsOn front back advances at_back) reads (λ (x : What) (y : Option NewestAt). x ≡ Merged y)
       (λ x y t c f same step. merged_where y (reads t c f) (step.merged t same))
       w v m places told room copied count code found is many in
       subst (IsMergedAs P) (sym so.1) so.2
+
+  pub runs_scan_many : (w v : What) (m : Option LentNewestAt) (places told : List EntryTold)
+      (room copied : List ℕ) (count code : ℕ) (found : Option Entry) → w ≡ RunsScanOf m
+      → ReadsMany (ReadsOn front back advances at_back) w places told room copied count code found v
+      → IsRunsScanAs (ReadsMany (MergedReads advances) m places told room copied count code found) v
+  runs_scan_many w v m places told room copied count code found is many =
+      let reads : Option LentNewestAt → ℕ → Option Entry → Option LentNewestAt → Type 0 = MergedReads advances in
+      let P : Option LentNewestAt → Type 0 = ReadsMany reads m places told room copied count code found in
+      let so = many_so (ReadsOn front back advances at_back) reads
+      (λ (x : What) (y : Option LentNewestAt). x ≡ RunsScanOf y)
+      (λ x y t c f same step. runs_scan_where y (reads t c f) (step.runs_scan t same))
+      w v m places told room copied count code found is many in
+      subst (IsRunsScanAs P) (sym so.1) so.2
 
 -- a step of a range of several runs, as what it leads to
 as_merged : (gives : NewestAt → Option (Result Entry Error) → NewestAt → Type 0) (s : NewestAt) (code : ℕ)
@@ -159,8 +189,10 @@ as_merged gives s code found (Runs x) is = absurd is
 as_merged gives s code found (Answers x) is = absurd is
 as_merged gives s code found (Verification x) is = absurd is
 as_merged gives s code found (Packing x) is = absurd is
+as_merged gives s code found (RunsScanOf x) is = absurd is
 
-module _ (front back : NewestAt → Option (Result Entry Error) → NewestAt → Type 0) where
+module _ (front back : NewestAt → Option (Result Entry Error) → NewestAt → Type 0)
+    (advances : LentNewestAt → Option (Result Entry Error) → LentNewestAt → Type 0) where
   merged_read : (at_back : Bool) (w v : What) (code : ℕ) (found : Option Entry)
       → ((s : NewestAt) → w ≡ Merged (Some s) → at_back ≡ false → MergedStepsBy front s code found v)
       → ((s : NewestAt) → w ≡ Merged (Some s) → at_back ≡ true → MergedStepsBy back s code found v)
@@ -186,12 +218,27 @@ module _ (front back : NewestAt → Option (Result Entry Error) → NewestAt →
   range_read false w v code found first last s is = first s is refl
   range_read true w v code found first last s is = last s is refl
 
+  runs_scan_read : (w v : What) (code : ℕ) (found : Option Entry)
+      → ((s : LentNewestAt) → w ≡ RunsScanOf (Some s) → IsRunsScanAs (StepsAs advances s code found) v)
+      → (w ≡ RunsScanOf None → (code ≡ 0) × (found ≡ None) × (v ≡ RunsScanOf None))
+      → (m : Option LentNewestAt) → w ≡ RunsScanOf m
+      → IsRunsScanAs (MergedReads advances m code found) v
+  runs_scan_read w v code found steps over (Some s) is =
+      let left = runs_scan_where v (StepsAs advances s code found) (steps s is) in
+      subst (IsRunsScanAs (MergedReads advances (Some s) code found)) (sym left.1) left.2
+  runs_scan_read w v code found steps over None is =
+      let no = over is in
+      subst (IsRunsScanAs (MergedReads advances None code found)) (sym no.2) (no.0, no.1, refl)
+
   -- a read of a scan, and of a range
   pub scan_reads : (at_back : Bool) (w v : What) (code : ℕ) (found : Option Entry) → is_scan w ≡ true
       → ((s : Scan) → w ≡ ScanOf s → IsScanWhere (StepsBy ScansLent s code found) v)
-      → ReadsOn front back at_back w code found v
-  scan_reads at_back w v code found scan steps = record {
+      → ((s : LentNewestAt) → w ≡ RunsScanOf (Some s) → IsRunsScanAs (StepsAs advances s code found) v)
+      → (w ≡ RunsScanOf None → (code ≡ 0) × (found ≡ None) × (v ≡ RunsScanOf None))
+      → ReadsOn front back advances at_back w code found v
+  scan_reads at_back w v code found scan steps runs_steps over = record {
     scan = steps;
+    runs_scan = runs_scan_read w v code found runs_steps over;
     range = λ s is. absurd (let no : true ≡ false = sym scan ∙ ap is_scan is in let none : ⊥ = cc in none);
     merged = λ m is. absurd (let no : true ≡ false = sym scan ∙ ap is_scan is in let none : ⊥ = cc in none);
   }
@@ -204,9 +251,10 @@ module _ (front back : NewestAt → Option (Result Entry Error) → NewestAt →
       → ((s : NewestAt) → w ≡ Merged (Some s) → at_back ≡ false → MergedStepsBy front s code found v)
       → ((s : NewestAt) → w ≡ Merged (Some s) → at_back ≡ true → MergedStepsBy back s code found v)
       → (w ≡ Merged None → (code ≡ 0) × (found ≡ None) × (v ≡ Merged None))
-      → ReadsOn front back at_back w code found v
+      → ReadsOn front back advances at_back w code found v
   range_reads at_back w v code found scan first last merged_first merged_last over = record {
     scan = λ s is. absurd (let no : false ≡ true = sym scan ∙ ap is_scan is in let none : ⊥ = cc in none);
+    runs_scan = λ m is. absurd (let no : false ≡ true = sym scan ∙ ap is_scan is in let none : ⊥ = cc in none);
     range = range_read at_back w v code found first last;
     merged = merged_read at_back w v code found merged_first merged_last over;
   }

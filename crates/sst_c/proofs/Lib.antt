@@ -4,6 +4,7 @@ pub mod Verifying
 pub mod Behind
 pub mod RunOrder
 pub mod Asking
+pub mod Lending
 pub mod Scanning
 pub mod Ranging
 pub mod Placing

@@ -20,3 +20,4 @@ pub mod Stepwise
 pub mod Packed
 pub mod Compact
 pub mod Sentences
+pub mod Words

@@ -1,13 +1,26 @@
 -- What several runs have together, as a handle holds it.
-use Rattle.std.specs.Prelude.{Result}
+use Rattle.std.specs.Prelude.{Option, Result}
 use Rattle.std.specs.Global.{Global}
 use Rattle.sst_entries.specs.Entry.{Entry}
 use Rattle.sst_entries.specs.declared.error.Error.{Error}
+use Rattle.lsm_lending.specs.Lent.{lent_first}
+use Rattle.lsm_lending.specs.LentNewest.{lent_newest}
+use Rattle.lsm_lending.specs.declared.lending_merger.LendingMerger.{LendingMerger}
+use Rattle.lsm_lending.specs.declared.lending_newest.LendingNewest.{LendingNewest}
 use Rattle.lsm_merge.specs.declared.merge.Merger.{Merger}
-use Rattle.lsm_runs.specs.RunRange.{RunRange}
+use Rattle.lsm_runs.specs.RunRange.{RunRange, lent_of_reader}
+use Rattle.lsm_sorted.specs.LentBelow.{lent_below}
 use Rattle.lsm_sorted.specs.declared.below.Below.{Below}
 use Rattle.lsm_sorted.specs.declared.mvcc_stream.MvccStream.{MvccStream}
 
 -- the newest versions below a number of what several runs have together, between two calls
 abbrev pub NewestAt : Type 0
 NewestAt = MvccStream (Merger (Below (RunRange Global)) Global) (Result Entry Error)
+
+-- the same, borrowed from the front
+abbrev pub LentNewestAt : Type 0
+LentNewestAt = LendingNewest (LendingMerger (Below (RunRange Global)) Global) Global
+
+-- the entry that it lends
+abbrev pub newest_lent : LentNewestAt → Option Entry
+newest_lent = lent_newest (lent_first (lent_below (λ (r : RunRange Global). lent_of_reader r.front)))

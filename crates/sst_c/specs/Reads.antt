@@ -6,11 +6,12 @@ use Rattle.sst_entries.specs.declared.error.Error.{Error}
 use Rattle.lsm_iters.specs.Range.{Range, RangeGives, back_next, front_next}
 use Rattle.lsm_iters.specs.Words.{back_of, front_of}
 use Rattle.lsm_readers.specs.Scan.{Scan, ScansLent}
-use Rattle.sst_c.specs.Newest.{NewestAt}
-use Rattle.sst_c.specs.Steps.{StepsBy}
-use Rattle.sst_c.specs.What.{IsRangeWhere, IsScanWhere, MergedStepsBy}
+use Rattle.sst_c.specs.Newest.{LentNewestAt, NewestAt}
+use Rattle.sst_c.specs.Steps.{StepsAs, StepsBy}
+use Rattle.sst_c.specs.What.{IsRangeWhere, IsRunsScanAs, IsScanWhere}
 use Rattle.sst_c.specs.declared.held.What.{What}
-use Rattle.sst_c.specs.declared.held.What.TheVariants.{Merged, Range as RangeOf, Scan as ScanOf}
+use Rattle.sst_c.specs.declared.held.What.TheVariants.{Merged, Range as RangeOf}
+use Rattle.sst_c.specs.declared.held.What.TheVariants.{RunsScan as RunsScanOf, Scan as ScanOf}
 
 -- the steps at one of two ends
 abbrev pub gives_at : {S : Type 0} → (front back : S → Option (Result Entry Error) → S → Type 0)
@@ -23,17 +24,20 @@ abbrev pub IsMergedAs : (Option NewestAt → Type 0) → What → Type 0
 IsMergedAs holds (Merged m) = holds m
 IsMergedAs holds _ = ⊥
 
--- one read of a range of several runs: a step, or at its end nothing
-abbrev pub MergedReads : (NewestAt → Option (Result Entry Error) → NewestAt → Type 0)
-    → Option NewestAt → ℕ → Option Entry → Option NewestAt → Type 0
-MergedReads gives (Some s) code found left = MergedStepsBy gives s code found (Merged left)
-MergedReads gives None code found left = (code ≡ 0) × (found ≡ None) × (left ≡ None)
+-- one read of what several runs have together: a step, or once it was refused nothing
+abbrev pub MergedReads : {S : Type 0} → (S → Option (Result Entry Error) → S → Type 0)
+    → Option S → ℕ → Option Entry → Option S → Type 0
+MergedReads {S} gives (Some s) code found left = StepsAs gives s code found left
+MergedReads {S} gives None code found left = (code ≡ 0) × (found ≡ None) × (left ≡ None)
 
--- one read led a scan or a range from w to v with a code and an entry: a step of the scan, of the
--- range of a table, or of that of several runs
+-- one read led a scan or a range from w to v with a code and an entry: a step of the scan or the
+-- range of a table, or of those of several runs
 pub record ReadsOn (front back : NewestAt → Option (Result Entry Error) → NewestAt → Type 0)
+    (advances : LentNewestAt → Option (Result Entry Error) → LentNewestAt → Type 0)
     (at_back : Bool) (w : What) (code : ℕ) (found : Option Entry) (v : What) : Type 0 where
   pub scan : (s : Scan) → w ≡ ScanOf s → IsScanWhere (StepsBy ScansLent s code found) v
+  pub runs_scan : (m : Option LentNewestAt) → w ≡ RunsScanOf m
+      → IsRunsScanAs (MergedReads advances m code found) v
   pub range : (s : Range Global) → w ≡ RangeOf s → IsRangeWhere
       (StepsBy (gives_at (RangeGives front_of front_next) (RangeGives back_of back_next) at_back)
       s code found) v

@@ -23,3 +23,10 @@ abbrev pub StepsUntil : {S : Type 0} → (S → Option (Result Entry Error) → 
 StepsUntil {S} gives s outcome left =
     (answer : Option (Result Entry Error)) × (t : S) × gives s answer t
     × (outcome ≡ outcome_of answer) × (left ≡ left_behind outcome t)
+
+-- the same by its code and its entry
+abbrev pub StepsAs : {S : Type 0} → (S → Option (Result Entry Error) → S → Type 0)
+    → S → ℕ → Option Entry → Option S → Type 0
+StepsAs {S} gives s code found left =
+    (outcome : Result (Option Entry) Error) × StepsUntil gives s outcome left
+    × (code ≡ result_code outcome) × (found ≡ found_of outcome)

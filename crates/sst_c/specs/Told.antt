@@ -1,6 +1,7 @@
 -- What C is told of what a read found.
 use Rattle.std.specs.Prelude.{◌≡◌, ℕ, ◌+◌, ◌⊎◌, Bool, true, List, length, is_some}
 use Rattle.std.specs.Prelude.{Option, Some, None, Result, Ok, Err}
+use Rattle.std.specs.Option.{option_and_then}
 use Rattle.sst_entries.specs.Entry.{Entry}
 use Rattle.sst_entries.specs.Error.{number_of}
 use Rattle.sst_entries.specs.Kind.{tag_of}
@@ -10,12 +11,13 @@ use Rattle.sst_blocks.specs.declared.entry_place.EntryPlace.{EntryPlace}
 use Rattle.lsm_readers.specs.Table.{OpenTable}
 use Rattle.lsm_runs.specs.RunPlaces.{placed_in_runs}
 use Rattle.lsm_runs.specs.declared.lent_gets.RunPlace.{RunPlace}
+use Rattle.sst_c.specs.Newest.{newest_lent}
 use Rattle.sst_c.specs.declared.entries.EntryTold.{EntryTold}
 use Rattle.sst_c.specs.declared.held.FoundEntry.{FoundEntry}
 use Rattle.sst_c.specs.declared.held.FoundEntry.TheVariants.{InRuns, InTable, Kept, Lent}
 use Rattle.sst_c.specs.declared.held.Held.{Held}
 use Rattle.sst_c.specs.declared.held.What.{What}
-use Rattle.sst_c.specs.declared.held.What.TheVariants.{Range, Runs, Scan, Table}
+use Rattle.sst_c.specs.declared.held.What.TheVariants.{Range, Runs, RunsScan, Scan, Table}
 
 -- an entry's kind, number and lengths, or zeros where there is none
 abbrev pub entry_facts : Option Entry → EntryTold
@@ -31,6 +33,7 @@ entry_facts (Some e) = record {
 abbrev pub lent_in : What → Option Entry
 lent_in (Scan s) = s.lent
 lent_in (Range s) = s.lent
+lent_in (RunsScan m) = option_and_then newest_lent m
 lent_in _ = None
 
 -- the entry at a position in the bytes of the held table

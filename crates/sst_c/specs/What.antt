@@ -1,6 +1,6 @@
 -- What is behind a handle.
 use Rattle.std.specs.Prelude.{◌≡◌, ℕ, ◌==◌, Bool, true, false, List, [], Option, None, Some}
-use Rattle.std.specs.Prelude.{Result, Ok, if◌then◌else◌}
+use Rattle.std.specs.Prelude.{Result, Ok, IsSomeAnd, if◌then◌else◌}
 use Rattle.std.specs.Global.{Global}
 use Rattle.std.specs.declared.ops.Bound.{Bound}
 use Rattle.std.specs.declared.ops.Bound.TheVariants.{Unbounded, Included, Excluded}
@@ -21,14 +21,14 @@ use Rattle.sst_c.specs.declared.held.What.{What}
 use Rattle.sst_c.specs.declared.held.What.TheVariants.{Table, Files as FilesOf, Runs}
 use Rattle.sst_c.specs.declared.held.What.TheVariants.{Range as RangeOf, Merged as MergedOf}
 use Rattle.sst_c.specs.declared.held.What.TheVariants.{Answers as AnswersOf, Scan as ScanOf}
+use Rattle.sst_c.specs.declared.held.What.TheVariants.{RunsScan as RunsScanOf}
 use Rattle.sst_c.specs.declared.held.What.TheVariants.{Packing as PackingOf}
 use Rattle.sst_c.specs.declared.held.What.TheVariants.{Verification as VerificationOf}
 use Rattle.lsm_ranges.specs.declared.packed.Packed.{Packed}
 use Rattle.lsm_ranges.specs.declared.packed.Placed.{Placed}
-use Rattle.sst_c.specs.Codes.{result_code}
-use Rattle.sst_c.specs.Newest.{NewestAt}
-use Rattle.sst_c.specs.Steps.{StepsUntil}
-use Rattle.sst_c.specs.Told.{found_by, found_of}
+use Rattle.sst_c.specs.Newest.{LentNewestAt, NewestAt}
+use Rattle.sst_c.specs.Steps.{StepsAs}
+use Rattle.sst_c.specs.Told.{found_by}
 
 -- what a handle holds that was begun: nothing was found yet
 abbrev pub begun : What → Held
@@ -57,9 +57,7 @@ IsMergedWhere holds _ = ⊥
 -- step, or to one that was given up where it was refused
 abbrev pub MergedStepsBy : (NewestAt → Option (Result Entry Error) → NewestAt → Type 0)
     → NewestAt → ℕ → Option Entry → What → Type 0
-MergedStepsBy gives s code found (MergedOf left) =
-    (outcome : Result (Option Entry) Error) × StepsUntil gives s outcome left
-    × (code ≡ result_code outcome) × (found ≡ found_of outcome)
+MergedStepsBy gives s code found (MergedOf left) = StepsAs gives s code found left
 MergedStepsBy gives s code found _ = ⊥
 
 -- it is a range of a table, or of several runs
@@ -73,8 +71,19 @@ abbrev pub IsScanWhere : (Scan → Type 0) → What → Type 0
 IsScanWhere holds (ScanOf s) = holds s
 IsScanWhere holds _ = ⊥
 
+-- it is a scan of several runs of which this holds, whether it still reads or not
+abbrev pub IsRunsScanAs : (Option LentNewestAt → Type 0) → What → Type 0
+IsRunsScanAs holds (RunsScanOf m) = holds m
+IsRunsScanAs holds _ = ⊥
+
+-- it is one that was not refused yet, of which this holds
+abbrev pub IsRunsScanWhere : (LentNewestAt → Type 0) → What → Type 0
+IsRunsScanWhere holds = IsRunsScanAs (λ m. IsSomeAnd m holds)
+
+-- it is a scan of a table, or of several runs
 abbrev pub is_scan : What → Bool
 is_scan (ScanOf s) = true
+is_scan (RunsScanOf m) = true
 is_scan _ = false
 
 -- what was found of each of some keys, where it is that

@@ -1,11 +1,6 @@
 //! Writing entries in bulk.
 ghost use Rattle.std.specs.Prelude.{◌≡◌, ◌≢◌, ◌==◌, IsSomeAnd, None, Some, length, map};
-ghost use Rattle.std.specs.List.{sum};
-ghost use Rattle.lsm_writers.specs.Writing.{Writing as WritingValue};
-ghost use Rattle.sst_c.specs.Adds.{Adds, AddsMany, row, rows_in, size_of};
-ghost use Rattle.sst_c.specs.Told.{found_by};
-ghost use Rattle.sst_c.specs.What.{files_held, writer_in};
-ghost use Rattle.sst_c.specs.declared.held.Held.{Held as HeldValue};
+ghost use Rattle.sst_c.specs.Words as spec;
 
 use crate::codes::{CLOSED, NO_SUCH, OTHER_KIND};
 use crate::entries::EntryTold;
@@ -17,7 +12,7 @@ use std::alloc::Global;
 
 // Whether the keys and values of entries have so many bytes together.
 fn have_bytes(entries: &[EntryTold], count: u64) -> bool
-    ensures { result ≡ (sum (map size_of entries.now) == count) }
+    ensures { result ≡ (spec.sum (map spec.size_of entries.now) == count) }
 {
     let mut left = count;
     for told in entries {
@@ -31,15 +26,16 @@ fn have_bytes(entries: &[EntryTold], count: u64) -> bool
 
 // Writes an entry of this kind and number.
 fn add_told(writer: &mut Writer, told: &EntryTold, key: &[u8], value: &[u8]) -> u32
-    ensures { Adds writer.old (row told.now key.now value.now) result writer.new }
+    ensures { spec.Adds writer.old (spec.row told.now key.now value.now) result writer.new }
 {
     add_kind(writer, key, told.seqno, told.kind, value)
 }
 
 // Writes entries one after another, up to the first that fails.
 fn add_each(writer: &mut Writer, entries: &[EntryTold], bytes: &[u8], count: &mut u64) -> u32
-    requires { sum (map size_of entries.now) ≡ length bytes.now }
-    ensures { AddsMany writer.old (rows_in entries.now bytes.now) count.new result writer.new }
+    requires { spec.sum (map spec.size_of entries.now) ≡ length bytes.now }
+    ensures { spec.AddsMany writer.old (spec.rows_in entries.now bytes.now) count.new result
+        writer.new }
 {
     let mut at = 0;
     for place in 0..entries.len() {
@@ -59,10 +55,10 @@ fn add_each(writer: &mut Writer, entries: &[EntryTold], bytes: &[u8], count: &mu
 
 // Writes entries, if their lengths are those of the bytes.
 fn add_fitting(writer: &mut Writer, entries: &[EntryTold], bytes: &[u8], count: &mut u64) -> u32
-    ensures lengths { sum (map size_of entries.now) ≢ length bytes.now →
+    ensures lengths { spec.sum (map spec.size_of entries.now) ≢ length bytes.now →
         (result ≡ 105) × (writer.new ≡ writer.old) × (count.new ≡ count.old) }
-    ensures added { sum (map size_of entries.now) ≡ length bytes.now →
-        AddsMany writer.old (rows_in entries.now bytes.now) count.new result writer.new }
+    ensures added { spec.sum (map spec.size_of entries.now) ≡ length bytes.now →
+        spec.AddsMany writer.old (spec.rows_in entries.now bytes.now) count.new result writer.new }
 {
     if !have_bytes(entries, bytes.len() as u64) {
         return NO_SUCH;
@@ -71,16 +67,17 @@ fn add_fitting(writer: &mut Writer, entries: &[EntryTold], bytes: &[u8], count: 
 }
 
 fn add_many(held: &mut Held, entries: &[EntryTold], bytes: &[u8], count: &mut u64) -> u32
-    ensures other { writer_in held.old.what ≡ None →
+    ensures other { spec.writer_in held.old.what ≡ None →
         (result ≡ 102) × (held.new.what ≡ held.old.what) × (count.new ≡ count.old) }
-    ensures lengths { (w : WritingValue) → writer_in held.old.what ≡ Some w →
-        sum (map size_of entries.now) ≢ length bytes.now →
+    ensures lengths { (w : spec.WritingValue) → spec.writer_in held.old.what ≡ Some w →
+        spec.sum (map spec.size_of entries.now) ≢ length bytes.now →
         (result ≡ 105) × (held.new.what ≡ held.old.what) × (count.new ≡ count.old) }
-    ensures added { (w : WritingValue) → writer_in held.old.what ≡ Some w →
-        sum (map size_of entries.now) ≡ length bytes.now → IsSomeAnd (writer_in held.new.what)
-        (AddsMany w (rows_in entries.now bytes.now) count.new result) }
-    ensures tables { files_held held.new.what ≡ files_held held.old.what }
-    ensures found { found_by held.new ≡ found_by held.old }
+    ensures added { (w : spec.WritingValue) → spec.writer_in held.old.what ≡ Some w →
+        spec.sum (map spec.size_of entries.now) ≡ length bytes.now →
+        IsSomeAnd (spec.writer_in held.new.what)
+        (spec.AddsMany w (spec.rows_in entries.now bytes.now) count.new result) }
+    ensures tables { spec.files_held held.new.what ≡ spec.files_held held.old.what }
+    ensures found { spec.found_by held.new ≡ spec.found_by held.old }
 {
     match &mut held.what {
         What::Files(files) => match &mut files.writer {
@@ -108,23 +105,27 @@ pub extern "C" fn sst_writer_add_many(
 ) -> u32
     ensures shut { writer.old.boxed.value ≡ None →
         (result ≡ 100) × (writer.new.boxed.value ≡ None) × (count.new ≡ 0) }
-    ensures other { (h : HeldValue) → writer.old.boxed.value ≡ Some h → writer_in h.what ≡ None →
+    ensures other { (h : spec.HeldValue) → writer.old.boxed.value ≡ Some h →
+        spec.writer_in h.what ≡ None →
         (result ≡ 102) × IsSomeAnd writer.new.boxed.value (λ k. k.what ≡ h.what)
         × (count.new ≡ 0) }
-    ensures lengths { (h : HeldValue) (w : WritingValue) → writer.old.boxed.value ≡ Some h →
-        writer_in h.what ≡ Some w → sum (map size_of entries.now) ≢ length bytes.now →
+    ensures lengths { (h : spec.HeldValue) (w : spec.WritingValue) →
+        writer.old.boxed.value ≡ Some h →
+        spec.writer_in h.what ≡ Some w →
+        spec.sum (map spec.size_of entries.now) ≢ length bytes.now →
         (result ≡ 105) × IsSomeAnd writer.new.boxed.value (λ k. k.what ≡ h.what)
         × (count.new ≡ 0) }
     // Each entry is added as by `sst_writer_add`, up to the first that fails.
-    ensures added { (h : HeldValue) (w : WritingValue) → writer.old.boxed.value ≡ Some h →
-        writer_in h.what ≡ Some w → sum (map size_of entries.now) ≡ length bytes.now →
-        IsSomeAnd writer.new.boxed.value (λ k. IsSomeAnd (writer_in k.what)
-        (AddsMany w (rows_in entries.now bytes.now) count.new result)) }
-    ensures tables { (h : HeldValue) → writer.old.boxed.value ≡ Some h →
-        IsSomeAnd writer.new.boxed.value (λ k. files_held k.what ≡ files_held h.what) }
+    ensures added { (h : spec.HeldValue) (w : spec.WritingValue) → writer.old.boxed.value ≡ Some h →
+        spec.writer_in h.what ≡ Some w →
+        spec.sum (map spec.size_of entries.now) ≡ length bytes.now →
+        IsSomeAnd writer.new.boxed.value (λ k. IsSomeAnd (spec.writer_in k.what)
+        (spec.AddsMany w (spec.rows_in entries.now bytes.now) count.new result)) }
+    ensures tables { (h : spec.HeldValue) → writer.old.boxed.value ≡ Some h →
+        IsSomeAnd writer.new.boxed.value (λ k. spec.files_held k.what ≡ spec.files_held h.what) }
     // What a read found stays.
-    ensures found { (h : HeldValue) → writer.old.boxed.value ≡ Some h →
-        IsSomeAnd writer.new.boxed.value (λ k. found_by k ≡ found_by h) }
+    ensures found { (h : spec.HeldValue) → writer.old.boxed.value ≡ Some h →
+        IsSomeAnd writer.new.boxed.value (λ k. spec.found_by k ≡ spec.found_by h) }
 {
     *count = 0;
     let Some(mut held) = writer.take(alloc) else {

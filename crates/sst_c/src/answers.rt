@@ -1,9 +1,6 @@
 //! What many reads found, copied in bulk.
 ghost use Rattle.std.specs.Prelude.{◌≡◌, ◌≢◌, ◌<◌, ◌≤◌, List, None, Option, Some, drop, length};
-ghost use Rattle.lsm_readers.specs.Words.{Entry};
-ghost use Rattle.sst_c.specs.Takes.{CopiesMany};
-ghost use Rattle.sst_c.specs.What.{many_in};
-ghost use Rattle.sst_c.specs.declared.held.Held.{Held as HeldValue};
+ghost use Rattle.sst_c.specs.Words as spec;
 
 use crate::codes::{CLOSED, NO_SUCH, OTHER_KIND};
 use crate::handle::Handle;
@@ -14,7 +11,7 @@ use std::alloc::Global;
 
 // Copies the keys and values of what was found, one after another, as many as fit.
 fn lay_each(found: &[Option<InternalValue>], bytes: &mut [u8], count: &mut u64)
-    ensures { CopiesMany found.now bytes.old bytes.new count.new }
+    ensures { spec.CopiesMany found.now bytes.old bytes.new count.new }
 {
     let mut at = 0;
     for place in 0..found.len() {
@@ -27,12 +24,12 @@ fn lay_each(found: &[Option<InternalValue>], bytes: &mut [u8], count: &mut u64)
 }
 
 fn take(held: &Held, first: u64, bytes: &mut [u8], count: &mut u64) -> u32
-    ensures other { many_in held.now.what ≡ None → result ≡ 102 }
-    ensures past { (found : List (Option Entry)) → many_in held.now.what ≡ Some found →
+    ensures other { spec.many_in held.now.what ≡ None → result ≡ 102 }
+    ensures past { (found : List (Option spec.Entry)) → spec.many_in held.now.what ≡ Some found →
         length found < first → result ≡ 105 }
-    ensures copied { (found : List (Option Entry)) → many_in held.now.what ≡ Some found →
+    ensures copied { (found : List (Option spec.Entry)) → spec.many_in held.now.what ≡ Some found →
         first ≤ length found →
-        (result ≡ 0) × CopiesMany (drop first found) bytes.old bytes.new count.new }
+        (result ≡ 0) × spec.CopiesMany (drop first found) bytes.old bytes.new count.new }
     ensures left { result ≢ 0 → (bytes.new ≡ bytes.old) × (count.new ≡ count.old) }
 {
     let What::Answers(found) = &held.what else {
@@ -61,14 +58,14 @@ pub extern "C" fn sst_answers_take(
 ) -> u32
     ensures kept { answers.new.boxed.value ≡ answers.old.boxed.value }
     ensures shut { answers.old.boxed.value ≡ None → result ≡ 100 }
-    ensures other { (h : HeldValue) → answers.old.boxed.value ≡ Some h → many_in h.what ≡ None →
-        result ≡ 102 }
-    ensures past { (h : HeldValue) (found : List (Option Entry)) →
-        answers.old.boxed.value ≡ Some h → many_in h.what ≡ Some found → length found < first →
+    ensures other { (h : spec.HeldValue) → answers.old.boxed.value ≡ Some h →
+        spec.many_in h.what ≡ None → result ≡ 102 }
+    ensures past { (h : spec.HeldValue) (found : List (Option spec.Entry)) →
+        answers.old.boxed.value ≡ Some h → spec.many_in h.what ≡ Some found → length found < first →
         result ≡ 105 }
-    ensures copied { (h : HeldValue) (found : List (Option Entry)) →
-        answers.old.boxed.value ≡ Some h → many_in h.what ≡ Some found → first ≤ length found →
-        (result ≡ 0) × CopiesMany (drop first found) bytes.old bytes.new count.new }
+    ensures copied { (h : spec.HeldValue) (found : List (Option spec.Entry)) →
+        answers.old.boxed.value ≡ Some h → spec.many_in h.what ≡ Some found → first ≤ length found →
+        (result ≡ 0) × spec.CopiesMany (drop first found) bytes.old bytes.new count.new }
     ensures left { result ≢ 0 → (bytes.new ≡ bytes.old) × (count.new ≡ count.old) }
 {
     let Some(held) = answers.take(alloc) else {

@@ -1,6 +1,6 @@
 //! What several runs have together, which may be asked at both ends, however often.
 ghost use Rattle.std.specs.Prelude.{◌≡◌, false, true};
-ghost use Rattle.sst_entries.specs.Stream.{CanDeal};
+ghost use Rattle.sst_c.specs.Words as spec;
 
 use lsm_runs::NewestOfRunsAt;
 use lsm_sorted::NewestOf;
@@ -32,7 +32,7 @@ impl Model for Asked {
 impl Asked {
     /// Versions that may be asked so.
     pub(crate) fn new(newest: NewestOfRunsAt<Global>) -> Asked
-        requires { CanDeal ⟦<NewestOfRunsAt<Global> as Iterator>⟧.next_gives
+        requires { spec.CanDeal ⟦<NewestOfRunsAt<Global> as Iterator>⟧.next_gives
             ⟦<NewestOfRunsAt<Global> as DoubleEndedIterator>⟧.next_back_gives
             ⟦<NewestOfRunsAt<Global> as Iterator>⟧.can_next
             ⟦<NewestOfRunsAt<Global> as DoubleEndedIterator>⟧.can_next_back newest }
@@ -60,11 +60,11 @@ fn step_of<S: DoubleEndedIterator<Item = IterItem<Global>>>(
     newest: &mut NewestOf<S, Global>,
     back: bool,
 ) -> Option<IterItem<Global>>
-    requires { CanDeal ⟦<NewestOf<S, Global> as Iterator>⟧.next_gives
+    requires { spec.CanDeal ⟦<NewestOf<S, Global> as Iterator>⟧.next_gives
         ⟦<NewestOf<S, Global> as DoubleEndedIterator>⟧.next_back_gives
         ⟦<NewestOf<S, Global> as Iterator>⟧.can_next
         ⟦<NewestOf<S, Global> as DoubleEndedIterator>⟧.can_next_back newest.old }
-    ensures can { CanDeal ⟦<NewestOf<S, Global> as Iterator>⟧.next_gives
+    ensures can { spec.CanDeal ⟦<NewestOf<S, Global> as Iterator>⟧.next_gives
         ⟦<NewestOf<S, Global> as DoubleEndedIterator>⟧.next_back_gives
         ⟦<NewestOf<S, Global> as Iterator>⟧.can_next
         ⟦<NewestOf<S, Global> as DoubleEndedIterator>⟧.can_next_back newest.new }

@@ -1,6 +1,6 @@
 //! The box behind a pointer to bytes, or nothing.
 ghost use Rattle.std.specs.Prelude.{◌≡◌, IsSome, Option, Some, None};
-ghost use Rattle.sst_c.specs.declared.held.Held.{Held as HeldValue};
+ghost use Rattle.sst_c.specs.Words as spec;
 
 use crate::held::Held;
 use loose_boxes::Loose;
@@ -15,7 +15,7 @@ pub struct Boxed {
     at: *mut u8,
     alloc: Global,
     /// What is in the box, where there is one.
-    pub ghost value: { Option HeldValue },
+    pub ghost value: { Option spec.HeldValue },
 }
 
 impl Model for Boxed {

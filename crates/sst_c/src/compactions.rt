@@ -1,13 +1,7 @@
 //! Compacting a list of runs into finished tables.
 ghost use Rattle.std.specs.Prelude.{◌≡◌, ◌≢◌, ◌⊎◌, false, IfErr, IfOk, IsSomeAnd, None, Ok, Some};
 ghost use Rattle.std.specs.Prelude.{is_some, true, unwrap_or};
-ghost use Rattle.sst_entries.specs.declared.error.Error.TheVariants.{OutOfMemory};
-ghost use Rattle.lsm_compactions.specs.Words.{GoesThrough, IsFreshRun, rules_by};
-ghost use Rattle.sst_c.specs.Compact.{IsCompactionOf, IsToldOf, TellsOutcome, compactor_told};
-ghost use Rattle.sst_c.specs.Options.{are_usable};
-ghost use Rattle.sst_c.specs.Told.{found_by};
-ghost use Rattle.sst_c.specs.What.{HoldsFiles, are_runs, runs_held};
-ghost use Rattle.sst_c.specs.declared.held.Held.{Held as HeldValue};
+ghost use Rattle.sst_c.specs.Words as spec;
 
 use crate::codes::{CLOSED, NO_SUCH, OPEN, OTHER_KIND, OUT_OF_ORDER};
 use crate::handle::Handle;
@@ -27,10 +21,10 @@ fn compactor_of(
     options: &TableOptions,
     target_size: u64,
 ) -> Result<MultiWriter, Error>
-    requires { are_usable options.now ≡ true }
-    ensures ok { IfOk result (λ w. w ≡ compactor_told options.now target_size) }
-    ensures fresh { IfOk result IsFreshRun }
-    ensures err { IfErr result (λ e. e ≡ OutOfMemory) }
+    requires { spec.are_usable options.now ≡ true }
+    ensures ok { IfOk result (λ w. w ≡ spec.compactor_told options.now target_size) }
+    ensures fresh { IfOk result spec.IsFreshRun }
+    ensures err { IfErr result (λ e. e ≡ spec.OutOfMemory) }
 {
     let created_at = Timestamp::from(u128::from(options.created_at));
     let ids = TableIds::new(options.id);
@@ -45,8 +39,8 @@ fn compacted_by(
     rules: Rules,
     writer: MultiWriter,
 ) -> Result<CompactionOutcome, Error>
-    requires { IsFreshRun writer }
-    ensures { IsCompactionOf runs.now rules writer result }
+    requires { spec.IsFreshRun writer }
+    ensures { spec.IsCompactionOf runs.now rules writer result }
 {
     compact_any_runs(alloc, runs.as_slice(), rules, writer)
 }
@@ -59,8 +53,9 @@ fn compacted(
     rules: Rules,
     target_size: u64,
 ) -> Result<CompactionOutcome, Error>
-    requires { are_usable options.now ≡ true }
-    ensures { IsCompactionOf runs.now rules (compactor_told options.now target_size) result }
+    requires { spec.are_usable options.now ≡ true }
+    ensures { spec.IsCompactionOf runs.now rules (spec.compactor_told options.now target_size)
+        result }
 {
     let writer = compactor_of(alloc, options, target_size)?;
     compacted_by(alloc, runs, rules, writer)
@@ -76,9 +71,9 @@ fn tell_tables(
 ) -> u32
     requires { files.old.boxed.value ≡ None }
     ensures memory { (result ≡ 0) ⊎ (result ≡ 1) }
-    ensures new { result ≡ 0 → IsSomeAnd files.new.boxed.value (λ k. found_by k ≡ None) }
+    ensures new { result ≡ 0 → IsSomeAnd files.new.boxed.value (λ k. spec.found_by k ≡ None) }
     ensures kept { result ≡ 0 → IsSomeAnd files.new.boxed.value (λ k.
-        HoldsFiles tables.items k.what) }
+        spec.HoldsFiles tables.items k.what) }
     ensures next { result ≡ 0 → next_id.new ≡ unwrap_or left 0 }
     ensures left { result ≢ 0 →
         (next_id.new ≡ next_id.old) × (files.new.boxed.value ≡ None) }
@@ -104,8 +99,8 @@ fn tell_outcome(
     next_id: &mut u64,
 ) -> u32
     requires empty { files.old.boxed.value ≡ None }
-    requires through { IfOk came GoesThrough }
-    ensures told { TellsOutcome result files.new.boxed.value next_id.new came }
+    requires through { IfOk came spec.GoesThrough }
+    ensures told { spec.TellsOutcome result files.new.boxed.value next_id.new came }
     ensures left { result ≢ 0 →
         (next_id.new ≡ next_id.old) × (files.new.boxed.value ≡ None) }
 {
@@ -131,8 +126,9 @@ fn compact_into(
     next_id: &mut u64,
 ) -> u32
     requires empty { files.old.boxed.value ≡ None }
-    requires usable { are_usable options.now ≡ true }
-    ensures told { IsToldOf (IsCompactionOf runs.now rules (compactor_told options.now target_size))
+    requires usable { spec.are_usable options.now ≡ true }
+    ensures told { spec.IsToldOf
+        (spec.IsCompactionOf runs.now rules (spec.compactor_told options.now target_size))
         result files.new.boxed.value next_id.new }
     ensures left { result ≢ 0 →
         (next_id.new ≡ next_id.old) × (files.new.boxed.value ≡ None) }
@@ -151,12 +147,12 @@ fn compact_held(
     next_id: &mut u64,
 ) -> u32
     requires empty { files.old.boxed.value ≡ None }
-    ensures kind { are_runs held.now.what ≡ false → result ≡ 102 }
-    ensures unusable { are_runs held.now.what ≡ true → are_usable options.now ≡ false →
+    ensures kind { spec.are_runs held.now.what ≡ false → result ≡ 102 }
+    ensures unusable { spec.are_runs held.now.what ≡ true → spec.are_usable options.now ≡ false →
         result ≡ 105 }
-    ensures told { are_runs held.now.what ≡ true → are_usable options.now ≡ true →
-        let writer = compactor_told options.now target_size in
-        IsToldOf (IsCompactionOf (runs_held held.now.what) rules writer)
+    ensures told { spec.are_runs held.now.what ≡ true → spec.are_usable options.now ≡ true →
+        let writer = spec.compactor_told options.now target_size in
+        spec.IsToldOf (spec.IsCompactionOf (spec.runs_held held.now.what) rules writer)
         result files.new.boxed.value next_id.new }
     ensures left { result ≢ 0 →
         (next_id.new ≡ next_id.old) × (files.new.boxed.value ≡ None) }
@@ -195,17 +191,18 @@ pub extern "C" fn sst_compact(
     ensures kept { runs.new.boxed.value ≡ runs.old.boxed.value }
     ensures open { is_some files.old.boxed.value ≡ true → result ≡ 101 }
     ensures shut { files.old.boxed.value ≡ None → runs.old.boxed.value ≡ None → result ≡ 100 }
-    ensures kind { (h : HeldValue) → files.old.boxed.value ≡ None → runs.old.boxed.value ≡ Some h →
-        are_runs h.what ≡ false → result ≡ 102 }
-    ensures unusable { (h : HeldValue) → files.old.boxed.value ≡ None →
-        runs.old.boxed.value ≡ Some h → are_runs h.what ≡ true → are_usable options.now ≡ false →
-        result ≡ 105 }
+    ensures kind { (h : spec.HeldValue) → files.old.boxed.value ≡ None →
+        runs.old.boxed.value ≡ Some h → spec.are_runs h.what ≡ false → result ≡ 102 }
+    ensures unusable { (h : spec.HeldValue) → files.old.boxed.value ≡ None →
+        runs.old.boxed.value ≡ Some h → spec.are_runs h.what ≡ true →
+        spec.are_usable options.now ≡ false → result ≡ 105 }
     // Else it is told what the library's compaction of any tables comes to.
-    ensures told { (h : HeldValue) → files.old.boxed.value ≡ None → runs.old.boxed.value ≡ Some h →
-        are_runs h.what ≡ true → are_usable options.now ≡ true →
-        let rules = rules_by watermark evict_tombstones zero_seqnos in
-        let writer = compactor_told options.now target_size in
-        IsToldOf (IsCompactionOf (runs_held h.what) rules writer)
+    ensures told { (h : spec.HeldValue) → files.old.boxed.value ≡ None →
+        runs.old.boxed.value ≡ Some h →
+        spec.are_runs h.what ≡ true → spec.are_usable options.now ≡ true →
+        let rules = spec.rules_by watermark evict_tombstones zero_seqnos in
+        let writer = spec.compactor_told options.now target_size in
+        spec.IsToldOf (spec.IsCompactionOf (spec.runs_held h.what) rules writer)
         result files.new.boxed.value next_id.new }
     ensures left { result ≢ 0 →
         (next_id.new ≡ next_id.old) × (files.new.boxed.value ≡ files.old.boxed.value) }

@@ -1,8 +1,6 @@
 //! What C is told of an entry.
 ghost use Rattle.std.specs.Prelude.{◌≡◌};
-ghost use Rattle.std.specs.Option.{option_map};
-ghost use Rattle.sst_entries.specs.Lending.{entry_of_ref};
-ghost use Rattle.sst_c.specs.Told.{entry_facts};
+ghost use Rattle.sst_c.specs.Words as spec;
 
 use sst_blocks::{EntryRef, InternalValue};
 
@@ -22,7 +20,7 @@ pub struct EntryTold {
 
 /// What is told of an entry, or that there is none.
 pub(crate) fn tell(found: Option<EntryRef<'_>>) -> EntryTold
-    ensures { result ≡ entry_facts (option_map entry_of_ref found.entry) }
+    ensures { result ≡ spec.entry_facts (spec.option_map spec.entry_of_ref found.entry) }
 {
     match found {
         None => EntryTold {
@@ -42,7 +40,7 @@ pub(crate) fn tell(found: Option<EntryRef<'_>>) -> EntryTold
 
 /// An entry, borrowed, where there is one.
 pub(crate) fn entry_of(found: &Option<InternalValue>) -> Option<EntryRef<'_>>
-    ensures { option_map entry_of_ref result ≡ found.now }
+    ensures { spec.option_map spec.entry_of_ref result ≡ found.now }
 {
     match found {
         None => None,

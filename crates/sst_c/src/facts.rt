@@ -1,10 +1,6 @@
 //! What a table says of itself.
 ghost use Rattle.std.specs.Prelude.{◌≡◌, ◌≢◌, false, None, Some};
-ghost use Rattle.lsm_readers.specs.Words.{OpenTable};
-ghost use Rattle.sst_c.specs.Facts.{table_facts};
-ghost use Rattle.sst_c.specs.What.{is_table};
-ghost use Rattle.sst_c.specs.declared.held.Held.{Held as HeldValue};
-ghost use Rattle.sst_c.specs.declared.held.What.TheVariants.{Table as TableOf};
+ghost use Rattle.sst_c.specs.Words as spec;
 
 use crate::codes::{CLOSED, OTHER_KIND};
 use crate::handle::Handle;
@@ -41,7 +37,7 @@ pub struct TableFacts {
 }
 
 fn facts_of(table: &Table) -> TableFacts
-    ensures { result ≡ table_facts table.now }
+    ensures { result ≡ spec.table_facts table.now }
 {
     let said = &table.metadata;
     TableFacts {
@@ -60,9 +56,9 @@ fn facts_of(table: &Table) -> TableFacts
 }
 
 fn tell_facts(held: &Held, facts: &mut TableFacts) -> u32
-    ensures other { is_table held.now.what ≡ false → result ≡ 102 }
-    ensures told { (t : OpenTable) → held.now.what ≡ TableOf t →
-        (result ≡ 0) × (facts.new ≡ table_facts t) }
+    ensures other { spec.is_table held.now.what ≡ false → result ≡ 102 }
+    ensures told { (t : spec.OpenTable) → held.now.what ≡ spec.TableOf t →
+        (result ≡ 0) × (facts.new ≡ spec.table_facts t) }
     ensures left { result ≢ 0 → facts.new ≡ facts.old }
 {
     match &held.what {
@@ -80,10 +76,10 @@ fn tell_facts(held: &Held, facts: &mut TableFacts) -> u32
 pub extern "C" fn sst_table_facts(alloc: Global, table: &mut Handle, facts: &mut TableFacts) -> u32
     ensures kept { table.new.boxed.value ≡ table.old.boxed.value }
     ensures shut { table.old.boxed.value ≡ None → result ≡ 100 }
-    ensures other { (h : HeldValue) → table.old.boxed.value ≡ Some h → is_table h.what ≡ false →
-        result ≡ 102 }
-    ensures told { (h : HeldValue) (t : OpenTable) → table.old.boxed.value ≡ Some h →
-        h.what ≡ TableOf t → (result ≡ 0) × (facts.new ≡ table_facts t) }
+    ensures other { (h : spec.HeldValue) → table.old.boxed.value ≡ Some h →
+        spec.is_table h.what ≡ false → result ≡ 102 }
+    ensures told { (h : spec.HeldValue) (t : spec.OpenTable) → table.old.boxed.value ≡ Some h →
+        h.what ≡ spec.TableOf t → (result ≡ 0) × (facts.new ≡ spec.table_facts t) }
     ensures left { result ≢ 0 → facts.new ≡ facts.old }
 {
     let Some(held) = table.take(alloc) else {

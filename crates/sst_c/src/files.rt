@@ -1,12 +1,7 @@
 //! Finished tables: what they are called, and their bytes.
 ghost use Rattle.std.specs.Prelude.{◌≡◌, ◌≢◌, ◌<◌, ◌≤◌, None, Some, drop, false, length, take};
 ghost use Rattle.std.specs.Prelude.{true};
-ghost use Rattle.std.specs.Global.{Global as Heap};
-ghost use Rattle.lsm_writers.specs.declared.writer.FinishedTable.{FinishedTable as Finished};
-ghost use Rattle.sst_c.specs.Copies.{laid_over};
-ghost use Rattle.sst_c.specs.Files.{file_at, file_facts};
-ghost use Rattle.sst_c.specs.What.{are_files, files_held};
-ghost use Rattle.sst_c.specs.declared.held.Held.{Held as HeldValue};
+ghost use Rattle.sst_c.specs.Words as spec;
 
 use crate::codes::{CLOSED, NO_SUCH, OTHER_KIND};
 use crate::found::copy_out;
@@ -30,7 +25,7 @@ pub struct FileTold {
 // What is told of a finished table.
 #[tactic(auto, unfolding(crate::specs::Files::file_facts))]
 fn describe(file: &FinishedTable) -> FileTold
-    ensures { result ≡ file_facts file.now }
+    ensures { result ≡ spec.file_facts file.now }
 {
     FileTold {
         id: file.id,
@@ -40,12 +35,13 @@ fn describe(file: &FinishedTable) -> FileTold
 }
 
 fn tell_file(held: &Held, index: u64, told: &mut FileTold) -> u32
-    ensures some { (f : Finished Heap) → file_at held.now.what index ≡ Some f → result ≡ 0 }
-    ensures told { (f : Finished Heap) → file_at held.now.what index ≡ Some f →
-        told.new ≡ file_facts f }
-    ensures none { file_at held.now.what index ≡ None → are_files held.now.what ≡ true →
+    ensures some { (f : spec.Finished spec.Heap) → spec.file_at held.now.what index ≡ Some f →
+        result ≡ 0 }
+    ensures told { (f : spec.Finished spec.Heap) → spec.file_at held.now.what index ≡ Some f →
+        told.new ≡ spec.file_facts f }
+    ensures none { spec.file_at held.now.what index ≡ None → spec.are_files held.now.what ≡ true →
         result ≡ 105 }
-    ensures other { are_files held.now.what ≡ false → result ≡ 102 }
+    ensures other { spec.are_files held.now.what ≡ false → result ≡ 102 }
     ensures left { result ≢ 0 → told.new ≡ told.old }
 {
     match &held.what {
@@ -72,14 +68,15 @@ pub extern "C" fn sst_files_tell(
 ) -> u32
     ensures kept { files.new.boxed.value ≡ files.old.boxed.value }
     ensures shut { files.old.boxed.value ≡ None → result ≡ 100 }
-    ensures other { (h : HeldValue) → files.old.boxed.value ≡ Some h → are_files h.what ≡ false →
-        result ≡ 102 }
-    ensures none { (h : HeldValue) → files.old.boxed.value ≡ Some h → are_files h.what ≡ true →
-        file_at h.what index ≡ None → result ≡ 105 }
-    ensures some { (h : HeldValue) (f : Finished Heap) → files.old.boxed.value ≡ Some h →
-        file_at h.what index ≡ Some f → result ≡ 0 }
-    ensures told { (h : HeldValue) (f : Finished Heap) → files.old.boxed.value ≡ Some h →
-        file_at h.what index ≡ Some f → told.new ≡ file_facts f }
+    ensures other { (h : spec.HeldValue) → files.old.boxed.value ≡ Some h →
+        spec.are_files h.what ≡ false → result ≡ 102 }
+    ensures none { (h : spec.HeldValue) → files.old.boxed.value ≡ Some h →
+        spec.are_files h.what ≡ true → spec.file_at h.what index ≡ None → result ≡ 105 }
+    ensures some { (h : spec.HeldValue) (f : spec.Finished spec.Heap) →
+        files.old.boxed.value ≡ Some h → spec.file_at h.what index ≡ Some f → result ≡ 0 }
+    ensures told { (h : spec.HeldValue) (f : spec.Finished spec.Heap) →
+        files.old.boxed.value ≡ Some h →
+        spec.file_at h.what index ≡ Some f → told.new ≡ spec.file_facts f }
     ensures left { result ≢ 0 → told.new ≡ told.old }
 {
     let Some(held) = files.take(alloc) else {
@@ -95,7 +92,7 @@ fn copy_part(bytes: &[u8], offset: u64, room: &mut [u8], count: &mut u64) -> u32
     ensures past { length bytes.now < offset → result ≡ 105 }
     ensures copied { offset ≤ length bytes.now →
         let part = take (length room.old) (drop offset bytes.now) in
-        (result ≡ 0) × (count.new ≡ length part) × (room.new ≡ laid_over part room.old) }
+        (result ≡ 0) × (count.new ≡ length part) × (room.new ≡ spec.laid_over part room.old) }
     ensures left { result ≢ 0 → (room.new ≡ room.old) × (count.new ≡ count.old) }
 {
     if offset > bytes.len() as u64 {
@@ -109,14 +106,14 @@ fn copy_part(bytes: &[u8], offset: u64, room: &mut [u8], count: &mut u64) -> u32
 }
 
 fn copy_file(held: &Held, index: u64, offset: u64, room: &mut [u8], count: &mut u64) -> u32
-    ensures other { are_files held.now.what ≡ false → result ≡ 102 }
-    ensures none { file_at held.now.what index ≡ None → are_files held.now.what ≡ true →
+    ensures other { spec.are_files held.now.what ≡ false → result ≡ 102 }
+    ensures none { spec.file_at held.now.what index ≡ None → spec.are_files held.now.what ≡ true →
         result ≡ 105 }
-    ensures past { (f : Finished Heap) → file_at held.now.what index ≡ Some f →
+    ensures past { (f : spec.Finished spec.Heap) → spec.file_at held.now.what index ≡ Some f →
         length f.bytes < offset → result ≡ 105 }
-    ensures copied { (f : Finished Heap) → file_at held.now.what index ≡ Some f →
+    ensures copied { (f : spec.Finished spec.Heap) → spec.file_at held.now.what index ≡ Some f →
         offset ≤ length f.bytes → let part = take (length room.old) (drop offset f.bytes) in
-        (result ≡ 0) × (count.new ≡ length part) × (room.new ≡ laid_over part room.old) }
+        (result ≡ 0) × (count.new ≡ length part) × (room.new ≡ spec.laid_over part room.old) }
     ensures left { result ≢ 0 → (room.new ≡ room.old) × (count.new ≡ count.old) }
 {
     match &held.what {
@@ -143,16 +140,18 @@ pub extern "C" fn sst_files_copy(
 ) -> u32
     ensures kept { files.new.boxed.value ≡ files.old.boxed.value }
     ensures shut { files.old.boxed.value ≡ None → result ≡ 100 }
-    ensures other { (h : HeldValue) → files.old.boxed.value ≡ Some h → are_files h.what ≡ false →
-        result ≡ 102 }
-    ensures none { (h : HeldValue) → files.old.boxed.value ≡ Some h → are_files h.what ≡ true →
-        file_at h.what index ≡ None → result ≡ 105 }
-    ensures past { (h : HeldValue) (f : Finished Heap) → files.old.boxed.value ≡ Some h →
-        file_at h.what index ≡ Some f → length f.bytes < offset → result ≡ 105 }
-    ensures copied { (h : HeldValue) (f : Finished Heap) → files.old.boxed.value ≡ Some h →
-        file_at h.what index ≡ Some f → offset ≤ length f.bytes →
+    ensures other { (h : spec.HeldValue) → files.old.boxed.value ≡ Some h →
+        spec.are_files h.what ≡ false → result ≡ 102 }
+    ensures none { (h : spec.HeldValue) → files.old.boxed.value ≡ Some h →
+        spec.are_files h.what ≡ true → spec.file_at h.what index ≡ None → result ≡ 105 }
+    ensures past { (h : spec.HeldValue) (f : spec.Finished spec.Heap) →
+        files.old.boxed.value ≡ Some h →
+        spec.file_at h.what index ≡ Some f → length f.bytes < offset → result ≡ 105 }
+    ensures copied { (h : spec.HeldValue) (f : spec.Finished spec.Heap) →
+        files.old.boxed.value ≡ Some h →
+        spec.file_at h.what index ≡ Some f → offset ≤ length f.bytes →
         let part = take (length room.old) (drop offset f.bytes) in
-        (result ≡ 0) × (count.new ≡ length part) × (room.new ≡ laid_over part room.old) }
+        (result ≡ 0) × (count.new ≡ length part) × (room.new ≡ spec.laid_over part room.old) }
     ensures left { result ≢ 0 → (room.new ≡ room.old) × (count.new ≡ count.old) }
 {
     let Some(held) = files.take(alloc) else {
@@ -164,10 +163,10 @@ pub extern "C" fn sst_files_copy(
 }
 
 fn count_files(held: &Held, count: &mut u64) -> u32
-    ensures other { are_files held.now.what ≡ false → result ≡ 102 }
-    ensures some { are_files held.now.what ≡ true → result ≡ 0 }
-    ensures count { are_files held.now.what ≡ true →
-        count.new ≡ length (files_held held.now.what) }
+    ensures other { spec.are_files held.now.what ≡ false → result ≡ 102 }
+    ensures some { spec.are_files held.now.what ≡ true → result ≡ 0 }
+    ensures count { spec.are_files held.now.what ≡ true →
+        count.new ≡ length (spec.files_held held.now.what) }
     ensures left { result ≢ 0 → count.new ≡ count.old }
 {
     match &held.what {
@@ -185,12 +184,12 @@ fn count_files(held: &Held, count: &mut u64) -> u32
 pub extern "C" fn sst_files_count(alloc: Global, files: &mut Handle, count: &mut u64) -> u32
     ensures kept { files.new.boxed.value ≡ files.old.boxed.value }
     ensures shut { files.old.boxed.value ≡ None → result ≡ 100 }
-    ensures other { (h : HeldValue) → files.old.boxed.value ≡ Some h → are_files h.what ≡ false →
-        result ≡ 102 }
-    ensures some { (h : HeldValue) → files.old.boxed.value ≡ Some h → are_files h.what ≡ true →
-        result ≡ 0 }
-    ensures count { (h : HeldValue) → files.old.boxed.value ≡ Some h → are_files h.what ≡ true →
-        count.new ≡ length (files_held h.what) }
+    ensures other { (h : spec.HeldValue) → files.old.boxed.value ≡ Some h →
+        spec.are_files h.what ≡ false → result ≡ 102 }
+    ensures some { (h : spec.HeldValue) → files.old.boxed.value ≡ Some h →
+        spec.are_files h.what ≡ true → result ≡ 0 }
+    ensures count { (h : spec.HeldValue) → files.old.boxed.value ≡ Some h →
+        spec.are_files h.what ≡ true → count.new ≡ length (spec.files_held h.what) }
     ensures left { result ≢ 0 → count.new ≡ count.old }
 {
     let Some(held) = files.take(alloc) else {

@@ -1,10 +1,6 @@
 //! What the last read found, copied or lent.
 ghost use Rattle.std.specs.Prelude.{◌≡◌, ◌≢◌, ◌≤◌, length, IsSome, None, Some};
-ghost use Rattle.std.specs.Option.{option_map};
-ghost use Rattle.sst_entries.specs.Entry.{Entry};
-ghost use Rattle.sst_entries.specs.Lending.{entry_of_ref};
-ghost use Rattle.sst_c.specs.Copies.{copy_code, laid_over, lend_code};
-ghost use Rattle.sst_c.specs.Told.{found_by, found_in};
+ghost use Rattle.sst_c.specs.Words as spec;
 
 use crate::address::address_of;
 use crate::codes::{CLOSED, NO_ROOM, NOTHING};
@@ -16,16 +12,18 @@ use std::alloc::Global;
 /// Copies bytes to the front of a room that has room for them.
 pub(crate) fn copy_out(bytes: &[u8], room: &mut [u8])
     requires { length bytes.now ≤ length room.old }
-    ensures { room.new ≡ laid_over bytes.now room.old }
+    ensures { room.new ≡ spec.laid_over bytes.now room.old }
 {
     room[..bytes.len()].copy_from_slice(bytes);
 }
 
 /// Copies the key and the value of an entry, or nothing where one of them has no room.
 pub(crate) fn copy_item(item: &EntryRef<'_>, key: &mut [u8], value: &mut [u8]) -> u32
-    ensures code { result ≡ copy_code (Some (entry_of_ref item.now)) key.old value.old }
-    ensures key { result ≡ 0 → key.new ≡ laid_over (entry_of_ref item.now).user_key key.old }
-    ensures value { result ≡ 0 → value.new ≡ laid_over (entry_of_ref item.now).value value.old }
+    ensures code { result ≡ spec.copy_code (Some (spec.entry_of_ref item.now)) key.old value.old }
+    ensures key { result ≡ 0 →
+        key.new ≡ spec.laid_over (spec.entry_of_ref item.now).user_key key.old }
+    ensures value { result ≡ 0 →
+        value.new ≡ spec.laid_over (spec.entry_of_ref item.now).value value.old }
     ensures left { result ≢ 0 → (key.new ≡ key.old) × (value.new ≡ value.old) }
 {
     if key.len() < item.user_key.len() || value.len() < item.value.len() {
@@ -37,9 +35,10 @@ pub(crate) fn copy_item(item: &EntryRef<'_>, key: &mut [u8], value: &mut [u8]) -
 }
 
 fn copy_found(held: &Held, key: &mut [u8], value: &mut [u8]) -> u32
-    ensures code { result ≡ copy_code (found_by held.now) key.old value.old }
-    ensures copied { (e : Entry) → found_by held.now ≡ Some e → result ≡ 0 →
-        (key.new ≡ laid_over e.user_key key.old) × (value.new ≡ laid_over e.value value.old) }
+    ensures code { result ≡ spec.copy_code (spec.found_by held.now) key.old value.old }
+    ensures copied { (e : spec.Entry) → spec.found_by held.now ≡ Some e → result ≡ 0 →
+        (key.new ≡ spec.laid_over e.user_key key.old)
+        × (value.new ≡ spec.laid_over e.value value.old) }
     ensures left { result ≢ 0 → (key.new ≡ key.old) × (value.new ≡ value.old) }
 {
     match held.found_entry() {
@@ -61,9 +60,10 @@ pub extern "C" fn sst_found_copy(
     ensures kept { handle.new.boxed.value ≡ handle.old.boxed.value }
     ensures shut { handle.old.boxed.value ≡ None → result ≡ 100 }
     ensures code { IsSome handle.old.boxed.value →
-        result ≡ copy_code (found_in handle.old.boxed.value) key.old value.old }
-    ensures copied { (e : Entry) → found_in handle.old.boxed.value ≡ Some e → result ≡ 0 →
-        (key.new ≡ laid_over e.user_key key.old) × (value.new ≡ laid_over e.value value.old) }
+        result ≡ spec.copy_code (spec.found_in handle.old.boxed.value) key.old value.old }
+    ensures copied { (e : spec.Entry) → spec.found_in handle.old.boxed.value ≡ Some e → result ≡ 0 →
+        (key.new ≡ spec.laid_over e.user_key key.old)
+        × (value.new ≡ spec.laid_over e.value value.old) }
     ensures left { result ≢ 0 → (key.new ≡ key.old) × (value.new ≡ value.old) }
 {
     let Some(held) = handle.take(alloc) else {
@@ -88,8 +88,8 @@ pub struct Lent {
 }
 
 pub(crate) fn lend_item(item: &EntryRef<'_>, lent: &mut Lent)
-    ensures key { lent.new.key_len ≡ length (entry_of_ref item.now).user_key }
-    ensures value { lent.new.value_len ≡ length (entry_of_ref item.now).value }
+    ensures key { lent.new.key_len ≡ length (spec.entry_of_ref item.now).user_key }
+    ensures value { lent.new.value_len ≡ length (spec.entry_of_ref item.now).value }
 {
     lent.key = address_of(item.user_key);
     lent.key_len = item.user_key.len() as u64;
@@ -98,8 +98,8 @@ pub(crate) fn lend_item(item: &EntryRef<'_>, lent: &mut Lent)
 }
 
 fn lend_found(held: &Held, lent: &mut Lent) -> u32
-    ensures code { result ≡ lend_code (found_by held.now) }
-    ensures lent { (e : Entry) → found_by held.now ≡ Some e →
+    ensures code { result ≡ spec.lend_code (spec.found_by held.now) }
+    ensures lent { (e : spec.Entry) → spec.found_by held.now ≡ Some e →
         (lent.new.key_len ≡ length e.user_key) × (lent.new.value_len ≡ length e.value) }
     ensures left { result ≢ 0 → lent.new ≡ lent.old }
 {
@@ -120,8 +120,8 @@ pub extern "C" fn sst_found_lend(alloc: Global, handle: &mut Handle, lent: &mut 
     ensures kept { handle.new.boxed.value ≡ handle.old.boxed.value }
     ensures shut { handle.old.boxed.value ≡ None → result ≡ 100 }
     ensures code { IsSome handle.old.boxed.value →
-        result ≡ lend_code (found_in handle.old.boxed.value) }
-    ensures lent { (e : Entry) → found_in handle.old.boxed.value ≡ Some e →
+        result ≡ spec.lend_code (spec.found_in handle.old.boxed.value) }
+    ensures lent { (e : spec.Entry) → spec.found_in handle.old.boxed.value ≡ Some e →
         (lent.new.key_len ≡ length e.user_key) × (lent.new.value_len ≡ length e.value) }
     ensures left { result ≢ 0 → lent.new ≡ lent.old }
 {

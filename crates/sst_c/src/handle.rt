@@ -1,8 +1,7 @@
 //! Handles: what C holds.
 ghost use Rattle.std.specs.Prelude.{◌≡◌, ◌≢◌, ◌⊎◌, is_some, nat_lt, IsSomeAnd, MatchOption, Option};
 ghost use Rattle.std.specs.Prelude.{Some, None};
-ghost use Rattle.sst_c.specs.Told.{found_by};
-ghost use Rattle.sst_c.specs.What.{begun};
+ghost use Rattle.sst_c.specs.Words as spec;
 
 use crate::boxed::{Boxed, discard, hold, no_box, release};
 use crate::held::{Held, What, box_of};
@@ -38,8 +37,8 @@ impl Handle {
     pub(crate) fn begin(&mut self, alloc: Global, what: What) -> u32
         requires { self.old.boxed.value ≡ None }
         ensures memory { (result ≡ 0) ⊎ (result ≡ 1) }
-        ensures new { result ≡ 0 → IsSomeAnd self.new.boxed.value (λ h. found_by h ≡ None) }
-        ensures begun { result ≡ 0 → self.new.boxed.value ≡ Some (begun what) }
+        ensures new { result ≡ 0 → IsSomeAnd self.new.boxed.value (λ h. spec.found_by h ≡ None) }
+        ensures begun { result ≡ 0 → self.new.boxed.value ≡ Some (spec.begun what) }
         ensures left { result ≢ 0 → self.new.boxed.value ≡ None }
     {
         match box_of(alloc, what) {

@@ -1,17 +1,11 @@
 //! What a handle holds.
 ghost use Rattle.std.specs.Prelude.{◌≡◌, ◌++◌, IfErr, IfOk, List, None};
-ghost use Rattle.std.specs.Option.{option_map};
-ghost use Rattle.sst_entries.specs.Lending.{entry_of_ref};
-ghost use Rattle.sst_entries.specs.declared.error.Error.TheVariants.{OutOfMemory};
-ghost use Rattle.lsm_readers.specs.Words.{OpenTable};
-ghost use Rattle.sst_c.specs.Told.{found_at, found_by, in_runs, in_table, is_settled, lent_in};
-ghost use Rattle.sst_c.specs.What.{begun};
-ghost use Rattle.sst_c.specs.declared.held.FoundEntry.TheVariants.{Kept, Lent as IsLent};
-ghost use Rattle.sst_c.specs.declared.held.What.TheVariants.{Runs as RunsOf};
+ghost use Rattle.sst_c.specs.Words as spec;
 
 use crate::asked::Asked;
 use crate::entries::entry_of;
 use crate::run_list::RunList;
+use crate::runs_scan::{RunsScan, lent_by};
 use crate::verifier::Verifier;
 use lsm_iters::Iter;
 use lsm_ranges::Packed;
@@ -46,21 +40,21 @@ pub enum FoundEntry {
 impl FoundEntry {
     /// Nothing is found.
     pub(crate) fn clear(&mut self)
-        ensures { self.new ≡ Kept None }
+        ensures { self.new ≡ spec.Kept None }
     {
         *self = FoundEntry::Kept(None);
     }
 
     /// The entry that the scan or the range borrows is found.
     pub(crate) fn set_lent(&mut self)
-        ensures { self.new ≡ IsLent }
+        ensures { self.new ≡ spec.IsLent }
     {
         *self = FoundEntry::Lent;
     }
 
     // Whether it is no position in runs at which there is no entry.
     fn is_settled(&self, runs: &RunList) -> bool
-        ensures { result ≡ is_settled self.now runs.now }
+        ensures { result ≡ spec.is_settled self.now runs.now }
     {
         match self {
             FoundEntry::InRuns(place) => runs.entry_at(place).is_some(),
@@ -72,8 +66,9 @@ impl FoundEntry {
     /// runs are added.
     #[tactic(auto, using(crate::proofs::Placing::settled))]
     pub(crate) fn settle(&mut self, runs: &RunList)
-        ensures { (more : List (List OpenTable)) →
-            found_at self.new (RunsOf (runs.now ++ more)) ≡ found_at self.old (RunsOf runs.now) }
+        ensures { (more : List (List spec.OpenTable)) →
+            spec.found_at self.new (spec.RunsOf (runs.now ++ more))
+            ≡ spec.found_at self.old (spec.RunsOf runs.now) }
     {
         if !self.is_settled(runs) {
             self.clear();
@@ -93,6 +88,8 @@ pub enum What {
     /// What runs of tables have together within bounds, read from both ends; nothing once a read
     /// was refused.
     Merged(Option<Asked>),
+    /// The same, borrowed from the front.
+    RunsScan(Option<RunsScan>),
     /// Tables that are written: those that are finished, and the one that is not.
     Files(Files),
     /// Runs of tables, the newest first.
@@ -116,8 +113,8 @@ pub struct Files {
 
 /// The box of what was begun.
 pub(crate) fn box_of(alloc: Global, what: What) -> Result<Box<Held>, Error>
-    ensures ok { IfOk result (λ held. held.value ≡ begun what) }
-    ensures err { IfErr result (λ e. e ≡ OutOfMemory) }
+    ensures ok { IfOk result (λ held. held.value ≡ spec.begun what) }
+    ensures err { IfErr result (λ e. e ≡ spec.OutOfMemory) }
 {
     let found = FoundEntry::Kept(None);
     Ok(Box::new(alloc, Held { found, what })?)
@@ -125,18 +122,19 @@ pub(crate) fn box_of(alloc: Global, what: What) -> Result<Box<Held>, Error>
 
 // The entry that a scan or a range borrows.
 fn lent(what: &What) -> Option<EntryRef<'_>>
-    ensures { option_map entry_of_ref result ≡ lent_in what.now }
+    ensures { spec.option_map spec.entry_of_ref result ≡ spec.lent_in what.now }
 {
     match what {
         What::Scan(scanner) => scanner.entry(),
         What::Range(iter) => iter.entry(),
+        What::RunsScan(scan) => lent_by(scan),
         _ => None,
     }
 }
 
 // The entry at a position in the bytes of a table.
 fn in_table<'a>(what: &'a What, place: &EntryPlace) -> Option<EntryRef<'a>>
-    ensures { option_map entry_of_ref result ≡ in_table place.now what.now }
+    ensures { spec.option_map spec.entry_of_ref result ≡ spec.in_table place.now what.now }
 {
     match what {
         What::Table(table) => table.entry_at(place),
@@ -146,7 +144,7 @@ fn in_table<'a>(what: &'a What, place: &EntryPlace) -> Option<EntryRef<'a>>
 
 // The same of the tables of runs.
 fn in_runs<'a>(what: &'a What, place: &RunPlace) -> Option<EntryRef<'a>>
-    ensures { option_map entry_of_ref result ≡ in_runs place.now what.now }
+    ensures { spec.option_map spec.entry_of_ref result ≡ spec.in_runs place.now what.now }
 {
     match what {
         What::Runs(runs) => runs.entry_at(place),
@@ -157,7 +155,7 @@ fn in_runs<'a>(what: &'a What, place: &RunPlace) -> Option<EntryRef<'a>>
 impl Held {
     /// The entry that the last read found, borrowed.
     pub(crate) fn found_entry(&self) -> Option<EntryRef<'_>>
-        ensures { option_map entry_of_ref result ≡ found_by self.now }
+        ensures { spec.option_map spec.entry_of_ref result ≡ spec.found_by self.now }
     {
         match &self.found {
             FoundEntry::Kept(found) => entry_of(found),

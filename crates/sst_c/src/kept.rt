@@ -1,9 +1,6 @@
 //! Tables over bytes that the caller keeps.
 ghost use Rattle.std.specs.Prelude.{◌≡◌, ◌≢◌, IsSomeAnd, List, None, is_some, true};
-ghost use Rattle.lsm_readers.specs.Words.{Entry, StoresList, fits_told, recovered_told};
-ghost use Rattle.sst_c.specs.Codes.{TellsCode, TellsFirst};
-ghost use Rattle.lsm_readers.specs.Parts.{early_fault};
-ghost use Rattle.sst_c.specs.What.{IsOpenedAs};
+ghost use Rattle.sst_c.specs.Words as spec;
 
 use crate::codes::OPEN;
 use crate::handle::Handle;
@@ -26,14 +23,15 @@ pub extern "C" fn sst_table_open_kept(
 ) -> u32
     ensures open { is_some table.old.boxed.value ≡ true → result ≡ 101 }
     ensures opened { result ≡ 0 → IsSomeAnd table.new.boxed.value
-        (IsOpenedAs file.now global_seqno pin_filter pin_index) }
+        (spec.IsOpenedAs file.now global_seqno pin_filter pin_index) }
     ensures told { table.old.boxed.value ≡ None →
-        TellsCode result (recovered_told file.now global_seqno pin_filter pin_index) }
+        spec.TellsCode result (spec.recovered_told file.now global_seqno pin_filter pin_index) }
     // What is found before memory is taken is the refusal, whatever memory there is.
-    ensures early { table.old.boxed.value ≡ None → TellsFirst result (early_fault file.now) }
+    ensures early { table.old.boxed.value ≡ None →
+        spec.TellsFirst result (spec.early_fault file.now) }
     // Bytes that store a list are opened where the highest number fits.
-    ensures list { table.old.boxed.value ≡ None → (es : List Entry) → StoresList file.now es →
-        TellsCode result (fits_told es global_seqno) }
+    ensures list { table.old.boxed.value ≡ None → (es : List spec.Entry) →
+        spec.StoresList file.now es → spec.TellsCode result (spec.fits_told es global_seqno) }
     ensures left { result ≢ 0 → table.new.boxed.value ≡ table.old.boxed.value }
 {
     if table.is_open() {

@@ -1,8 +1,6 @@
 //! Keys and values copied one after another into one room.
 ghost use Rattle.std.specs.Prelude.{◌≡◌, ◌+◌, ◌≤◌, ◌++◌, true, false, length, take, drop, nat_lt, not};
-ghost use Rattle.sst_entries.specs.Lending.{entry_of_ref};
-ghost use Rattle.sst_c.specs.Copies.{laid_over};
-ghost use Rattle.sst_c.specs.Takes.{bytes_found, bytes_of};
+ghost use Rattle.sst_c.specs.Words as spec;
 
 use crate::entries::entry_of;
 use crate::found::copy_out;
@@ -10,8 +8,8 @@ use sst_blocks::{EntryRef, InternalValue};
 
 // Copies the key and the value of an entry to the front of a room that has room for both.
 fn lay(entry: &EntryRef<'_>, room: &mut [u8])
-    requires { length (bytes_of (entry_of_ref entry.now)) ≤ length room.old }
-    ensures { room.new ≡ laid_over (bytes_of (entry_of_ref entry.now)) room.old }
+    requires { length (spec.bytes_of (spec.entry_of_ref entry.now)) ≤ length room.old }
+    ensures { room.new ≡ spec.laid_over (spec.bytes_of (spec.entry_of_ref entry.now)) room.old }
 {
     copy_out(entry.user_key, room);
     copy_out(entry.value, &mut room[entry.user_key.len()..]);
@@ -20,11 +18,12 @@ fn lay(entry: &EntryRef<'_>, room: &mut [u8])
 /// Copies an entry after the first `at` bytes of a room, and moves `at` after it, if it fits.
 pub(crate) fn lay_next(entry: &EntryRef<'_>, room: &mut [u8], at: &mut usize) -> bool
     requires { at.old ≤ length room.old }
-    ensures fits { let len = length (bytes_of (entry_of_ref entry.now)) in
+    ensures fits { let len = length (spec.bytes_of (spec.entry_of_ref entry.now)) in
         result ≡ not (nat_lt (length room.old) (at.old + len)) }
     ensures laid { result ≡ true → room.new ≡ take at.old room.old
-        ++ laid_over (bytes_of (entry_of_ref entry.now)) (drop at.old room.old) }
-    ensures behind { result ≡ true → at.new ≡ at.old + length (bytes_of (entry_of_ref entry.now)) }
+        ++ spec.laid_over (spec.bytes_of (spec.entry_of_ref entry.now)) (drop at.old room.old) }
+    ensures behind { result ≡ true →
+        at.new ≡ at.old + length (spec.bytes_of (spec.entry_of_ref entry.now)) }
     ensures left { result ≡ false → (room.new ≡ room.old) × (at.new ≡ at.old) }
     ensures within { at.new ≤ length room.new }
 {
@@ -41,11 +40,11 @@ pub(crate) fn lay_next(entry: &EntryRef<'_>, room: &mut [u8], at: &mut usize) ->
 /// Copies what was found, if something was, as [`lay_next`] does.
 pub(crate) fn lay_found(found: &Option<InternalValue>, room: &mut [u8], at: &mut usize) -> bool
     requires { at.old ≤ length room.old }
-    ensures fits { let len = length (bytes_found found.now) in
+    ensures fits { let len = length (spec.bytes_found found.now) in
         result ≡ not (nat_lt (length room.old) (at.old + len)) }
     ensures laid { result ≡ true → room.new ≡ take at.old room.old
-        ++ laid_over (bytes_found found.now) (drop at.old room.old) }
-    ensures behind { result ≡ true → at.new ≡ at.old + length (bytes_found found.now) }
+        ++ spec.laid_over (spec.bytes_found found.now) (drop at.old room.old) }
+    ensures behind { result ≡ true → at.new ≡ at.old + length (spec.bytes_found found.now) }
     ensures left { result ≡ false → (room.new ≡ room.old) × (at.new ≡ at.old) }
     ensures within { at.new ≤ length room.new }
 {

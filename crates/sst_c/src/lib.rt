@@ -31,6 +31,8 @@ mod ranges;
 mod reads;
 mod run_list;
 mod runs;
+mod runs_scan;
+mod runs_scan_open;
 mod scans;
 mod sentences;
 mod shares;
@@ -64,6 +66,8 @@ pub use packing::{
 pub use ranges::{sst_range_next, sst_range_open, sst_range_take};
 pub use run_list::RunList;
 pub use runs::{sst_runs_add, sst_runs_get, sst_runs_open};
+pub use runs_scan::RunsScan;
+pub use runs_scan_open::sst_runs_scan_open;
 pub use scans::{sst_scan_next, sst_scan_open, sst_scan_take};
 pub use sentences::sst_strerror_copy;
 pub use shares::sst_table_share;

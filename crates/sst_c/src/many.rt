@@ -2,19 +2,7 @@
 ghost use Rattle.std.specs.Prelude.{◌≡◌, ◌≢◌, ◌<◌, ◌≤◌, ◌==◌, ◌⊎◌, false, true, IfErr, IfOk, List};
 ghost use Rattle.std.specs.Prelude.{IsSomeAnd, None, Ok, Option, Result, Some, is_some, length};
 ghost use Rattle.std.specs.Prelude.{map};
-ghost use Rattle.std.specs.List.{sum};
-ghost use Rattle.sst_entries.specs.Error.{Gives, number_of};
-ghost use Rattle.sst_entries.specs.declared.error.Error.{Error as ErrorValue};
-ghost use Rattle.sst_entries.specs.declared.error.Error.TheVariants.{OutOfMemory};
-ghost use Rattle.lsm_readers.specs.Many.{many_told};
-ghost use Rattle.lsm_readers.specs.Words.{Entry, OpenTable, StoresList, lift, point};
-ghost use Rattle.sst_c.specs.Copies.{laid_over};
-ghost use Rattle.sst_c.specs.Many.{AnswersMany, answer_at, copy_at_code, keys_cut, lend_at_code};
-ghost use Rattle.sst_c.specs.Many.{many_kept, queries_for};
-ghost use Rattle.sst_c.specs.Told.{entry_facts, found_by};
-ghost use Rattle.sst_c.specs.What.{is_table, many_in};
-ghost use Rattle.sst_c.specs.declared.held.Held.{Held as HeldValue};
-ghost use Rattle.sst_c.specs.declared.held.What.TheVariants.{Table as TableOf};
+ghost use Rattle.sst_c.specs.Words as spec;
 
 use crate::codes::{CLOSED, NO_ROOM, NO_SUCH, NOTHING, OPEN, OTHER_KIND};
 use crate::entries::{EntryTold, entry_of, tell};
@@ -27,7 +15,7 @@ use std::alloc::Global;
 
 // Whether lengths add up to a count of bytes.
 fn add_up(lens: &[u64], count: u64) -> bool
-    ensures { result ≡ (sum lens.now == count) }
+    ensures { result ≡ (spec.sum lens.now == count) }
 {
     let mut left = count;
     for len in lens {
@@ -41,9 +29,9 @@ fn add_up(lens: &[u64], count: u64) -> bool
 
 // The queries for keys of these lengths that stand one behind another.
 fn queries_of(alloc: Global, keys: &[u8], lens: &[u64], seqno: SeqNo) -> Result<Vec<Query>, Error>
-    requires { sum lens.now ≡ length keys.now }
-    ensures ok { IfOk result (λ qs. qs.items ≡ queries_for keys.now lens.now seqno) }
-    ensures err { IfErr result (λ e. e ≡ OutOfMemory) }
+    requires { spec.sum lens.now ≡ length keys.now }
+    ensures ok { IfOk result (λ qs. qs.items ≡ spec.queries_for keys.now lens.now seqno) }
+    ensures err { IfErr result (λ e. e ≡ spec.OutOfMemory) }
 {
     let whole = Slice::from(alloc, keys)?;
     let mut queries = Vec::with_capacity(alloc, lens.len())?;
@@ -65,13 +53,13 @@ fn found_of(
     lens: &[u64],
     seqno: SeqNo,
 ) -> Result<Vec<Option<InternalValue>>, Error>
-    requires { sum lens.now ≡ length keys.now }
-    ensures told { let told = many_told table.now (queries_for keys.now lens.now seqno) in
-        Gives (λ found. found.items) result told }
-    ensures list { (es : List Entry) → StoresList table.now.bytes es →
-        let all = lift es table.now.global_seqno in
-        let each = map (λ k. point all k seqno) (keys_cut lens.now keys.now) in
-        Gives (λ found. found.items) result (Ok each) }
+    requires { spec.sum lens.now ≡ length keys.now }
+    ensures told { let told = spec.many_told table.now (spec.queries_for keys.now lens.now seqno) in
+        spec.Gives (λ found. found.items) result told }
+    ensures list { (es : List spec.Entry) → spec.StoresList table.now.bytes es →
+        let all = spec.lift es table.now.global_seqno in
+        let each = map (λ k. spec.point all k seqno) (spec.keys_cut lens.now keys.now) in
+        spec.Gives (λ found. found.items) result (Ok each) }
     ensures count { IfOk result (λ found. length found.items ≡ length lens.now) }
 {
     let queries = queries_of(alloc, keys, lens, seqno)?;
@@ -81,7 +69,7 @@ fn found_of(
 // Tells of each entry, or that there is none.
 fn tell_each(found: &[Option<InternalValue>], entries: &mut [EntryTold])
     requires { length found.now ≤ length entries.old }
-    ensures { entries.new ≡ laid_over (map entry_facts found.now) entries.old }
+    ensures { entries.new ≡ spec.laid_over (map spec.entry_facts found.now) entries.old }
 {
     for at in 0..found.len() {
         entries[at] = tell(entry_of(&found[at]));
@@ -90,9 +78,9 @@ fn tell_each(found: &[Option<InternalValue>], entries: &mut [EntryTold])
 
 // Tells of what is held.
 fn tell_held(held: &Held, entries: &mut [EntryTold])
-    requires { IsSomeAnd (many_in held.now.what) (λ found. length found ≤ length entries.old) }
-    ensures { IsSomeAnd (many_in held.now.what) (λ found.
-        entries.new ≡ laid_over (map entry_facts found) entries.old) }
+    requires { IsSomeAnd (spec.many_in held.now.what) (λ found. length found ≤ length entries.old) }
+    ensures { IsSomeAnd (spec.many_in held.now.what) (λ found.
+        entries.new ≡ spec.laid_over (map spec.entry_facts found) entries.old) }
 {
     if let What::Answers(found) = &held.what {
         tell_each(found, entries);
@@ -109,11 +97,11 @@ fn keep_each(
     requires empty { answers.old.boxed.value ≡ None }
     requires room { length found.items ≤ length entries.old }
     ensures memory { (result ≡ 0) ⊎ (result ≡ 1) }
-    ensures new { result ≡ 0 → IsSomeAnd answers.new.boxed.value (λ k. found_by k ≡ None) }
+    ensures new { result ≡ 0 → IsSomeAnd answers.new.boxed.value (λ k. spec.found_by k ≡ None) }
     ensures many { result ≡ 0 → IsSomeAnd answers.new.boxed.value (λ k.
-        many_in k.what ≡ Some found.items) }
+        spec.many_in k.what ≡ Some found.items) }
     ensures told { result ≡ 0 →
-        entries.new ≡ laid_over (map entry_facts found.items) entries.old }
+        entries.new ≡ spec.laid_over (map spec.entry_facts found.items) entries.old }
     ensures left { result ≢ 0 →
         (entries.new ≡ entries.old) × (answers.new.boxed.value ≡ None) }
 {
@@ -136,11 +124,12 @@ fn keep_found(
 ) -> u32
     requires empty { answers.old.boxed.value ≡ None }
     requires room { IfOk found (λ each. length each.items ≤ length entries.old) }
-    ensures refused { IfErr found (λ e. result ≡ number_of e) }
-    ensures told { (told : Result (List (Option Entry)) ErrorValue) →
-        Gives (λ each. each.items) found told → let kept = many_kept answers.new.boxed.value in
-        AnswersMany result kept entries.old entries.new told }
-    ensures new { result ≡ 0 → IsSomeAnd answers.new.boxed.value (λ k. found_by k ≡ None) }
+    ensures refused { IfErr found (λ e. result ≡ spec.number_of e) }
+    ensures told { (told : Result (List (Option spec.Entry)) spec.ErrorValue) →
+        spec.Gives (λ each. each.items) found told →
+        let kept = spec.many_kept answers.new.boxed.value in
+        spec.AnswersMany result kept entries.old entries.new told }
+    ensures new { result ≡ 0 → IsSomeAnd answers.new.boxed.value (λ k. spec.found_by k ≡ None) }
     ensures left { result ≢ 0 →
         (entries.new ≡ entries.old) × (answers.new.boxed.value ≡ None) }
 {
@@ -161,17 +150,17 @@ fn read_each(
     answers: &mut Handle,
 ) -> u32
     requires empty { answers.old.boxed.value ≡ None }
-    requires sum { sum lens.now ≡ length keys.now }
+    requires sum { spec.sum lens.now ≡ length keys.now }
     requires room { length lens.now ≤ length entries.old }
-    ensures told { let told = many_told table.now (queries_for keys.now lens.now seqno) in
-        let kept = many_kept answers.new.boxed.value in
-        AnswersMany result kept entries.old entries.new told }
-    ensures list { (es : List Entry) → StoresList table.now.bytes es →
-        let all = lift es table.now.global_seqno in
-        let each = map (λ k. point all k seqno) (keys_cut lens.now keys.now) in
-        let kept = many_kept answers.new.boxed.value in
-        AnswersMany result kept entries.old entries.new (Ok each) }
-    ensures new { result ≡ 0 → IsSomeAnd answers.new.boxed.value (λ k. found_by k ≡ None) }
+    ensures told { let told = spec.many_told table.now (spec.queries_for keys.now lens.now seqno) in
+        let kept = spec.many_kept answers.new.boxed.value in
+        spec.AnswersMany result kept entries.old entries.new told }
+    ensures list { (es : List spec.Entry) → spec.StoresList table.now.bytes es →
+        let all = spec.lift es table.now.global_seqno in
+        let each = map (λ k. spec.point all k seqno) (spec.keys_cut lens.now keys.now) in
+        let kept = spec.many_kept answers.new.boxed.value in
+        spec.AnswersMany result kept entries.old entries.new (Ok each) }
+    ensures new { result ≡ 0 → IsSomeAnd answers.new.boxed.value (λ k. spec.found_by k ≡ None) }
     ensures left { result ≢ 0 →
         (entries.new ≡ entries.old) × (answers.new.boxed.value ≡ None) }
 {
@@ -189,23 +178,23 @@ fn get_each(
     answers: &mut Handle,
 ) -> u32
     requires { answers.old.boxed.value ≡ None }
-    ensures kind { is_table held.now.what ≡ false → result ≡ 102 }
-    ensures lengths { is_table held.now.what ≡ true → sum lens.now ≢ length keys.now →
+    ensures kind { spec.is_table held.now.what ≡ false → result ≡ 102 }
+    ensures lengths { spec.is_table held.now.what ≡ true → spec.sum lens.now ≢ length keys.now →
         result ≡ 105 }
-    ensures room { is_table held.now.what ≡ true → sum lens.now ≡ length keys.now →
+    ensures room { spec.is_table held.now.what ≡ true → spec.sum lens.now ≡ length keys.now →
         length entries.old < length lens.now → result ≡ 103 }
-    ensures told { (t : OpenTable) → held.now.what ≡ TableOf t → sum lens.now ≡ length keys.now →
-        length lens.now ≤ length entries.old →
-        let told = many_told t (queries_for keys.now lens.now seqno) in
-        let kept = many_kept answers.new.boxed.value in
-        AnswersMany result kept entries.old entries.new told }
-    ensures list { (t : OpenTable) (es : List Entry) → held.now.what ≡ TableOf t →
-        sum lens.now ≡ length keys.now → length lens.now ≤ length entries.old →
-        StoresList t.bytes es → let all = lift es t.global_seqno in
-        let each = map (λ k. point all k seqno) (keys_cut lens.now keys.now) in
-        let kept = many_kept answers.new.boxed.value in
-        AnswersMany result kept entries.old entries.new (Ok each) }
-    ensures new { result ≡ 0 → IsSomeAnd answers.new.boxed.value (λ k. found_by k ≡ None) }
+    ensures told { (t : spec.OpenTable) → held.now.what ≡ spec.TableOf t →
+        spec.sum lens.now ≡ length keys.now → length lens.now ≤ length entries.old →
+        let told = spec.many_told t (spec.queries_for keys.now lens.now seqno) in
+        let kept = spec.many_kept answers.new.boxed.value in
+        spec.AnswersMany result kept entries.old entries.new told }
+    ensures list { (t : spec.OpenTable) (es : List spec.Entry) → held.now.what ≡ spec.TableOf t →
+        spec.sum lens.now ≡ length keys.now → length lens.now ≤ length entries.old →
+        spec.StoresList t.bytes es → let all = spec.lift es t.global_seqno in
+        let each = map (λ k. spec.point all k seqno) (spec.keys_cut lens.now keys.now) in
+        let kept = spec.many_kept answers.new.boxed.value in
+        spec.AnswersMany result kept entries.old entries.new (Ok each) }
+    ensures new { result ≡ 0 → IsSomeAnd answers.new.boxed.value (λ k. spec.found_by k ≡ None) }
     ensures left { result ≢ 0 →
         (entries.new ≡ entries.old) × (answers.new.boxed.value ≡ None) }
 {
@@ -240,31 +229,31 @@ pub extern "C" fn sst_table_get_many(
     ensures kept { table.new.boxed.value ≡ table.old.boxed.value }
     ensures open { is_some answers.old.boxed.value ≡ true → result ≡ 101 }
     ensures shut { answers.old.boxed.value ≡ None → table.old.boxed.value ≡ None → result ≡ 100 }
-    ensures kind { (h : HeldValue) → answers.old.boxed.value ≡ None →
-        table.old.boxed.value ≡ Some h → is_table h.what ≡ false → result ≡ 102 }
-    ensures lengths { (h : HeldValue) → answers.old.boxed.value ≡ None →
-        table.old.boxed.value ≡ Some h → is_table h.what ≡ true →
-        sum key_lens.now ≢ length keys.now → result ≡ 105 }
-    ensures room { (h : HeldValue) → answers.old.boxed.value ≡ None →
-        table.old.boxed.value ≡ Some h → is_table h.what ≡ true →
-        sum key_lens.now ≡ length keys.now → length entries.old < length key_lens.now →
+    ensures kind { (h : spec.HeldValue) → answers.old.boxed.value ≡ None →
+        table.old.boxed.value ≡ Some h → spec.is_table h.what ≡ false → result ≡ 102 }
+    ensures lengths { (h : spec.HeldValue) → answers.old.boxed.value ≡ None →
+        table.old.boxed.value ≡ Some h → spec.is_table h.what ≡ true →
+        spec.sum key_lens.now ≢ length keys.now → result ≡ 105 }
+    ensures room { (h : spec.HeldValue) → answers.old.boxed.value ≡ None →
+        table.old.boxed.value ≡ Some h → spec.is_table h.what ≡ true →
+        spec.sum key_lens.now ≡ length keys.now → length entries.old < length key_lens.now →
         result ≡ 103 }
     // Whatever the bytes, it is what the table tells of each key, or of the first that is refused,
-    ensures told { (h : HeldValue) (t : OpenTable) → answers.old.boxed.value ≡ None →
-        table.old.boxed.value ≡ Some h → h.what ≡ TableOf t →
-        sum key_lens.now ≡ length keys.now → length key_lens.now ≤ length entries.old →
-        let told = many_told t (queries_for keys.now key_lens.now seqno) in
-        let kept = many_kept answers.new.boxed.value in
-        AnswersMany result kept entries.old entries.new told }
+    ensures told { (h : spec.HeldValue) (t : spec.OpenTable) → answers.old.boxed.value ≡ None →
+        table.old.boxed.value ≡ Some h → h.what ≡ spec.TableOf t →
+        spec.sum key_lens.now ≡ length keys.now → length key_lens.now ≤ length entries.old →
+        let told = spec.many_told t (spec.queries_for keys.now key_lens.now seqno) in
+        let kept = spec.many_kept answers.new.boxed.value in
+        spec.AnswersMany result kept entries.old entries.new told }
     // and on bytes that store a list each key's first match in the list, its numbers lifted.
-    ensures list { (h : HeldValue) (t : OpenTable) (es : List Entry) →
-        answers.old.boxed.value ≡ None → table.old.boxed.value ≡ Some h → h.what ≡ TableOf t →
-        sum key_lens.now ≡ length keys.now → length key_lens.now ≤ length entries.old →
-        StoresList t.bytes es → let all = lift es t.global_seqno in
-        let each = map (λ k. point all k seqno) (keys_cut key_lens.now keys.now) in
-        let kept = many_kept answers.new.boxed.value in
-        AnswersMany result kept entries.old entries.new (Ok each) }
-    ensures new { result ≡ 0 → IsSomeAnd answers.new.boxed.value (λ k. found_by k ≡ None) }
+    ensures list { (h : spec.HeldValue) (t : spec.OpenTable) (es : List spec.Entry) →
+        answers.old.boxed.value ≡ None → table.old.boxed.value ≡ Some h → h.what ≡ spec.TableOf t →
+        spec.sum key_lens.now ≡ length keys.now → length key_lens.now ≤ length entries.old →
+        spec.StoresList t.bytes es → let all = spec.lift es t.global_seqno in
+        let each = map (λ k. spec.point all k seqno) (spec.keys_cut key_lens.now keys.now) in
+        let kept = spec.many_kept answers.new.boxed.value in
+        spec.AnswersMany result kept entries.old entries.new (Ok each) }
+    ensures new { result ≡ 0 → IsSomeAnd answers.new.boxed.value (λ k. spec.found_by k ≡ None) }
     ensures left { result ≢ 0 →
         (entries.new ≡ entries.old) × (answers.new.boxed.value ≡ answers.old.boxed.value) }
 {
@@ -280,8 +269,8 @@ pub extern "C" fn sst_table_get_many(
 }
 
 fn lend_at(held: &Held, index: u64, lent: &mut Lent) -> u32
-    ensures code { result ≡ lend_at_code (many_in held.now.what) index }
-    ensures lent { (e : Entry) → answer_at (many_in held.now.what) index ≡ Some e →
+    ensures code { result ≡ spec.lend_at_code (spec.many_in held.now.what) index }
+    ensures lent { (e : spec.Entry) → spec.answer_at (spec.many_in held.now.what) index ≡ Some e →
         (lent.new.key_len ≡ length e.user_key) × (lent.new.value_len ≡ length e.value) }
     ensures left { result ≢ 0 → lent.new ≡ lent.old }
 {
@@ -311,10 +300,10 @@ pub extern "C" fn sst_answers_lend(
 ) -> u32
     ensures kept { answers.new.boxed.value ≡ answers.old.boxed.value }
     ensures shut { answers.old.boxed.value ≡ None → result ≡ 100 }
-    ensures code { (h : HeldValue) → answers.old.boxed.value ≡ Some h →
-        result ≡ lend_at_code (many_in h.what) index }
-    ensures lent { (h : HeldValue) (e : Entry) → answers.old.boxed.value ≡ Some h →
-        answer_at (many_in h.what) index ≡ Some e →
+    ensures code { (h : spec.HeldValue) → answers.old.boxed.value ≡ Some h →
+        result ≡ spec.lend_at_code (spec.many_in h.what) index }
+    ensures lent { (h : spec.HeldValue) (e : spec.Entry) → answers.old.boxed.value ≡ Some h →
+        spec.answer_at (spec.many_in h.what) index ≡ Some e →
         (lent.new.key_len ≡ length e.user_key) × (lent.new.value_len ≡ length e.value) }
     ensures left { result ≢ 0 → lent.new ≡ lent.old }
 {
@@ -327,10 +316,11 @@ pub extern "C" fn sst_answers_lend(
 }
 
 fn copy_at(held: &Held, index: u64, key: &mut [u8], value: &mut [u8]) -> u32
-    ensures code { result ≡ copy_at_code (many_in held.now.what) index key.old value.old }
-    ensures copied { (e : Entry) → answer_at (many_in held.now.what) index ≡ Some e →
+    ensures code { result ≡ spec.copy_at_code (spec.many_in held.now.what) index key.old value.old }
+    ensures copied { (e : spec.Entry) → spec.answer_at (spec.many_in held.now.what) index ≡ Some e →
         result ≡ 0 →
-        (key.new ≡ laid_over e.user_key key.old) × (value.new ≡ laid_over e.value value.old) }
+        (key.new ≡ spec.laid_over e.user_key key.old)
+        × (value.new ≡ spec.laid_over e.value value.old) }
     ensures left { result ≢ 0 → (key.new ≡ key.old) × (value.new ≡ value.old) }
 {
     let What::Answers(found) = &held.what else {
@@ -357,11 +347,12 @@ pub extern "C" fn sst_answers_copy(
 ) -> u32
     ensures kept { answers.new.boxed.value ≡ answers.old.boxed.value }
     ensures shut { answers.old.boxed.value ≡ None → result ≡ 100 }
-    ensures code { (h : HeldValue) → answers.old.boxed.value ≡ Some h →
-        result ≡ copy_at_code (many_in h.what) index key.old value.old }
-    ensures copied { (h : HeldValue) (e : Entry) → answers.old.boxed.value ≡ Some h →
-        answer_at (many_in h.what) index ≡ Some e → result ≡ 0 →
-        (key.new ≡ laid_over e.user_key key.old) × (value.new ≡ laid_over e.value value.old) }
+    ensures code { (h : spec.HeldValue) → answers.old.boxed.value ≡ Some h →
+        result ≡ spec.copy_at_code (spec.many_in h.what) index key.old value.old }
+    ensures copied { (h : spec.HeldValue) (e : spec.Entry) → answers.old.boxed.value ≡ Some h →
+        spec.answer_at (spec.many_in h.what) index ≡ Some e → result ≡ 0 →
+        (key.new ≡ spec.laid_over e.user_key key.old)
+        × (value.new ≡ spec.laid_over e.value value.old) }
     ensures left { result ≢ 0 → (key.new ≡ key.old) × (value.new ≡ value.old) }
 {
     let Some(held) = answers.take(alloc) else {

@@ -1,10 +1,6 @@
 //! How much memory a table holds.
 ghost use Rattle.std.specs.Prelude.{◌≡◌, ◌≢◌, false, None, Some};
-ghost use Rattle.lsm_readers.specs.Words.{OpenTable};
-ghost use Rattle.sst_c.specs.Memory.{TellsMemory};
-ghost use Rattle.sst_c.specs.What.{is_table};
-ghost use Rattle.sst_c.specs.declared.held.Held.{Held as HeldValue};
-ghost use Rattle.sst_c.specs.declared.held.What.TheVariants.{Table as TableOf};
+ghost use Rattle.sst_c.specs.Words as spec;
 
 use crate::codes::{CLOSED, OTHER_KIND};
 use crate::handle::Handle;
@@ -30,7 +26,7 @@ pub struct TableMemory {
 }
 
 fn memory_of(table: &Table) -> TableMemory
-    ensures { TellsMemory table.now result }
+    ensures { spec.TellsMemory table.now result }
 {
     TableMemory {
         file_len: table.file_len() as u64,
@@ -41,9 +37,9 @@ fn memory_of(table: &Table) -> TableMemory
 }
 
 fn tell_memory(held: &Held, memory: &mut TableMemory) -> u32
-    ensures other { is_table held.now.what ≡ false → result ≡ 102 }
-    ensures told { (t : OpenTable) → held.now.what ≡ TableOf t →
-        (result ≡ 0) × TellsMemory t memory.new }
+    ensures other { spec.is_table held.now.what ≡ false → result ≡ 102 }
+    ensures told { (t : spec.OpenTable) → held.now.what ≡ spec.TableOf t →
+        (result ≡ 0) × spec.TellsMemory t memory.new }
     ensures left { result ≢ 0 → memory.new ≡ memory.old }
 {
     match &held.what {
@@ -65,11 +61,11 @@ pub extern "C" fn sst_table_memory(
 ) -> u32
     ensures kept { table.new.boxed.value ≡ table.old.boxed.value }
     ensures shut { table.old.boxed.value ≡ None → result ≡ 100 }
-    ensures other { (h : HeldValue) → table.old.boxed.value ≡ Some h → is_table h.what ≡ false →
-        result ≡ 102 }
+    ensures other { (h : spec.HeldValue) → table.old.boxed.value ≡ Some h →
+        spec.is_table h.what ≡ false → result ≡ 102 }
     // It is what the library tells of the table.
-    ensures told { (h : HeldValue) (t : OpenTable) → table.old.boxed.value ≡ Some h →
-        h.what ≡ TableOf t → (result ≡ 0) × TellsMemory t memory.new }
+    ensures told { (h : spec.HeldValue) (t : spec.OpenTable) → table.old.boxed.value ≡ Some h →
+        h.what ≡ spec.TableOf t → (result ≡ 0) × spec.TellsMemory t memory.new }
     ensures left { result ≢ 0 → memory.new ≡ memory.old }
 {
     let Some(held) = table.take(alloc) else {

@@ -1,14 +1,7 @@
 //! Ranges of several runs, read from both ends.
 ghost use Rattle.std.specs.Prelude.{◌≡◌, ◌≢◌, ◌<◌, ◌⊎◌, ◌||◌, false, IfErr, IfOk, IsSomeAnd, List};
 ghost use Rattle.std.specs.Prelude.{None, Ok, Some, is_some, nat_lt, true};
-ghost use Rattle.sst_entries.specs.declared.error.Error.TheVariants.{OutOfMemory};
-ghost use Rattle.lsm_runs.specs.Words.{DealsList, Entry, IsOverSpansBelow, RunsHoldLists, newest};
-ghost use Rattle.lsm_runs.specs.Words.{numbered_below, union_in, within};
-ghost use Rattle.sst_c.specs.Newest.{NewestAt};
-ghost use Rattle.sst_c.specs.Steps.{StepsUntil};
-ghost use Rattle.sst_c.specs.Told.{found_by};
-ghost use Rattle.sst_c.specs.What.{IsMergedWhere, are_runs, bound_told, runs_held};
-ghost use Rattle.sst_c.specs.declared.held.Held.{Held as HeldValue};
+ghost use Rattle.sst_c.specs.Words as spec;
 
 use crate::asked::Asked;
 use crate::codes::{CLOSED, NO_SUCH, OPEN, OTHER_KIND};
@@ -30,18 +23,19 @@ fn newest_within(
     seqno: SeqNo,
 ) -> Result<Asked, Error>
     ensures steps { IfOk result (λ s.
-        IsOverSpansBelow ⟦<Below<RunReader<Global>> as Iterator>⟧.next_gives
+        spec.IsOverSpansBelow ⟦<Below<RunReader<Global>> as Iterator>⟧.next_gives
         ⟦<Below<RunReader<Global>> as DoubleEndedIterator>⟧.next_back_gives
         ⟦<NewestOfRunsAt<Global> as Iterator>⟧.next_gives
         ⟦<NewestOfRunsAt<Global> as DoubleEndedIterator>⟧.next_back_gives
         range.0 range.1 seqno runs.now s) }
     ensures list { let gives = ⟦<NewestOfRunsAt<Global> as Iterator>⟧.next_gives in
         let back_gives = ⟦<NewestOfRunsAt<Global> as DoubleEndedIterator>⟧.next_back_gives in
-        (lists : List (List (List Entry))) →
-        RunsHoldLists runs.now lists →
-        let found = newest (numbered_below seqno (within range.0 range.1 (union_in lists))) in
-        IfOk result (λ s. DealsList gives back_gives found s) }
-    ensures err { IfErr result (λ e. e ≡ OutOfMemory) }
+        (lists : List (List (List spec.Entry))) →
+        spec.RunsHoldLists runs.now lists →
+        let found = spec.newest
+        (spec.numbered_below seqno (spec.within range.0 range.1 (spec.union_in lists))) in
+        IfOk result (λ s. spec.DealsList gives back_gives found s) }
+    ensures err { IfErr result (λ e. e ≡ spec.OutOfMemory) }
 {
     Ok(Asked::new(range_runs_at(alloc, runs.as_slice(), range, seqno)?))
 }
@@ -58,21 +52,22 @@ fn merged_within(
 ) -> Result<Asked, Error>
     requires lower { lower_kind < 3 }
     requires upper { upper_kind < 3 }
-    ensures steps { let low = bound_told lower_kind lower.now in
-        let high = bound_told upper_kind upper.now in IfOk result
-        (IsOverSpansBelow ⟦<Below<RunReader<Global>> as Iterator>⟧.next_gives
+    ensures steps { let low = spec.bound_told lower_kind lower.now in
+        let high = spec.bound_told upper_kind upper.now in IfOk result
+        (spec.IsOverSpansBelow ⟦<Below<RunReader<Global>> as Iterator>⟧.next_gives
         ⟦<Below<RunReader<Global>> as DoubleEndedIterator>⟧.next_back_gives
         ⟦<NewestOfRunsAt<Global> as Iterator>⟧.next_gives
         ⟦<NewestOfRunsAt<Global> as DoubleEndedIterator>⟧.next_back_gives
         low high seqno runs.now) }
     ensures list { let gives = ⟦<NewestOfRunsAt<Global> as Iterator>⟧.next_gives in
         let back_gives = ⟦<NewestOfRunsAt<Global> as DoubleEndedIterator>⟧.next_back_gives in
-        let low = bound_told lower_kind lower.now in let high = bound_told upper_kind upper.now in
-        (lists : List (List (List Entry))) →
-        RunsHoldLists runs.now lists →
-        let found = newest (numbered_below seqno (within low high (union_in lists))) in
-        IfOk result (DealsList gives back_gives found) }
-    ensures err { IfErr result (λ e. e ≡ OutOfMemory) }
+        let low = spec.bound_told lower_kind lower.now in
+        let high = spec.bound_told upper_kind upper.now in (lists : List (List (List spec.Entry))) →
+        spec.RunsHoldLists runs.now lists →
+        let found = spec.newest
+        (spec.numbered_below seqno (spec.within low high (spec.union_in lists))) in
+        IfOk result (spec.DealsList gives back_gives found) }
+    ensures err { IfErr result (λ e. e ≡ spec.OutOfMemory) }
 {
     let range = bounds(alloc, lower_kind, lower, upper_kind, upper)?;
     newest_within(alloc, runs, range, seqno)
@@ -90,28 +85,31 @@ fn begin_merged(
     range: &mut Handle,
 ) -> u32
     requires { range.old.boxed.value ≡ None }
-    ensures other { are_runs held.now.what ≡ false → result ≡ 102 }
-    ensures kinds { are_runs held.now.what ≡ true →
+    ensures other { spec.are_runs held.now.what ≡ false → result ≡ 102 }
+    ensures kinds { spec.are_runs held.now.what ≡ true →
         nat_lt 2 lower_kind || nat_lt 2 upper_kind ≡ true → result ≡ 105 }
-    ensures memory { are_runs held.now.what ≡ true →
+    ensures memory { spec.are_runs held.now.what ≡ true →
         nat_lt 2 lower_kind || nat_lt 2 upper_kind ≡ false → (result ≡ 0) ⊎ (result ≡ 1) }
-    ensures new { result ≡ 0 → IsSomeAnd range.new.boxed.value (λ r. found_by r ≡ None) }
+    ensures new { result ≡ 0 → IsSomeAnd range.new.boxed.value (λ r. spec.found_by r ≡ None) }
     ensures steps { result ≡ 0 →
-        let low = bound_told lower_kind lower.now in let high = bound_told upper_kind upper.now in
-        IsSomeAnd range.new.boxed.value (λ r. IsMergedWhere
-        (IsOverSpansBelow ⟦<Below<RunReader<Global>> as Iterator>⟧.next_gives
+        let low = spec.bound_told lower_kind lower.now in
+        let high = spec.bound_told upper_kind upper.now in
+        IsSomeAnd range.new.boxed.value (λ r. spec.IsMergedWhere
+        (spec.IsOverSpansBelow ⟦<Below<RunReader<Global>> as Iterator>⟧.next_gives
         ⟦<Below<RunReader<Global>> as DoubleEndedIterator>⟧.next_back_gives
         ⟦<NewestOfRunsAt<Global> as Iterator>⟧.next_gives
         ⟦<NewestOfRunsAt<Global> as DoubleEndedIterator>⟧.next_back_gives
-        low high seqno (runs_held held.now.what)) r.what) }
+        low high seqno (spec.runs_held held.now.what)) r.what) }
     ensures list { let gives = ⟦<NewestOfRunsAt<Global> as Iterator>⟧.next_gives in
         let back_gives = ⟦<NewestOfRunsAt<Global> as DoubleEndedIterator>⟧.next_back_gives in
-        let low = bound_told lower_kind lower.now in let high = bound_told upper_kind upper.now in
-        (lists : List (List (List Entry))) → result ≡ 0 →
-        RunsHoldLists (runs_held held.now.what) lists →
-        let found = newest (numbered_below seqno (within low high (union_in lists))) in
+        let low = spec.bound_told lower_kind lower.now in
+        let high = spec.bound_told upper_kind upper.now in
+        (lists : List (List (List spec.Entry))) → result ≡ 0 →
+        spec.RunsHoldLists (spec.runs_held held.now.what) lists →
+        let found = spec.newest
+        (spec.numbered_below seqno (spec.within low high (spec.union_in lists))) in
         IsSomeAnd range.new.boxed.value (λ r.
-        IsMergedWhere (DealsList gives back_gives found) r.what) }
+        spec.IsMergedWhere (spec.DealsList gives back_gives found) r.what) }
     ensures left { result ≢ 0 → range.new.boxed.value ≡ None }
 {
     let What::Runs(runs) = &held.what else {
@@ -149,35 +147,39 @@ pub extern "C" fn sst_runs_range_open(
     ensures left { result ≢ 0 → range.new.boxed.value ≡ range.old.boxed.value }
     ensures open { is_some range.old.boxed.value ≡ true → result ≡ 101 }
     ensures shut { range.old.boxed.value ≡ None → runs.old.boxed.value ≡ None → result ≡ 100 }
-    ensures other { (h : HeldValue) → range.old.boxed.value ≡ None →
-        runs.old.boxed.value ≡ Some h → are_runs h.what ≡ false → result ≡ 102 }
-    ensures kinds { (h : HeldValue) → range.old.boxed.value ≡ None →
-        runs.old.boxed.value ≡ Some h → are_runs h.what ≡ true →
+    ensures other { (h : spec.HeldValue) → range.old.boxed.value ≡ None →
+        runs.old.boxed.value ≡ Some h → spec.are_runs h.what ≡ false → result ≡ 102 }
+    ensures kinds { (h : spec.HeldValue) → range.old.boxed.value ≡ None →
+        runs.old.boxed.value ≡ Some h → spec.are_runs h.what ≡ true →
         nat_lt 2 lower_kind || nat_lt 2 upper_kind ≡ true → result ≡ 105 }
-    ensures memory { (h : HeldValue) → range.old.boxed.value ≡ None →
-        runs.old.boxed.value ≡ Some h → are_runs h.what ≡ true →
+    ensures memory { (h : spec.HeldValue) → range.old.boxed.value ≡ None →
+        runs.old.boxed.value ≡ Some h → spec.are_runs h.what ≡ true →
         nat_lt 2 lower_kind || nat_lt 2 upper_kind ≡ false → (result ≡ 0) ⊎ (result ≡ 1) }
-    ensures new { result ≡ 0 → IsSomeAnd range.new.boxed.value (λ r. found_by r ≡ None) }
+    ensures new { result ≡ 0 → IsSomeAnd range.new.boxed.value (λ r. spec.found_by r ≡ None) }
     // Whatever the bytes, it is over the readers of those tables whose ranges reach past the
     // bounds, each below the number: an error of one stands in its place;
-    ensures steps { (h : HeldValue) → runs.old.boxed.value ≡ Some h → result ≡ 0 →
-        let low = bound_told lower_kind lower.now in let high = bound_told upper_kind upper.now in
-        IsSomeAnd range.new.boxed.value (λ r. IsMergedWhere
-        (IsOverSpansBelow ⟦<Below<RunReader<Global>> as Iterator>⟧.next_gives
+    ensures steps { (h : spec.HeldValue) → runs.old.boxed.value ≡ Some h → result ≡ 0 →
+        let low = spec.bound_told lower_kind lower.now in
+        let high = spec.bound_told upper_kind upper.now in
+        IsSomeAnd range.new.boxed.value (λ r. spec.IsMergedWhere
+        (spec.IsOverSpansBelow ⟦<Below<RunReader<Global>> as Iterator>⟧.next_gives
         ⟦<Below<RunReader<Global>> as DoubleEndedIterator>⟧.next_back_gives
         ⟦<NewestOfRunsAt<Global> as Iterator>⟧.next_gives
         ⟦<NewestOfRunsAt<Global> as DoubleEndedIterator>⟧.next_back_gives
-        low high seqno (runs_held h.what)) r.what) }
+        low high seqno (spec.runs_held h.what)) r.what) }
     // of tables of lists it deals, to whatever ends, what is newest of all entries together, their
     // numbers lifted, that lie within the bounds and are numbered below `seqno`.
     ensures list { let gives = ⟦<NewestOfRunsAt<Global> as Iterator>⟧.next_gives in
         let back_gives = ⟦<NewestOfRunsAt<Global> as DoubleEndedIterator>⟧.next_back_gives in
-        let low = bound_told lower_kind lower.now in let high = bound_told upper_kind upper.now in
-        (h : HeldValue) (lists : List (List (List Entry))) → runs.old.boxed.value ≡ Some h →
-        result ≡ 0 → RunsHoldLists (runs_held h.what) lists →
-        let found = newest (numbered_below seqno (within low high (union_in lists))) in
+        let low = spec.bound_told lower_kind lower.now in
+        let high = spec.bound_told upper_kind upper.now in
+        (h : spec.HeldValue) (lists : List (List (List spec.Entry))) →
+        runs.old.boxed.value ≡ Some h →
+        result ≡ 0 → spec.RunsHoldLists (spec.runs_held h.what) lists →
+        let found = spec.newest
+        (spec.numbered_below seqno (spec.within low high (spec.union_in lists))) in
         IsSomeAnd range.new.boxed.value (λ r.
-        IsMergedWhere (DealsList gives back_gives found) r.what) }
+        spec.IsMergedWhere (spec.DealsList gives back_gives found) r.what) }
 {
     if range.is_open() {
         return OPEN;
@@ -192,8 +194,8 @@ pub extern "C" fn sst_runs_range_open(
     code
 }
 
-// Lets go what is kept.
-fn give_up<T: Drop>(kept: &mut Option<T>)
+/// Drops what is kept.
+pub(crate) fn give_up<T: Drop>(kept: &mut Option<T>)
     ensures { kept.new ≡ None }
 {
     *kept = None;
@@ -205,10 +207,10 @@ pub(crate) fn step_merged(
     back: bool,
 ) -> Result<Option<InternalValue>, Error>
     ensures over { merged.old ≡ None → (result ≡ Ok None) × (merged.new ≡ None) }
-    ensures front { (s : NewestAt) → merged.old ≡ Some s → back ≡ false →
-        StepsUntil ⟦<NewestOfRunsAt<Global> as Iterator>⟧.next_gives s result merged.new }
-    ensures back { (s : NewestAt) → merged.old ≡ Some s → back ≡ true →
-        StepsUntil ⟦<NewestOfRunsAt<Global> as DoubleEndedIterator>⟧.next_back_gives
+    ensures front { (s : spec.NewestAt) → merged.old ≡ Some s → back ≡ false →
+        spec.StepsUntil ⟦<NewestOfRunsAt<Global> as Iterator>⟧.next_gives s result merged.new }
+    ensures back { (s : spec.NewestAt) → merged.old ≡ Some s → back ≡ true →
+        spec.StepsUntil ⟦<NewestOfRunsAt<Global> as DoubleEndedIterator>⟧.next_back_gives
         s result merged.new }
 {
     let Some(asked) = merged else {

@@ -1,8 +1,6 @@
 //! What a table is written with.
 ghost use Rattle.std.specs.Prelude.{◌≡◌, ◌<◌, ◌≤◌, None, Some};
-ghost use Rattle.lsm_writers.specs.Words.{IsSmallFilter, IsSmallIndex};
-ghost use Rattle.sst_c.specs.Options.{are_usable, default_told, filter_kind_told, index_kind_told};
-ghost use Rattle.sst_c.specs.Options.{options_told};
+ghost use Rattle.sst_c.specs.Words as spec;
 
 use lsm_writers::{BloomConstructionPolicy, FilterKind, IndexKind, Options};
 
@@ -39,7 +37,7 @@ const LARGEST: u32 = 4_194_304;
 /// Tells what a table is written with where nothing else is asked for.
 #[unsafe(no_mangle)]
 pub extern "C" fn sst_options_default(options: &mut TableOptions)
-    ensures { options.new ≡ default_told }
+    ensures { options.new ≡ spec.default_told }
 {
     *options = TableOptions {
         id: 0,
@@ -57,7 +55,7 @@ pub extern "C" fn sst_options_default(options: &mut TableOptions)
 
 /// Whether each of the options is in its range.
 pub(crate) fn are_usable(options: &TableOptions) -> bool
-    ensures { result ≡ are_usable options.now }
+    ensures { result ≡ spec.are_usable options.now }
 {
     options.level < 256
         && options.data_block_size <= LARGEST
@@ -69,8 +67,8 @@ pub(crate) fn are_usable(options: &TableOptions) -> bool
 
 fn index_kind(size: u32) -> IndexKind
     requires { size ≤ 4194304 }
-    ensures is { result ≡ index_kind_told size }
-    ensures small { IsSmallIndex result }
+    ensures is { result ≡ spec.index_kind_told size }
+    ensures small { spec.IsSmallIndex result }
 {
     if size == 0 {
         IndexKind::Full
@@ -81,8 +79,8 @@ fn index_kind(size: u32) -> IndexKind
 
 fn filter_kind(size: u32) -> FilterKind
     requires { size ≤ 4194304 }
-    ensures is { result ≡ filter_kind_told size }
-    ensures small { IsSmallFilter result }
+    ensures is { result ≡ spec.filter_kind_told size }
+    ensures small { spec.IsSmallFilter result }
 {
     if size == 0 {
         FilterKind::Full
@@ -96,9 +94,9 @@ pub(crate) fn writer_options(options: &TableOptions) -> Options
     requires index { options.now.index_partition_size ≤ 4194304 }
     requires filter { options.now.filter_partition_size ≤ 4194304 }
     requires interval { options.now.data_block_restart_interval < 256 }
-    ensures is { result ≡ options_told options.now }
-    ensures small_index { IsSmallIndex result.index_kind }
-    ensures small_filter { IsSmallFilter result.filter_kind }
+    ensures is { result ≡ spec.options_told options.now }
+    ensures small_index { spec.IsSmallIndex result.index_kind }
+    ensures small_filter { spec.IsSmallFilter result.filter_kind }
 {
     Options {
         data_block_restart_interval: options.data_block_restart_interval as u8,

@@ -1,16 +1,7 @@
 //! Packing the tables of a list of runs in as few runs as there can be.
 ghost use Rattle.std.specs.Prelude.{◌≡◌, ◌≢◌, ◌⊎◌, false, IsSomeAnd, List, None, Some};
 ghost use Rattle.std.specs.Prelude.{ℕ, is_some, length, slice_get, true};
-ghost use Rattle.lsm_ranges.specs.Packing.{tables_in};
-ghost use Rattle.lsm_readers.specs.Words.{OpenTable};
-ghost use Rattle.lsm_runs.specs.Words.{range_of};
-ghost use Rattle.lsm_ranges.specs.Packed.{IsPackedOf};
-ghost use Rattle.sst_c.specs.Packed.{ArePackedOf};
-ghost use Rattle.sst_c.specs.Told.{found_by};
-ghost use Rattle.sst_c.specs.What.{IsPackingWhere, are_runs, is_packing, packed_chain, packed_runs};
-ghost use Rattle.sst_c.specs.What.{runs_held};
-ghost use Rattle.sst_c.specs.declared.held.Held.{Held as HeldValue};
-ghost use Rattle.lsm_ranges.specs.declared.packed.Placed.{Placed as PlacedTable};
+ghost use Rattle.sst_c.specs.Words as spec;
 
 use crate::codes::{CLOSED, NO_SUCH, OPEN, OTHER_KIND};
 use crate::handle::Handle;
@@ -21,12 +12,13 @@ use std::alloc::Global;
 // Puts runs, packed, into a handle that holds nothing.
 fn pack(alloc: Global, held: &Held, packed: &mut Handle) -> u32
     requires { packed.old.boxed.value ≡ None }
-    ensures other { are_runs held.now.what ≡ false → result ≡ 102 }
-    ensures memory { are_runs held.now.what ≡ true → (result ≡ 0) ⊎ (result ≡ 1) }
-    ensures new { result ≡ 0 → IsSomeAnd packed.new.boxed.value (λ k. found_by k ≡ None) }
-    ensures kind { result ≡ 0 → IsSomeAnd packed.new.boxed.value (λ k. are_runs k.what ≡ true) }
+    ensures other { spec.are_runs held.now.what ≡ false → result ≡ 102 }
+    ensures memory { spec.are_runs held.now.what ≡ true → (result ≡ 0) ⊎ (result ≡ 1) }
+    ensures new { result ≡ 0 → IsSomeAnd packed.new.boxed.value (λ k. spec.found_by k ≡ None) }
+    ensures kind { result ≡ 0 →
+        IsSomeAnd packed.new.boxed.value (λ k. spec.are_runs k.what ≡ true) }
     ensures packed { result ≡ 0 → IsSomeAnd packed.new.boxed.value (λ k.
-        ArePackedOf (runs_held held.now.what) (runs_held k.what)) }
+        spec.ArePackedOf (spec.runs_held held.now.what) (spec.runs_held k.what)) }
     ensures left { result ≢ 0 → packed.new.boxed.value ≡ None }
 {
     let What::Runs(runs) = &held.what else {
@@ -49,16 +41,17 @@ pub extern "C" fn sst_runs_pack(alloc: Global, runs: &mut Handle, packed: &mut H
     ensures left { result ≢ 0 → packed.new.boxed.value ≡ packed.old.boxed.value }
     ensures open { is_some packed.old.boxed.value ≡ true → result ≡ 101 }
     ensures shut { packed.old.boxed.value ≡ None → runs.old.boxed.value ≡ None → result ≡ 100 }
-    ensures other { (h : HeldValue) → packed.old.boxed.value ≡ None →
-        runs.old.boxed.value ≡ Some h → are_runs h.what ≡ false → result ≡ 102 }
-    ensures memory { (h : HeldValue) → packed.old.boxed.value ≡ None →
-        runs.old.boxed.value ≡ Some h → are_runs h.what ≡ true → (result ≡ 0) ⊎ (result ≡ 1) }
-    ensures new { result ≡ 0 → IsSomeAnd packed.new.boxed.value (λ k. found_by k ≡ None) }
-    ensures kind { result ≡ 0 → IsSomeAnd packed.new.boxed.value (λ k. are_runs k.what ≡ true) }
+    ensures other { (h : spec.HeldValue) → packed.old.boxed.value ≡ None →
+        runs.old.boxed.value ≡ Some h → spec.are_runs h.what ≡ false → result ≡ 102 }
+    ensures memory { (h : spec.HeldValue) → packed.old.boxed.value ≡ None →
+        runs.old.boxed.value ≡ Some h → spec.are_runs h.what ≡ true → (result ≡ 0) ⊎ (result ≡ 1) }
+    ensures new { result ≡ 0 → IsSomeAnd packed.new.boxed.value (λ k. spec.found_by k ≡ None) }
+    ensures kind { result ≡ 0 →
+        IsSomeAnd packed.new.boxed.value (λ k. spec.are_runs k.what ≡ true) }
     // They are the runs of the list, packed; where the tables are of lists they hold the same.
-    ensures packed { (h : HeldValue) → runs.old.boxed.value ≡ Some h → result ≡ 0 →
+    ensures packed { (h : spec.HeldValue) → runs.old.boxed.value ≡ Some h → result ≡ 0 →
         IsSomeAnd packed.new.boxed.value (λ k.
-        ArePackedOf (runs_held h.what) (runs_held k.what)) }
+        spec.ArePackedOf (spec.runs_held h.what) (spec.runs_held k.what)) }
 {
     if packed.is_open() {
         return OPEN;
@@ -74,11 +67,12 @@ pub extern "C" fn sst_runs_pack(alloc: Global, runs: &mut Handle, packed: &mut H
 // Puts how the tables of runs are packed into a handle that holds nothing.
 fn show_packing(alloc: Global, held: &Held, packing: &mut Handle) -> u32
     requires { packing.old.boxed.value ≡ None }
-    ensures other { are_runs held.now.what ≡ false → result ≡ 102 }
-    ensures memory { are_runs held.now.what ≡ true → (result ≡ 0) ⊎ (result ≡ 1) }
-    ensures new { result ≡ 0 → IsSomeAnd packing.new.boxed.value (λ k. found_by k ≡ None) }
+    ensures other { spec.are_runs held.now.what ≡ false → result ≡ 102 }
+    ensures memory { spec.are_runs held.now.what ≡ true → (result ≡ 0) ⊎ (result ≡ 1) }
+    ensures new { result ≡ 0 → IsSomeAnd packing.new.boxed.value (λ k. spec.found_by k ≡ None) }
     ensures packed { result ≡ 0 → IsSomeAnd packing.new.boxed.value (λ k.
-        IsPackingWhere (IsPackedOf range_of (tables_in (runs_held held.now.what))) k.what) }
+        spec.IsPackingWhere (spec.IsPackedOf spec.range_of
+        (spec.tables_in (spec.runs_held held.now.what))) k.what) }
     ensures left { result ≢ 0 → packing.new.boxed.value ≡ None }
 {
     let What::Runs(runs) = &held.what else {
@@ -101,16 +95,17 @@ pub extern "C" fn sst_packing_open(alloc: Global, runs: &mut Handle, packing: &m
     ensures left { result ≢ 0 → packing.new.boxed.value ≡ packing.old.boxed.value }
     ensures open { is_some packing.old.boxed.value ≡ true → result ≡ 101 }
     ensures shut { packing.old.boxed.value ≡ None → runs.old.boxed.value ≡ None → result ≡ 100 }
-    ensures other { (h : HeldValue) → packing.old.boxed.value ≡ None →
-        runs.old.boxed.value ≡ Some h → are_runs h.what ≡ false → result ≡ 102 }
-    ensures memory { (h : HeldValue) → packing.old.boxed.value ≡ None →
-        runs.old.boxed.value ≡ Some h → are_runs h.what ≡ true → (result ≡ 0) ⊎ (result ≡ 1) }
-    ensures new { result ≡ 0 → IsSomeAnd packing.new.boxed.value (λ k. found_by k ≡ None) }
+    ensures other { (h : spec.HeldValue) → packing.old.boxed.value ≡ None →
+        runs.old.boxed.value ≡ Some h → spec.are_runs h.what ≡ false → result ≡ 102 }
+    ensures memory { (h : spec.HeldValue) → packing.old.boxed.value ≡ None →
+        runs.old.boxed.value ≡ Some h → spec.are_runs h.what ≡ true → (result ≡ 0) ⊎ (result ≡ 1) }
+    ensures new { result ≡ 0 → IsSomeAnd packing.new.boxed.value (λ k. spec.found_by k ≡ None) }
     // The tables are those of the list, each key keeps the order of its tables, no fewer runs can
     // do, and the chain is as long.
-    ensures packed { (h : HeldValue) → runs.old.boxed.value ≡ Some h → result ≡ 0 →
+    ensures packed { (h : spec.HeldValue) → runs.old.boxed.value ≡ Some h → result ≡ 0 →
         IsSomeAnd packing.new.boxed.value (λ k.
-        IsPackingWhere (IsPackedOf range_of (tables_in (runs_held h.what))) k.what) }
+        spec.IsPackingWhere (spec.IsPackedOf spec.range_of (spec.tables_in (spec.runs_held h.what)))
+        k.what) }
 {
     if packing.is_open() {
         return OPEN;
@@ -124,9 +119,9 @@ pub extern "C" fn sst_packing_open(alloc: Global, runs: &mut Handle, packing: &m
 }
 
 fn count(held: &Held, runs: &mut u64) -> u32
-    ensures other { is_packing held.now.what ≡ false → result ≡ 102 }
-    ensures told { is_packing held.now.what ≡ true →
-        (result ≡ 0) × (runs.new ≡ length (packed_runs held.now.what)) }
+    ensures other { spec.is_packing held.now.what ≡ false → result ≡ 102 }
+    ensures told { spec.is_packing held.now.what ≡ true →
+        (result ≡ 0) × (runs.new ≡ length (spec.packed_runs held.now.what)) }
     ensures left { result ≢ 0 → runs.new ≡ runs.old }
 {
     match &held.what {
@@ -144,10 +139,11 @@ fn count(held: &Held, runs: &mut u64) -> u32
 pub extern "C" fn sst_packing_count(alloc: Global, packing: &mut Handle, runs: &mut u64) -> u32
     ensures kept { packing.new.boxed.value ≡ packing.old.boxed.value }
     ensures shut { packing.old.boxed.value ≡ None → result ≡ 100 }
-    ensures other { (h : HeldValue) → packing.old.boxed.value ≡ Some h →
-        is_packing h.what ≡ false → result ≡ 102 }
-    ensures told { (h : HeldValue) → packing.old.boxed.value ≡ Some h →
-        is_packing h.what ≡ true → (result ≡ 0) × (runs.new ≡ length (packed_runs h.what)) }
+    ensures other { (h : spec.HeldValue) → packing.old.boxed.value ≡ Some h →
+        spec.is_packing h.what ≡ false → result ≡ 102 }
+    ensures told { (h : spec.HeldValue) → packing.old.boxed.value ≡ Some h →
+        spec.is_packing h.what ≡ true →
+        (result ≡ 0) × (runs.new ≡ length (spec.packed_runs h.what)) }
     ensures left { result ≢ 0 → runs.new ≡ runs.old }
 {
     let Some(held) = packing.take(alloc) else {
@@ -159,11 +155,11 @@ pub extern "C" fn sst_packing_count(alloc: Global, packing: &mut Handle, runs: &
 }
 
 fn count_run(held: &Held, run: u64, tables: &mut u64) -> u32
-    ensures other { is_packing held.now.what ≡ false → result ≡ 102 }
-    ensures none { is_packing held.now.what ≡ true →
-        slice_get (packed_runs held.now.what) run ≡ None → result ≡ 105 }
-    ensures told { (ts : List (PlacedTable OpenTable)) →
-        slice_get (packed_runs held.now.what) run ≡ Some ts →
+    ensures other { spec.is_packing held.now.what ≡ false → result ≡ 102 }
+    ensures none { spec.is_packing held.now.what ≡ true →
+        slice_get (spec.packed_runs held.now.what) run ≡ None → result ≡ 105 }
+    ensures told { (ts : List (spec.PlacedTable spec.OpenTable)) →
+        slice_get (spec.packed_runs held.now.what) run ≡ Some ts →
         (result ≡ 0) × (tables.new ≡ length ts) }
     ensures left { result ≢ 0 → tables.new ≡ tables.old }
 {
@@ -191,12 +187,13 @@ pub extern "C" fn sst_packing_run(
 ) -> u32
     ensures kept { packing.new.boxed.value ≡ packing.old.boxed.value }
     ensures shut { packing.old.boxed.value ≡ None → result ≡ 100 }
-    ensures other { (h : HeldValue) → packing.old.boxed.value ≡ Some h →
-        is_packing h.what ≡ false → result ≡ 102 }
-    ensures none { (h : HeldValue) → packing.old.boxed.value ≡ Some h →
-        is_packing h.what ≡ true → slice_get (packed_runs h.what) run ≡ None → result ≡ 105 }
-    ensures told { (h : HeldValue) (ts : List (PlacedTable OpenTable)) →
-        packing.old.boxed.value ≡ Some h → slice_get (packed_runs h.what) run ≡ Some ts →
+    ensures other { (h : spec.HeldValue) → packing.old.boxed.value ≡ Some h →
+        spec.is_packing h.what ≡ false → result ≡ 102 }
+    ensures none { (h : spec.HeldValue) → packing.old.boxed.value ≡ Some h →
+        spec.is_packing h.what ≡ true → slice_get (spec.packed_runs h.what) run ≡ None →
+        result ≡ 105 }
+    ensures told { (h : spec.HeldValue) (ts : List (spec.PlacedTable spec.OpenTable)) →
+        packing.old.boxed.value ≡ Some h → slice_get (spec.packed_runs h.what) run ≡ Some ts →
         (result ≡ 0) × (tables.new ≡ length ts) }
     ensures left { result ≢ 0 → tables.new ≡ tables.old }
 {
@@ -209,14 +206,15 @@ pub extern "C" fn sst_packing_run(
 }
 
 fn tell_table(held: &Held, run: u64, place: u64, table: &mut u64) -> u32
-    ensures other { is_packing held.now.what ≡ false → result ≡ 102 }
-    ensures no_run { is_packing held.now.what ≡ true →
-        slice_get (packed_runs held.now.what) run ≡ None → result ≡ 105 }
-    ensures none { (ts : List (PlacedTable OpenTable)) →
-        slice_get (packed_runs held.now.what) run ≡ Some ts → slice_get ts place ≡ None →
+    ensures other { spec.is_packing held.now.what ≡ false → result ≡ 102 }
+    ensures no_run { spec.is_packing held.now.what ≡ true →
+        slice_get (spec.packed_runs held.now.what) run ≡ None → result ≡ 105 }
+    ensures none { (ts : List (spec.PlacedTable spec.OpenTable)) →
+        slice_get (spec.packed_runs held.now.what) run ≡ Some ts → slice_get ts place ≡ None →
         result ≡ 105 }
-    ensures told { (ts : List (PlacedTable OpenTable)) (t : PlacedTable OpenTable) →
-        slice_get (packed_runs held.now.what) run ≡ Some ts → slice_get ts place ≡ Some t →
+    ensures told { (ts : List (spec.PlacedTable spec.OpenTable))
+        (t : spec.PlacedTable spec.OpenTable) →
+        slice_get (spec.packed_runs held.now.what) run ≡ Some ts → slice_get ts place ≡ Some t →
         (result ≡ 0) × (table.new ≡ t.place) }
     ensures left { result ≢ 0 → table.new ≡ table.old }
 {
@@ -248,16 +246,17 @@ pub extern "C" fn sst_packing_table(
 ) -> u32
     ensures kept { packing.new.boxed.value ≡ packing.old.boxed.value }
     ensures shut { packing.old.boxed.value ≡ None → result ≡ 100 }
-    ensures other { (h : HeldValue) → packing.old.boxed.value ≡ Some h →
-        is_packing h.what ≡ false → result ≡ 102 }
-    ensures no_run { (h : HeldValue) → packing.old.boxed.value ≡ Some h →
-        is_packing h.what ≡ true → slice_get (packed_runs h.what) run ≡ None → result ≡ 105 }
-    ensures none { (h : HeldValue) (ts : List (PlacedTable OpenTable)) →
-        packing.old.boxed.value ≡ Some h → slice_get (packed_runs h.what) run ≡ Some ts →
+    ensures other { (h : spec.HeldValue) → packing.old.boxed.value ≡ Some h →
+        spec.is_packing h.what ≡ false → result ≡ 102 }
+    ensures no_run { (h : spec.HeldValue) → packing.old.boxed.value ≡ Some h →
+        spec.is_packing h.what ≡ true → slice_get (spec.packed_runs h.what) run ≡ None →
+        result ≡ 105 }
+    ensures none { (h : spec.HeldValue) (ts : List (spec.PlacedTable spec.OpenTable)) →
+        packing.old.boxed.value ≡ Some h → slice_get (spec.packed_runs h.what) run ≡ Some ts →
         slice_get ts place ≡ None → result ≡ 105 }
-    ensures told { (h : HeldValue) (ts : List (PlacedTable OpenTable))
-        (t : PlacedTable OpenTable) → packing.old.boxed.value ≡ Some h →
-        slice_get (packed_runs h.what) run ≡ Some ts → slice_get ts place ≡ Some t →
+    ensures told { (h : spec.HeldValue) (ts : List (spec.PlacedTable spec.OpenTable))
+        (t : spec.PlacedTable spec.OpenTable) → packing.old.boxed.value ≡ Some h →
+        slice_get (spec.packed_runs h.what) run ≡ Some ts → slice_get ts place ≡ Some t →
         (result ≡ 0) × (table.new ≡ t.place) }
     ensures left { result ≢ 0 → table.new ≡ table.old }
 {
@@ -270,10 +269,10 @@ pub extern "C" fn sst_packing_table(
 }
 
 fn tell_link(held: &Held, place: u64, table: &mut u64) -> u32
-    ensures other { is_packing held.now.what ≡ false → result ≡ 102 }
-    ensures none { is_packing held.now.what ≡ true →
-        slice_get (packed_chain held.now.what) place ≡ None → result ≡ 105 }
-    ensures told { (p : ℕ × ℕ) → slice_get (packed_chain held.now.what) place ≡ Some p →
+    ensures other { spec.is_packing held.now.what ≡ false → result ≡ 102 }
+    ensures none { spec.is_packing held.now.what ≡ true →
+        slice_get (spec.packed_chain held.now.what) place ≡ None → result ≡ 105 }
+    ensures told { (p : ℕ × ℕ) → slice_get (spec.packed_chain held.now.what) place ≡ Some p →
         (result ≡ 0) × (table.new ≡ p.0) }
     ensures left { result ≢ 0 → table.new ≡ table.old }
 {
@@ -302,12 +301,13 @@ pub extern "C" fn sst_packing_chain(
 ) -> u32
     ensures kept { packing.new.boxed.value ≡ packing.old.boxed.value }
     ensures shut { packing.old.boxed.value ≡ None → result ≡ 100 }
-    ensures other { (h : HeldValue) → packing.old.boxed.value ≡ Some h →
-        is_packing h.what ≡ false → result ≡ 102 }
-    ensures none { (h : HeldValue) → packing.old.boxed.value ≡ Some h →
-        is_packing h.what ≡ true → slice_get (packed_chain h.what) place ≡ None → result ≡ 105 }
-    ensures told { (h : HeldValue) (p : ℕ × ℕ) → packing.old.boxed.value ≡ Some h →
-        slice_get (packed_chain h.what) place ≡ Some p → (result ≡ 0) × (table.new ≡ p.0) }
+    ensures other { (h : spec.HeldValue) → packing.old.boxed.value ≡ Some h →
+        spec.is_packing h.what ≡ false → result ≡ 102 }
+    ensures none { (h : spec.HeldValue) → packing.old.boxed.value ≡ Some h →
+        spec.is_packing h.what ≡ true → slice_get (spec.packed_chain h.what) place ≡ None →
+        result ≡ 105 }
+    ensures told { (h : spec.HeldValue) (p : ℕ × ℕ) → packing.old.boxed.value ≡ Some h →
+        slice_get (spec.packed_chain h.what) place ≡ Some p → (result ≡ 0) × (table.new ≡ p.0) }
     ensures left { result ≢ 0 → table.new ≡ table.old }
 {
     let Some(held) = packing.take(alloc) else {

@@ -1,21 +1,7 @@
 //! Ranges, read from both ends; beginning those of a table.
 ghost use Rattle.std.specs.Prelude.{◌≡◌, ◌≢◌, ◌<◌, ◌⊎◌, ◌||◌, false, IfErr, IfOk, IsSomeAnd, List};
 ghost use Rattle.std.specs.Prelude.{None, Option, Result, Some, is_some, nat_lt, true};
-ghost use Rattle.std.specs.Global.{Global as Heap};
-ghost use Rattle.sst_entries.specs.declared.error.Error.TheVariants.{OutOfMemory};
-ghost use Rattle.lsm_iters.specs.Range.{Range as RangeValue};
-ghost use Rattle.lsm_readers.specs.Words.{Entry, IsRangeOf, OpenTable, StoresList};
-ghost use Rattle.sst_c.specs.Codes.{result_code};
-ghost use Rattle.sst_c.specs.Newest.{NewestAt};
-ghost use Rattle.sst_c.specs.Reads.{IsMergedAs, MergedReads, gives_at};
-ghost use Rattle.sst_c.specs.Steps.{StepsBy};
-ghost use Rattle.sst_c.specs.Takes.{ReadsMany};
-ghost use Rattle.sst_c.specs.Told.{entry_facts, found_at, found_by, found_in, outcome_of};
-ghost use Rattle.sst_c.specs.What.{DealsTable, IsRangeWhere, MergedStepsBy, bound_told, is_range};
-ghost use Rattle.sst_c.specs.What.{is_table};
-ghost use Rattle.sst_c.specs.declared.held.Held.{Held as HeldValue};
-ghost use Rattle.sst_c.specs.declared.held.What.TheVariants.{Merged as MergedOf, Range as RangeOf};
-ghost use Rattle.sst_c.specs.declared.held.What.TheVariants.{Table as TableOf};
+ghost use Rattle.sst_c.specs.Words as spec;
 
 use crate::codes::{CLOSED, NO_SUCH, OPEN, OTHER_KIND};
 use crate::entries::{EntryTold, tell};
@@ -34,8 +20,8 @@ use std::ops::Bound;
 // A bound of a kind: 0 for none, 1 with the key, 2 without it.
 pub(crate) fn bound(alloc: Global, kind: u32, key: &[u8]) -> Result<Bound<Slice>, Error>
     requires { kind < 3 }
-    ensures ok { IfOk result (λ b. b ≡ bound_told kind key.now) }
-    ensures err { IfErr result (λ e. e ≡ OutOfMemory) }
+    ensures ok { IfOk result (λ b. b ≡ spec.bound_told kind key.now) }
+    ensures err { IfErr result (λ e. e ≡ spec.OutOfMemory) }
 {
     match kind {
         0 => Ok(Bound::Unbounded),
@@ -54,9 +40,9 @@ pub(crate) fn bounds(
 ) -> Result<(Bound<Slice>, Bound<Slice>), Error>
     requires lower { lower_kind < 3 }
     requires upper { upper_kind < 3 }
-    ensures lower { IfOk result (λ b. b.0 ≡ bound_told lower_kind lower.now) }
-    ensures upper { IfOk result (λ b. b.1 ≡ bound_told upper_kind upper.now) }
-    ensures err { IfErr result (λ e. e ≡ OutOfMemory) }
+    ensures lower { IfOk result (λ b. b.0 ≡ spec.bound_told lower_kind lower.now) }
+    ensures upper { IfOk result (λ b. b.1 ≡ spec.bound_told upper_kind upper.now) }
+    ensures err { IfErr result (λ e. e ≡ spec.OutOfMemory) }
 {
     let low = bound(alloc, lower_kind, lower)?;
     let high = bound(alloc, upper_kind, upper)?;
@@ -75,13 +61,14 @@ fn range_within(
 ) -> Result<Iter, Error>
     requires lower { lower_kind < 3 }
     requires upper { upper_kind < 3 }
-    ensures range { let low = bound_told lower_kind lower.now in
-        let high = bound_told upper_kind upper.now in IfOk result (IsRangeOf table.now low high) }
-    ensures list { let low = bound_told lower_kind lower.now in
-        let high = bound_told upper_kind upper.now in
-        (es : List Entry) → StoresList table.now.bytes es → let g = table.now.global_seqno in
-        IfOk result (DealsTable low high es g) }
-    ensures err { IfErr result (λ e. e ≡ OutOfMemory) }
+    ensures range { let low = spec.bound_told lower_kind lower.now in
+        let high = spec.bound_told upper_kind upper.now in
+        IfOk result (spec.IsRangeOf table.now low high) }
+    ensures list { let low = spec.bound_told lower_kind lower.now in
+        let high = spec.bound_told upper_kind upper.now in
+        (es : List spec.Entry) → spec.StoresList table.now.bytes es →
+        let g = table.now.global_seqno in IfOk result (spec.DealsTable low high es g) }
+    ensures err { IfErr result (λ e. e ≡ spec.OutOfMemory) }
 {
     let (lower, upper) = bounds(alloc, lower_kind, lower, upper_kind, upper)?;
     table.range(lower, upper)
@@ -101,14 +88,17 @@ fn begin_within(
     requires lower { lower_kind < 3 }
     requires upper { upper_kind < 3 }
     ensures memory { (result ≡ 0) ⊎ (result ≡ 1) }
-    ensures new { result ≡ 0 → IsSomeAnd range.new.boxed.value (λ r. found_by r ≡ None) }
+    ensures new { result ≡ 0 → IsSomeAnd range.new.boxed.value (λ r. spec.found_by r ≡ None) }
     ensures range { result ≡ 0 →
-        let low = bound_told lower_kind lower.now in let high = bound_told upper_kind upper.now in
-        IsSomeAnd range.new.boxed.value (λ r. IsRangeWhere (IsRangeOf table.now low high) r.what) }
-    ensures list { (es : List Entry) → StoresList table.now.bytes es → result ≡ 0 →
-        let low = bound_told lower_kind lower.now in let high = bound_told upper_kind upper.now in
-        let g = table.now.global_seqno in
-        IsSomeAnd range.new.boxed.value (λ r. IsRangeWhere (DealsTable low high es g) r.what) }
+        let low = spec.bound_told lower_kind lower.now in
+        let high = spec.bound_told upper_kind upper.now in
+        IsSomeAnd range.new.boxed.value
+        (λ r. spec.IsRangeWhere (spec.IsRangeOf table.now low high) r.what) }
+    ensures list { (es : List spec.Entry) → spec.StoresList table.now.bytes es → result ≡ 0 →
+        let low = spec.bound_told lower_kind lower.now in
+        let high = spec.bound_told upper_kind upper.now in let g = table.now.global_seqno in
+        IsSomeAnd range.new.boxed.value
+        (λ r. spec.IsRangeWhere (spec.DealsTable low high es g) r.what) }
     ensures left { result ≢ 0 → range.new.boxed.value ≡ None }
 {
     match range_within(alloc, table, lower_kind, lower, upper_kind, upper) {
@@ -127,20 +117,22 @@ fn begin(
     range: &mut Handle,
 ) -> u32
     requires { range.old.boxed.value ≡ None }
-    ensures other { is_table held.now.what ≡ false → result ≡ 102 }
-    ensures kinds { (t : OpenTable) → held.now.what ≡ TableOf t →
+    ensures other { spec.is_table held.now.what ≡ false → result ≡ 102 }
+    ensures kinds { (t : spec.OpenTable) → held.now.what ≡ spec.TableOf t →
         nat_lt 2 lower_kind || nat_lt 2 upper_kind ≡ true → result ≡ 105 }
-    ensures memory { (t : OpenTable) → held.now.what ≡ TableOf t →
+    ensures memory { (t : spec.OpenTable) → held.now.what ≡ spec.TableOf t →
         nat_lt 2 lower_kind || nat_lt 2 upper_kind ≡ false → (result ≡ 0) ⊎ (result ≡ 1) }
-    ensures new { result ≡ 0 → IsSomeAnd range.new.boxed.value (λ r. found_by r ≡ None) }
-    ensures range { (t : OpenTable) → held.now.what ≡ TableOf t → result ≡ 0 →
-        let low = bound_told lower_kind lower.now in let high = bound_told upper_kind upper.now in
-        IsSomeAnd range.new.boxed.value (λ r. IsRangeWhere (IsRangeOf t low high) r.what) }
-    ensures list { (t : OpenTable) (es : List Entry) → held.now.what ≡ TableOf t → result ≡ 0 →
-        StoresList t.bytes es →
-        let low = bound_told lower_kind lower.now in let high = bound_told upper_kind upper.now in
-        IsSomeAnd range.new.boxed.value (λ r.
-        IsRangeWhere (DealsTable low high es t.global_seqno) r.what) }
+    ensures new { result ≡ 0 → IsSomeAnd range.new.boxed.value (λ r. spec.found_by r ≡ None) }
+    ensures range { (t : spec.OpenTable) → held.now.what ≡ spec.TableOf t → result ≡ 0 →
+        let low = spec.bound_told lower_kind lower.now in
+        let high = spec.bound_told upper_kind upper.now in
+        IsSomeAnd range.new.boxed.value
+        (λ r. spec.IsRangeWhere (spec.IsRangeOf t low high) r.what) }
+    ensures list { (t : spec.OpenTable) (es : List spec.Entry) → held.now.what ≡ spec.TableOf t →
+        result ≡ 0 → spec.StoresList t.bytes es →
+        let low = spec.bound_told lower_kind lower.now in
+        let high = spec.bound_told upper_kind upper.now in IsSomeAnd range.new.boxed.value (λ r.
+        spec.IsRangeWhere (spec.DealsTable low high es t.global_seqno) r.what) }
     ensures left { result ≢ 0 → range.new.boxed.value ≡ None }
 {
     let What::Table(table) = &held.what else {
@@ -171,26 +163,29 @@ pub extern "C" fn sst_range_open(
     ensures left { result ≢ 0 → range.new.boxed.value ≡ range.old.boxed.value }
     ensures open { is_some range.old.boxed.value ≡ true → result ≡ 101 }
     ensures shut { range.old.boxed.value ≡ None → table.old.boxed.value ≡ None → result ≡ 100 }
-    ensures other { (h : HeldValue) → range.old.boxed.value ≡ None →
-        table.old.boxed.value ≡ Some h → is_table h.what ≡ false → result ≡ 102 }
-    ensures kinds { (h : HeldValue) (t : OpenTable) → range.old.boxed.value ≡ None →
-        table.old.boxed.value ≡ Some h → h.what ≡ TableOf t →
+    ensures other { (h : spec.HeldValue) → range.old.boxed.value ≡ None →
+        table.old.boxed.value ≡ Some h → spec.is_table h.what ≡ false → result ≡ 102 }
+    ensures kinds { (h : spec.HeldValue) (t : spec.OpenTable) → range.old.boxed.value ≡ None →
+        table.old.boxed.value ≡ Some h → h.what ≡ spec.TableOf t →
         nat_lt 2 lower_kind || nat_lt 2 upper_kind ≡ true → result ≡ 105 }
-    ensures memory { (h : HeldValue) (t : OpenTable) → range.old.boxed.value ≡ None →
-        table.old.boxed.value ≡ Some h → h.what ≡ TableOf t →
+    ensures memory { (h : spec.HeldValue) (t : spec.OpenTable) → range.old.boxed.value ≡ None →
+        table.old.boxed.value ≡ Some h → h.what ≡ spec.TableOf t →
         nat_lt 2 lower_kind || nat_lt 2 upper_kind ≡ false → (result ≡ 0) ⊎ (result ≡ 1) }
-    ensures new { result ≡ 0 → IsSomeAnd range.new.boxed.value (λ r. found_by r ≡ None) }
+    ensures new { result ≡ 0 → IsSomeAnd range.new.boxed.value (λ r. spec.found_by r ≡ None) }
     // It reads the table within the bounds, and has made no step;
-    ensures range { (h : HeldValue) (t : OpenTable) → table.old.boxed.value ≡ Some h →
-        h.what ≡ TableOf t → result ≡ 0 →
-        let low = bound_told lower_kind lower.now in let high = bound_told upper_kind upper.now in
-        IsSomeAnd range.new.boxed.value (λ r. IsRangeWhere (IsRangeOf t low high) r.what) }
+    ensures range { (h : spec.HeldValue) (t : spec.OpenTable) → table.old.boxed.value ≡ Some h →
+        h.what ≡ spec.TableOf t → result ≡ 0 →
+        let low = spec.bound_told lower_kind lower.now in
+        let high = spec.bound_told upper_kind upper.now in
+        IsSomeAnd range.new.boxed.value
+        (λ r. spec.IsRangeWhere (spec.IsRangeOf t low high) r.what) }
     // on bytes that store a list it deals the list's entries within them, their numbers lifted.
-    ensures list { (h : HeldValue) (t : OpenTable) (es : List Entry) →
-        table.old.boxed.value ≡ Some h → h.what ≡ TableOf t → result ≡ 0 → StoresList t.bytes es →
-        let low = bound_told lower_kind lower.now in let high = bound_told upper_kind upper.now in
-        IsSomeAnd range.new.boxed.value (λ r.
-        IsRangeWhere (DealsTable low high es t.global_seqno) r.what) }
+    ensures list { (h : spec.HeldValue) (t : spec.OpenTable) (es : List spec.Entry) →
+        table.old.boxed.value ≡ Some h → h.what ≡ spec.TableOf t → result ≡ 0 →
+        spec.StoresList t.bytes es →
+        let low = spec.bound_told lower_kind lower.now in
+        let high = spec.bound_told upper_kind upper.now in IsSomeAnd range.new.boxed.value (λ r.
+        spec.IsRangeWhere (spec.DealsTable low high es t.global_seqno) r.what) }
 {
     if range.is_open() {
         return OPEN;
@@ -205,7 +200,7 @@ pub extern "C" fn sst_range_open(
 
 // What a step answers, as what a read answers.
 pub(crate) fn outcome_of(answer: Option<IterItem<Global>>) -> Result<Option<InternalValue>, Error>
-    ensures { result ≡ outcome_of answer }
+    ensures { result ≡ spec.outcome_of answer }
 {
     match answer {
         None => Ok(None),
@@ -218,7 +213,7 @@ pub(crate) fn outcome_of(answer: Option<IterItem<Global>>) -> Result<Option<Inte
 #[tactic(auto, using(crate::proofs::Ranging::range_steps))]
 fn step_front(iter: &mut Iter) -> u32
     ensures steps { let gives = ⟦<Iter<Global> as Iterator>⟧.next_gives in
-        StepsBy gives iter.old result iter.new.lent iter.new }
+        spec.StepsBy gives iter.old result iter.new.lent iter.new }
     ensures fine { is_some iter.new.lent ≡ true → result ≡ 0 }
 {
     match iter.advance() {
@@ -231,7 +226,7 @@ fn step_front(iter: &mut Iter) -> u32
 #[tactic(auto, using(crate::proofs::Ranging::range_steps_back))]
 fn step_back(iter: &mut Iter) -> u32
     ensures steps { let gives = ⟦<Iter<Global> as DoubleEndedIterator>⟧.next_back_gives in
-        StepsBy gives iter.old result iter.new.lent iter.new }
+        spec.StepsBy gives iter.old result iter.new.lent iter.new }
     ensures fine { is_some iter.new.lent ≡ true → result ≡ 0 }
 {
     match iter.advance_back() {
@@ -243,11 +238,13 @@ fn step_back(iter: &mut Iter) -> u32
 // A step of a range of a table, after which the range borrows the entry.
 fn step_of(iter: &mut Iter, back: bool, found: &mut FoundEntry) -> u32
     ensures front { back ≡ false → let gives = ⟦<Iter<Global> as Iterator>⟧.next_gives in
-        StepsBy gives iter.old result (found_at found.new (RangeOf iter.new)) iter.new }
+        spec.StepsBy gives iter.old result (spec.found_at found.new (spec.RangeOf iter.new))
+        iter.new }
     ensures back { back ≡ true →
         let gives = ⟦<Iter<Global> as DoubleEndedIterator>⟧.next_back_gives in
-        StepsBy gives iter.old result (found_at found.new (RangeOf iter.new)) iter.new }
-    ensures fine { is_some (found_at found.new (RangeOf iter.new)) ≡ true → result ≡ 0 }
+        spec.StepsBy gives iter.old result (spec.found_at found.new (spec.RangeOf iter.new))
+        iter.new }
+    ensures fine { is_some (spec.found_at found.new (spec.RangeOf iter.new)) ≡ true → result ≡ 0 }
 {
     found.set_lent();
     if back {
@@ -259,24 +256,24 @@ fn step_of(iter: &mut Iter, back: bool, found: &mut FoundEntry) -> u32
 
 /// A step of a range, if it is one.
 pub(crate) fn step(held: &mut Held, back: bool) -> u32
-    ensures other { is_range held.old.what ≡ false →
-        (result ≡ 102) × (found_by held.new ≡ None) × (held.new.what ≡ held.old.what) }
-    ensures front { (s : RangeValue Heap) → held.old.what ≡ RangeOf s → back ≡ false →
-        let gives = ⟦<Iter<Global> as Iterator>⟧.next_gives in
-        IsRangeWhere (StepsBy gives s result (found_by held.new)) held.new.what }
-    ensures back { (s : RangeValue Heap) → held.old.what ≡ RangeOf s → back ≡ true →
+    ensures other { spec.is_range held.old.what ≡ false →
+        (result ≡ 102) × (spec.found_by held.new ≡ None) × (held.new.what ≡ held.old.what) }
+    ensures front { (s : spec.RangeValue spec.Heap) → held.old.what ≡ spec.RangeOf s →
+        back ≡ false → let gives = ⟦<Iter<Global> as Iterator>⟧.next_gives in
+        spec.IsRangeWhere (spec.StepsBy gives s result (spec.found_by held.new)) held.new.what }
+    ensures back { (s : spec.RangeValue spec.Heap) → held.old.what ≡ spec.RangeOf s → back ≡ true →
         let gives = ⟦<Iter<Global> as DoubleEndedIterator>⟧.next_back_gives in
-        IsRangeWhere (StepsBy gives s result (found_by held.new)) held.new.what }
-    ensures merged_front { (s : NewestAt) → held.old.what ≡ MergedOf (Some s) →
+        spec.IsRangeWhere (spec.StepsBy gives s result (spec.found_by held.new)) held.new.what }
+    ensures merged_front { (s : spec.NewestAt) → held.old.what ≡ spec.MergedOf (Some s) →
         back ≡ false → let gives = ⟦<NewestOfRunsAt<Global> as Iterator>⟧.next_gives in
-        MergedStepsBy gives s result (found_by held.new) held.new.what }
-    ensures merged_back { (s : NewestAt) → held.old.what ≡ MergedOf (Some s) →
+        spec.MergedStepsBy gives s result (spec.found_by held.new) held.new.what }
+    ensures merged_back { (s : spec.NewestAt) → held.old.what ≡ spec.MergedOf (Some s) →
         back ≡ true →
         let gives = ⟦<NewestOfRunsAt<Global> as DoubleEndedIterator>⟧.next_back_gives in
-        MergedStepsBy gives s result (found_by held.new) held.new.what }
-    ensures over { held.old.what ≡ MergedOf None →
-        (result ≡ 0) × (found_by held.new ≡ None) × (held.new.what ≡ MergedOf None) }
-    ensures fine { is_some (found_by held.new) ≡ true → result ≡ 0 }
+        spec.MergedStepsBy gives s result (spec.found_by held.new) held.new.what }
+    ensures over { held.old.what ≡ spec.MergedOf None →
+        (result ≡ 0) × (spec.found_by held.new ≡ None) × (held.new.what ≡ spec.MergedOf None) }
+    ensures fine { is_some (spec.found_by held.new) ≡ true → result ≡ 0 }
 {
     match &mut held.what {
         What::Range(iter) => step_of(iter, back, &mut held.found),
@@ -301,33 +298,36 @@ pub extern "C" fn sst_range_next(
 ) -> u32
     ensures shut { range.old.boxed.value ≡ None →
         (result ≡ 100) × (range.new.boxed.value ≡ None) }
-    ensures other { (h : HeldValue) → range.old.boxed.value ≡ Some h → is_range h.what ≡ false →
-        (result ≡ 102) × IsSomeAnd range.new.boxed.value (λ k.
-        (found_by k ≡ None) × (k.what ≡ h.what)) }
-    ensures entry { entry.new ≡ entry_facts (found_in range.new.boxed.value) }
+    ensures other { (h : spec.HeldValue) → range.old.boxed.value ≡ Some h →
+        spec.is_range h.what ≡ false → (result ≡ 102) × IsSomeAnd range.new.boxed.value (λ k.
+        (spec.found_by k ≡ None) × (k.what ≡ h.what)) }
+    ensures entry { entry.new ≡ spec.entry_facts (spec.found_in range.new.boxed.value) }
     // It is one step of the range, from that end.
-    ensures front { (h : HeldValue) (s : RangeValue Heap) → range.old.boxed.value ≡ Some h →
-        h.what ≡ RangeOf s → back ≡ false → let gives = ⟦<Iter<Global> as Iterator>⟧.next_gives in
-        IsSomeAnd range.new.boxed.value (λ k.
-        IsRangeWhere (StepsBy gives s result (found_by k)) k.what) }
-    ensures back { (h : HeldValue) (s : RangeValue Heap) → range.old.boxed.value ≡ Some h →
-        h.what ≡ RangeOf s → back ≡ true →
+    ensures front { (h : spec.HeldValue) (s : spec.RangeValue spec.Heap) →
+        range.old.boxed.value ≡ Some h →
+        h.what ≡ spec.RangeOf s → back ≡ false →
+        let gives = ⟦<Iter<Global> as Iterator>⟧.next_gives in IsSomeAnd range.new.boxed.value (λ k.
+        spec.IsRangeWhere (spec.StepsBy gives s result (spec.found_by k)) k.what) }
+    ensures back { (h : spec.HeldValue) (s : spec.RangeValue spec.Heap) →
+        range.old.boxed.value ≡ Some h → h.what ≡ spec.RangeOf s → back ≡ true →
         let gives = ⟦<Iter<Global> as DoubleEndedIterator>⟧.next_back_gives in
         IsSomeAnd range.new.boxed.value (λ k.
-        IsRangeWhere (StepsBy gives s result (found_by k)) k.what) }
+        spec.IsRangeWhere (spec.StepsBy gives s result (spec.found_by k)) k.what) }
     // So it is of a range of several runs, which is given up where it is refused;
-    ensures merged_front { (h : HeldValue) (s : NewestAt) →
-        range.old.boxed.value ≡ Some h → h.what ≡ MergedOf (Some s) → back ≡ false →
+    ensures merged_front { (h : spec.HeldValue) (s : spec.NewestAt) →
+        range.old.boxed.value ≡ Some h → h.what ≡ spec.MergedOf (Some s) → back ≡ false →
         let gives = ⟦<NewestOfRunsAt<Global> as Iterator>⟧.next_gives in
-        IsSomeAnd range.new.boxed.value (λ k. MergedStepsBy gives s result (found_by k) k.what) }
-    ensures merged_back { (h : HeldValue) (s : NewestAt) →
-        range.old.boxed.value ≡ Some h → h.what ≡ MergedOf (Some s) → back ≡ true →
+        IsSomeAnd range.new.boxed.value
+        (λ k. spec.MergedStepsBy gives s result (spec.found_by k) k.what) }
+    ensures merged_back { (h : spec.HeldValue) (s : spec.NewestAt) →
+        range.old.boxed.value ≡ Some h → h.what ≡ spec.MergedOf (Some s) → back ≡ true →
         let gives = ⟦<NewestOfRunsAt<Global> as DoubleEndedIterator>⟧.next_back_gives in
-        IsSomeAnd range.new.boxed.value (λ k. MergedStepsBy gives s result (found_by k) k.what) }
+        IsSomeAnd range.new.boxed.value
+        (λ k. spec.MergedStepsBy gives s result (spec.found_by k) k.what) }
     // from then on it is at its end.
-    ensures over { (h : HeldValue) → range.old.boxed.value ≡ Some h → h.what ≡ MergedOf None →
-        (result ≡ 0) × IsSomeAnd range.new.boxed.value (λ k.
-        (found_by k ≡ None) × (k.what ≡ MergedOf None)) }
+    ensures over { (h : spec.HeldValue) → range.old.boxed.value ≡ Some h →
+        h.what ≡ spec.MergedOf None → (result ≡ 0) × IsSomeAnd range.new.boxed.value (λ k.
+        (spec.found_by k ≡ None) × (k.what ≡ spec.MergedOf None)) }
 {
     *entry = tell(None);
     let Some(mut held) = range.take(alloc) else {
@@ -347,20 +347,22 @@ fn take(
     bytes: &mut [u8],
     count: &mut u64,
 ) -> u32
-    ensures other { is_range held.old.what ≡ false →
-        (result ≡ 102) × (found_by held.new ≡ None) × (held.new.what ≡ held.old.what) }
-    ensures none { is_range held.old.what ≡ false → (count.new ≡ count.old)
+    ensures other { spec.is_range held.old.what ≡ false →
+        (result ≡ 102) × (spec.found_by held.new ≡ None) × (held.new.what ≡ held.old.what) }
+    ensures none { spec.is_range held.old.what ≡ false → (count.new ≡ count.old)
         × (entries.new ≡ entries.old) × (bytes.new ≡ bytes.old) }
-    ensures reads { (s : RangeValue Heap) → held.old.what ≡ RangeOf s →
+    ensures reads { (s : spec.RangeValue spec.Heap) → held.old.what ≡ spec.RangeOf s →
         let front = ⟦<Iter<Global> as Iterator>⟧.next_gives in
         let last = ⟦<Iter<Global> as DoubleEndedIterator>⟧.next_back_gives in
-        IsRangeWhere (ReadsMany (StepsBy (gives_at front last back)) s entries.old entries.new
-        bytes.old bytes.new count.new result (found_by held.new)) held.new.what }
-    ensures merged { (m : Option NewestAt) → held.old.what ≡ MergedOf m →
+        spec.IsRangeWhere (spec.ReadsMany (spec.StepsBy (spec.gives_at front last back)) s
+        entries.old entries.new
+        bytes.old bytes.new count.new result (spec.found_by held.new)) held.new.what }
+    ensures merged { (m : Option spec.NewestAt) → held.old.what ≡ spec.MergedOf m →
         let front = ⟦<NewestOfRunsAt<Global> as Iterator>⟧.next_gives in
         let last = ⟦<NewestOfRunsAt<Global> as DoubleEndedIterator>⟧.next_back_gives in
-        IsMergedAs (ReadsMany (MergedReads (gives_at front last back)) m entries.old entries.new
-        bytes.old bytes.new count.new result (found_by held.new)) held.new.what }
+        spec.IsMergedAs (spec.ReadsMany (spec.MergedReads (spec.gives_at front last back)) m
+        entries.old entries.new
+        bytes.old bytes.new count.new result (spec.found_by held.new)) held.new.what }
 {
     if !held.is_range() {
         held.found.clear();
@@ -390,30 +392,33 @@ pub extern "C" fn sst_range_take(
 ) -> u32
     ensures shut { range.old.boxed.value ≡ None →
         (result ≡ 100) × (range.new.boxed.value ≡ None) }
-    ensures other { (h : HeldValue) → range.old.boxed.value ≡ Some h → is_range h.what ≡ false →
-        (result ≡ 102) × IsSomeAnd range.new.boxed.value (λ k.
-        (found_by k ≡ None) × (k.what ≡ h.what)) }
+    ensures other { (h : spec.HeldValue) → range.old.boxed.value ≡ Some h →
+        spec.is_range h.what ≡ false → (result ≡ 102) × IsSomeAnd range.new.boxed.value (λ k.
+        (spec.found_by k ≡ None) × (k.what ≡ h.what)) }
     // Of a closed handle, or another kind, nothing is copied.
     ensures closed { range.old.boxed.value ≡ None → (count.new ≡ 0)
         × (entries.new ≡ entries.old) × (bytes.new ≡ bytes.old) }
-    ensures none { (h : HeldValue) → range.old.boxed.value ≡ Some h → is_range h.what ≡ false →
+    ensures none { (h : spec.HeldValue) → range.old.boxed.value ≡ Some h →
+        spec.is_range h.what ≡ false →
         (count.new ≡ 0) × (entries.new ≡ entries.old) × (bytes.new ≡ bytes.old) }
-    ensures found { found.new ≡ entry_facts (found_in range.new.boxed.value) }
+    ensures found { found.new ≡ spec.entry_facts (spec.found_in range.new.boxed.value) }
     // It is as many steps of the range from that end as it takes, each as one of `sst_range_next`:
     // of a range of a table,
-    ensures reads { (h : HeldValue) (s : RangeValue Heap) → range.old.boxed.value ≡ Some h →
-        h.what ≡ RangeOf s → let front = ⟦<Iter<Global> as Iterator>⟧.next_gives in
+    ensures reads { (h : spec.HeldValue) (s : spec.RangeValue spec.Heap) →
+        range.old.boxed.value ≡ Some h →
+        h.what ≡ spec.RangeOf s → let front = ⟦<Iter<Global> as Iterator>⟧.next_gives in
         let last = ⟦<Iter<Global> as DoubleEndedIterator>⟧.next_back_gives in
-        IsSomeAnd range.new.boxed.value (λ k. IsRangeWhere
-        (ReadsMany (StepsBy (gives_at front last back)) s entries.old entries.new
-        bytes.old bytes.new count.new result (found_by k)) k.what) }
+        IsSomeAnd range.new.boxed.value (λ k. spec.IsRangeWhere
+        (spec.ReadsMany (spec.StepsBy (spec.gives_at front last back)) s entries.old entries.new
+        bytes.old bytes.new count.new result (spec.found_by k)) k.what) }
     // and of several runs.
-    ensures merged { (h : HeldValue) (m : Option NewestAt) → range.old.boxed.value ≡ Some h →
-        h.what ≡ MergedOf m → let front = ⟦<NewestOfRunsAt<Global> as Iterator>⟧.next_gives in
+    ensures merged { (h : spec.HeldValue) (m : Option spec.NewestAt) →
+        range.old.boxed.value ≡ Some h →
+        h.what ≡ spec.MergedOf m → let front = ⟦<NewestOfRunsAt<Global> as Iterator>⟧.next_gives in
         let last = ⟦<NewestOfRunsAt<Global> as DoubleEndedIterator>⟧.next_back_gives in
-        IsSomeAnd range.new.boxed.value (λ k. IsMergedAs
-        (ReadsMany (MergedReads (gives_at front last back)) m entries.old entries.new
-        bytes.old bytes.new count.new result (found_by k)) k.what) }
+        IsSomeAnd range.new.boxed.value (λ k. spec.IsMergedAs
+        (spec.ReadsMany (spec.MergedReads (spec.gives_at front last back)) m entries.old entries.new
+        bytes.old bytes.new count.new result (spec.found_by k)) k.what) }
 {
     *count = 0;
     *found = tell(None);

@@ -1,29 +1,26 @@
 //! Bulk reads of what a handle holds.
 ghost use Rattle.std.specs.Prelude.{◌≡◌, true};
-ghost use Rattle.sst_c.specs.Reads.{ReadsOn};
-ghost use Rattle.sst_c.specs.Takes.{ReadsMany};
-ghost use Rattle.sst_c.specs.Told.{found_by};
-ghost use Rattle.sst_c.specs.What.{is_range, is_scan};
+ghost use Rattle.sst_c.specs.Words as spec;
 
 use crate::entries::EntryTold;
 use crate::held::{Held, What};
 use crate::takes::{Reads, take_from};
 use crate::{ranges, scans};
-use lsm_runs::NewestOfRunsAt;
-use sst_blocks::EntryRef;
+use lsm_runs::{LentNewestOfRunsAt, NewestOfRunsAt};
+use sst_blocks::{EntryRef, Lending};
 use std::alloc::Global;
 
 impl Held {
     /// Whether it is a scan.
     pub(crate) fn is_scan(&self) -> bool
-        ensures { result ≡ is_scan self.now.what }
+        ensures { result ≡ spec.is_scan self.now.what }
     {
-        matches!(&self.what, What::Scan(_))
+        matches!(&self.what, What::Scan(_) | What::RunsScan(_))
     }
 
     /// Whether it is a range.
     pub(crate) fn is_range(&self) -> bool
-        ensures { result ≡ is_range self.now.what }
+        ensures { result ≡ spec.is_range self.now.what }
     {
         matches!(&self.what, What::Range(_) | What::Merged(_))
     }
@@ -31,12 +28,13 @@ impl Held {
 
 #[tactic(auto, using(crate::proofs::Bulk::one_read))]
 impl Reads for Held {
-    ghost reads = { λ back h code found k. ReadsOn
+    ghost reads = { λ back h code found k. spec.ReadsOn
         ⟦<NewestOfRunsAt<Global> as Iterator>⟧.next_gives
         ⟦<NewestOfRunsAt<Global> as DoubleEndedIterator>⟧.next_back_gives
+        ⟦<LentNewestOfRunsAt<Global> as Lending>⟧.advances
         back h.what code found k.what };
 
-    ghost found = { found_by };
+    ghost found = { spec.found_by };
 
     fn read(&mut self, back: bool) -> u32 {
         if self.is_scan() {
@@ -61,8 +59,9 @@ pub(crate) fn take_held(
 ) -> u32
     ensures { let front = ⟦<NewestOfRunsAt<Global> as Iterator>⟧.next_gives in
         let last = ⟦<NewestOfRunsAt<Global> as DoubleEndedIterator>⟧.next_back_gives in
-        ReadsMany (ReadsOn front last back) held.old.what entries.old entries.new
-        bytes.old bytes.new count.new result (found_by held.new) held.new.what }
+        let advances = ⟦<LentNewestOfRunsAt<Global> as Lending>⟧.advances in
+        spec.ReadsMany (spec.ReadsOn front last advances back) held.old.what entries.old entries.new
+        bytes.old bytes.new count.new result (spec.found_by held.new) held.new.what }
 {
     match take_from(held, back, entries, bytes, count) {
         Some(code) => code,

@@ -1,14 +1,6 @@
 //! Lists of runs, each in order.
 ghost use Rattle.std.specs.Prelude.{◌≡◌, ◌≢◌, ◌∷◌, ◌⊎◌, ◌++◌, [], IfErr, IfOk, map, true};
-ghost use Rattle.std.specs.Arc.{arc_value};
-ghost use Rattle.std.specs.Option.{option_map};
-ghost use Rattle.sst_entries.specs.Lending.{entry_of_ref};
-ghost use Rattle.sst_entries.specs.declared.error.Error.TheVariants.{OutOfMemory};
-ghost use Rattle.lsm_ranges.specs.KeyRange.{is_well_formed};
-ghost use Rattle.lsm_ranges.specs.Packing.{AreInOrder};
-ghost use Rattle.lsm_runs.specs.RunPlaces.{placed_in_runs};
-ghost use Rattle.lsm_runs.specs.Words.{range_of};
-ghost use Rattle.sst_c.specs.Packed.{ArePackedOf};
+ghost use Rattle.sst_c.specs.Words as spec;
 
 use crate::codes::NO_MEMORY;
 use lsm_compactions::pack_runs;
@@ -43,8 +35,8 @@ impl Model for RunList {
 
 // A run of one table, which it shares.
 fn run_of(alloc: Global, table: &Table) -> Result<Arc<Run<Table>>, Error>
-    ensures run { IfOk result (λ run. arc_value run ≡ table.now ∷ []) }
-    ensures err { IfErr result (λ e. e ≡ OutOfMemory) }
+    ensures run { IfOk result (λ run. spec.arc_value run ≡ table.now ∷ []) }
+    ensures err { IfErr result (λ e. e ≡ spec.OutOfMemory) }
 {
     let mut tables = Vec::new(alloc);
     tables.push(table.clone()?)?;
@@ -56,8 +48,8 @@ fn run_of(alloc: Global, table: &Table) -> Result<Arc<Run<Table>>, Error>
 
 // Runs that can be shared.
 fn share_runs(alloc: Global, runs: Vec<Run<Table>>) -> Result<Vec<Arc<Run<Table>>>, Error>
-    ensures ok { IfOk result (λ shared. map arc_value shared.items ≡ runs.items) }
-    ensures err { IfErr result (λ e. e ≡ OutOfMemory) }
+    ensures ok { IfOk result (λ shared. map spec.arc_value shared.items ≡ runs.items) }
+    ensures err { IfErr result (λ e. e ≡ spec.OutOfMemory) }
 {
     let mut shared = Vec::new(alloc);
     for run in runs {
@@ -68,9 +60,10 @@ fn share_runs(alloc: Global, runs: Vec<Run<Table>>) -> Result<Vec<Arc<Run<Table>
 
 // The tables of some runs in order, in as few runs as there can be.
 fn pack(alloc: Global, runs: &[Arc<Run<Table>>]) -> Result<Vec<Arc<Run<Table>>>, Error>
-    ensures packed { IfOk result (λ packed. AreInOrder range_of (map arc_value runs.now) →
-        ArePackedOf (map arc_value runs.now) (map arc_value packed.items)) }
-    ensures err { IfErr result (λ e. e ≡ OutOfMemory) }
+    ensures packed { IfOk result
+        (λ packed. spec.AreInOrder spec.range_of (map spec.arc_value runs.now) →
+        spec.ArePackedOf (map spec.arc_value runs.now) (map spec.arc_value packed.items)) }
+    ensures err { IfErr result (λ e. e ≡ spec.OutOfMemory) }
 {
     let packed = pack_runs(alloc, runs)?;
     share_runs(alloc, packed)
@@ -88,15 +81,16 @@ impl RunList {
 
     /// The runs.
     pub(crate) fn as_slice(&self) -> &[Arc<Run<Table>>]
-        ensures runs { map arc_value result.now ≡ self.now }
-        ensures order { AreInOrder range_of self.now }
+        ensures runs { map spec.arc_value result.now ≡ self.now }
+        ensures order { spec.AreInOrder spec.range_of self.now }
     {
         self.runs.as_slice()
     }
 
     /// The entry at a position in the tables of the runs.
     pub(crate) fn entry_at(&self, place: &RunPlace) -> Option<EntryRef<'_>>
-        ensures { option_map entry_of_ref result ≡ placed_in_runs self.now place.now }
+        ensures { spec.option_map spec.entry_of_ref result ≡ spec.placed_in_runs self.now
+            place.now }
     {
         entry_in_runs(self.runs.as_slice(), place)
     }
@@ -104,7 +98,7 @@ impl RunList {
     /// Puts a run of one table behind the others, and answers 0, or 1 for want of memory.
     #[tactic(auto, using(crate::proofs::Behind::map_behind, crate::proofs::RunOrder::order_behind))]
     pub(crate) fn push(&mut self, alloc: Global, table: &Table) -> u32
-        requires { is_well_formed (range_of table.now) ≡ true }
+        requires { spec.is_well_formed (spec.range_of table.now) ≡ true }
         ensures memory { (result ≡ 0) ⊎ (result ≡ 1) }
         ensures added { result ≡ 0 → self.new ≡ self.old ++ (table.now ∷ []) ∷ [] }
         ensures left { result ≢ 0 → self.new ≡ self.old }
@@ -123,8 +117,8 @@ impl RunList {
 
     /// Shares of the tables of the list, in as few runs as there can be.
     pub(crate) fn packed(&self, alloc: Global) -> Result<RunList, Error>
-        ensures packed { IfOk result (ArePackedOf self.now) }
-        ensures err { IfErr result (λ e. e ≡ OutOfMemory) }
+        ensures packed { IfOk result (spec.ArePackedOf self.now) }
+        ensures err { IfErr result (λ e. e ≡ spec.OutOfMemory) }
     {
         let runs = pack(alloc, self.runs.as_slice())?;
         Ok(RunList { runs })

@@ -1,15 +1,7 @@
 //! Several tables as one: a list of runs, the newest first.
 ghost use Rattle.std.specs.Prelude.{◌≡◌, ◌≢◌, ◌∷◌, ◌⊎◌, ◌++◌, [], false, IsSomeAnd};
 ghost use Rattle.std.specs.Prelude.{List, None, Ok, Some, is_some, true};
-ghost use Rattle.lsm_readers.specs.Words.{Entry, OpenTable, point};
-ghost use Rattle.lsm_ranges.specs.KeyRange.{is_well_formed};
-ghost use Rattle.lsm_runs.specs.Words.{RunsHoldLists, range_of, runs_read, runs_told, union_in};
-ghost use Rattle.sst_c.specs.Codes.{TellsFirst, result_code};
-ghost use Rattle.sst_c.specs.Told.{AnswersRead, entry_facts, found_at, found_by, found_in};
-ghost use Rattle.sst_c.specs.Told.{kept_in_runs};
-ghost use Rattle.sst_c.specs.What.{are_runs, is_table, runs_held};
-ghost use Rattle.sst_c.specs.declared.held.Held.{Held as HeldValue};
-ghost use Rattle.sst_c.specs.declared.held.What.TheVariants.{Runs as RunsOf, Table as TableOf};
+ghost use Rattle.sst_c.specs.Words as spec;
 
 use crate::codes::{CLOSED, OPEN, OTHER_KIND, OUT_OF_ORDER};
 use crate::entries::{EntryTold, tell};
@@ -28,9 +20,9 @@ use std::alloc::Global;
 pub extern "C" fn sst_runs_open(alloc: Global, runs: &mut Handle) -> u32
     ensures open { is_some runs.old.boxed.value ≡ true → result ≡ 101 }
     ensures memory { runs.old.boxed.value ≡ None → result ≢ 0 → result ≡ 1 }
-    ensures new { result ≡ 0 → IsSomeAnd runs.new.boxed.value (λ h. found_by h ≡ None) }
-    ensures kind { result ≡ 0 → IsSomeAnd runs.new.boxed.value (λ h. are_runs h.what ≡ true) }
-    ensures none { result ≡ 0 → IsSomeAnd runs.new.boxed.value (λ h. runs_held h.what ≡ []) }
+    ensures new { result ≡ 0 → IsSomeAnd runs.new.boxed.value (λ h. spec.found_by h ≡ None) }
+    ensures kind { result ≡ 0 → IsSomeAnd runs.new.boxed.value (λ h. spec.are_runs h.what ≡ true) }
+    ensures none { result ≡ 0 → IsSomeAnd runs.new.boxed.value (λ h. spec.runs_held h.what ≡ []) }
     ensures left { result ≢ 0 → runs.new.boxed.value ≡ runs.old.boxed.value }
 {
     if runs.is_open() {
@@ -41,8 +33,9 @@ pub extern "C" fn sst_runs_open(alloc: Global, runs: &mut Handle) -> u32
 
 // Puts a table behind the runs of a list, where its least key is not above its greatest.
 fn add_table_to(alloc: Global, runs: &mut RunList, table: &Table) -> u32
-    ensures turned { is_well_formed (range_of table.now) ≡ false → result ≡ 104 }
-    ensures memory { is_well_formed (range_of table.now) ≡ true → (result ≡ 0) ⊎ (result ≡ 1) }
+    ensures turned { spec.is_well_formed (spec.range_of table.now) ≡ false → result ≡ 104 }
+    ensures memory { spec.is_well_formed (spec.range_of table.now) ≡ true →
+        (result ≡ 0) ⊎ (result ≡ 1) }
     ensures added { result ≡ 0 → runs.new ≡ runs.old ++ (table.now ∷ []) ∷ [] }
     ensures left { result ≢ 0 → runs.new ≡ runs.old }
     ensures one { (runs.new ≡ runs.old) ⊎ (runs.new ≡ runs.old ++ (table.now ∷ []) ∷ []) }
@@ -55,17 +48,17 @@ fn add_table_to(alloc: Global, runs: &mut RunList, table: &Table) -> u32
 
 // Adds a table to runs that are held.
 fn add_table(alloc: Global, held: &mut Held, table: &Table) -> u32
-    ensures other { are_runs held.old.what ≡ false →
+    ensures other { spec.are_runs held.old.what ≡ false →
         (result ≡ 102) × (held.new.what ≡ held.old.what) }
-    ensures turned { are_runs held.old.what ≡ true → is_well_formed (range_of table.now) ≡ false →
-        result ≡ 104 }
-    ensures memory { are_runs held.old.what ≡ true → is_well_formed (range_of table.now) ≡ true →
-        (result ≡ 0) ⊎ (result ≡ 1) }
-    ensures kind { are_runs held.new.what ≡ are_runs held.old.what }
-    ensures found { found_by held.new ≡ found_by held.old }
+    ensures turned { spec.are_runs held.old.what ≡ true →
+        spec.is_well_formed (spec.range_of table.now) ≡ false → result ≡ 104 }
+    ensures memory { spec.are_runs held.old.what ≡ true →
+        spec.is_well_formed (spec.range_of table.now) ≡ true → (result ≡ 0) ⊎ (result ≡ 1) }
+    ensures kind { spec.are_runs held.new.what ≡ spec.are_runs held.old.what }
+    ensures found { spec.found_by held.new ≡ spec.found_by held.old }
     ensures added { result ≡ 0 →
-        runs_held held.new.what ≡ runs_held held.old.what ++ (table.now ∷ []) ∷ [] }
-    ensures left { result ≢ 0 → runs_held held.new.what ≡ runs_held held.old.what }
+        spec.runs_held held.new.what ≡ spec.runs_held held.old.what ++ (table.now ∷ []) ∷ [] }
+    ensures left { result ≢ 0 → spec.runs_held held.new.what ≡ spec.runs_held held.old.what }
 {
     match &mut held.what {
         What::Runs(runs) => {
@@ -77,19 +70,21 @@ fn add_table(alloc: Global, held: &mut Held, table: &Table) -> u32
 }
 
 fn add_held(alloc: Global, held: &mut Held, table: &Held) -> u32
-    ensures other { is_table table.now.what ≡ false →
+    ensures other { spec.is_table table.now.what ≡ false →
         (result ≡ 102) × (held.new.what ≡ held.old.what) }
-    ensures no_runs { are_runs held.old.what ≡ false →
+    ensures no_runs { spec.are_runs held.old.what ≡ false →
         (result ≡ 102) × (held.new.what ≡ held.old.what) }
-    ensures turned { (t : OpenTable) → table.now.what ≡ TableOf t → are_runs held.old.what ≡ true →
-        is_well_formed (range_of t) ≡ false → result ≡ 104 }
-    ensures memory { (t : OpenTable) → table.now.what ≡ TableOf t → are_runs held.old.what ≡ true →
-        is_well_formed (range_of t) ≡ true → (result ≡ 0) ⊎ (result ≡ 1) }
-    ensures kind { are_runs held.new.what ≡ are_runs held.old.what }
-    ensures found { found_by held.new ≡ found_by held.old }
-    ensures added { (t : OpenTable) → table.now.what ≡ TableOf t → result ≡ 0 →
-        runs_held held.new.what ≡ runs_held held.old.what ++ (t ∷ []) ∷ [] }
-    ensures left { result ≢ 0 → runs_held held.new.what ≡ runs_held held.old.what }
+    ensures turned { (t : spec.OpenTable) → table.now.what ≡ spec.TableOf t →
+        spec.are_runs held.old.what ≡ true →
+        spec.is_well_formed (spec.range_of t) ≡ false → result ≡ 104 }
+    ensures memory { (t : spec.OpenTable) → table.now.what ≡ spec.TableOf t →
+        spec.are_runs held.old.what ≡ true →
+        spec.is_well_formed (spec.range_of t) ≡ true → (result ≡ 0) ⊎ (result ≡ 1) }
+    ensures kind { spec.are_runs held.new.what ≡ spec.are_runs held.old.what }
+    ensures found { spec.found_by held.new ≡ spec.found_by held.old }
+    ensures added { (t : spec.OpenTable) → table.now.what ≡ spec.TableOf t → result ≡ 0 →
+        spec.runs_held held.new.what ≡ spec.runs_held held.old.what ++ (t ∷ []) ∷ [] }
+    ensures left { result ≢ 0 → spec.runs_held held.new.what ≡ spec.runs_held held.old.what }
 {
     match &table.what {
         What::Table(table) => add_table(alloc, held, table),
@@ -100,26 +95,27 @@ fn add_held(alloc: Global, held: &mut Held, table: &Held) -> u32
 fn add_to(alloc: Global, runs: &mut Handle, table: &Held) -> u32
     ensures shut { runs.old.boxed.value ≡ None →
         (result ≡ 100) × (runs.new.boxed.value ≡ None) }
-    ensures other { (h : HeldValue) → runs.old.boxed.value ≡ Some h →
-        is_table table.now.what ≡ false →
+    ensures other { (h : spec.HeldValue) → runs.old.boxed.value ≡ Some h →
+        spec.is_table table.now.what ≡ false →
         (result ≡ 102) × IsSomeAnd runs.new.boxed.value (λ k. k.what ≡ h.what) }
-    ensures no_runs { (h : HeldValue) → runs.old.boxed.value ≡ Some h → are_runs h.what ≡ false →
+    ensures no_runs { (h : spec.HeldValue) → runs.old.boxed.value ≡ Some h →
+        spec.are_runs h.what ≡ false →
         (result ≡ 102) × IsSomeAnd runs.new.boxed.value (λ k. k.what ≡ h.what) }
-    ensures turned { (h : HeldValue) (t : OpenTable) → runs.old.boxed.value ≡ Some h →
-        table.now.what ≡ TableOf t → are_runs h.what ≡ true →
-        is_well_formed (range_of t) ≡ false → result ≡ 104 }
-    ensures memory { (h : HeldValue) (t : OpenTable) → runs.old.boxed.value ≡ Some h →
-        table.now.what ≡ TableOf t → are_runs h.what ≡ true →
-        is_well_formed (range_of t) ≡ true → (result ≡ 0) ⊎ (result ≡ 1) }
-    ensures kind { (h : HeldValue) → runs.old.boxed.value ≡ Some h →
-        IsSomeAnd runs.new.boxed.value (λ k. are_runs k.what ≡ are_runs h.what) }
-    ensures found { (h : HeldValue) → runs.old.boxed.value ≡ Some h →
-        IsSomeAnd runs.new.boxed.value (λ k. found_by k ≡ found_by h) }
-    ensures added { (h : HeldValue) (t : OpenTable) → runs.old.boxed.value ≡ Some h →
-        table.now.what ≡ TableOf t → result ≡ 0 → IsSomeAnd runs.new.boxed.value (λ k.
-        runs_held k.what ≡ runs_held h.what ++ (t ∷ []) ∷ []) }
-    ensures left { (h : HeldValue) → runs.old.boxed.value ≡ Some h → result ≢ 0 →
-        IsSomeAnd runs.new.boxed.value (λ k. runs_held k.what ≡ runs_held h.what) }
+    ensures turned { (h : spec.HeldValue) (t : spec.OpenTable) → runs.old.boxed.value ≡ Some h →
+        table.now.what ≡ spec.TableOf t → spec.are_runs h.what ≡ true →
+        spec.is_well_formed (spec.range_of t) ≡ false → result ≡ 104 }
+    ensures memory { (h : spec.HeldValue) (t : spec.OpenTable) → runs.old.boxed.value ≡ Some h →
+        table.now.what ≡ spec.TableOf t → spec.are_runs h.what ≡ true →
+        spec.is_well_formed (spec.range_of t) ≡ true → (result ≡ 0) ⊎ (result ≡ 1) }
+    ensures kind { (h : spec.HeldValue) → runs.old.boxed.value ≡ Some h →
+        IsSomeAnd runs.new.boxed.value (λ k. spec.are_runs k.what ≡ spec.are_runs h.what) }
+    ensures found { (h : spec.HeldValue) → runs.old.boxed.value ≡ Some h →
+        IsSomeAnd runs.new.boxed.value (λ k. spec.found_by k ≡ spec.found_by h) }
+    ensures added { (h : spec.HeldValue) (t : spec.OpenTable) → runs.old.boxed.value ≡ Some h →
+        table.now.what ≡ spec.TableOf t → result ≡ 0 → IsSomeAnd runs.new.boxed.value (λ k.
+        spec.runs_held k.what ≡ spec.runs_held h.what ++ (t ∷ []) ∷ []) }
+    ensures left { (h : spec.HeldValue) → runs.old.boxed.value ≡ Some h → result ≢ 0 →
+        IsSomeAnd runs.new.boxed.value (λ k. spec.runs_held k.what ≡ spec.runs_held h.what) }
 {
     let Some(mut held) = runs.take(alloc) else {
         return CLOSED;
@@ -140,29 +136,29 @@ pub extern "C" fn sst_runs_add(alloc: Global, runs: &mut Handle, table: &mut Han
         (result ≡ 100) × (runs.new.boxed.value ≡ None) }
     ensures table_shut { table.old.boxed.value ≡ None →
         (result ≡ 100) × (runs.new.boxed.value ≡ runs.old.boxed.value) }
-    ensures other { (h t : HeldValue) → runs.old.boxed.value ≡ Some h →
-        table.old.boxed.value ≡ Some t → is_table t.what ≡ false →
+    ensures other { (h t : spec.HeldValue) → runs.old.boxed.value ≡ Some h →
+        table.old.boxed.value ≡ Some t → spec.is_table t.what ≡ false →
         (result ≡ 102) × IsSomeAnd runs.new.boxed.value (λ k. k.what ≡ h.what) }
-    ensures no_runs { (h t : HeldValue) → runs.old.boxed.value ≡ Some h →
-        table.old.boxed.value ≡ Some t → are_runs h.what ≡ false →
+    ensures no_runs { (h t : spec.HeldValue) → runs.old.boxed.value ≡ Some h →
+        table.old.boxed.value ≡ Some t → spec.are_runs h.what ≡ false →
         (result ≡ 102) × IsSomeAnd runs.new.boxed.value (λ k. k.what ≡ h.what) }
-    ensures turned { (h t : HeldValue) (of : OpenTable) → runs.old.boxed.value ≡ Some h →
-        table.old.boxed.value ≡ Some t → t.what ≡ TableOf of → are_runs h.what ≡ true →
-        is_well_formed (range_of of) ≡ false → result ≡ 104 }
-    ensures memory { (h t : HeldValue) (of : OpenTable) → runs.old.boxed.value ≡ Some h →
-        table.old.boxed.value ≡ Some t → t.what ≡ TableOf of → are_runs h.what ≡ true →
-        is_well_formed (range_of of) ≡ true → (result ≡ 0) ⊎ (result ≡ 1) }
+    ensures turned { (h t : spec.HeldValue) (of : spec.OpenTable) → runs.old.boxed.value ≡ Some h →
+        table.old.boxed.value ≡ Some t → t.what ≡ spec.TableOf of → spec.are_runs h.what ≡ true →
+        spec.is_well_formed (spec.range_of of) ≡ false → result ≡ 104 }
+    ensures memory { (h t : spec.HeldValue) (of : spec.OpenTable) → runs.old.boxed.value ≡ Some h →
+        table.old.boxed.value ≡ Some t → t.what ≡ spec.TableOf of → spec.are_runs h.what ≡ true →
+        spec.is_well_formed (spec.range_of of) ≡ true → (result ≡ 0) ⊎ (result ≡ 1) }
     // It stays a list of runs, and what its last read found stays.
-    ensures kind { (h : HeldValue) → runs.old.boxed.value ≡ Some h →
-        IsSomeAnd runs.new.boxed.value (λ k. are_runs k.what ≡ are_runs h.what) }
-    ensures found { (h : HeldValue) → runs.old.boxed.value ≡ Some h →
-        IsSomeAnd runs.new.boxed.value (λ k. found_by k ≡ found_by h) }
-    ensures added { (h t : HeldValue) (of : OpenTable) → runs.old.boxed.value ≡ Some h →
-        table.old.boxed.value ≡ Some t → t.what ≡ TableOf of → result ≡ 0 →
+    ensures kind { (h : spec.HeldValue) → runs.old.boxed.value ≡ Some h →
+        IsSomeAnd runs.new.boxed.value (λ k. spec.are_runs k.what ≡ spec.are_runs h.what) }
+    ensures found { (h : spec.HeldValue) → runs.old.boxed.value ≡ Some h →
+        IsSomeAnd runs.new.boxed.value (λ k. spec.found_by k ≡ spec.found_by h) }
+    ensures added { (h t : spec.HeldValue) (of : spec.OpenTable) → runs.old.boxed.value ≡ Some h →
+        table.old.boxed.value ≡ Some t → t.what ≡ spec.TableOf of → result ≡ 0 →
         IsSomeAnd runs.new.boxed.value (λ k.
-        runs_held k.what ≡ runs_held h.what ++ (of ∷ []) ∷ []) }
-    ensures left { (h : HeldValue) → runs.old.boxed.value ≡ Some h → result ≢ 0 →
-        IsSomeAnd runs.new.boxed.value (λ k. runs_held k.what ≡ runs_held h.what) }
+        spec.runs_held k.what ≡ spec.runs_held h.what ++ (of ∷ []) ∷ []) }
+    ensures left { (h : spec.HeldValue) → runs.old.boxed.value ≡ Some h → result ≢ 0 →
+        IsSomeAnd runs.new.boxed.value (λ k. spec.runs_held k.what ≡ spec.runs_held h.what) }
 {
     let Some(held) = table.take(alloc) else {
         return CLOSED;
@@ -174,8 +170,8 @@ pub extern "C" fn sst_runs_add(alloc: Global, runs: &mut Handle, table: &mut Han
 
 // Keeps the position of what a read found, nothing if it failed. Returns 0 or the error code.
 fn keep_place(found: &mut FoundEntry, outcome: Result<Option<RunPlace>, Error>) -> u32
-    ensures code { result ≡ result_code outcome }
-    ensures found { found.new ≡ kept_in_runs outcome }
+    ensures code { result ≡ spec.result_code outcome }
+    ensures found { found.new ≡ spec.kept_in_runs outcome }
 {
     match outcome {
         Ok(Some(place)) => {
@@ -196,30 +192,34 @@ fn keep_place(found: &mut FoundEntry, outcome: Result<Option<RunPlace>, Error>) 
 // Reads a key of a list of runs, and keeps the position of the entry that it finds.
 #[tactic(auto, using(crate::proofs::Answering::reads))]
 fn get_in(runs: &RunList, key: &[u8], seqno: SeqNo, found: &mut FoundEntry) -> u32
-    ensures told { let entry = found_at found.new (RunsOf runs.now) in
-        AnswersRead result entry (runs_told key.now seqno None runs.now) }
-    ensures early { TellsFirst result (runs_read key.now seqno None runs.now).early }
-    ensures calm { (runs_read key.now seqno None runs.now).loads ≡ [] → result ≡ 0 }
-    ensures list { (lists : List (List (List Entry))) →
-        RunsHoldLists runs.now lists → let entry = found_at found.new (RunsOf runs.now) in
-        AnswersRead result entry (Ok (point (union_in lists) key.now seqno)) }
+    ensures told { let entry = spec.found_at found.new (spec.RunsOf runs.now) in
+        spec.AnswersRead result entry (spec.runs_told key.now seqno None runs.now) }
+    ensures early { spec.TellsFirst result (spec.runs_read key.now seqno None runs.now).early }
+    ensures calm { (spec.runs_read key.now seqno None runs.now).loads ≡ [] → result ≡ 0 }
+    ensures list { (lists : List (List (List spec.Entry))) →
+        spec.RunsHoldLists runs.now lists →
+        let entry = spec.found_at found.new (spec.RunsOf runs.now) in
+        spec.AnswersRead result entry (Ok (spec.point (spec.union_in lists) key.now seqno)) }
 {
     keep_place(found, place_in_runs(runs.as_slice(), key, seqno))
 }
 
 fn get(held: &mut Held, key: &[u8], seqno: SeqNo) -> u32
     ensures kept { held.new.what ≡ held.old.what }
-    ensures other { are_runs held.old.what ≡ false → (result ≡ 102) × (found_by held.new ≡ None) }
-    ensures told { are_runs held.old.what ≡ true →
-        AnswersRead result (found_by held.new)
-        (runs_told key.now seqno None (runs_held held.old.what)) }
-    ensures early { are_runs held.old.what ≡ true →
-        TellsFirst result (runs_read key.now seqno None (runs_held held.old.what)).early }
-    ensures calm { are_runs held.old.what ≡ true →
-        (runs_read key.now seqno None (runs_held held.old.what)).loads ≡ [] → result ≡ 0 }
-    ensures list { (lists : List (List (List Entry))) → are_runs held.old.what ≡ true →
-        RunsHoldLists (runs_held held.old.what) lists →
-        AnswersRead result (found_by held.new) (Ok (point (union_in lists) key.now seqno)) }
+    ensures other { spec.are_runs held.old.what ≡ false →
+        (result ≡ 102) × (spec.found_by held.new ≡ None) }
+    ensures told { spec.are_runs held.old.what ≡ true →
+        spec.AnswersRead result (spec.found_by held.new)
+        (spec.runs_told key.now seqno None (spec.runs_held held.old.what)) }
+    ensures early { spec.are_runs held.old.what ≡ true →
+        spec.TellsFirst result
+        (spec.runs_read key.now seqno None (spec.runs_held held.old.what)).early }
+    ensures calm { spec.are_runs held.old.what ≡ true →
+        (spec.runs_read key.now seqno None (spec.runs_held held.old.what)).loads ≡ [] → result ≡ 0 }
+    ensures list { (lists : List (List (List spec.Entry))) → spec.are_runs held.old.what ≡ true →
+        spec.RunsHoldLists (spec.runs_held held.old.what) lists →
+        spec.AnswersRead result (spec.found_by held.new)
+        (Ok (spec.point (spec.union_in lists) key.now seqno)) }
 {
     match &held.what {
         What::Runs(runs) => get_in(runs, key, seqno, &mut held.found),
@@ -244,26 +244,30 @@ pub extern "C" fn sst_runs_get(
 ) -> u32
     ensures shut { runs.old.boxed.value ≡ None →
         (result ≡ 100) × (runs.new.boxed.value ≡ None) }
-    ensures kept { (h : HeldValue) → runs.old.boxed.value ≡ Some h →
+    ensures kept { (h : spec.HeldValue) → runs.old.boxed.value ≡ Some h →
         IsSomeAnd runs.new.boxed.value (λ k. k.what ≡ h.what) }
-    ensures other { (h : HeldValue) → runs.old.boxed.value ≡ Some h → are_runs h.what ≡ false →
-        (result ≡ 102) × (found_in runs.new.boxed.value ≡ None) }
-    ensures entry { entry.new ≡ entry_facts (found_in runs.new.boxed.value) }
+    ensures other { (h : spec.HeldValue) → runs.old.boxed.value ≡ Some h →
+        spec.are_runs h.what ≡ false →
+        (result ≡ 102) × (spec.found_in runs.new.boxed.value ≡ None) }
+    ensures entry { entry.new ≡ spec.entry_facts (spec.found_in runs.new.boxed.value) }
     // It is what the tables tell, whatever the bytes,
-    ensures told { (h : HeldValue) → runs.old.boxed.value ≡ Some h → are_runs h.what ≡ true →
-        let found = found_in runs.new.boxed.value in
-        AnswersRead result found (runs_told key.now seqno None (runs_held h.what)) }
+    ensures told { (h : spec.HeldValue) → runs.old.boxed.value ≡ Some h →
+        spec.are_runs h.what ≡ true → let found = spec.found_in runs.new.boxed.value in
+        spec.AnswersRead result found (spec.runs_told key.now seqno None (spec.runs_held h.what)) }
     // a fault of the first block that is loaded which takes no memory to be found first,
-    ensures early { (h : HeldValue) → runs.old.boxed.value ≡ Some h → are_runs h.what ≡ true →
-        TellsFirst result (runs_read key.now seqno None (runs_held h.what)).early }
+    ensures early { (h : spec.HeldValue) → runs.old.boxed.value ≡ Some h →
+        spec.are_runs h.what ≡ true →
+        spec.TellsFirst result (spec.runs_read key.now seqno None (spec.runs_held h.what)).early }
     // and where no block is loaded nothing is refused;
-    ensures calm { (h : HeldValue) → runs.old.boxed.value ≡ Some h → are_runs h.what ≡ true →
-        (runs_read key.now seqno None (runs_held h.what)).loads ≡ [] → result ≡ 0 }
+    ensures calm { (h : spec.HeldValue) → runs.old.boxed.value ≡ Some h →
+        spec.are_runs h.what ≡ true →
+        (spec.runs_read key.now seqno None (spec.runs_held h.what)).loads ≡ [] → result ≡ 0 }
     // of tables of lists it is the first match in all entries together, their numbers lifted.
-    ensures list { (h : HeldValue) (lists : List (List (List Entry))) →
-        runs.old.boxed.value ≡ Some h → are_runs h.what ≡ true →
-        RunsHoldLists (runs_held h.what) lists → let found = found_in runs.new.boxed.value in
-        AnswersRead result found (Ok (point (union_in lists) key.now seqno)) }
+    ensures list { (h : spec.HeldValue) (lists : List (List (List spec.Entry))) →
+        runs.old.boxed.value ≡ Some h → spec.are_runs h.what ≡ true →
+        spec.RunsHoldLists (spec.runs_held h.what) lists →
+        let found = spec.found_in runs.new.boxed.value in
+        spec.AnswersRead result found (Ok (spec.point (spec.union_in lists) key.now seqno)) }
 {
     *entry = tell(None);
     let Some(mut held) = runs.take(alloc) else {

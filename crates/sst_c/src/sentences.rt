@@ -1,13 +1,12 @@
 //! A sentence for what a call answers.
 ghost use Rattle.std.specs.Prelude.{◌≡◌, length, take};
-ghost use Rattle.sst_c.specs.Copies.{laid_over};
-ghost use Rattle.sst_c.specs.Sentences.{sentence_of};
+ghost use Rattle.sst_c.specs.Words as spec;
 
 use crate::found::copy_out;
 
 // The sentence of a number.
 fn sentence(code: u32) -> &'static [u8]
-    ensures { result.now ≡ sentence_of code }
+    ensures { result.now ≡ spec.sentence_of code }
 {
     match code {
         0 => b"done",
@@ -51,8 +50,9 @@ fn sentence(code: u32) -> &'static [u8]
 /// many it has. What is behind it in the room stays.
 #[unsafe(no_mangle)]
 pub extern "C" fn sst_strerror_copy(code: u32, room: &mut [u8]) -> u64
-    ensures count { result ≡ length (sentence_of code) }
-    ensures copied { room.new ≡ laid_over (take (length room.old) (sentence_of code)) room.old }
+    ensures count { result ≡ length (spec.sentence_of code) }
+    ensures copied { room.new ≡ spec.laid_over (take (length room.old) (spec.sentence_of code))
+        room.old }
 {
     let text = sentence(code);
     copy_out(&text[..text.len().min(room.len())], room);

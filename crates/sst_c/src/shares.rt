@@ -1,9 +1,7 @@
 //! Further handles of one table.
 ghost use Rattle.std.specs.Prelude.{◌≡◌, ◌≢◌, ◌⊎◌, false, IsSomeAnd, None, Some};
 ghost use Rattle.std.specs.Prelude.{is_some, true};
-ghost use Rattle.sst_c.specs.Told.{found_by};
-ghost use Rattle.sst_c.specs.What.{is_table};
-ghost use Rattle.sst_c.specs.declared.held.Held.{Held as HeldValue};
+ghost use Rattle.sst_c.specs.Words as spec;
 
 use crate::codes::{CLOSED, NO_MEMORY, OPEN, OTHER_KIND};
 use crate::handle::Handle;
@@ -12,9 +10,9 @@ use std::alloc::Global;
 
 fn share(alloc: Global, held: &Held, other: &mut Handle) -> u32
     requires { other.old.boxed.value ≡ None }
-    ensures kind { is_table held.now.what ≡ false → result ≡ 102 }
-    ensures memory { is_table held.now.what ≡ true → (result ≡ 0) ⊎ (result ≡ 1) }
-    ensures new { result ≡ 0 → IsSomeAnd other.new.boxed.value (λ k. found_by k ≡ None) }
+    ensures kind { spec.is_table held.now.what ≡ false → result ≡ 102 }
+    ensures memory { spec.is_table held.now.what ≡ true → (result ≡ 0) ⊎ (result ≡ 1) }
+    ensures new { result ≡ 0 → IsSomeAnd other.new.boxed.value (λ k. spec.found_by k ≡ None) }
     ensures shared { result ≡ 0 → IsSomeAnd other.new.boxed.value (λ k. k.what ≡ held.now.what) }
     ensures left { result ≢ 0 → other.new.boxed.value ≡ None }
 {
@@ -37,13 +35,13 @@ pub extern "C" fn sst_table_share(alloc: Global, table: &mut Handle, other: &mut
     ensures left { result ≢ 0 → other.new.boxed.value ≡ other.old.boxed.value }
     ensures open { is_some other.old.boxed.value ≡ true → result ≡ 101 }
     ensures shut { other.old.boxed.value ≡ None → table.old.boxed.value ≡ None → result ≡ 100 }
-    ensures kind { (h : HeldValue) → other.old.boxed.value ≡ None → table.old.boxed.value ≡ Some h →
-        is_table h.what ≡ false → result ≡ 102 }
-    ensures memory { (h : HeldValue) → other.old.boxed.value ≡ None →
-        table.old.boxed.value ≡ Some h → is_table h.what ≡ true → (result ≡ 0) ⊎ (result ≡ 1) }
-    ensures new { result ≡ 0 → IsSomeAnd other.new.boxed.value (λ k. found_by k ≡ None) }
+    ensures kind { (h : spec.HeldValue) → other.old.boxed.value ≡ None →
+        table.old.boxed.value ≡ Some h → spec.is_table h.what ≡ false → result ≡ 102 }
+    ensures memory { (h : spec.HeldValue) → other.old.boxed.value ≡ None →
+        table.old.boxed.value ≡ Some h → spec.is_table h.what ≡ true → (result ≡ 0) ⊎ (result ≡ 1) }
+    ensures new { result ≡ 0 → IsSomeAnd other.new.boxed.value (λ k. spec.found_by k ≡ None) }
     // It holds the same table.
-    ensures shared { (h : HeldValue) → table.old.boxed.value ≡ Some h → result ≡ 0 →
+    ensures shared { (h : spec.HeldValue) → table.old.boxed.value ≡ Some h → result ≡ 0 →
         IsSomeAnd other.new.boxed.value (λ k. k.what ≡ h.what) }
 {
     if other.is_open() {

@@ -1,16 +1,7 @@
 //! Tables: opening and point reads.
 ghost use Rattle.std.specs.Prelude.{◌≡◌, ◌≢◌, [], false, IsSomeAnd, List};
 ghost use Rattle.std.specs.Prelude.{None, Ok, Result, Some, is_some, true};
-ghost use Rattle.lsm_readers.specs.Parts.{early_fault};
-ghost use Rattle.lsm_readers.specs.Words.{Entry, OpenTable, StoresList, fits_told, lift, point};
-ghost use Rattle.lsm_readers.specs.Words.{recovered_told, table_answer};
-ghost use Rattle.sst_c.specs.Codes.{TellsCode, TellsFirst, result_code};
-ghost use Rattle.sst_c.specs.Told.{AnswersRead, entry_facts, found_at, found_by, found_in};
-ghost use Rattle.sst_c.specs.Told.{found_of, kept_in_table};
-ghost use Rattle.sst_c.specs.What.{IsOpenedAs, is_table};
-ghost use Rattle.sst_c.specs.declared.held.FoundEntry.TheVariants.{Kept};
-ghost use Rattle.sst_c.specs.declared.held.Held.{Held as HeldValue};
-ghost use Rattle.sst_c.specs.declared.held.What.TheVariants.{Table as TableOf};
+ghost use Rattle.sst_c.specs.Words as spec;
 
 use crate::codes::{CLOSED, NO_MEMORY, OPEN, OTHER_KIND};
 use crate::entries::{EntryTold, tell};
@@ -32,11 +23,12 @@ pub(crate) fn open_from(
 ) -> u32
     requires { table.old.boxed.value ≡ None }
     ensures opened { result ≡ 0 → IsSomeAnd table.new.boxed.value
-        (IsOpenedAs bytes global_seqno pin_filter pin_index) }
-    ensures told { TellsCode result (recovered_told bytes global_seqno pin_filter pin_index) }
-    ensures early { TellsFirst result (early_fault bytes) }
-    ensures list { (es : List Entry) → StoresList bytes es →
-        TellsCode result (fits_told es global_seqno) }
+        (spec.IsOpenedAs bytes global_seqno pin_filter pin_index) }
+    ensures told { spec.TellsCode result
+        (spec.recovered_told bytes global_seqno pin_filter pin_index) }
+    ensures early { spec.TellsFirst result (spec.early_fault bytes) }
+    ensures list { (es : List spec.Entry) → spec.StoresList bytes es →
+        spec.TellsCode result (spec.fits_told es global_seqno) }
     ensures left { result ≢ 0 → table.new.boxed.value ≡ None }
 {
     let opened = Table::recover(
@@ -67,12 +59,12 @@ pub extern "C" fn sst_table_open(
 ) -> u32
     ensures open { is_some table.old.boxed.value ≡ true → result ≡ 101 }
     ensures opened { result ≡ 0 → IsSomeAnd table.new.boxed.value
-        (IsOpenedAs file.now global_seqno pin_filter pin_index) }
+        (spec.IsOpenedAs file.now global_seqno pin_filter pin_index) }
     ensures told { table.old.boxed.value ≡ None →
-        TellsCode result (recovered_told file.now global_seqno pin_filter pin_index) }
+        spec.TellsCode result (spec.recovered_told file.now global_seqno pin_filter pin_index) }
     // Bytes that store a list are opened where the highest number fits.
-    ensures list { table.old.boxed.value ≡ None → (es : List Entry) → StoresList file.now es →
-        TellsCode result (fits_told es global_seqno) }
+    ensures list { table.old.boxed.value ≡ None → (es : List spec.Entry) →
+        spec.StoresList file.now es → spec.TellsCode result (spec.fits_told es global_seqno) }
     ensures left { result ≢ 0 → table.new.boxed.value ≡ table.old.boxed.value }
 {
     if table.is_open() {
@@ -87,9 +79,9 @@ pub extern "C" fn sst_table_open(
 /// Keeps what a read found, nothing where it was refused, and answers 0 or the refusal's number.
 #[inline]
 pub(crate) fn keep(found: &mut FoundEntry, outcome: Result<Option<InternalValue>, Error>) -> u32
-    ensures code { result ≡ result_code outcome }
-    ensures found { found.new ≡ Kept (found_of outcome) }
-    ensures fine { is_some (found_of outcome) ≡ true → result ≡ 0 }
+    ensures code { result ≡ spec.result_code outcome }
+    ensures found { found.new ≡ spec.Kept (spec.found_of outcome) }
+    ensures fine { is_some (spec.found_of outcome) ≡ true → result ≡ 0 }
 {
     match outcome {
         Ok(item) => {
@@ -105,8 +97,8 @@ pub(crate) fn keep(found: &mut FoundEntry, outcome: Result<Option<InternalValue>
 
 // Keeps the position of what a read found, nothing if it failed. Returns 0 or the error code.
 fn keep_place(found: &mut FoundEntry, outcome: Result<Option<EntryPlace>, Error>) -> u32
-    ensures code { result ≡ result_code outcome }
-    ensures found { found.new ≡ kept_in_table outcome }
+    ensures code { result ≡ spec.result_code outcome }
+    ensures found { found.new ≡ spec.kept_in_table outcome }
 {
     match outcome {
         Ok(Some(place)) => {
@@ -127,13 +119,14 @@ fn keep_place(found: &mut FoundEntry, outcome: Result<Option<EntryPlace>, Error>
 // Reads a key of a table, and keeps the position of the entry that it finds.
 #[tactic(auto, using(crate::proofs::Answering::reads))]
 fn get_in(table: &Table, key: &[u8], seqno: SeqNo, found: &mut FoundEntry) -> u32
-    ensures told { let entry = found_at found.new (TableOf table.now) in
-        AnswersRead result entry (table_answer table.now key.now seqno).told }
-    ensures early { TellsFirst result (table_answer table.now key.now seqno).early }
-    ensures calm { (table_answer table.now key.now seqno).loads ≡ [] → result ≡ 0 }
-    ensures list { (es : List Entry) → StoresList table.now.bytes es →
-        let entry = found_at found.new (TableOf table.now) in
-        AnswersRead result entry (Ok (point (lift es table.now.global_seqno) key.now seqno)) }
+    ensures told { let entry = spec.found_at found.new (spec.TableOf table.now) in
+        spec.AnswersRead result entry (spec.table_answer table.now key.now seqno).told }
+    ensures early { spec.TellsFirst result (spec.table_answer table.now key.now seqno).early }
+    ensures calm { (spec.table_answer table.now key.now seqno).loads ≡ [] → result ≡ 0 }
+    ensures list { (es : List spec.Entry) → spec.StoresList table.now.bytes es →
+        let entry = spec.found_at found.new (spec.TableOf table.now) in
+        spec.AnswersRead result entry
+        (Ok (spec.point (spec.lift es table.now.global_seqno) key.now seqno)) }
 {
     let hash = Table::<Global>::key_hash(key);
     keep_place(found, table.get_place(key, seqno, hash).0)
@@ -141,17 +134,18 @@ fn get_in(table: &Table, key: &[u8], seqno: SeqNo, found: &mut FoundEntry) -> u3
 
 fn get(held: &mut Held, key: &[u8], seqno: SeqNo) -> u32
     ensures kept { held.new.what ≡ held.old.what }
-    ensures other { is_table held.old.what ≡ false → (result ≡ 102) × (found_by held.new ≡ None) }
-    ensures told { (t : OpenTable) → held.old.what ≡ TableOf t →
-        AnswersRead result (found_by held.new) (table_answer t key.now seqno).told }
-    ensures early { (t : OpenTable) → held.old.what ≡ TableOf t →
-        TellsFirst result (table_answer t key.now seqno).early }
-    ensures calm { (t : OpenTable) → held.old.what ≡ TableOf t →
-        (table_answer t key.now seqno).loads ≡ [] → result ≡ 0 }
-    ensures list { (t : OpenTable) (es : List Entry) → held.old.what ≡ TableOf t →
-        StoresList t.bytes es →
-        AnswersRead result (found_by held.new)
-        (Ok (point (lift es t.global_seqno) key.now seqno)) }
+    ensures other { spec.is_table held.old.what ≡ false →
+        (result ≡ 102) × (spec.found_by held.new ≡ None) }
+    ensures told { (t : spec.OpenTable) → held.old.what ≡ spec.TableOf t →
+        spec.AnswersRead result (spec.found_by held.new) (spec.table_answer t key.now seqno).told }
+    ensures early { (t : spec.OpenTable) → held.old.what ≡ spec.TableOf t →
+        spec.TellsFirst result (spec.table_answer t key.now seqno).early }
+    ensures calm { (t : spec.OpenTable) → held.old.what ≡ spec.TableOf t →
+        (spec.table_answer t key.now seqno).loads ≡ [] → result ≡ 0 }
+    ensures list { (t : spec.OpenTable) (es : List spec.Entry) → held.old.what ≡ spec.TableOf t →
+        spec.StoresList t.bytes es →
+        spec.AnswersRead result (spec.found_by held.new)
+        (Ok (spec.point (spec.lift es t.global_seqno) key.now seqno)) }
 {
     match &held.what {
         What::Table(table) => get_in(table, key, seqno, &mut held.found),
@@ -175,26 +169,28 @@ pub extern "C" fn sst_table_get(
 ) -> u32
     ensures shut { table.old.boxed.value ≡ None →
         (result ≡ 100) × (table.new.boxed.value ≡ None) }
-    ensures kept { (h : HeldValue) → table.old.boxed.value ≡ Some h →
+    ensures kept { (h : spec.HeldValue) → table.old.boxed.value ≡ Some h →
         IsSomeAnd table.new.boxed.value (λ k. k.what ≡ h.what) }
-    ensures other { (h : HeldValue) → table.old.boxed.value ≡ Some h → is_table h.what ≡ false →
-        (result ≡ 102) × (found_in table.new.boxed.value ≡ None) }
-    ensures entry { entry.new ≡ entry_facts (found_in table.new.boxed.value) }
+    ensures other { (h : spec.HeldValue) → table.old.boxed.value ≡ Some h →
+        spec.is_table h.what ≡ false →
+        (result ≡ 102) × (spec.found_in table.new.boxed.value ≡ None) }
+    ensures entry { entry.new ≡ spec.entry_facts (spec.found_in table.new.boxed.value) }
     // Whatever the bytes, it is what the table tells,
-    ensures told { (h : HeldValue) (t : OpenTable) → table.old.boxed.value ≡ Some h →
-        h.what ≡ TableOf t → let found = found_in table.new.boxed.value in
-        AnswersRead result found (table_answer t key.now seqno).told }
+    ensures told { (h : spec.HeldValue) (t : spec.OpenTable) → table.old.boxed.value ≡ Some h →
+        h.what ≡ spec.TableOf t → let found = spec.found_in table.new.boxed.value in
+        spec.AnswersRead result found (spec.table_answer t key.now seqno).told }
     // a fault of the first block that is loaded which takes no memory to be found first,
-    ensures early { (h : HeldValue) (t : OpenTable) → table.old.boxed.value ≡ Some h →
-        h.what ≡ TableOf t → TellsFirst result (table_answer t key.now seqno).early }
+    ensures early { (h : spec.HeldValue) (t : spec.OpenTable) → table.old.boxed.value ≡ Some h →
+        h.what ≡ spec.TableOf t → spec.TellsFirst result (spec.table_answer t key.now seqno).early }
     // and where no block is loaded nothing is refused;
-    ensures calm { (h : HeldValue) (t : OpenTable) → table.old.boxed.value ≡ Some h →
-        h.what ≡ TableOf t → (table_answer t key.now seqno).loads ≡ [] → result ≡ 0 }
+    ensures calm { (h : spec.HeldValue) (t : spec.OpenTable) → table.old.boxed.value ≡ Some h →
+        h.what ≡ spec.TableOf t → (spec.table_answer t key.now seqno).loads ≡ [] → result ≡ 0 }
     // on bytes that store a list it is the first match in the list, its numbers lifted.
-    ensures list { (h : HeldValue) (t : OpenTable) (es : List Entry) →
-        table.old.boxed.value ≡ Some h → h.what ≡ TableOf t → StoresList t.bytes es →
-        let found = found_in table.new.boxed.value in
-        AnswersRead result found (Ok (point (lift es t.global_seqno) key.now seqno)) }
+    ensures list { (h : spec.HeldValue) (t : spec.OpenTable) (es : List spec.Entry) →
+        table.old.boxed.value ≡ Some h → h.what ≡ spec.TableOf t → spec.StoresList t.bytes es →
+        let found = spec.found_in table.new.boxed.value in
+        spec.AnswersRead result found
+        (Ok (spec.point (spec.lift es t.global_seqno) key.now seqno)) }
 {
     *entry = tell(None);
     let Some(mut held) = table.take(alloc) else {

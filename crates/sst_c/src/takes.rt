@@ -1,6 +1,6 @@
 //! Reads in bulk: entries that are read one after another, and copied one after another.
 ghost use Rattle.std.specs.Prelude.{◌≡◌, ℕ, None, Some};
-ghost use Rattle.sst_c.specs.Takes.{ReadsMany};
+ghost use Rattle.sst_c.specs.Words as spec;
 
 use crate::entries::{EntryTold, tell};
 use crate::laying::lay_next;
@@ -39,9 +39,9 @@ pub(crate) fn take_from<R: Reads>(
     bytes: &mut [u8],
     count: &mut u64,
 ) -> Option<u32>
-    ensures full { result ≡ None → ReadsMany (R.reads back) source.old entries.old entries.new
+    ensures full { result ≡ None → spec.ReadsMany (R.reads back) source.old entries.old entries.new
         bytes.old bytes.new count.new 0 None source.new }
-    ensures stopped { (code : ℕ) → result ≡ Some code → ReadsMany (R.reads back) source.old
+    ensures stopped { (code : ℕ) → result ≡ Some code → spec.ReadsMany (R.reads back) source.old
         entries.old entries.new bytes.old bytes.new count.new code (R.found source.new) source.new }
 {
     let mut at = 0;

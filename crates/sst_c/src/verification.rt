@@ -1,15 +1,7 @@
 //! Verifying a table by steps.
 ghost use Rattle.std.specs.Prelude.{◌≡◌, ◌≢◌, ◌⊎◌, false, IsSomeAnd, None, Some};
 ghost use Rattle.std.specs.Prelude.{is_some, true};
-ghost use Rattle.lsm_readers.specs.Verification.{Verifying, verifying};
-ghost use Rattle.lsm_readers.specs.Words.{OpenTable};
-ghost use Rattle.sst_c.specs.Stepwise.{TellsStep, no_progress};
-ghost use Rattle.sst_c.specs.Told.{found_by};
-ghost use Rattle.sst_c.specs.Verify.{no_finding};
-ghost use Rattle.sst_c.specs.What.{IsVerificationWhere, is_table, is_verification};
-ghost use Rattle.sst_c.specs.declared.held.Held.{Held as HeldValue};
-ghost use Rattle.sst_c.specs.declared.held.What.TheVariants.{Table as TableOf};
-ghost use Rattle.sst_c.specs.declared.held.What.TheVariants.{Verification as VerificationOf};
+ghost use Rattle.sst_c.specs.Words as spec;
 
 use crate::codes::{CLOSED, OPEN, OTHER_KIND};
 use crate::handle::Handle;
@@ -22,11 +14,13 @@ use std::alloc::Global;
 // Puts a verification of a table into a handle that holds nothing.
 fn begin(alloc: Global, held: &Held, verification: &mut Handle) -> u32
     requires { verification.old.boxed.value ≡ None }
-    ensures kind { is_table held.now.what ≡ false → result ≡ 102 }
-    ensures memory { is_table held.now.what ≡ true → (result ≡ 0) ⊎ (result ≡ 1) }
-    ensures new { result ≡ 0 → IsSomeAnd verification.new.boxed.value (λ k. found_by k ≡ None) }
-    ensures begun { (t : OpenTable) → held.now.what ≡ TableOf t → result ≡ 0 →
-        IsSomeAnd verification.new.boxed.value (λ k. k.what ≡ VerificationOf (verifying t)) }
+    ensures kind { spec.is_table held.now.what ≡ false → result ≡ 102 }
+    ensures memory { spec.is_table held.now.what ≡ true → (result ≡ 0) ⊎ (result ≡ 1) }
+    ensures new { result ≡ 0 →
+        IsSomeAnd verification.new.boxed.value (λ k. spec.found_by k ≡ None) }
+    ensures begun { (t : spec.OpenTable) → held.now.what ≡ spec.TableOf t → result ≡ 0 →
+        IsSomeAnd verification.new.boxed.value
+        (λ k. k.what ≡ spec.VerificationOf (spec.verifying t)) }
     ensures left { result ≢ 0 → verification.new.boxed.value ≡ None }
 {
     let What::Table(table) = &held.what else {
@@ -53,15 +47,16 @@ pub extern "C" fn sst_verification_open(
     ensures open { is_some verification.old.boxed.value ≡ true → result ≡ 101 }
     ensures shut { verification.old.boxed.value ≡ None → table.old.boxed.value ≡ None →
         result ≡ 100 }
-    ensures kind { (h : HeldValue) → verification.old.boxed.value ≡ None →
-        table.old.boxed.value ≡ Some h → is_table h.what ≡ false → result ≡ 102 }
-    ensures memory { (h : HeldValue) → verification.old.boxed.value ≡ None →
-        table.old.boxed.value ≡ Some h → is_table h.what ≡ true → (result ≡ 0) ⊎ (result ≡ 1) }
-    ensures new { result ≡ 0 → IsSomeAnd verification.new.boxed.value (λ k. found_by k ≡ None) }
+    ensures kind { (h : spec.HeldValue) → verification.old.boxed.value ≡ None →
+        table.old.boxed.value ≡ Some h → spec.is_table h.what ≡ false → result ≡ 102 }
+    ensures memory { (h : spec.HeldValue) → verification.old.boxed.value ≡ None →
+        table.old.boxed.value ≡ Some h → spec.is_table h.what ≡ true → (result ≡ 0) ⊎ (result ≡ 1) }
+    ensures new { result ≡ 0 →
+        IsSomeAnd verification.new.boxed.value (λ k. spec.found_by k ≡ None) }
     // It is of the table, of which nothing is read yet.
-    ensures begun { (h : HeldValue) (t : OpenTable) → table.old.boxed.value ≡ Some h →
-        h.what ≡ TableOf t → result ≡ 0 → IsSomeAnd verification.new.boxed.value (λ k.
-        k.what ≡ VerificationOf (verifying t)) }
+    ensures begun { (h : spec.HeldValue) (t : spec.OpenTable) → table.old.boxed.value ≡ Some h →
+        h.what ≡ spec.TableOf t → result ≡ 0 → IsSomeAnd verification.new.boxed.value (λ k.
+        k.what ≡ spec.VerificationOf (spec.verifying t)) }
 {
     if verification.is_open() {
         return OPEN;
@@ -76,14 +71,14 @@ pub extern "C" fn sst_verification_open(
 
 // Makes a step of what is held.
 fn step(held: &mut Held, progress: &mut ProgressTold, told: &mut VerifyTold) -> u32
-    requires progress { progress.old ≡ no_progress }
-    requires told { told.old ≡ no_finding }
-    ensures other { is_verification held.old.what ≡ false → (result ≡ 102) ×
-        (progress.new ≡ no_progress) × (told.new ≡ no_finding) ×
+    requires progress { progress.old ≡ spec.no_progress }
+    requires told { told.old ≡ spec.no_finding }
+    ensures other { spec.is_verification held.old.what ≡ false → (result ≡ 102) ×
+        (progress.new ≡ spec.no_progress) × (told.new ≡ spec.no_finding) ×
         (held.new.what ≡ held.old.what) }
-    ensures steps { (v : Verifying) → held.old.what ≡ VerificationOf v →
-        IsVerificationWhere (TellsStep v result progress.new told.new) held.new.what }
-    ensures found { found_by held.new ≡ found_by held.old }
+    ensures steps { (v : spec.Verifying) → held.old.what ≡ spec.VerificationOf v →
+        spec.IsVerificationWhere (spec.TellsStep v result progress.new told.new) held.new.what }
+    ensures found { spec.found_by held.new ≡ spec.found_by held.old }
 {
     match &mut held.what {
         What::Verification(verifier) => verifier.step(progress, told),
@@ -104,18 +99,20 @@ pub extern "C" fn sst_verification_step(
     told: &mut VerifyTold,
 ) -> u32
     ensures shut { verification.old.boxed.value ≡ None → (result ≡ 100) ×
-        (progress.new ≡ no_progress) × (told.new ≡ no_finding) ×
+        (progress.new ≡ spec.no_progress) × (told.new ≡ spec.no_finding) ×
         (verification.new.boxed.value ≡ None) }
-    ensures other { (h : HeldValue) → verification.old.boxed.value ≡ Some h →
-        is_verification h.what ≡ false → (result ≡ 102) × (progress.new ≡ no_progress) ×
-        (told.new ≡ no_finding) × IsSomeAnd verification.new.boxed.value (λ k. k.what ≡ h.what) }
+    ensures other { (h : spec.HeldValue) → verification.old.boxed.value ≡ Some h →
+        spec.is_verification h.what ≡ false → (result ≡ 102) × (progress.new ≡ spec.no_progress) ×
+        (told.new ≡ spec.no_finding) × IsSomeAnd verification.new.boxed.value
+        (λ k. k.what ≡ h.what) }
     // It is one step of the library's verification, told as it is.
-    ensures steps { (h : HeldValue) (v : Verifying) → verification.old.boxed.value ≡ Some h →
-        h.what ≡ VerificationOf v → IsSomeAnd verification.new.boxed.value (λ k.
-        IsVerificationWhere (TellsStep v result progress.new told.new) k.what) }
+    ensures steps { (h : spec.HeldValue) (v : spec.Verifying) →
+        verification.old.boxed.value ≡ Some h →
+        h.what ≡ spec.VerificationOf v → IsSomeAnd verification.new.boxed.value (λ k.
+        spec.IsVerificationWhere (spec.TellsStep v result progress.new told.new) k.what) }
     // What a read found stays.
-    ensures found { (h : HeldValue) → verification.old.boxed.value ≡ Some h →
-        IsSomeAnd verification.new.boxed.value (λ k. found_by k ≡ found_by h) }
+    ensures found { (h : spec.HeldValue) → verification.old.boxed.value ≡ Some h →
+        IsSomeAnd verification.new.boxed.value (λ k. spec.found_by k ≡ spec.found_by h) }
 {
     *progress = no_progress();
     *told = nothing();

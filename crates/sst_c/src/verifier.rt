@@ -1,10 +1,6 @@
 //! A verification that is made by steps, and what C is told of one.
 ghost use Rattle.std.specs.Prelude.{◌≡◌, IfErr, IfOk};
-ghost use Rattle.sst_entries.specs.declared.error.Error.TheVariants.{OutOfMemory};
-ghost use Rattle.lsm_readers.specs.Verification.{verifying};
-ghost use Rattle.sst_c.specs.Stepwise.{TellsStep, progress_told, step_code, step_end, step_told};
-ghost use Rattle.sst_c.specs.Stepwise.{no_progress};
-ghost use Rattle.sst_c.specs.Verify.{no_finding};
+ghost use Rattle.sst_c.specs.Words as spec;
 
 use crate::codes::{FAULTY, NO_MEMORY};
 use crate::verify::{VerifyTold, tell_finding, tell_verified};
@@ -45,7 +41,7 @@ impl Model for Verifier {
 
 /// What is told of no verification.
 pub(crate) fn no_progress() -> ProgressTold
-    ensures { result ≡ no_progress }
+    ensures { result ≡ spec.no_progress }
 {
     ProgressTold {
         bytes_read: 0,
@@ -56,7 +52,7 @@ pub(crate) fn no_progress() -> ProgressTold
 
 // Whether a step was the last: 1 where it was, else 0.
 fn end_of(answer: &Result<Option<Verified>, VerifyError>) -> u64
-    ensures { result ≡ step_end answer.now }
+    ensures { result ≡ spec.step_end answer.now }
 {
     match answer {
         Ok(Some(_)) => 1,
@@ -66,9 +62,9 @@ fn end_of(answer: &Result<Option<Verified>, VerifyError>) -> u64
 
 // Tells what a step answered.
 fn tell_answer(answer: &Result<Option<Verified>, VerifyError>, told: &mut VerifyTold) -> u32
-    requires { told.old ≡ no_finding }
-    ensures code { result ≡ step_code answer.now }
-    ensures told { told.new ≡ step_told answer.now }
+    requires { told.old ≡ spec.no_finding }
+    ensures code { result ≡ spec.step_code answer.now }
+    ensures told { told.new ≡ spec.step_told answer.now }
 {
     match answer {
         Ok(None) => 0,
@@ -87,8 +83,8 @@ fn tell_answer(answer: &Result<Option<Verified>, VerifyError>, told: &mut Verify
 impl Verifier {
     /// A verification of a table, of which nothing is read yet.
     pub(crate) fn of(table: &Table) -> Result<Verifier, Error>
-        ensures ok { IfOk result (λ v. v ≡ verifying table.now) }
-        ensures err { IfErr result (λ e. e ≡ OutOfMemory) }
+        ensures ok { IfOk result (λ v. v ≡ spec.verifying table.now) }
+        ensures err { IfErr result (λ e. e ≡ spec.OutOfMemory) }
     {
         Ok(Verifier {
             verification: table.verification()?,
@@ -98,7 +94,7 @@ impl Verifier {
 
     // How far it is, and whether it is at its end.
     fn progress(&self, at_end: u64) -> ProgressTold
-        ensures { result ≡ progress_told self.now at_end }
+        ensures { result ≡ spec.progress_told self.now at_end }
     {
         ProgressTold {
             bytes_read: self.verification.bytes_read(),
@@ -109,8 +105,8 @@ impl Verifier {
 
     /// Makes a step, and tells what it answered.
     pub(crate) fn step(&mut self, progress: &mut ProgressTold, told: &mut VerifyTold) -> u32
-        requires { told.old ≡ no_finding }
-        ensures { TellsStep self.old result progress.new told.new self.new }
+        requires { told.old ≡ spec.no_finding }
+        ensures { spec.TellsStep self.old result progress.new told.new self.new }
     {
         let answer = self.verification.step();
         *progress = self.progress(end_of(&answer));

@@ -1,16 +1,6 @@
 //! Verifying a table.
 ghost use Rattle.std.specs.Prelude.{◌≡◌, ◌≢◌, List, None, Some, false};
-ghost use Rattle.sst_sections.specs.Sections.{body_of};
-ghost use Rattle.lsm_readers.specs.Findings.{IsFirstFinding};
-ghost use Rattle.lsm_readers.specs.Verify.{table_early, table_found};
-ghost use Rattle.lsm_readers.specs.Words.{Entry, OpenTable, StoresList};
-ghost use Rattle.lsm_readers.specs.declared.verify.Finding.{Finding as FindingValue};
-ghost use Rattle.sst_c.specs.Verify.{TellsCounts, TellsFinding, TellsWrong, VerifyAnswers};
-ghost use Rattle.sst_c.specs.Verify.{detail_of, fault_number, finding_told, no_finding};
-ghost use Rattle.sst_c.specs.Verify.{verified_told, verify_code, verify_told};
-ghost use Rattle.sst_c.specs.What.{is_table};
-ghost use Rattle.sst_c.specs.declared.held.Held.{Held as HeldValue};
-ghost use Rattle.sst_c.specs.declared.held.What.TheVariants.{Table as TableOf};
+ghost use Rattle.sst_c.specs.Words as spec;
 
 use crate::codes::{CLOSED, FAULTY, NO_MEMORY, OTHER_KIND};
 use crate::handle::Handle;
@@ -45,7 +35,7 @@ pub struct VerifyTold {
 
 /// What is told where nothing is found.
 pub(crate) fn nothing() -> VerifyTold
-    ensures { result ≡ no_finding }
+    ensures { result ≡ spec.no_finding }
 {
     VerifyTold {
         item_count: 0,
@@ -59,7 +49,7 @@ pub(crate) fn nothing() -> VerifyTold
 }
 
 fn number_of(fault: &Fault) -> u32
-    ensures { result ≡ fault_number fault.now }
+    ensures { result ≡ spec.fault_number fault.now }
 {
     match fault {
         Fault::Unloaded(_) => 1,
@@ -78,7 +68,7 @@ fn number_of(fault: &Fault) -> u32
 }
 
 fn detail_of(fault: &Fault) -> u32
-    ensures { result ≡ detail_of fault.now }
+    ensures { result ≡ spec.detail_of fault.now }
 {
     match fault {
         Fault::Unloaded(error) => u32::from(error.number()),
@@ -89,7 +79,7 @@ fn detail_of(fault: &Fault) -> u32
 
 /// What is told of what is wrong.
 pub(crate) fn tell_finding(finding: &Finding) -> VerifyTold
-    ensures { result ≡ finding_told finding.now }
+    ensures { result ≡ spec.finding_told finding.now }
 {
     VerifyTold {
         item_count: 0,
@@ -104,7 +94,7 @@ pub(crate) fn tell_finding(finding: &Finding) -> VerifyTold
 
 /// What is told of a sound table.
 pub(crate) fn tell_verified(verified: Verified) -> VerifyTold
-    ensures { result ≡ verified_told verified }
+    ensures { result ≡ spec.verified_told verified }
 {
     VerifyTold {
         item_count: verified.item_count,
@@ -118,24 +108,24 @@ pub(crate) fn tell_verified(verified: Verified) -> VerifyTold
 }
 
 fn verify(table: &Table, told: &mut VerifyTold) -> u32
-    requires { told.old ≡ no_finding }
-    ensures told { VerifyAnswers result told.new
-        (table_found (body_of table.now.bytes) table.now.parts) }
-    ensures early { let body = body_of table.now.bytes in
-        TellsFinding result told.new (table_early body table.now.parts) }
-    ensures first { let body = body_of table.now.bytes in
-        TellsWrong (IsFirstFinding body table.now.parts) result told.new }
-    ensures sound { result ≡ 0 → TellsCounts table.now.bytes told.new }
-    ensures complete { (es : List Entry) → StoresList table.now.bytes es → result ≢ 107 }
+    requires { told.old ≡ spec.no_finding }
+    ensures told { spec.VerifyAnswers result told.new
+        (spec.table_found (spec.body_of table.now.bytes) table.now.parts) }
+    ensures early { let body = spec.body_of table.now.bytes in
+        spec.TellsFinding result told.new (spec.table_early body table.now.parts) }
+    ensures first { let body = spec.body_of table.now.bytes in
+        spec.TellsWrong (spec.IsFirstFinding body table.now.parts) result told.new }
+    ensures sound { result ≡ 0 → spec.TellsCounts table.now.bytes told.new }
+    ensures complete { (es : List spec.Entry) → spec.StoresList table.now.bytes es → result ≢ 107 }
 {
     tell(&table.verify(), told)
 }
 
 // Tells what a verification came to.
 fn tell(came: &Result<Verified, VerifyError>, told: &mut VerifyTold) -> u32
-    requires { told.old ≡ no_finding }
-    ensures code { result ≡ verify_code came.now }
-    ensures told { told.new ≡ verify_told came.now }
+    requires { told.old ≡ spec.no_finding }
+    ensures code { result ≡ spec.verify_code came.now }
+    ensures told { told.new ≡ spec.verify_told came.now }
 {
     match came {
         Ok(verified) => {
@@ -151,18 +141,19 @@ fn tell(came: &Result<Verified, VerifyError>, told: &mut VerifyTold) -> u32
 }
 
 fn verify_held(held: &Held, told: &mut VerifyTold) -> u32
-    requires { told.old ≡ no_finding }
-    ensures other { is_table held.now.what ≡ false → (result ≡ 102) × (told.new ≡ no_finding) }
-    ensures told { (t : OpenTable) → held.now.what ≡ TableOf t →
-        VerifyAnswers result told.new (table_found (body_of t.bytes) t.parts) }
-    ensures early { (t : OpenTable) → held.now.what ≡ TableOf t →
-        TellsFinding result told.new (table_early (body_of t.bytes) t.parts) }
-    ensures first { (t : OpenTable) → held.now.what ≡ TableOf t →
-        TellsWrong (IsFirstFinding (body_of t.bytes) t.parts) result told.new }
-    ensures sound { (t : OpenTable) → held.now.what ≡ TableOf t → result ≡ 0 →
-        TellsCounts t.bytes told.new }
-    ensures complete { (t : OpenTable) (es : List Entry) → held.now.what ≡ TableOf t →
-        StoresList t.bytes es → result ≢ 107 }
+    requires { told.old ≡ spec.no_finding }
+    ensures other { spec.is_table held.now.what ≡ false →
+        (result ≡ 102) × (told.new ≡ spec.no_finding) }
+    ensures told { (t : spec.OpenTable) → held.now.what ≡ spec.TableOf t →
+        spec.VerifyAnswers result told.new (spec.table_found (spec.body_of t.bytes) t.parts) }
+    ensures early { (t : spec.OpenTable) → held.now.what ≡ spec.TableOf t →
+        spec.TellsFinding result told.new (spec.table_early (spec.body_of t.bytes) t.parts) }
+    ensures first { (t : spec.OpenTable) → held.now.what ≡ spec.TableOf t →
+        spec.TellsWrong (spec.IsFirstFinding (spec.body_of t.bytes) t.parts) result told.new }
+    ensures sound { (t : spec.OpenTable) → held.now.what ≡ spec.TableOf t → result ≡ 0 →
+        spec.TellsCounts t.bytes told.new }
+    ensures complete { (t : spec.OpenTable) (es : List spec.Entry) →
+        held.now.what ≡ spec.TableOf t → spec.StoresList t.bytes es → result ≢ 107 }
 {
     match &held.what {
         What::Table(table) => verify(table, told),
@@ -177,27 +168,28 @@ fn verify_held(held: &Held, told: &mut VerifyTold) -> u32
 #[unsafe(no_mangle)]
 pub extern "C" fn sst_table_verify(alloc: Global, table: &mut Handle, told: &mut VerifyTold) -> u32
     ensures kept { table.new.boxed.value ≡ table.old.boxed.value }
-    ensures shut { table.old.boxed.value ≡ None → (result ≡ 100) × (told.new ≡ no_finding) }
-    ensures other { (h : HeldValue) → table.old.boxed.value ≡ Some h → is_table h.what ≡ false →
-        (result ≡ 102) × (told.new ≡ no_finding) }
+    ensures shut { table.old.boxed.value ≡ None → (result ≡ 100) × (told.new ≡ spec.no_finding) }
+    ensures other { (h : spec.HeldValue) → table.old.boxed.value ≡ Some h →
+        spec.is_table h.what ≡ false → (result ≡ 102) × (told.new ≡ spec.no_finding) }
     // What is wrong first is found, memory aside.
-    ensures told { (h : HeldValue) (t : OpenTable) → table.old.boxed.value ≡ Some h →
-        h.what ≡ TableOf t →
-        VerifyAnswers result told.new (table_found (body_of t.bytes) t.parts) }
+    ensures told { (h : spec.HeldValue) (t : spec.OpenTable) → table.old.boxed.value ≡ Some h →
+        h.what ≡ spec.TableOf t →
+        spec.VerifyAnswers result told.new (spec.table_found (spec.body_of t.bytes) t.parts) }
     // A fault of the first block that is loaded which takes no memory to be found is told, whatever
     // memory there is,
-    ensures early { (h : HeldValue) (t : OpenTable) → table.old.boxed.value ≡ Some h →
-        h.what ≡ TableOf t → TellsFinding result told.new (table_early (body_of t.bytes) t.parts) }
+    ensures early { (h : spec.HeldValue) (t : spec.OpenTable) → table.old.boxed.value ≡ Some h →
+        h.what ≡ spec.TableOf t →
+        spec.TellsFinding result told.new (spec.table_early (spec.body_of t.bytes) t.parts) }
     // and what is told is wrong there, and all that is read before it is sound.
-    ensures first { (h : HeldValue) (t : OpenTable) → table.old.boxed.value ≡ Some h →
-        h.what ≡ TableOf t →
-        TellsWrong (IsFirstFinding (body_of t.bytes) t.parts) result told.new }
+    ensures first { (h : spec.HeldValue) (t : spec.OpenTable) → table.old.boxed.value ≡ Some h →
+        h.what ≡ spec.TableOf t →
+        spec.TellsWrong (spec.IsFirstFinding (spec.body_of t.bytes) t.parts) result told.new }
     // A table that is verified stores a list, which has as many entries and data blocks;
-    ensures sound { (h : HeldValue) (t : OpenTable) → table.old.boxed.value ≡ Some h →
-        h.what ≡ TableOf t → result ≡ 0 → TellsCounts t.bytes told.new }
+    ensures sound { (h : spec.HeldValue) (t : spec.OpenTable) → table.old.boxed.value ≡ Some h →
+        h.what ≡ spec.TableOf t → result ≡ 0 → spec.TellsCounts t.bytes told.new }
     // in one that stores a list nothing wrong is found.
-    ensures complete { (h : HeldValue) (t : OpenTable) (es : List Entry) →
-        table.old.boxed.value ≡ Some h → h.what ≡ TableOf t → StoresList t.bytes es →
+    ensures complete { (h : spec.HeldValue) (t : spec.OpenTable) (es : List spec.Entry) →
+        table.old.boxed.value ≡ Some h → h.what ≡ spec.TableOf t → spec.StoresList t.bytes es →
         result ≢ 107 }
 {
     *told = nothing();

@@ -1,15 +1,7 @@
 //! Writing a table.
 ghost use Rattle.std.specs.Prelude.{◌≡◌, ◌≢◌, ◌⊎◌, [], false, IfErr, IfOk, IsSomeAnd, IsTrue, None};
 ghost use Rattle.std.specs.Prelude.{Some, is_some, true};
-ghost use Rattle.sst_entries.specs.Entry.{entry};
-ghost use Rattle.sst_entries.specs.declared.error.Error.TheVariants.{OutOfMemory};
-ghost use Rattle.sst_entries.specs.declared.value_type.ValueType.{ValueType as Kind};
-ghost use Rattle.lsm_writers.specs.Writing.{Writing as WritingValue, may_be_written, written};
-ghost use Rattle.sst_c.specs.Options.{are_usable, writing_told};
-ghost use Rattle.sst_c.specs.Told.{found_by};
-ghost use Rattle.sst_c.specs.What.{are_files, files_held, writer_in};
-ghost use Rattle.sst_c.specs.Writing.{AddsFileOf, FinishTold, TookEntry, kind_told};
-ghost use Rattle.sst_c.specs.declared.held.Held.{Held as HeldValue};
+ghost use Rattle.sst_c.specs.Words as spec;
 
 use crate::codes::{CLOSED, NO_MEMORY, NO_SUCH, OPEN, OTHER_KIND, OUT_OF_ORDER};
 use crate::handle::Handle;
@@ -20,9 +12,9 @@ use sst_blocks::{EntryRef, Error, SeqNo, ValueType};
 use std::alloc::Global;
 
 fn new_writer(alloc: Global, options: &TableOptions) -> Result<Writer, Error>
-    requires { are_usable options.now ≡ true }
-    ensures ok { IfOk result (λ w. w ≡ writing_told options.now) }
-    ensures err { IfErr result (λ e. e ≡ OutOfMemory) }
+    requires { spec.are_usable options.now ≡ true }
+    ensures ok { IfOk result (λ w. w ≡ spec.writing_told options.now) }
+    ensures err { IfErr result (λ e. e ≡ spec.OutOfMemory) }
 {
     let created_at = Timestamp::from(u128::from(options.created_at));
     let writer = Writer::new(alloc, options.id, options.level as u8, created_at)?;
@@ -32,10 +24,11 @@ fn new_writer(alloc: Global, options: &TableOptions) -> Result<Writer, Error>
 // Puts a writer with these options into a handle that holds nothing.
 fn begin(alloc: Global, options: &TableOptions, writer: &mut Handle) -> u32
     requires empty { writer.old.boxed.value ≡ None }
-    requires usable { are_usable options.now ≡ true }
+    requires usable { spec.are_usable options.now ≡ true }
     ensures memory { (result ≡ 0) ⊎ (result ≡ 1) }
-    ensures opened { result ≡ 0 → IsSomeAnd writer.new.boxed.value (λ h. (found_by h ≡ None)
-        × (writer_in h.what ≡ Some (writing_told options.now)) × (files_held h.what ≡ [])) }
+    ensures opened { result ≡ 0 → IsSomeAnd writer.new.boxed.value (λ h. (spec.found_by h ≡ None)
+        × (spec.writer_in h.what ≡ Some (spec.writing_told options.now))
+        × (spec.files_held h.what ≡ [])) }
     ensures left { result ≢ 0 → writer.new.boxed.value ≡ None }
 {
     match new_writer(alloc, options) {
@@ -56,12 +49,13 @@ fn begin(alloc: Global, options: &TableOptions, writer: &mut Handle) -> u32
 #[unsafe(no_mangle)]
 pub extern "C" fn sst_writer_open(alloc: Global, options: &TableOptions, writer: &mut Handle) -> u32
     ensures open { is_some writer.old.boxed.value ≡ true → result ≡ 101 }
-    ensures unusable { writer.old.boxed.value ≡ None → are_usable options.now ≡ false →
+    ensures unusable { writer.old.boxed.value ≡ None → spec.are_usable options.now ≡ false →
         result ≡ 105 }
-    ensures memory { writer.old.boxed.value ≡ None → are_usable options.now ≡ true →
+    ensures memory { writer.old.boxed.value ≡ None → spec.are_usable options.now ≡ true →
         (result ≡ 0) ⊎ (result ≡ 1) }
-    ensures opened { result ≡ 0 → IsSomeAnd writer.new.boxed.value (λ h. (found_by h ≡ None)
-        × (writer_in h.what ≡ Some (writing_told options.now)) × (files_held h.what ≡ [])) }
+    ensures opened { result ≡ 0 → IsSomeAnd writer.new.boxed.value (λ h. (spec.found_by h ≡ None)
+        × (spec.writer_in h.what ≡ Some (spec.writing_told options.now))
+        × (spec.files_held h.what ≡ [])) }
     ensures left { result ≢ 0 → writer.new.boxed.value ≡ writer.old.boxed.value }
 {
     if writer.is_open() {
@@ -75,7 +69,7 @@ pub extern "C" fn sst_writer_open(alloc: Global, options: &TableOptions, writer:
 
 // The kind that C names.
 fn kind_of(kind: u64) -> Option<ValueType>
-    ensures { result ≡ kind_told kind }
+    ensures { result ≡ spec.kind_told kind }
 {
     match kind {
         1 => Some(ValueType::Value),
@@ -89,8 +83,9 @@ fn kind_of(kind: u64) -> Option<ValueType>
 // Writes an entry that may follow.
 #[tactic(auto, using(crate::proofs::Answering::tell), unfolding(crate::specs::Writing::TookEntry))]
 fn write(writer: &mut Writer, key: &[u8], seqno: SeqNo, kind: ValueType, value: &[u8]) -> u32
-    requires { IsTrue (may_be_written (written writer.old) key.now seqno) }
-    ensures { TookEntry writer.old (entry key.now value.now seqno kind) result writer.new }
+    requires { IsTrue (spec.may_be_written (spec.written writer.old) key.now seqno) }
+    ensures { spec.TookEntry writer.old (spec.entry key.now value.now seqno kind) result
+        writer.new }
 {
     let entry = EntryRef {
         user_key: key,
@@ -106,10 +101,10 @@ fn write(writer: &mut Writer, key: &[u8], seqno: SeqNo, kind: ValueType, value: 
 
 // Writes an entry, if it may follow.
 fn write_next(writer: &mut Writer, key: &[u8], seqno: SeqNo, kind: ValueType, value: &[u8]) -> u32
-    ensures order { may_be_written (written writer.old) key.now seqno ≡ false →
+    ensures order { spec.may_be_written (spec.written writer.old) key.now seqno ≡ false →
         (result ≡ 104) × (writer.new ≡ writer.old) }
-    ensures took { may_be_written (written writer.old) key.now seqno ≡ true →
-        TookEntry writer.old (entry key.now value.now seqno kind) result writer.new }
+    ensures took { spec.may_be_written (spec.written writer.old) key.now seqno ≡ true →
+        spec.TookEntry writer.old (spec.entry key.now value.now seqno kind) result writer.new }
 {
     let entry = EntryRef {
         user_key: key,
@@ -131,13 +126,13 @@ pub(crate) fn add_kind(
     kind: u64,
     value: &[u8],
 ) -> u32
-    ensures kind { kind_told kind ≡ None → (result ≡ 105) × (writer.new ≡ writer.old) }
-    ensures order { is_some (kind_told kind) ≡ true →
-        may_be_written (written writer.old) key.now seqno ≡ false →
+    ensures kind { spec.kind_told kind ≡ None → (result ≡ 105) × (writer.new ≡ writer.old) }
+    ensures order { is_some (spec.kind_told kind) ≡ true →
+        spec.may_be_written (spec.written writer.old) key.now seqno ≡ false →
         (result ≡ 104) × (writer.new ≡ writer.old) }
-    ensures took { (k : Kind) → kind_told kind ≡ Some k →
-        may_be_written (written writer.old) key.now seqno ≡ true →
-        TookEntry writer.old (entry key.now value.now seqno k) result writer.new }
+    ensures took { (k : spec.Kind) → spec.kind_told kind ≡ Some k →
+        spec.may_be_written (spec.written writer.old) key.now seqno ≡ true →
+        spec.TookEntry writer.old (spec.entry key.now value.now seqno k) result writer.new }
 {
     match kind_of(kind) {
         Some(kind) => write_next(writer, key, seqno, kind, value),
@@ -146,19 +141,20 @@ pub(crate) fn add_kind(
 }
 
 fn add(held: &mut Held, key: &[u8], seqno: SeqNo, kind: u64, value: &[u8]) -> u32
-    ensures other { writer_in held.old.what ≡ None →
+    ensures other { spec.writer_in held.old.what ≡ None →
         (result ≡ 102) × (held.new.what ≡ held.old.what) }
-    ensures kind { (w : WritingValue) → writer_in held.old.what ≡ Some w → kind_told kind ≡ None →
-        (result ≡ 105) × (held.new.what ≡ held.old.what) }
-    ensures order { (w : WritingValue) → writer_in held.old.what ≡ Some w →
-        is_some (kind_told kind) ≡ true → may_be_written (written w) key.now seqno ≡ false →
+    ensures kind { (w : spec.WritingValue) → spec.writer_in held.old.what ≡ Some w →
+        spec.kind_told kind ≡ None → (result ≡ 105) × (held.new.what ≡ held.old.what) }
+    ensures order { (w : spec.WritingValue) → spec.writer_in held.old.what ≡ Some w →
+        is_some (spec.kind_told kind) ≡ true →
+        spec.may_be_written (spec.written w) key.now seqno ≡ false →
         (result ≡ 104) × (held.new.what ≡ held.old.what) }
-    ensures took { (w : WritingValue) (k : Kind) → writer_in held.old.what ≡ Some w →
-        kind_told kind ≡ Some k → may_be_written (written w) key.now seqno ≡ true →
-        let e = entry key.now value.now seqno k in
-        IsSomeAnd (writer_in held.new.what) (TookEntry w e result) }
-    ensures tables { files_held held.new.what ≡ files_held held.old.what }
-    ensures found { found_by held.new ≡ found_by held.old }
+    ensures took { (w : spec.WritingValue) (k : spec.Kind) → spec.writer_in held.old.what ≡ Some w →
+        spec.kind_told kind ≡ Some k → spec.may_be_written (spec.written w) key.now seqno ≡ true →
+        let e = spec.entry key.now value.now seqno k in
+        IsSomeAnd (spec.writer_in held.new.what) (spec.TookEntry w e result) }
+    ensures tables { spec.files_held held.new.what ≡ spec.files_held held.old.what }
+    ensures found { spec.found_by held.new ≡ spec.found_by held.old }
 {
     match &mut held.what {
         What::Files(files) => match &mut files.writer {
@@ -185,28 +181,30 @@ pub extern "C" fn sst_writer_add(
 ) -> u32
     ensures shut { writer.old.boxed.value ≡ None →
         (result ≡ 100) × (writer.new.boxed.value ≡ None) }
-    ensures other { (h : HeldValue) → writer.old.boxed.value ≡ Some h → writer_in h.what ≡ None →
+    ensures other { (h : spec.HeldValue) → writer.old.boxed.value ≡ Some h →
+        spec.writer_in h.what ≡ None →
         (result ≡ 102) × IsSomeAnd writer.new.boxed.value (λ k. k.what ≡ h.what) }
-    ensures kind { (h : HeldValue) (w : WritingValue) → writer.old.boxed.value ≡ Some h →
-        writer_in h.what ≡ Some w → kind_told kind ≡ None →
+    ensures kind { (h : spec.HeldValue) (w : spec.WritingValue) → writer.old.boxed.value ≡ Some h →
+        spec.writer_in h.what ≡ Some w → spec.kind_told kind ≡ None →
         (result ≡ 105) × IsSomeAnd writer.new.boxed.value (λ k. k.what ≡ h.what) }
-    ensures order { (h : HeldValue) (w : WritingValue) → writer.old.boxed.value ≡ Some h →
-        writer_in h.what ≡ Some w → is_some (kind_told kind) ≡ true →
-        may_be_written (written w) key.now seqno ≡ false →
+    ensures order { (h : spec.HeldValue) (w : spec.WritingValue) → writer.old.boxed.value ≡ Some h →
+        spec.writer_in h.what ≡ Some w → is_some (spec.kind_told kind) ≡ true →
+        spec.may_be_written (spec.written w) key.now seqno ≡ false →
         (result ≡ 104) × IsSomeAnd writer.new.boxed.value (λ k. k.what ≡ h.what) }
     // An entry that may follow is taken, or refused with the first fault: the writer has failed.
     // Where there is a fault, no want of memory is told.
-    ensures took { (h : HeldValue) (w : WritingValue) (k : Kind) → writer.old.boxed.value ≡ Some h →
-        writer_in h.what ≡ Some w → kind_told kind ≡ Some k →
-        may_be_written (written w) key.now seqno ≡ true →
-        let e = entry key.now value.now seqno k in
+    ensures took { (h : spec.HeldValue) (w : spec.WritingValue) (k : spec.Kind) →
+        writer.old.boxed.value ≡ Some h →
+        spec.writer_in h.what ≡ Some w → spec.kind_told kind ≡ Some k →
+        spec.may_be_written (spec.written w) key.now seqno ≡ true →
+        let e = spec.entry key.now value.now seqno k in
         IsSomeAnd writer.new.boxed.value (λ k.
-        IsSomeAnd (writer_in k.what) (TookEntry w e result)) }
-    ensures tables { (h : HeldValue) → writer.old.boxed.value ≡ Some h →
-        IsSomeAnd writer.new.boxed.value (λ k. files_held k.what ≡ files_held h.what) }
+        IsSomeAnd (spec.writer_in k.what) (spec.TookEntry w e result)) }
+    ensures tables { (h : spec.HeldValue) → writer.old.boxed.value ≡ Some h →
+        IsSomeAnd writer.new.boxed.value (λ k. spec.files_held k.what ≡ spec.files_held h.what) }
     // What a read found stays.
-    ensures found { (h : HeldValue) → writer.old.boxed.value ≡ Some h →
-        IsSomeAnd writer.new.boxed.value (λ k. found_by k ≡ found_by h) }
+    ensures found { (h : spec.HeldValue) → writer.old.boxed.value ≡ Some h →
+        IsSomeAnd writer.new.boxed.value (λ k. spec.found_by k ≡ spec.found_by h) }
 {
     let Some(mut held) = writer.take(alloc) else {
         return CLOSED;
@@ -219,8 +217,8 @@ pub extern "C" fn sst_writer_add(
 // Finishes a writer, and puts its table behind others, where something was written.
 #[tactic(auto, using(crate::proofs::Answering::tell), unfolding(crate::specs::Writing::AddsFileOf))]
 fn finish_behind(tables: &mut Vec<FinishedTable>, writer: Writer) -> u32
-    ensures told { FinishTold result writer }
-    ensures finished { result ≡ 0 → AddsFileOf writer tables.old.items tables.new.items }
+    ensures told { spec.FinishTold result writer }
+    ensures finished { result ≡ 0 → spec.AddsFileOf writer tables.old.items tables.new.items }
     ensures refused { result ≢ 0 → tables.new.items ≡ tables.old.items }
 {
     match writer.finish() {
@@ -239,12 +237,12 @@ fn finish_behind(tables: &mut Vec<FinishedTable>, writer: Writer) -> u32
 // Finishes what is written.
 fn finish_files(files: &mut Files) -> u32
     ensures none { files.old.writer ≡ None → (result ≡ 102) × (files.new ≡ files.old) }
-    ensures told { (w : WritingValue) → files.old.writer ≡ Some w →
-        FinishTold result w }
-    ensures given { (w : WritingValue) → files.old.writer ≡ Some w → files.new.writer ≡ None }
-    ensures finished { (w : WritingValue) → files.old.writer ≡ Some w → result ≡ 0 →
-        AddsFileOf w files.old.tables.items files.new.tables.items }
-    ensures refused { (w : WritingValue) → files.old.writer ≡ Some w → result ≢ 0 →
+    ensures told { (w : spec.WritingValue) → files.old.writer ≡ Some w →
+        spec.FinishTold result w }
+    ensures given { (w : spec.WritingValue) → files.old.writer ≡ Some w → files.new.writer ≡ None }
+    ensures finished { (w : spec.WritingValue) → files.old.writer ≡ Some w → result ≡ 0 →
+        spec.AddsFileOf w files.old.tables.items files.new.tables.items }
+    ensures refused { (w : spec.WritingValue) → files.old.writer ≡ Some w → result ≢ 0 →
         files.new.tables.items ≡ files.old.tables.items }
 {
     match files.writer.take() {
@@ -254,18 +252,19 @@ fn finish_files(files: &mut Files) -> u32
 }
 
 fn finish(held: &mut Held) -> u32
-    ensures other { writer_in held.old.what ≡ None →
+    ensures other { spec.writer_in held.old.what ≡ None →
         (result ≡ 102) × (held.new.what ≡ held.old.what) }
-    ensures told { (w : WritingValue) → writer_in held.old.what ≡ Some w →
-        FinishTold result w }
-    ensures given { (w : WritingValue) → writer_in held.old.what ≡ Some w →
-        writer_in held.new.what ≡ None }
-    ensures kind { are_files held.new.what ≡ are_files held.old.what }
-    ensures finished { (w : WritingValue) → writer_in held.old.what ≡ Some w → result ≡ 0 →
-        AddsFileOf w (files_held held.old.what) (files_held held.new.what) }
-    ensures refused { (w : WritingValue) → writer_in held.old.what ≡ Some w → result ≢ 0 →
-        files_held held.new.what ≡ files_held held.old.what }
-    ensures found { found_by held.new ≡ found_by held.old }
+    ensures told { (w : spec.WritingValue) → spec.writer_in held.old.what ≡ Some w →
+        spec.FinishTold result w }
+    ensures given { (w : spec.WritingValue) → spec.writer_in held.old.what ≡ Some w →
+        spec.writer_in held.new.what ≡ None }
+    ensures kind { spec.are_files held.new.what ≡ spec.are_files held.old.what }
+    ensures finished { (w : spec.WritingValue) → spec.writer_in held.old.what ≡ Some w →
+        result ≡ 0 →
+        spec.AddsFileOf w (spec.files_held held.old.what) (spec.files_held held.new.what) }
+    ensures refused { (w : spec.WritingValue) → spec.writer_in held.old.what ≡ Some w → result ≢ 0 →
+        spec.files_held held.new.what ≡ spec.files_held held.old.what }
+    ensures found { spec.found_by held.new ≡ spec.found_by held.old }
 {
     match &mut held.what {
         What::Files(files) => finish_files(files),
@@ -280,26 +279,29 @@ fn finish(held: &mut Held) -> u32
 pub extern "C" fn sst_writer_finish(alloc: Global, writer: &mut Handle) -> u32
     ensures shut { writer.old.boxed.value ≡ None →
         (result ≡ 100) × (writer.new.boxed.value ≡ None) }
-    ensures other { (h : HeldValue) → writer.old.boxed.value ≡ Some h → writer_in h.what ≡ None →
+    ensures other { (h : spec.HeldValue) → writer.old.boxed.value ≡ Some h →
+        spec.writer_in h.what ≡ None →
         (result ≡ 102) × IsSomeAnd writer.new.boxed.value (λ k. k.what ≡ h.what) }
     // Of a writer that had failed, and where nothing was written, no want of memory is told.
-    ensures told { (h : HeldValue) (w : WritingValue) → writer.old.boxed.value ≡ Some h →
-        writer_in h.what ≡ Some w → FinishTold result w }
-    ensures given { (h : HeldValue) (w : WritingValue) → writer.old.boxed.value ≡ Some h →
-        writer_in h.what ≡ Some w →
-        IsSomeAnd writer.new.boxed.value (λ k. writer_in k.what ≡ None) }
-    ensures kind { (h : HeldValue) → writer.old.boxed.value ≡ Some h →
-        IsSomeAnd writer.new.boxed.value (λ k. are_files k.what ≡ are_files h.what) }
+    ensures told { (h : spec.HeldValue) (w : spec.WritingValue) → writer.old.boxed.value ≡ Some h →
+        spec.writer_in h.what ≡ Some w → spec.FinishTold result w }
+    ensures given { (h : spec.HeldValue) (w : spec.WritingValue) → writer.old.boxed.value ≡ Some h →
+        spec.writer_in h.what ≡ Some w →
+        IsSomeAnd writer.new.boxed.value (λ k. spec.writer_in k.what ≡ None) }
+    ensures kind { (h : spec.HeldValue) → writer.old.boxed.value ≡ Some h →
+        IsSomeAnd writer.new.boxed.value (λ k. spec.are_files k.what ≡ spec.are_files h.what) }
     // The table is that of all that was written.
-    ensures finished { (h : HeldValue) (w : WritingValue) → writer.old.boxed.value ≡ Some h →
-        writer_in h.what ≡ Some w → result ≡ 0 → IsSomeAnd writer.new.boxed.value (λ k.
-        AddsFileOf w (files_held h.what) (files_held k.what)) }
-    ensures refused { (h : HeldValue) (w : WritingValue) → writer.old.boxed.value ≡ Some h →
-        writer_in h.what ≡ Some w → result ≢ 0 → IsSomeAnd writer.new.boxed.value (λ k.
-        files_held k.what ≡ files_held h.what) }
+    ensures finished { (h : spec.HeldValue) (w : spec.WritingValue) →
+        writer.old.boxed.value ≡ Some h →
+        spec.writer_in h.what ≡ Some w → result ≡ 0 → IsSomeAnd writer.new.boxed.value (λ k.
+        spec.AddsFileOf w (spec.files_held h.what) (spec.files_held k.what)) }
+    ensures refused { (h : spec.HeldValue) (w : spec.WritingValue) →
+        writer.old.boxed.value ≡ Some h →
+        spec.writer_in h.what ≡ Some w → result ≢ 0 → IsSomeAnd writer.new.boxed.value (λ k.
+        spec.files_held k.what ≡ spec.files_held h.what) }
     // What a read found stays.
-    ensures found { (h : HeldValue) → writer.old.boxed.value ≡ Some h →
-        IsSomeAnd writer.new.boxed.value (λ k. found_by k ≡ found_by h) }
+    ensures found { (h : spec.HeldValue) → writer.old.boxed.value ≡ Some h →
+        IsSomeAnd writer.new.boxed.value (λ k. spec.found_by k ≡ spec.found_by h) }
 {
     let Some(mut held) = writer.take(alloc) else {
         return CLOSED;

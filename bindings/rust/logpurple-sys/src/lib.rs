@@ -438,6 +438,18 @@ extern "C" {
         seqno: u64,
         range: *mut sst_handle,
     ) -> u32;
+    /// Opens a scan of all runs together, from the front.
+    pub fn sst_runs_scan_open(
+        runs: *mut sst_handle,
+        lower_kind: u32,
+        lower: *const u8,
+        lower_len: usize,
+        upper_kind: u32,
+        upper: *const u8,
+        upper_len: usize,
+        seqno: u64,
+        scan: *mut sst_handle,
+    ) -> u32;
 
     /// Makes a list of as few runs as possible of the same tables.
     pub fn sst_runs_pack(runs: *mut sst_handle, packed: *mut sst_handle) -> u32;

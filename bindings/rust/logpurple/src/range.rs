@@ -2,8 +2,8 @@
 
 use crate::error::test;
 use crate::handle::{bound, Handle};
-use crate::steps::Steps;
-use crate::{Error, InternalValue, LentValue, Runs, SeqNo, Table};
+use crate::steps::{copied, Steps};
+use crate::{scanner, Error, InternalValue, LentValue, Runs, SeqNo, Table};
 use logpurple_sys as sys;
 use std::iter::FusedIterator;
 use std::ops::Bound;
@@ -29,7 +29,11 @@ use std::ops::Bound;
 /// ```
 #[derive(Debug)]
 pub struct Range<'f> {
+    // The range.
     steps: Steps<'f>,
+    // The scan that reads the front of several tables: the range reads their back alone. Each has
+    // the entry that it found last until it reads again. They end where they meet.
+    front: Option<Steps<'f>>,
 }
 
 impl<'f> Range<'f> {
@@ -53,7 +57,7 @@ impl<'f> Range<'f> {
                 handle.words(),
             )
         })?;
-        Ok(Range { steps: Steps::of(handle) })
+        Ok(Range { steps: Steps::of(handle), front: None })
     }
 
     pub(crate) fn of_runs<K: AsRef<[u8]>>(
@@ -62,23 +66,27 @@ impl<'f> Range<'f> {
         upper: Bound<&K>,
         seqno: SeqNo,
     ) -> Result<Range<'f>, Error> {
-        let handle = Handle::closed();
         let ((lower_kind, lower), (upper_kind, upper)) = (bound(lower), bound(upper));
-        // SAFETY: the keys are read during the call alone, and the handle holds nothing.
-        test(unsafe {
-            sys::sst_runs_range_open(
-                runs.handle.words(),
-                lower_kind,
-                lower.as_ptr(),
-                lower.len(),
-                upper_kind,
-                upper.as_ptr(),
-                upper.len(),
-                seqno,
-                handle.words(),
-            )
-        })?;
-        Ok(Range { steps: Steps::of(handle) })
+        let open = |call: OpenRuns| {
+            let handle = Handle::closed();
+            // SAFETY: the keys are read during the call alone, and the handle holds nothing.
+            test(unsafe {
+                call(
+                    runs.handle.words(),
+                    lower_kind,
+                    lower.as_ptr(),
+                    lower.len(),
+                    upper_kind,
+                    upper.as_ptr(),
+                    upper.len(),
+                    seqno,
+                    handle.words(),
+                )
+            })?;
+            Ok(Steps::of(handle))
+        };
+        let front = open(sys::sst_runs_scan_open)?;
+        Ok(Range { steps: open(sys::sst_runs_range_open)?, front: Some(front) })
     }
 
     /// The next entry from the front, lent until the range reads again.
@@ -91,7 +99,7 @@ impl<'f> Range<'f> {
     /// }
     /// ```
     pub fn next_lent(&mut self) -> Result<Option<LentValue<'_>>, Error> {
-        self.steps.lent(step(false))
+        self.lent(false)
     }
 
     /// The next entry from the back, lent until the range reads again.
@@ -104,9 +112,66 @@ impl<'f> Range<'f> {
     /// }
     /// ```
     pub fn next_back_lent(&mut self) -> Result<Option<LentValue<'_>>, Error> {
-        self.steps.lent(step(true))
+        self.lent(true)
+    }
+
+    /// The next entry from an end, lent until the range reads again.
+    fn lent(&mut self, back: bool) -> Result<Option<LentValue<'_>>, Error> {
+        let advanced = match &mut self.front {
+            Some(front) if !back => front.advance(scanner::step()),
+            _ => self.steps.advance(step(back)),
+        };
+        if advanced != Ok(true) || self.has_met()? {
+            self.end();
+        }
+        advanced?;
+        match &self.front {
+            Some(front) if !back => front.entry(),
+            _ => self.steps.entry(),
+        }
+    }
+
+    /// Whether one end of several tables has come to an entry that the other end has read.
+    fn has_met(&self) -> Result<bool, Error> {
+        match &self.front {
+            Some(front) if front.has_found() && self.steps.has_found() => {
+                let (first, last) = (front.entry()?, self.steps.entry()?);
+                Ok(first.map(|lent| lent.user_key) >= last.map(|lent| lent.user_key))
+            }
+            _ => Ok(false),
+        }
+    }
+
+    /// Nothing more comes, from either end.
+    fn end(&mut self) {
+        self.steps.end();
+        if let Some(front) = &mut self.front {
+            front.end();
+        }
+    }
+
+    /// The next entry from an end, copied.
+    fn copied(&mut self, back: bool) -> Option<Result<InternalValue, Error>> {
+        let copied = copied(self.lent(back));
+        if matches!(copied, Some(Err(_))) {
+            self.end();
+        }
+        copied
     }
 }
+
+/// A call that opens what several tables have together, at one end or at both.
+type OpenRuns = unsafe extern "C" fn(
+    *mut sys::sst_handle,
+    u32,
+    *const u8,
+    usize,
+    u32,
+    *const u8,
+    usize,
+    u64,
+    *mut sys::sst_handle,
+) -> u32;
 
 /// A call that takes the next entry, from the back where `back` says so.
 fn step(back: bool) -> impl FnOnce(*mut sys::sst_handle, *mut sys::sst_entry) -> u32 {
@@ -118,13 +183,13 @@ impl Iterator for Range<'_> {
     type Item = Result<InternalValue, Error>;
 
     fn next(&mut self) -> Option<Self::Item> {
-        self.steps.copied(step(false))
+        self.copied(false)
     }
 }
 
 impl DoubleEndedIterator for Range<'_> {
     fn next_back(&mut self) -> Option<Self::Item> {
-        self.steps.copied(step(true))
+        self.copied(true)
     }
 }
 

@@ -2,7 +2,7 @@
 
 use crate::error::test;
 use crate::handle::Handle;
-use crate::steps::Steps;
+use crate::steps::{copied, Steps};
 use crate::{Error, InternalValue, LentValue, Table};
 use logpurple_sys as sys;
 use std::iter::FusedIterator;
@@ -35,12 +35,13 @@ impl<'f> Scanner<'f> {
     /// }
     /// ```
     pub fn next_lent(&mut self) -> Result<Option<LentValue<'_>>, Error> {
-        self.steps.lent(step())
+        self.steps.advance(step())?;
+        self.steps.entry()
     }
 }
 
 /// A call that takes the next entry.
-fn step() -> impl FnOnce(*mut sys::sst_handle, *mut sys::sst_entry) -> u32 {
+pub(crate) fn step() -> impl FnOnce(*mut sys::sst_handle, *mut sys::sst_entry) -> u32 {
     // SAFETY: those who make the call give references of their own.
     |scan, entry| unsafe { sys::sst_scan_next(scan, entry) }
 }
@@ -49,7 +50,11 @@ impl Iterator for Scanner<'_> {
     type Item = Result<InternalValue, Error>;
 
     fn next(&mut self) -> Option<Self::Item> {
-        self.steps.copied(step())
+        let copied = copied(self.next_lent());
+        if matches!(copied, Some(Err(_))) {
+            self.steps.end();
+        }
+        copied
     }
 }
 

@@ -9,43 +9,56 @@ use logpurple_sys as sys;
 #[derive(Debug)]
 pub(crate) struct Steps<'f> {
     handle: Handle<'f>,
+    found: sys::sst_entry,
     is_over: bool,
 }
 
 impl<'f> Steps<'f> {
     /// Those of a handle that a call filled.
     pub(crate) fn of(handle: Handle<'f>) -> Steps<'f> {
-        Steps { handle, is_over: false }
+        Steps { handle, found: sys::sst_entry::default(), is_over: false }
     }
 
-    /// The next entry that a call gives, lent until the next one.
-    pub(crate) fn lent(
+    /// Reads the next entry by a call. Returns whether there is one.
+    pub(crate) fn advance(
         &mut self,
         call: impl FnOnce(*mut sys::sst_handle, *mut sys::sst_entry) -> u32,
-    ) -> Result<Option<LentValue<'_>>, Error> {
+    ) -> Result<bool, Error> {
         if self.is_over {
-            return Ok(None);
+            return Ok(false);
         }
-        let mut told = sys::sst_entry::default();
-        let code = call(self.handle.words(), &mut told);
-        self.is_over = code != 0 || told.kind == sys::SST_NO_ENTRY;
+        let code = call(self.handle.words(), &mut self.found);
+        self.is_over = code != 0 || self.found.kind == sys::SST_NO_ENTRY;
         test(code)?;
-        // SAFETY: these steps are borrowed mutably for as long as the bytes are lent.
-        unsafe { self.handle.lend(told) }
+        Ok(!self.is_over)
     }
 
-    /// The next entry, copied. Where there is no memory for the copy this is over, since the entry
-    /// would be missing from what comes then.
-    pub(crate) fn copied(
-        &mut self,
-        call: impl FnOnce(*mut sys::sst_handle, *mut sys::sst_entry) -> u32,
-    ) -> Option<Result<InternalValue, Error>> {
-        let copied = match self.lent(call) {
-            Ok(None) => return None,
-            Ok(Some(lent)) => lent.to_owned(),
-            Err(error) => Err(error),
-        };
-        self.is_over |= copied.is_err();
-        Some(copied)
+    /// Whether the last read found an entry.
+    pub(crate) fn has_found(&self) -> bool {
+        self.found.kind != sys::SST_NO_ENTRY
+    }
+
+    /// The entry that the last read found, borrowed until the next one.
+    pub(crate) fn entry(&self) -> Result<Option<LentValue<'_>>, Error> {
+        // SAFETY: to read on, these steps are borrowed mutably.
+        unsafe { self.handle.lend(self.found) }
+    }
+
+    /// Nothing more comes.
+    pub(crate) fn end(&mut self) {
+        self.found = sys::sst_entry::default();
+        self.is_over = true;
+    }
+}
+
+/// What was found, copied. Where there is no memory for the copy the reader is to end, since the
+/// entry would be missing from what comes then.
+pub(crate) fn copied(
+    found: Result<Option<LentValue<'_>>, Error>,
+) -> Option<Result<InternalValue, Error>> {
+    match found {
+        Ok(None) => None,
+        Ok(Some(lent)) => Some(lent.to_owned()),
+        Err(error) => Some(Err(error)),
     }
 }

@@ -7,12 +7,12 @@ pub returns-clause-reads : goal.returns-clause-reads
 returns-clause-reads c s same =
     let a = c.args in
     let n = c.take_held.new in
-    range_many _ _ a.back a.held.now.what n.held.what s a.entries.now n.entries a.bytes.now n.bytes n.count
+    range_many _ _ _ a.back a.held.now.what n.held.what s a.entries.now n.entries a.bytes.now n.bytes n.count
     c.take_held.result (found_by n.held) same c.take_held.ensures
 
 pub returns-clause-merged : goal.returns-clause-merged
 returns-clause-merged c m same =
     let a = c.args in
     let n = c.take_held.new in
-    merged_many _ _ a.back a.held.now.what n.held.what m a.entries.now n.entries a.bytes.now n.bytes n.count
+    merged_many _ _ _ a.back a.held.now.what n.held.what m a.entries.now n.entries a.bytes.now n.bytes n.count
     c.take_held.result (found_by n.held) same c.take_held.ensures

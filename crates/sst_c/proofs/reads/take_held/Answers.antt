@@ -11,7 +11,7 @@ pub returns-in-Some : goal.returns-in-Some
 returns-in-Some c =
     let a = c.args in
     let n = c.take_from.new in
-    part_many (λ (h : Held). h.what) (ReadsOn _ _ a.back) a.held.now n.source a.entries.now n.entries
+    part_many (λ (h : Held). h.what) (ReadsOn _ _ _ a.back) a.held.now n.source a.entries.now n.entries
     a.bytes.now n.bytes n.count c.in-Some.code (found_by n.source)
     (c.in-Some.ensures.stopped c.in-Some.code refl)
 
@@ -20,5 +20,5 @@ returns-in-None c =
     let a = c.args in
     let n = c.take_from.new in
     rw c.clear.ensures
-    (part_many (λ (h : Held). h.what) (ReadsOn _ _ a.back) a.held.now n.source a.entries.now n.entries
+    (part_many (λ (h : Held). h.what) (ReadsOn _ _ _ a.back) a.held.now n.source a.entries.now n.entries
     a.bytes.now n.bytes n.count 0 None (c.in-None.ensures.full refl))

@@ -1,0 +1,100 @@
+//! Scans of several runs: the newest version of each key, borrowed from the tables.
+ghost use Rattle.std.specs.Prelude.{◌≡◌, None, OnErr, Option, Some, is_some, true};
+ghost use Rattle.sst_c.specs.Words as spec;
+
+use crate::merged::give_up;
+use lsm_runs::LentNewestOfRunsAt;
+use sst_blocks::{EntryRef, Error, Lending};
+use std::alloc::Global;
+use std::marker::Model;
+
+/// The newest versions below a number of what several runs have together, borrowed from their
+/// tables one after another, however often it is advanced. A contract sees these.
+#[derive(Drop)]
+pub struct RunsScan {
+    newest: LentNewestOfRunsAt<Global>,
+}
+
+impl Model for RunsScan {
+    ghost use Rattle.sst_entries.specs.Stream.{CanDeal, nowhere};
+    ghost use Rattle.sst_c.specs.Newest.{LentNewestAt};
+
+    ghost Value = { LentNewestAt };
+
+    ghost view = { λ s. s.newest };
+
+    ghost invariant = { λ s. CanDeal ⟦<LentNewestOfRunsAt<Global> as Lending>⟧.advances nowhere
+        ⟦<LentNewestOfRunsAt<Global> as Lending>⟧.can_advance
+        ⟦<LentNewestOfRunsAt<Global> as Lending>⟧.can_advance s.newest };
+}
+
+impl RunsScan {
+    /// Versions that may be advanced so.
+    pub(crate) fn new(newest: LentNewestOfRunsAt<Global>) -> RunsScan
+        requires { spec.CanDeal ⟦<LentNewestOfRunsAt<Global> as Lending>⟧.advances spec.nowhere
+            ⟦<LentNewestOfRunsAt<Global> as Lending>⟧.can_advance
+            ⟦<LentNewestOfRunsAt<Global> as Lending>⟧.can_advance newest }
+        ensures { result ≡ newest }
+    {
+        RunsScan { newest }
+    }
+
+    // Goes on to the next entry.
+    fn advance(&mut self) -> Result<bool, Error>
+        ensures goes { let advances = ⟦<LentNewestOfRunsAt<Global> as Lending>⟧.advances in
+            advances self.old (spec.came result (spec.newest_lent self.new)) self.new }
+        ensures err { OnErr result (spec.newest_lent self.new ≡ None) }
+    {
+        advance(&mut self.newest)
+    }
+
+    // The entry that is borrowed.
+    fn entry(&self) -> Option<EntryRef<'_>>
+        ensures { spec.option_map spec.entry_of_ref result ≡ spec.newest_lent self.now }
+    {
+        self.newest.entry()
+    }
+}
+
+// A step of a source that lends. It is generic in the source: a call of a whole concrete stream
+// costs a proof much.
+#[tactic(auto, using(crate::proofs::Asking::asking))]
+fn advance<L: Lending>(source: &mut L) -> Result<bool, Error>
+    requires { spec.CanDeal L.advances spec.nowhere L.can_advance L.can_advance source.old }
+    ensures can { spec.CanDeal L.advances spec.nowhere L.can_advance L.can_advance source.new }
+    ensures goes { L.advances source.old (spec.came result (L.lent source.new)) source.new }
+    ensures err { OnErr result (L.lent source.new ≡ None) }
+{
+    source.advance()
+}
+
+/// The entry that a scan of several runs borrows, where a read was not refused before.
+pub(crate) fn lent_by(scan: &Option<RunsScan>) -> Option<EntryRef<'_>>
+    ensures { spec.option_map spec.entry_of_ref result ≡ spec.option_and_then spec.newest_lent
+        scan.now }
+{
+    match scan {
+        Some(scan) => scan.entry(),
+        None => None,
+    }
+}
+
+/// A step of a scan of several runs, where a read was not refused before.
+pub(crate) fn step_runs(scan: &mut Option<RunsScan>) -> u32
+    ensures over { scan.old ≡ None → (result ≡ 0) × (scan.new ≡ None) }
+    ensures steps { (s : spec.LentNewestAt) → scan.old ≡ Some s →
+        let advances = ⟦<LentNewestOfRunsAt<Global> as Lending>⟧.advances in
+        spec.StepsAs advances s result (spec.option_and_then spec.newest_lent scan.new) scan.new }
+    ensures fine { is_some (spec.option_and_then spec.newest_lent scan.new) ≡ true → result ≡ 0 }
+{
+    let Some(source) = scan else {
+        return 0;
+    };
+    match source.advance() {
+        Ok(_) => 0,
+        Err(error) => {
+            give_up(scan);
+            u32::from(error.number())
+        }
+    }
+}
