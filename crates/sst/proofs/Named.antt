@@ -2,7 +2,7 @@
 use denote.Ref.{Bor}
 use Rattle.std.proofs.Common.{◌≡◌, sym, ◌∙◌, ap, subst, ℕ, ◌+◌, ◌<◌, ◌≤◌, List, [], ◌∷◌, ◌++◌}
 use Rattle.std.proofs.Common.{◌-◌, ◌≢◌, drop, false, get_or, inl, inr, length, refl, take}
-use Rattle.std.specs.Prelude.{Err, Ok, OnOk, Option, Result, map}
+use Rattle.std.specs.Prelude.{Err, IfOk, Ok, OnOk, Option, Result, map}
 use Rattle.std.specs.Global.{Global}
 use Rattle.std.proofs.lemmas.List.{take-append-drop, take_all, take_more}
 use Rattle.sst_entries.specs.Stream.{ok_results}
@@ -41,6 +41,12 @@ named_more content names i d files file h before name told has = record {
 pub on_ok : {X E P Q : Type 0} (r : Result X E) → OnOk r P → (P → Q) → OnOk r Q
 on_ok (Ok x) p so = so p
 on_ok (Err e) p so = tt
+
+-- what follows of each answer, if something holds
+pub on_each : {X E : Type 0} (r : Result X E) (Q : Type 0) (P D : X → Type 0) → (Q → IfOk r P)
+    → ((x : X) → (Q → P x) → D x) → IfOk r D
+on_each (Ok x) Q P D told make = make x told
+on_each (Err e) Q P D told make = tt
 
 -- ---- entries of files, one after another
 

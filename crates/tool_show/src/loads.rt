@@ -3,7 +3,7 @@ use crate::blocks::{handles_in, source_of};
 use crate::members::{line_of, write_number, write_text};
 use json::Writer;
 use lsm_ranges::Ranged;
-use lsm_readers::Table;
+use lsm_readers::{ParsedRegions, Table};
 use sst_blocks::{BlockHandle, BlockSource, Error, Opened, SectionName, SeqNo};
 use std::alloc::{AllocError, Allocator, Global};
 use std::io::{self, Write};
@@ -27,12 +27,13 @@ pub(crate) fn loaded_by<A: Allocator + Copy>(
 ) -> Result<TableLoads<A>, Error> {
     let opened = loads_of_read(table, key, seqno)?;
     let low = seqno.saturating_sub(table.global_seqno());
-    let mut places = Vec::new(alloc);
-    add_places(alloc, &mut places, table, key, low, opened)?;
+    let asked = asked_places(alloc, table, key, low)?;
+    let places = places_of_loads(alloc, opened, &asked)?;
     Ok(TableLoads { opened, places })
 }
 
-// How many blocks a read of a table loads, if its range has the key; else it is not asked.
+// How many blocks a read of a table loads, if its range has the key; else it is not asked. Refused
+// for want of memory alone, since not all is loaded then.
 fn loads_of_read<A: Allocator + Copy>(
     table: &Table<A>,
     key: &[u8],
@@ -43,56 +44,37 @@ fn loads_of_read<A: Allocator + Copy>(
     }
     let (found, opened) = table.get_counted(key, seqno, Table::<A>::key_hash(key));
     match found {
-        // Not all is loaded then.
         Err(Error::OutOfMemory) => Err(Error::OutOfMemory),
         _ => Ok(opened),
     }
 }
 
-// Adds where the blocks begin that were loaded, of those that a read asks of a key below a stored
-// number.
-fn add_places<A: Allocator + Copy>(
+// Of the places that are asked those of blocks that were loaded.
+fn places_of_loads<A: Allocator + Copy>(
     alloc: A,
-    places: &mut Vec<BlockPlace, A>,
-    table: &Table<A>,
-    key: &[u8],
-    seqno: SeqNo,
     opened: Opened,
-) -> Result<(), Error> {
-    let source = source_of(alloc, table)?;
-    let regions = &table.regions;
-    let filter = match regions.filter_tli {
-        None => regions.filter,
-        Some(tops) => reached(&source, Some(tops), key, SeqNo::MAX)?,
-    };
-    let (section, index) = if regions.index.is_some() {
-        let partition = reached(&source, Some(regions.tli), key, seqno)?;
-        (SectionName::Index, partition)
-    } else {
-        (SectionName::Tli, Some(regions.tli))
-    };
-    let data = reached(&source, index, key, seqno)?;
-    add_loaded(places, SectionName::Filter, opened.filter_loads, filter)?;
-    add_loaded(places, section, opened.index_loads, index)?;
-    add_loaded(places, SectionName::Data, opened.data_loads, data)?;
-    Ok(())
-}
-
-// Where the first block lies whose handle in a block reaches a key and a number, if that block
-// loads.
-fn reached<A: Allocator + Copy>(
-    source: &BlockSource<A>,
-    place: Option<BlockHandle>,
-    key: &[u8],
-    seqno: SeqNo,
-) -> Result<Option<BlockHandle>, Error> {
-    let Some(place) = place else {
-        return Ok(None);
-    };
-    match handles_in(source, &place)? {
-        Some(handles) => Ok(handles.find(key, seqno)),
-        None => Ok(None),
-    }
+    asked: &AskedPlaces,
+) -> Result<Vec<BlockPlace, A>, AllocError> {
+    let mut places = Vec::new(alloc);
+    add_loaded(
+        &mut places,
+        SectionName::Filter,
+        opened.filter_loads,
+        asked.filter,
+    )?;
+    add_loaded(
+        &mut places,
+        asked.index_section,
+        opened.index_loads,
+        asked.index,
+    )?;
+    add_loaded(
+        &mut places,
+        SectionName::Data,
+        opened.data_loads,
+        asked.data,
+    )?;
+    Ok(places)
 }
 
 // Adds a block, where one was loaded and its place is known.
@@ -109,6 +91,115 @@ fn add_loaded<A: Allocator>(
             Ok(())
         }
         _ => Ok(()),
+    }
+}
+
+// Where the blocks lie that a read of a key asks, if it comes to them.
+#[derive(Clone, Copy)]
+struct AskedPlaces {
+    // The block of the filter.
+    filter: Option<BlockHandle>,
+    // The block of the index: a partition, or the one block of a full index.
+    index: Option<BlockHandle>,
+    // The section that it is a part of.
+    index_section: SectionName,
+    // The data block.
+    data: Option<BlockHandle>,
+}
+
+// Where the blocks of a table lie that a read of a key below a stored number asks. Refused for want
+// of memory alone.
+fn asked_places<A: Allocator + Copy>(
+    alloc: A,
+    table: &Table<A>,
+    key: &[u8],
+    seqno: SeqNo,
+) -> Result<AskedPlaces, Error> {
+    let source = source_of(alloc, table)?;
+    let asked = asked_in(&source, &table.regions, key, seqno);
+    drop(source);
+    asked
+}
+
+// Where the blocks of some regions of a table's bytes lie that such a read asks. Refused for want
+// of memory alone.
+fn asked_in<A: Allocator + Copy>(
+    source: &BlockSource<A>,
+    regions: &ParsedRegions,
+    key: &[u8],
+    seqno: SeqNo,
+) -> Result<AskedPlaces, Error> {
+    let filter = filter_place(source, regions, key)?;
+    let index = index_place(source, regions, key, seqno)?;
+    let data = data_place(source, &index, key, seqno)?;
+    Ok(AskedPlaces {
+        filter,
+        index,
+        index_section: index_section(regions),
+        data,
+    })
+}
+
+// The section of the block of the index that a read asks.
+fn index_section(regions: &ParsedRegions) -> SectionName {
+    if regions.index.is_some() {
+        SectionName::Index
+    } else {
+        SectionName::Tli
+    }
+}
+
+// Where the block of the filter lies that is asked for a key. Refused for want of memory alone.
+fn filter_place<A: Allocator + Copy>(
+    source: &BlockSource<A>,
+    regions: &ParsedRegions,
+    key: &[u8],
+) -> Result<Option<BlockHandle>, Error> {
+    match regions.filter_tli {
+        None => Ok(regions.filter),
+        Some(tops) => reached(source, &tops, key, SeqNo::MAX),
+    }
+}
+
+// Where the block of the index lies that names the data block. Refused for want of memory alone.
+fn index_place<A: Allocator + Copy>(
+    source: &BlockSource<A>,
+    regions: &ParsedRegions,
+    key: &[u8],
+    seqno: SeqNo,
+) -> Result<Option<BlockHandle>, Error> {
+    let tli = regions.tli;
+    if regions.index.is_none() {
+        return Ok(Some(tli));
+    }
+    reached(source, &tli, key, seqno)
+}
+
+// Where the data block lies that a block of the index names, if there is one. Refused for want of
+// memory alone.
+fn data_place<A: Allocator + Copy>(
+    source: &BlockSource<A>,
+    index: &Option<BlockHandle>,
+    key: &[u8],
+    seqno: SeqNo,
+) -> Result<Option<BlockHandle>, Error> {
+    match index {
+        None => Ok(None),
+        Some(place) => reached(source, place, key, seqno),
+    }
+}
+
+// Where the first block lies whose handle in a block reaches a key and a number, if that block
+// loads. Refused for want of memory alone.
+fn reached<A: Allocator + Copy>(
+    source: &BlockSource<A>,
+    place: &BlockHandle,
+    key: &[u8],
+    seqno: SeqNo,
+) -> Result<Option<BlockHandle>, Error> {
+    match handles_in(source, place)? {
+        Some(handles) => Ok(handles.find(key, seqno)),
+        None => Ok(None),
     }
 }
 

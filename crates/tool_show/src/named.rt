@@ -20,7 +20,7 @@ impl<'a, A: Allocator + Copy> NamedTable<'a, A> {
     /// What is told where reading the file fails: a refusal with the file's name, and any other
     /// failure as it is.
     pub(crate) fn blame(&self, alloc: A, error: ToolError<'a>) -> ToolError<'a>
-        ensures { spec.BlamesFile self.now error result }
+        ensures { spec.BlamesFile self.now error.entry result }
     {
         match error {
             ToolError::Refused(Error::OutOfMemory) => ToolError::Refused(Error::OutOfMemory),

@@ -1,20 +1,52 @@
 use denote.Ref.{Bor}
 use Rattle.std.proofs.Common.{◌≡◌, ℕ, List, refl, subst, sym}
-use Rattle.std.specs.Prelude.{Bool, IfOk, Ok, None, Result, is_some}
+use Rattle.std.specs.Prelude.{Bool, IfOk, Ok, None, Option, is_some}
 use Rattle.std.specs.List.{AllByRecursion}
 use Rattle.std.specs.Global.{Global}
 use Rattle.lsm_ranges.specs.Run.{IsInOrder}
 use Rattle.lsm_runs.specs.RunParts.{range_of}
 use Rattle.lsm_runs.specs.SeveralRuns.{runs_told}
 use Rattle.logpurple.specs.Words.{Entry}
-use Rattle.std.proofs.lemmas.Result.{IfOk-weaker}
 use Rattle.tool_lines.specs.Escapes.{WordMeans}
 use Rattle.tool_show.specs.Files.{runs_in}
 use Rattle.tool_show.specs.Read.{seen_below}
 use Rattle.tool_show.specs.declared.gets.GetOptions.{GetOptions}
 use Rattle.tool_show.specs.declared.named.NamedTable.{NamedTable}
-use Rattle.sst.specs.Showing.{AreNamed}
+use Rattle.sst.specs.Showing.{AreNamed, DoesGet}
+use Rattle.sst.proofs.Named.{on_each}
 use Rattle.sst.proofs.show.get.Goals as goal
 
 pub returns : goal.returns
-returns g c = ?
+returns g c =
+    let task = c.args.task.now in
+    let content = g.P.Place.content c.args.place.now in
+    let files = c.in_ok-tables.tables.items in
+    let options : GetOptions = record {
+      key = c.as_slice.result;
+      at = task.at;
+      loads = task.loads;
+      format = c.format_of.result;
+    } in
+    let Told : Bool → Type 0 = λ there. (found : Option Entry)
+    × (runs_told options.key.now (seen_below options) None (runs_in files) ≡ Ok found)
+    × (there ≡ is_some found) in
+    on_each c.get.result (AllByRecursion (IsInOrder range_of) (runs_in files)) Told
+    (DoesGet task content)
+    (subst (λ (fs : List (NamedTable Global)). AllByRecursion (IsInOrder range_of) (runs_in fs)
+    → IfOk c.get.result (λ there. (found : Option Entry)
+    × (runs_told options.key.now (seen_below options) None (runs_in fs) ≡ Ok found)
+    × (there ≡ is_some found))) c.as_slice-3.ensures.value c.get.ensures.told)
+    (λ there told. record {
+      options = options;
+      asked = record {
+        key = subst (λ (key : List ℕ). WordMeans task.key.now key) (sym c.as_slice.ensures.value)
+            c.in_ok-key.ensures;
+        at = refl;
+        loads = refl;
+        format = c.format_of.ensures;
+      };
+      files = files;
+      named = subst (λ (names : List (Bor (List ℕ))). AreNamed content names files)
+          c.as_slice-2.ensures.value c.in_ok-tables.ensures;
+      told = told;
+    })
