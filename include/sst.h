@@ -441,7 +441,7 @@ uint32_t sst_runs_range_open(sst_handle *runs, uint32_t lower_kind, const uint8_
 /* Begins to read the same entries as `sst_runs_range_open` does, from the front alone, into a
  * handle that holds nothing. `sst_scan_next` takes them. It borrows each entry from the memory of
  * its table, where the range holds a reference to it. So threads that read the same tables change
- * no common counter for each entry: a scan is the faster of the two.
+ * no common counter for each entry.
  */
 uint32_t sst_runs_scan_open(sst_handle *runs, uint32_t lower_kind, const uint8_t *lower,
                             size_t lower_len, uint32_t upper_kind, const uint8_t *upper,
