@@ -1,7 +1,9 @@
+pub mod Bars
+pub mod Endings
 pub mod Making
 pub mod Options
+pub mod Packing
 pub mod Showing
 pub mod Statuses
 pub mod Tasks
 pub mod Verified
-pub mod Words

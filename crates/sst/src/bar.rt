@@ -1,4 +1,7 @@
 //! The bar that shows how far a command has come.
+ghost use Rattle.std.specs.Prelude.{◌≡◌, ◌<◌, IfSome, None};
+ghost use Rattle.sst.specs.Bars.{hundredths};
+
 use crate::System;
 use std::fs;
 use std::io::Write;
@@ -73,17 +76,23 @@ pub(crate) struct Bar<'e, 'c, E: Write, C: Clock> {
     drawn: Option<u64>,
 }
 
-// How many hundredths are done of what there is: all where there is nothing.
-fn hundredths(done: u64, all: u64) -> u64 {
+/// How many hundredths are done of what there is: all where there is nothing.
+pub(crate) fn hundredths(done: u64, all: u64) -> u64
+    ensures { result ≡ hundredths done all }
+{
     match (u128::from(done) * 100).checked_div(u128::from(all)) {
         Some(part) => u64::try_from(part.min(100)).unwrap_or(100),
         None => 100,
     }
 }
 
-// How many seconds are left, if the rest takes as long as what is done took for its length. None
-// is told in the first second, nor before anything is done.
-fn seconds_left(done: u64, all: u64, millis: u64) -> Option<u64> {
+/// How many seconds are left, if the rest takes as long as what is done took for its length. None
+/// is told in the first second, nor before anything is done.
+pub(crate) fn seconds_left(done: u64, all: u64, millis: u64) -> Option<u64>
+    ensures early { millis < 1000 → result ≡ None }
+    ensures nothing { done ≡ 0 → result ≡ None }
+    ensures end { IfSome result (λ seconds. done ≡ all → seconds ≡ 0) }
+{
     if millis < 1_000 {
         return None;
     }

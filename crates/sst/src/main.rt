@@ -3,6 +3,8 @@
 #![tactic(auto)]
 
 mod bar;
+mod failure;
+mod lines;
 mod make;
 mod running;
 mod show;

@@ -1,14 +1,17 @@
 //! Tables that are made.
 ghost use Rattle.std.specs.Prelude.{◌≡◌, IfErr, OnOk};
-ghost use Rattle.sst.specs.Words as spec;
+ghost use Rattle.sst.specs.Making.{DoesCompact, DoesWrite, RefusesCompact, RefusesWrite};
+ghost use Rattle.sst.specs.Options.{compact_by, format_of, write_by};
+ghost use Rattle.sst.specs.Packing.{DoesPack, RefusesPack};
 
 use crate::System;
+use crate::failure::Failure;
 use logpurple::compaction::Rules;
 use logpurple::table::{BloomConstructionPolicy, IndexKind, Timestamp};
 use std::alloc::Global;
 use std::io::{Read, Write};
 use std::rt::{Clock, Files};
-use tool_files::{Place, ToolError, print_made};
+use tool_files::{Place, print_made};
 use tool_lines::Format;
 use tool_make::{
     CompactOptions, WriteOptions, compact_files, pack_files, print_packed, write_entries,
@@ -17,7 +20,7 @@ use tool_options::{CompactTask, PackTask, WriteTask};
 
 /// How a line spells an entry.
 pub(crate) fn format_of(json: bool) -> Format
-    ensures { result ≡ spec.format_of json }
+    ensures { result ≡ format_of json }
 {
     if json { Format::Json } else { Format::Lines }
 }
@@ -32,7 +35,7 @@ fn now<C: Clock>(clock: &C) -> Timestamp {
 
 // How a table is written.
 fn write_options(task: &WriteTask<'_>, created_at: Timestamp) -> WriteOptions
-    ensures { result ≡ spec.write_by task.now result }
+    ensures { result ≡ write_by task.now result }
 {
     WriteOptions {
         index: if task.partitioned {
@@ -52,7 +55,7 @@ fn write_options(task: &WriteTask<'_>, created_at: Timestamp) -> WriteOptions
 
 // How tables are compacted.
 fn compact_options(task: &CompactTask<'_>, created_at: Timestamp) -> CompactOptions
-    ensures { result ≡ spec.compact_by task.now result }
+    ensures { result ≡ compact_by task.now result }
 {
     CompactOptions {
         rules: Rules {
@@ -72,11 +75,10 @@ pub(crate) fn write<'a, R: Files, C: Clock, P: Place, I: Read + Drop, W: Write>(
     task: &WriteTask<'a>,
     input: I,
     output: &mut W,
-) -> Result<(), ToolError<'a>>
-    ensures does { OnOk result
-        ((made : spec.MadeTables) × spec.WritesTables task.now (I.remaining input)
-        (P.there place.old) made (P.done place.old) (P.done place.new)) }
-    ensures refused { IfErr result (λ e. spec.RefusesWrite task.now (I.remaining input)
+) -> Result<(), Failure<'a>>
+    ensures does { OnOk result (DoesWrite task.now (I.remaining input) (P.there place.old)
+        (P.done place.old) (P.done place.new) (W.contents output.old) (W.contents output.new)) }
+    ensures refused { IfErr result (λ e. RefusesWrite task.now (I.remaining input)
         (P.there place.old) (P.done place.old) e (P.done place.new)) }
 {
     let options = write_options(task, now(system.clock));
@@ -91,11 +93,10 @@ pub(crate) fn compact<'a, R: Files, C: Clock, P: Place, W: Write>(
     place: &mut P,
     task: &CompactTask<'a>,
     output: &mut W,
-) -> Result<(), ToolError<'a>>
-    ensures does { OnOk result
-        ((made : spec.MadeTables) × spec.CompactsTables task.now (P.content place.old)
-        made (P.done place.old) (P.done place.new)) }
-    ensures refused { IfErr result (λ e. spec.RefusesCompact task.now (P.content place.old)
+) -> Result<(), Failure<'a>>
+    ensures does { OnOk result (DoesCompact task.now (P.content place.old) (P.done place.old)
+        (P.done place.new) (W.contents output.old) (W.contents output.new)) }
+    ensures refused { IfErr result (λ e. RefusesCompact task.now (P.content place.old)
         (P.there place.old) (P.done place.old) e (P.done place.new)) }
 {
     let options = compact_options(task, now(system.clock));
@@ -111,8 +112,10 @@ pub(crate) fn pack<'a, P: Place, W: Write>(
     place: &P,
     task: &PackTask<'a>,
     output: &mut W,
-) -> Result<(), ToolError<'a>>
-    ensures { IfErr result (spec.RefusesPack task.now (P.content place.now)) }
+) -> Result<(), Failure<'a>>
+    ensures does { OnOk result (DoesPack task.now (P.content place.now) (W.contents output.old)
+        (W.contents output.new)) }
+    ensures refused { IfErr result (RefusesPack task.now (P.content place.now)) }
 {
     let files = task.files.as_slice();
     let packed = pack_files(place, alloc, files)?;

@@ -1,32 +1,23 @@
 //! One command line, done.
-ghost use Rattle.std.specs.Prelude.{◌≡◌, ◌≤◌, IfErr, IfOk, MatchResult, map};
-ghost use Rattle.sst.specs.Words as spec;
+ghost use Rattle.std.specs.Prelude.{◌≡◌, ◌≤◌, IfErr, IfOk, MatchResult, OnOk, map};
+ghost use Rattle.std.specs.Io.KnownBytes.{Appends};
+ghost use Rattle.sst.specs.Statuses.{status_of_answer, status_of_failure};
+ghost use Rattle.sst.specs.Tasks.{DoesTask, EndsTask, RefusesTask, Runs, StopsTask};
 
+use crate::failure::Failure;
 use crate::{System, make, show};
 use std::convert::AsStr;
 use std::io;
 use std::io::{Read, Write};
 use std::rt::{Clock, Files};
-use tool_files::{Place, ToolError};
-use tool_lines::LineError;
+use tool_files::Place;
 use tool_options::{Parsed, Task, parse};
 
 // The status of an answer to a question: 0 for yes.
 fn status_of(yes: bool) -> u8
-    ensures { result ≡ spec.status_of_answer yes }
+    ensures { result ≡ status_of_answer yes }
 {
     if yes { 0 } else { 1 }
-}
-
-// The status of a failure: 2 where the command line is at fault.
-fn status_of_failure(failure: &ToolError<'_>) -> u8
-    ensures { result ≡ spec.status_of_failure failure.now }
-{
-    match failure {
-        ToolError::Key(_, LineError::OutOfMemory) => 1,
-        ToolError::Key(_, _) => 2,
-        _ => 1,
-    }
 }
 
 /// Does what the words ask for, of which the first is the program's name, and answers the exit
@@ -42,7 +33,8 @@ pub fn run<S: AsStr, R: Files, C: Clock, I: Read + Drop, W: Write, E: Write>(
     shows_bar: bool,
 ) -> u8
     ensures small { result ≤ 2 }
-    ensures runs { spec.Runs (map S.text words.now) (I.remaining input) result }
+    ensures runs { Runs (map S.text words.now) (I.remaining input) result (W.contents output.old)
+        (W.contents output.new) }
 {
     match parse(system.alloc, words) {
         Ok(Parsed::Task(task)) => {
@@ -50,46 +42,39 @@ pub fn run<S: AsStr, R: Files, C: Clock, I: Read + Drop, W: Write, E: Write>(
             let done = execute(system, &mut place, &task, input, output, errors, shows_bar);
             report(done, errors)
         }
-        Ok(Parsed::Shown(text)) => print(output, errors, text.as_str()),
+        Ok(Parsed::Shown(text)) => report(print(output, text.as_str()), errors),
         Ok(Parsed::Mistaken(text)) => {
             // A status is all that is left where not even this can be printed.
             let _ = errors.write_all(text.as_str().as_bytes());
             2
         }
-        Err(error) => report(Err(ToolError::from(error)), errors),
+        Err(error) => report(Err(Failure::from(error)), errors),
     }
 }
 
-// Prints a text, whole. Answers 0, and 1 where the output takes no more.
-fn print<W: Write, E: Write>(output: &mut W, errors: &mut E, text: &str) -> u8
-    ensures { result ≤ 1 }
+// Prints a text, whole.
+fn print<'a, W: Write>(output: &mut W, text: &str) -> Result<u8, Failure<'a>>
+    ensures ok { IfOk result (λ status. status ≡ 0) }
+    ensures printed { OnOk result (Appends (W.contents output.old) (W.contents output.new)
+        text.now) }
+    ensures refused { IfErr result (λ e. status_of_failure e ≡ 1) }
 {
-    match print_whole(output, text) {
-        Ok(()) => 0,
-        Err(error) => {
-            let failure = ToolError::Output(error);
-            let _ = writeln!(errors, "sst: {failure}");
-            1
-        }
-    }
-}
-
-fn print_whole<W: Write>(output: &mut W, text: &str) -> io::Result<()> {
     output.write_all(text.as_bytes())?;
-    output.flush()
+    output.flush()?;
+    Ok(0)
 }
 
 // The status of what was done, and the sentence where it failed.
-fn report<E: Write>(done: Result<u8, ToolError<'_>>, errors: &mut E) -> u8
+fn report<E: Write>(done: Result<u8, Failure<'_>>, errors: &mut E) -> u8
     ensures { MatchResult done.entry (λ status. result ≡ status)
-        (λ failure. result ≡ spec.status_of_failure failure) }
+        (λ failure. result ≡ status_of_failure failure) }
 {
     match done {
         Ok(status) => status,
         Err(failure) => {
             // A status is all that is left where not even this can be printed.
             let _ = writeln!(errors, "sst: {failure}");
-            status_of_failure(&failure)
+            failure.status()
         }
     }
 }
@@ -103,12 +88,14 @@ fn execute<'a, R: Files, C: Clock, P: Place, I: Read + Drop, W: Write, E: Write>
     output: &mut W,
     errors: &mut E,
     shows_bar: bool,
-) -> Result<u8, ToolError<'a>>
+) -> Result<u8, Failure<'a>>
     ensures small { IfOk result (λ status. status ≤ 1) }
-    ensures does { IfOk result (λ status. spec.DoesTask task.now (I.remaining input)
-        (P.content place.old) (P.there place.old) (P.done place.old) (P.done place.new) status) }
-    ensures refused { IfErr result (λ e. spec.RefusesTask task.now (I.remaining input)
-        (P.content place.old) (P.there place.old) (P.done place.old) e (P.done place.new)) }
+    ensures does { IfOk result (λ status. EndsTask task.now (I.remaining input)
+        (P.content place.old) (P.there place.old) (P.done place.old) (P.done place.new) status
+        (W.contents output.old) (W.contents output.new)) }
+    ensures refused { IfErr result (λ e. StopsTask task.now (I.remaining input)
+        (P.content place.old) (P.there place.old) (P.done place.old) e (P.done place.new)
+        (W.contents output.old) (W.contents output.new)) }
 {
     let done = perform(system, place, task, input, output, errors, shows_bar);
     let flushed: io::Result<()> = output.flush();
@@ -126,12 +113,14 @@ fn perform<'a, R: Files, C: Clock, P: Place, I: Read + Drop, W: Write, E: Write>
     output: &mut W,
     errors: &mut E,
     shows_bar: bool,
-) -> Result<u8, ToolError<'a>>
+) -> Result<u8, Failure<'a>>
     ensures small { IfOk result (λ status. status ≤ 1) }
-    ensures does { IfOk result (λ status. spec.DoesTask task.now (I.remaining input)
-        (P.content place.old) (P.there place.old) (P.done place.old) (P.done place.new) status) }
-    ensures refused { IfErr result (λ e. spec.RefusesTask task.now (I.remaining input)
-        (P.content place.old) (P.there place.old) (P.done place.old) e (P.done place.new)) }
+    ensures does { IfOk result (λ status. DoesTask task.now (I.remaining input)
+        (P.content place.old) (P.there place.old) (P.done place.old) (P.done place.new) status
+        (W.contents output.old) (W.contents output.new)) }
+    ensures refused { IfErr result (λ e. RefusesTask task.now (I.remaining input)
+        (P.content place.old) (P.there place.old) (P.done place.old) e (P.done place.new)
+        (W.contents output.old) (W.contents output.new)) }
 {
     match task {
         Task::Write(task) => make::write(system, place, task, input, output).and(Ok(0)),

@@ -1,15 +1,33 @@
 //! Tables that are shown.
-ghost use Rattle.std.specs.Prelude.{◌≡◌, ◌<◌, ℕ, IfErr, IfOk, OnOk, false, true};
-ghost use Rattle.sst.specs.Words as spec;
+ghost use Rattle.std.specs.Prelude.{◌≡◌, ◌+◌, ◌-◌, ◌^◌, ℕ, IfErr, IfOk, List, OnOk, Option};
+ghost use Rattle.std.specs.Prelude.{false, min, true};
+ghost use Rattle.std.specs.Option.{option_map};
+ghost use Rattle.logpurple.specs.Words.{OpenTable, is_memory};
+ghost use Rattle.tool_show.specs.Faults.{fault_count, unloaded_count};
+ghost use Rattle.tool_show.specs.Files.{IsSoundTable};
+ghost use Rattle.tool_files.specs.Files.{is_memory_fault};
+ghost use Rattle.tool_files.specs.Opened.{HasContent, IsToldByBytes};
+ghost use Rattle.tool_lines.specs.Escapes.{WordMeans};
+ghost use Rattle.tool_show.specs.Checked.{ChecksFile};
+ghost use Rattle.tool_show.specs.Lines.{PrintsText};
+ghost use Rattle.sst.specs.Endings.{EndsVerify};
+ghost use Rattle.sst.specs.Showing.{AreNamed, DoesDump, DoesGet, DumpsEach, MeansKey};
+ghost use Rattle.sst.specs.Showing.{RefusesBound, RefusesDump, RefusesFile, RefusesGet};
+ghost use Rattle.sst.specs.Showing.{RefusesKey, RefusesOpening, RefusesStat, StatsEach};
+ghost use Rattle.sst.specs.Showing.{StopsDumping};
+ghost use Rattle.sst.specs.Verified.{AreSoundFiles, ChecksBytes, ChecksName, DoesVerify};
+ghost use Rattle.sst.specs.Verified.{IsLineAbout, IsNoTableText, IsSoundFile};
 
 use crate::System;
 use crate::bar::{Bar, Work, behind};
+use crate::failure::{Failure, KeyWord};
+use crate::lines::{is_memory, print_unopened_line, print_unread_line};
 use crate::make::format_of;
 use logpurple::block::{Error, Slice};
 use std::alloc::Global;
 use std::io::Write;
 use std::rt::{Clock, Files};
-use tool_files::{FileFault, KeyWord, Place, ToolError, open_bytes, open_table};
+use tool_files::{FileFault, Place, open_bytes, open_table};
 use tool_lines::parse_bytes;
 use tool_options::{DumpTask, GetTask, StatTask, VerifyTask};
 use tool_show::{DumpOptions, GetOptions, NamedTable, NoProgress};
@@ -20,10 +38,11 @@ fn open_named<'a, P: Place>(
     alloc: Global,
     place: &P,
     name: &'a str,
-) -> Result<NamedTable<'a, Global>, ToolError<'a>>
+) -> Result<NamedTable<'a, Global>, Failure<'a>>
     ensures name { IfOk result (λ f. f.name ≡ name.entry) }
-    ensures told { IfOk result (λ f. spec.IsToldByBytes false f.table) }
-    ensures content { IfOk result (λ f. spec.HasContent (P.content place.now name.now) f.table) }
+    ensures told { IfOk result (λ f. IsToldByBytes false f.table) }
+    ensures content { IfOk result (λ f. HasContent (P.content place.now name.now) f.table) }
+    ensures refused { IfErr result (RefusesFile (P.content place.now name.now) name.now) }
 {
     let table = open_table(place, alloc, name, false)?;
     Ok(NamedTable { name, table })
@@ -34,8 +53,9 @@ fn open_each<'a, P: Place>(
     alloc: Global,
     place: &P,
     names: &[&'a str],
-) -> Result<Vec<NamedTable<'a, Global>>, ToolError<'a>>
-    ensures { IfOk result (λ files. spec.AreNamed (P.content place.now) names.now files.items) }
+) -> Result<Vec<NamedTable<'a, Global>>, Failure<'a>>
+    ensures named { IfOk result (λ files. AreNamed (P.content place.now) names.now files.items) }
+    ensures refused { IfErr result (RefusesOpening (P.content place.now) names.now) }
 {
     let mut tables = Vec::new(alloc);
     for name in names {
@@ -45,12 +65,13 @@ fn open_each<'a, P: Place>(
 }
 
 // The bytes of a key on the command line.
-fn key_bytes<'a>(alloc: Global, name: KeyWord, word: &str) -> Result<Vec<u8>, ToolError<'a>>
-    ensures { IfOk result (λ bytes. spec.WordMeans word.now bytes.items) }
+fn key_bytes<'a>(alloc: Global, name: KeyWord, word: &str) -> Result<Vec<u8>, Failure<'a>>
+    ensures ok { IfOk result (λ bytes. WordMeans word.now bytes.items) }
+    ensures refused { IfErr result (RefusesKey name word.now) }
 {
     match parse_bytes(alloc, word.as_bytes()) {
         Ok(bytes) => Ok(bytes),
-        Err(error) => Err(ToolError::Key(name, error)),
+        Err(error) => Err(Failure::Key(name, error)),
     }
 }
 
@@ -59,9 +80,9 @@ fn bound_bytes<'a>(
     alloc: Global,
     name: KeyWord,
     word: Option<&str>,
-) -> Result<Option<Vec<u8>>, ToolError<'a>>
-    ensures { IfOk result (λ bytes. spec.MeansKey word.entry
-        (spec.option_map (λ b. b.items) bytes)) }
+) -> Result<Option<Vec<u8>>, Failure<'a>>
+    ensures means { IfOk result (λ bytes. MeansKey word.entry (option_map (λ b. b.items) bytes)) }
+    ensures refused { IfErr result (RefusesBound name word.entry) }
 {
     match word {
         Some(word) => Ok(Some(key_bytes(alloc, name, word)?)),
@@ -75,8 +96,11 @@ pub(crate) fn dump<'a, P: Place, W: Write>(
     place: &P,
     task: &DumpTask<'a>,
     output: &mut W,
-) -> Result<(), ToolError<'a>>
-    ensures { OnOk result (spec.DoesDump task.now (P.content place.now)) }
+) -> Result<(), Failure<'a>>
+    ensures does { OnOk result (DoesDump task.now (P.content place.now) (W.contents output.old)
+        (W.contents output.new)) }
+    ensures refused { IfErr result (λ e. RefusesDump task.now (P.content place.now) e
+        (W.contents output.old) (W.contents output.new)) }
 {
     let from = bound_bytes(alloc, KeyWord::From, task.from)?;
     let to = bound_bytes(alloc, KeyWord::To, task.to)?;
@@ -98,9 +122,11 @@ fn dump_each<'a, P: Place, W: Write>(
     options: &DumpOptions<'_>,
     left: u64,
     output: &mut W,
-) -> Result<(), ToolError<'a>>
-    ensures { OnOk result ((rest : ℕ)
-        × spec.DumpsEach options.now (P.content place.now) names.now left rest) }
+) -> Result<(), Failure<'a>>
+    ensures dumps { OnOk result ((rest : ℕ) × DumpsEach options.now (P.content place.now) names.now
+        left rest (W.contents output.old) (W.contents output.new)) }
+    ensures refused { IfErr result (λ e. StopsDumping options.now (P.content place.now) names.now
+        left e (W.contents output.old) (W.contents output.new)) }
 {
     let mut left = left;
     for name in names {
@@ -120,8 +146,11 @@ pub(crate) fn get<'a, P: Place, W: Write>(
     place: &P,
     task: &GetTask<'a>,
     output: &mut W,
-) -> Result<bool, ToolError<'a>>
-    ensures { IfOk result (spec.DoesGet task.now (P.content place.now)) }
+) -> Result<bool, Failure<'a>>
+    ensures does { IfOk result (λ there. DoesGet task.now (P.content place.now) there
+        (W.contents output.old) (W.contents output.new)) }
+    ensures refused { IfErr result (λ e. RefusesGet task.now (P.content place.now) e
+        (W.contents output.old) (W.contents output.new)) }
 {
     let key = key_bytes(alloc, KeyWord::Key, task.key)?;
     let options = GetOptions {
@@ -131,7 +160,8 @@ pub(crate) fn get<'a, P: Place, W: Write>(
         format: format_of(task.json),
     };
     let tables = open_each(alloc, place, task.files.as_slice())?;
-    tool_show::get(alloc, output, tables.as_slice(), &options)
+    let found = tool_show::get(alloc, output, tables.as_slice(), &options)?;
+    Ok(found)
 }
 
 /// Prints what tables say of themselves.
@@ -140,7 +170,12 @@ pub(crate) fn stat<'a, P: Place, W: Write>(
     place: &P,
     task: &StatTask<'a>,
     output: &mut W,
-) -> Result<(), ToolError<'a>> {
+) -> Result<(), Failure<'a>>
+    ensures does { OnOk result (StatsEach task.now.json (P.content place.now) task.now.files.items
+        (W.contents output.old) (W.contents output.new)) }
+    ensures refused { IfErr result (λ e. RefusesStat task.now (P.content place.now) e
+        (W.contents output.old) (W.contents output.new)) }
+{
     for name in task.files.as_slice() {
         let file = open_named(alloc, place, name)?;
         tool_show::stat(alloc, output, &file, format_of(task.json))?;
@@ -159,40 +194,21 @@ pub(crate) fn verify<'a, R: Files, C: Clock, P: Place, W: Write, E: Write>(
     output: &mut W,
     errors: &mut E,
     shows_bar: bool,
-) -> Result<bool, ToolError<'a>>
-    // Nothing is wrong where the bytes of each file store a list, and else a file is at fault.
+) -> Result<bool, Failure<'a>>
+    // Nothing is wrong where the bytes of each file store a list.
     ensures sound { IfOk result (λ sound. sound ≡ true →
-        spec.AreSoundFiles (P.content place.now) task.now.files.items) }
-    ensures faulty { IfOk result (λ sound. sound ≡ false →
-        spec.HaveFaulty (P.content place.now) task.now.files.items) }
-    ensures goes_on { IfErr result spec.NamesNone }
+        AreSoundFiles (P.content place.now) task.now.files.items) }
+    // Of each file what is found in its bytes is printed, or it counts as one that is not read.
+    ensures does { IfOk result (λ sound. DoesVerify (P.content place.now) task.now.files.items sound
+        (W.contents output.old) (W.contents output.new)) }
+    ensures goes_on { IfErr result EndsVerify }
 {
     let names = task.files.as_slice();
-    let work = if shows_bar {
+    let mut work = if shows_bar {
         Some(Work::of(system, names))
     } else {
         None
     };
-    let faults = verify_each(system, place, names, output, errors, work)?;
-    Ok(faults == 0)
-}
-
-// Reads files, one after another. Answers how many faults there are.
-fn verify_each<'a, R: Files, C: Clock, P: Place, W: Write, E: Write>(
-    system: System<'_, R, C>,
-    place: &P,
-    names: &[&'a str],
-    output: &mut W,
-    errors: &mut E,
-    work: Option<Work>,
-) -> Result<u64, ToolError<'a>>
-    ensures sound { IfOk result (λ faults. faults ≡ 0 →
-        spec.AreSoundFiles (P.content place.now) names.now) }
-    ensures faulty { IfOk result (λ faults. 0 < faults →
-        spec.HaveFaulty (P.content place.now) names.now) }
-    ensures goes_on { IfErr result spec.NamesNone }
-{
-    let mut work = work;
     let mut faults = 0u64;
     for name in names {
         let found = verify_file(system, place, name, output, errors, work)?;
@@ -201,7 +217,7 @@ fn verify_each<'a, R: Files, C: Clock, P: Place, W: Write, E: Write>(
         faults = faults.saturating_add(found);
         work = behind(work, system.files, name);
     }
-    Ok(faults)
+    Ok(faults == 0)
 }
 
 // Reads a file and looks at its bytes. Answers how many faults there are.
@@ -212,12 +228,12 @@ fn verify_file<'a, R: Files, C: Clock, P: Place, W: Write, E: Write>(
     output: &mut W,
     errors: &mut E,
     work: Option<Work>,
-) -> Result<u64, ToolError<'a>>
+) -> Result<u64, Failure<'a>>
     ensures sound { IfOk result (λ faults. faults ≡ 0 →
-        spec.IsSoundFile (P.content place.now name.now)) }
-    ensures faulty { IfOk result (λ faults. 0 < faults →
-        spec.IsFaultyFile (P.content place.now name.now)) }
-    ensures goes_on { IfErr result spec.NamesNone }
+        IsSoundFile (P.content place.now) name.now) }
+    ensures checks { IfOk result (λ faults. ChecksName (P.content place.now) name.now faults
+        (W.contents output.old) (W.contents output.new)) }
+    ensures goes_on { IfErr result EndsVerify }
 {
     match place.read(system.alloc, name) {
         Ok(bytes) => verify_bytes(system, name, bytes, output, errors, work),
@@ -231,15 +247,17 @@ fn print_unread<'a, W: Write>(
     output: &mut W,
     name: &str,
     fault: &FileFault,
-) -> Result<u64, ToolError<'a>>
-    ensures some { IfOk result (λ faults. 0 < faults) }
-    ensures memory { IfOk result (λ _. spec.is_memory_fault fault.now ≡ false) }
-    ensures goes_on { IfErr result spec.NamesNone }
+) -> Result<u64, Failure<'a>>
+    ensures count { IfOk result (λ faults. faults ≡ 1) }
+    ensures memory { IfOk result (λ _. is_memory_fault fault.now ≡ false) }
+    ensures printed { OnOk result (PrintsText (IsLineAbout name.now)
+        (W.contents output.old) (W.contents output.new)) }
+    ensures goes_on { IfErr result EndsVerify }
 {
     if fault.is_memory() {
-        return Err(ToolError::Refused(Error::OutOfMemory));
+        return Err(Failure::OutOfMemory);
     }
-    writeln!(output, "{name}: {fault}")?;
+    print_unread_line(output, name, fault)?;
     Ok(1)
 }
 
@@ -252,11 +270,12 @@ fn verify_bytes<'a, R: Files, C: Clock, W: Write, E: Write>(
     output: &mut W,
     errors: &mut E,
     work: Option<Work>,
-) -> Result<u64, ToolError<'a>>
+) -> Result<u64, Failure<'a>>
     ensures sound { IfOk result (λ faults. faults ≡ 0 →
-        (t : spec.OpenTable) × (t.bytes ≡ bytes) × spec.IsSoundTable t) }
-    ensures faulty { IfOk result (λ faults. 0 < faults → spec.StoresNoTable bytes) }
-    ensures goes_on { IfErr result spec.NamesNone }
+        (t : OpenTable) × (t.bytes ≡ bytes) × IsSoundTable t) }
+    ensures checks { IfOk result (λ faults. ChecksBytes bytes name.now faults
+        (W.contents output.old) (W.contents output.new)) }
+    ensures goes_on { IfErr result EndsVerify }
 {
     let shared = bytes.clone()?;
     match open_bytes(system.alloc, shared, false) {
@@ -276,25 +295,19 @@ fn print_unopened<'a, W: Write>(
     bytes: Slice<Global>,
     error: Error,
     output: &mut W,
-) -> Result<u64, ToolError<'a>>
-    ensures some { IfOk result (λ faults. 0 < faults) }
-    ensures memory { IfOk result (λ _. spec.is_memory error ≡ false) }
-    ensures goes_on { IfErr result spec.NamesNone }
+) -> Result<u64, Failure<'a>>
+    ensures count { IfOk result (λ faults. faults ≡ min (unloaded_count bytes + 1) (2 ^ 64 - 1)) }
+    ensures memory { IfOk result (λ _. is_memory error ≡ false) }
+    ensures printed { OnOk result (PrintsText (IsNoTableText bytes name.now error)
+        (W.contents output.old) (W.contents output.new)) }
+    ensures goes_on { IfErr result EndsVerify }
 {
     if is_memory(&error) {
-        return Err(ToolError::Refused(Error::OutOfMemory));
+        return Err(Failure::OutOfMemory);
     }
-    let number = error.number();
-    writeln!(output, "{name}: {error} ({number})")?;
+    print_unopened_line(output, name, &error)?;
     let blocks = tool_show::verify_unopened(alloc, output, name, bytes)?;
     Ok(blocks.saturating_add(1))
-}
-
-// Whether a refusal is want of memory, which is no file's fault.
-fn is_memory(error: &Error) -> bool
-    ensures { result ≡ spec.is_memory error.now }
-{
-    matches!(error, Error::OutOfMemory)
 }
 
 // Reads an opened file. Answers how many faults there are.
@@ -304,10 +317,13 @@ fn verify_opened<'a, R: Files, C: Clock, W: Write, E: Write>(
     output: &mut W,
     errors: &mut E,
     work: Option<Work>,
-) -> Result<u64, ToolError<'a>>
-    ensures sound { IfOk result (λ faults. faults ≡ 0 → spec.IsSoundTable file.now.table) }
-    ensures complete { spec.IsSoundTable file.now.table → IfOk result (λ faults. faults ≡ 0) }
-    ensures goes_on { IfErr result spec.NamesNone }
+) -> Result<u64, Failure<'a>>
+    ensures count { IfOk result (λ faults. faults ≡ fault_count file.now.table) }
+    ensures sound { IfOk result (λ faults. faults ≡ 0 → IsSoundTable file.now.table) }
+    ensures checks { OnOk result ((before after : Option (List (ℕ × ℕ)))
+        × ChecksFile file.now.table file.now.name.now before after
+        (W.contents output.old) (W.contents output.new)) }
+    ensures goes_on { IfErr result EndsVerify }
 {
     match work {
         Some(work) => {
@@ -315,8 +331,8 @@ fn verify_opened<'a, R: Files, C: Clock, W: Write, E: Write>(
             let mut bar = Bar::new(errors, system.clock, work, size);
             let faults = tool_show::verify(system.alloc, output, file, &mut bar);
             bar.clear();
-            faults
+            Ok(faults?)
         }
-        None => tool_show::verify(system.alloc, output, file, &mut NoProgress),
+        None => Ok(tool_show::verify(system.alloc, output, file, &mut NoProgress)?),
     }
 }

@@ -1,7 +1,7 @@
 //! Lines as they are written, and what is refused.
 use sst_entries::{EntryRef, ValueType};
 use std::alloc::Allocator;
-use tool_lines::{Format, LineError, append_entry, parse_entry};
+use tool_lines::{Format, LineError, append_entry, parse_entry, read_back};
 
 const ENTRIES: [EntryRef<'static>; 4] = [
     EntryRef {
@@ -351,13 +351,19 @@ fn is_read_back<A: Allocator + Copy>(alloc: A, format: Format, bytes: &[u8]) -> 
         value_type: ValueType::Value,
         value: bytes,
     };
+    let Ok(item) = read_back(alloc, &entry, format) else {
+        return false;
+    };
     let Ok(text) = append_entry(alloc, Vec::new(alloc), &entry, format) else {
         return false;
     };
     let Some((end, line)) = text.split_last() else {
         return false;
     };
-    *end == b'\n' && !line.contains(&b'\n') && is_entry(alloc, format, &entry, line)
+    item.as_entry_ref() == entry
+        && *end == b'\n'
+        && !line.contains(&b'\n')
+        && is_entry(alloc, format, &entry, line)
 }
 
 fn count_read_back<A: Allocator + Copy>(alloc: A, format: Format) -> usize {

@@ -1,11 +1,8 @@
 -- Names of files, and what is wrong with a file.
 use Rattle.std.specs.Prelude.{◌≡◌, ◌<◌, ℕ, List, ◌++◌, Option, Some, Bool, false}
-use Rattle.std.specs.Prelude.{IfSome, codes, if◌then◌else◌, length}
+use Rattle.std.specs.Prelude.{IfSome, codes, length}
 use Rattle.std.specs.Fmt.{decimal}
 use Rattle.logpurple.specs.Words.{OutOfMemory, is_memory}
-use Rattle.tool_files.specs.declared.error.ToolError.{ToolError}
-use Rattle.tool_files.specs.declared.error.ToolError.TheVariants as error
-use Rattle.tool_files.specs.declared.file_error.FileError.{FileError}
 use Rattle.tool_files.specs.declared.file_error.FileFault.{FileFault}
 use Rattle.tool_files.specs.declared.file_error.FileFault.TheVariants.{CutShort, Folder, Io}
 use Rattle.tool_files.specs.declared.file_error.FileFault.TheVariants.{Refused}
@@ -49,7 +46,3 @@ IsReadFault (CutShort read size) = Unit {0}
 IsReadFault (Io e) = Unit {0}
 IsReadFault (Refused e) = e ≡ OutOfMemory
 IsReadFault fault = ⊥
-
--- what is wrong with a file, and no file where memory is wanted
-abbrev pub error_of_file : FileError → ToolError
-error_of_file e = if is_memory_fault e.fault then error.Refused OutOfMemory else error.File e

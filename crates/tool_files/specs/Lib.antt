@@ -1,6 +1,7 @@
 pub mod Ended
 pub mod Files
 pub mod Folders
+pub mod Made
 pub mod NewFolders
 pub mod Modes
 pub mod Numbered
@@ -10,4 +11,3 @@ pub mod Standing
 pub mod Steps
 pub mod Targets
 pub mod There
-pub mod Words

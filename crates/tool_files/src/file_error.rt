@@ -1,6 +1,6 @@
 //! Why a file could not be read, opened or written.
 ghost use Rattle.std.specs.Prelude.{◌≡◌};
-ghost use Rattle.tool_files.specs.Words as spec;
+ghost use Rattle.tool_files.specs.Files.{is_memory_fault};
 
 use crate::FileName;
 use logpurple::block::Error;
@@ -45,7 +45,7 @@ pub enum FileFault {
 impl FileFault {
     /// Whether memory is wanted, which is no file's fault.
     pub fn is_memory(&self) -> bool
-        ensures { result ≡ spec.is_memory_fault self.now }
+        ensures { result ≡ is_memory_fault self.now }
     {
         matches!(self, FileFault::Refused(Error::OutOfMemory))
     }

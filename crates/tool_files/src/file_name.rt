@@ -1,6 +1,6 @@
 //! Names of files.
 ghost use Rattle.std.specs.Prelude.{◌≡◌};
-ghost use Rattle.tool_files.specs.Words as spec;
+ghost use Rattle.tool_files.specs.Numbered.{with_number};
 
 use std::fmt;
 
@@ -18,7 +18,7 @@ pub enum FileName<'a> {
 impl<'a> FileName<'a> {
     /// The name with this number, if it has one.
     pub fn with_number(self, number: u64) -> FileName<'a>
-        ensures { result ≡ spec.with_number self.entry number }
+        ensures { result ≡ with_number self.entry number }
     {
         match self {
             FileName::Plain(path) => FileName::Plain(path),

@@ -1,6 +1,6 @@
 //! Paths that have to be free.
 ghost use Rattle.std.specs.Prelude.{◌≡◌, IfErr, IfSome, OnOk, false};
-ghost use Rattle.tool_files.specs.Words as spec;
+ghost use Rattle.tool_files.specs.Placed.{TellsFound};
 
 use crate::{FileFault, Place};
 
@@ -8,7 +8,7 @@ use crate::{FileFault, Place};
 pub fn check_free<P: Place>(place: &P, path: &str, taken: FileFault) -> Result<(), FileFault>
     ensures free { OnOk result
         (IfSome (P.there place.now path.now) (λ there. there ≡ false)) }
-    ensures found { IfErr result (spec.TellsFound taken (P.there place.now path.now)) }
+    ensures found { IfErr result (TellsFound taken (P.there place.now path.now)) }
 {
     match place.look(path)? {
         Some(_) => Err(taken),

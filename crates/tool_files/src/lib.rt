@@ -1,7 +1,6 @@
 //! Files of tables: read whole, opened, and written beside their names until they are whole.
 #![tactic(auto)]
 
-mod error;
 mod file_error;
 mod file_name;
 mod free;
@@ -14,7 +13,6 @@ mod read;
 mod target;
 mod write;
 
-pub use error::{BlockPlace, KeyWord, LineFault, RefusedAt, ToolError, section_name};
 pub use file_error::{FileError, FileFault};
 pub use file_name::FileName;
 pub use free::check_free;

@@ -1,4 +1,8 @@
 //! What was made.
+ghost use Rattle.std.specs.Prelude.{◌≡◌, List, OnOk, ℕ};
+ghost use Rattle.std.specs.Io.KnownBytes.{Appends};
+ghost use Rattle.tool_files.specs.Made.{made_line};
+
 use std::io;
 use std::io::Write;
 use tool_lines::word_for;
@@ -13,7 +17,10 @@ pub struct Made {
 }
 
 /// Prints what was made, in a line.
-pub fn print_made<W: Write>(output: &mut W, made: Made) -> io::Result<()> {
+pub fn print_made<W: Write>(output: &mut W, made: Made) -> io::Result<()>
+    ensures { OnOk result (Appends
+        (W.contents output.old) (W.contents output.new) (made_line made)) }
+{
     let (tables, entries) = (made.tables, made.entries);
     let table_word = word_for(tables, "table", "tables");
     let entry_word = word_for(entries, "entry", "entries");

@@ -1,6 +1,6 @@
 //! Files of tables.
 ghost use Rattle.std.specs.Prelude.{◌≡◌, IfOk, map};
-ghost use Rattle.tool_files.specs.Words as spec;
+ghost use Rattle.tool_files.specs.Numbered.{named_bytes, numbered_files, numbered_path};
 
 use crate::{FileName, NewFile};
 use logpurple::table::FinishedTable;
@@ -13,9 +13,8 @@ pub fn table_files<'a, 'b, A: Allocator + Copy>(
     name: FileName<'a>,
     tables: &'b [FinishedTable<A>],
 ) -> Result<Vec<NewFile<'a, 'b>, A>, AllocError>
-    ensures { IfOk result (λ wanted. map spec.named_bytes wanted.items
-        ≡ spec.numbered_files (spec.numbered_path name.entry) 1
-        (map (λ table. table.bytes) tables.now)) }
+    ensures { IfOk result (λ wanted. map named_bytes wanted.items
+        ≡ numbered_files (numbered_path name.entry) 1 (map (λ table. table.bytes) tables.now)) }
 {
     let mut wanted = Vec::new(alloc);
     for table in tables {

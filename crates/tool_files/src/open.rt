@@ -1,6 +1,10 @@
 //! Opening files as tables.
 ghost use Rattle.std.specs.Prelude.{◌≡◌, ◌++◌, ◌∷◌, [], Any, IfErr, IfOk, OnOk, length, true};
-ghost use Rattle.tool_files.specs.Words as spec;
+ghost use Rattle.std.specs.List.{AllByRecursion};
+ghost use Rattle.logpurple.specs.Words.{Gives, OpenTable, recovered_told};
+ghost use Rattle.tool_files.specs.Files.{is_memory_fault, path_text};
+ghost use Rattle.tool_files.specs.Opened.{AreOpenedFrom, HasContent, IsToldByBytes, StopsOpening};
+ghost use Rattle.tool_files.specs.Opened.{TellsRefused};
 
 use crate::{FileError, FileFault, FileName, Place, read_file};
 use logpurple::block::{Checksum, Error, Slice};
@@ -15,10 +19,10 @@ pub fn open_bytes<A: Allocator + Copy>(
     bytes: Slice<A>,
     pinned: bool,
 ) -> Result<Table<A>, Error>
-    ensures told { spec.Gives (λ (t : spec.OpenTable). t.parts) result
-        (spec.recovered_told bytes 0 pinned pinned) }
+    ensures told { Gives (λ (t : OpenTable). t.parts) result
+        (recovered_told bytes 0 pinned pinned) }
     ensures bytes { IfOk result (λ t. t.bytes ≡ bytes) }
-    ensures recovered { IfOk result (spec.IsToldByBytes pinned) }
+    ensures recovered { IfOk result (IsToldByBytes pinned) }
 {
     Table::recover(alloc, bytes, Checksum(0), 0, 0, pinned, pinned)
 }
@@ -33,12 +37,12 @@ pub fn open_table<'a, P: Place, A: Allocator + Copy>(
     pinned: bool,
 ) -> Result<Table<A>, FileError<'a>>
     // The table is what its bytes tell, and these are the file's.
-    ensures recovered { IfOk result (spec.IsToldByBytes pinned) }
-    ensures content { IfOk result (spec.HasContent (P.content place.now path.now)) }
+    ensures recovered { IfOk result (IsToldByBytes pinned) }
+    ensures content { IfOk result (HasContent (P.content place.now path.now)) }
     // A refusal names the file, and what its bytes tell is wrong with it.
-    ensures named { IfErr result (λ e. spec.path_text e.name ≡ path.now) }
+    ensures named { IfErr result (λ e. path_text e.name ≡ path.now) }
     ensures told { IfErr result (λ e.
-        spec.TellsRefused pinned (P.content place.now path.now) e.fault) }
+        TellsRefused pinned (P.content place.now path.now) e.fault) }
 {
     let bytes = read_file(place, alloc, path)?;
     match open_bytes(alloc, bytes, pinned) {
@@ -57,8 +61,8 @@ fn add_table<'a, A: Allocator + Copy>(
     path: &'a str,
 ) -> Result<(), FileError<'a>>
     ensures ok { OnOk result (tables.new.items ≡ tables.old.items ++ table ∷ []) }
-    ensures named { IfErr result (λ e. spec.path_text e.name ≡ path.now) }
-    ensures memory { IfErr result (λ e. spec.is_memory_fault e.fault ≡ true) }
+    ensures named { IfErr result (λ e. path_text e.name ≡ path.now) }
+    ensures memory { IfErr result (λ e. is_memory_fault e.fault ≡ true) }
 {
     match tables.push(table) {
         Ok(()) => Ok(()),
@@ -80,14 +84,14 @@ pub fn open_tables<'a, P: Place, A: Allocator + Copy>(
     ensures each { IfOk result (λ tables. length tables.items ≡ length paths.now) }
     // Each table is what its bytes tell, and these are those of its own file, in the files' order.
     ensures recovered { IfOk result (λ tables.
-        spec.AllByRecursion (spec.IsToldByBytes pinned) tables.items) }
+        AllByRecursion (IsToldByBytes pinned) tables.items) }
     ensures numbers { IfOk result (λ tables.
-        spec.AllByRecursion (λ (t : spec.OpenTable). t.global_seqno ≡ 0) tables.items) }
+        AllByRecursion (λ (t : OpenTable). t.global_seqno ≡ 0) tables.items) }
     ensures opened { IfOk result (λ tables.
-        spec.AreOpenedFrom pinned (P.content place.now) paths.now tables.items) }
+        AreOpenedFrom pinned (P.content place.now) paths.now tables.items) }
     // A refusal names the first of the files that is refused, and those before it were opened.
-    ensures stops { IfErr result (spec.StopsOpening pinned (P.content place.now) paths.now) }
-    ensures named { IfErr result (λ e. Any (λ path. spec.path_text e.name ≡ path.now) paths.now) }
+    ensures stops { IfErr result (StopsOpening pinned (P.content place.now) paths.now) }
+    ensures named { IfErr result (λ e. Any (λ path. path_text e.name ≡ path.now) paths.now) }
 {
     let mut tables = Vec::new(alloc);
     for path in paths {

@@ -1,7 +1,16 @@
 //! What is done to files, one step after another.
 ghost use Rattle.std.specs.Prelude.{◌≡◌, ◌∷◌, [], ℕ, Bool, IfErr, IfOk, IfSome, List, None, OnErr};
 ghost use Rattle.std.specs.Prelude.{OnOk, Option, false, is_some, not, true};
-ghost use Rattle.tool_files.specs.Words as spec;
+ghost use Rattle.std.specs.Fs.{metadata_mode, permissions_mode};
+ghost use Rattle.std.specs.IoError.{error_kind};
+ghost use Rattle.std.specs.Option.{option_copied, option_map};
+ghost use Rattle.std.specs.Io.KnownBytes.{Appends};
+ghost use Rattle.tool_files.specs.Files.{IsReadFault, is_memory_fault};
+ghost use Rattle.tool_files.specs.Folders.{folder_of, or_here};
+ghost use Rattle.tool_files.specs.Steps.{Step, then_done, written_if};
+ghost use Rattle.tool_files.specs.Steps.Step.{MadeFolder, Removed, RemovedFolder, Renamed};
+ghost use Rattle.tool_files.specs.Steps.Step.{RenamedFolder, Synced, SyncedNames};
+ghost use Rattle.tool_files.specs.There.{SameElsewhere};
 
 use crate::FileFault;
 use crate::read::read_path;
@@ -18,7 +27,7 @@ use std::{fs, io};
 /// that of a system; a contract can say what was done where it is known.
 pub trait Place {
     // What was done, in order, where it is known.
-    ghost done: { Self → Option (List spec.Step) };
+    ghost done: { Self → Option (List Step) };
 
     // Whether anything has a path, where it is known.
     ghost there: { Self → List ℕ → Option Bool };
@@ -34,9 +43,9 @@ pub trait Place {
     fn read<A: Allocator + Copy>(&self, alloc: A, path: &str) -> Result<Slice<A>, FileFault>
         ensures bytes { IfOk result (λ bytes.
             IfSome (content self.now path.now) (λ known. bytes ≡ known)) }
-        ensures refused { IfErr result spec.IsReadFault }
+        ensures refused { IfErr result IsReadFault }
         ensures known { IfErr result (λ fault.
-            spec.is_memory_fault fault ≡ false → content self.now path.now ≡ None) };
+            is_memory_fault fault ≡ false → content self.now path.now ≡ None) };
 
     /// What has a path, if anything has; of a link that of itself. Refused as the system refuses to
     /// tell: never where it is known whether anything has the path.
@@ -44,8 +53,7 @@ pub trait Place {
         ensures found { IfOk result (λ m.
             IfSome (there self.now path.now) (λ known. is_some m ≡ known)) }
         ensures mode { IfOk result (λ m.
-            IfSome (modes self.now path.now) (λ known. spec.option_map spec.metadata_mode m
-            ≡ known)) }
+            IfSome (modes self.now path.now) (λ known. option_map metadata_mode m ≡ known)) }
         ensures told { OnErr result (there self.now path.now ≡ None) };
 
     /// Writes a new file whole, with these permissions if they are given, and syncs it. Answers
@@ -58,62 +66,60 @@ pub trait Place {
         permissions: Option<&Permissions>,
     ) -> io::Result<bool>
         ensures written { IfOk result (λ free. done self.new
-            ≡ spec.then_done (done self.old) (spec.written_if free path.now bytes.now
-            (spec.option_map spec.permissions_mode (spec.option_copied permissions.entry)))) }
+            ≡ then_done (done self.old) (written_if free path.now bytes.now
+            (option_map permissions_mode (option_copied permissions.entry)))) }
         ensures refused { OnErr result (done self.new ≡ done self.old) }
         ensures free { IfOk result (λ free.
             IfSome (there self.old path.now) (λ known. free ≡ not known)) }
         ensures kept { IfOk result (λ free. free ≡ false → there self.new ≡ there self.old) }
-        ensures elsewhere { spec.SameElsewhere path.now (there self.old) (there self.new) }
+        ensures elsewhere { SameElsewhere path.now (there self.old) (there self.new) }
         ensures same { IfOk result (λ free. free ≡ false → modes self.new ≡ modes self.old) }
-        ensures beside { spec.SameElsewhere path.now (modes self.old) (modes self.new) };
+        ensures beside { SameElsewhere path.now (modes self.old) (modes self.new) };
 
     /// Renames a file, which takes the place of the one that has the name. Refused as the system
     /// refuses: then nothing is changed.
     fn rename(&mut self, from: &str, to: &str) -> io::Result<()>
         ensures renamed { OnOk result
-            (done self.new ≡ spec.then_done (done self.old) (spec.Renamed from.now to.now ∷ [])) }
+            (done self.new ≡ then_done (done self.old) (Renamed from.now to.now ∷ [])) }
         ensures refused { OnErr result (done self.new ≡ done self.old) };
 
     /// Removes a file, as far as the system does it.
     fn remove(&mut self, path: &str)
-        ensures { done self.new ≡ spec.then_done (done self.old) (spec.Removed path.now ∷ []) };
+        ensures { done self.new ≡ then_done (done self.old) (Removed path.now ∷ []) };
 
     /// Makes a folder. Refused as the system refuses, as where anything has its path: then nothing
     /// is changed.
     fn make_folder(&mut self, path: &str) -> io::Result<()>
         ensures made { OnOk result
-            (done self.new ≡ spec.then_done (done self.old) (spec.MadeFolder path.now ∷ [])) }
+            (done self.new ≡ then_done (done self.old) (MadeFolder path.now ∷ [])) }
         ensures refused { OnErr result (done self.new ≡ done self.old) }
-        ensures taken { IfErr result (λ e. spec.error_kind e ≡ ErrorKind.AlreadyExists
+        ensures taken { IfErr result (λ e. error_kind e ≡ ErrorKind.AlreadyExists
             → IfSome (there self.old path.now) (λ known. known ≡ true)) }
         ensures kept { OnErr result (there self.new ≡ there self.old) }
-        ensures elsewhere { spec.SameElsewhere path.now (there self.old) (there self.new) };
+        ensures elsewhere { SameElsewhere path.now (there self.old) (there self.new) };
 
     /// Removes a folder, as far as the system does it, and only where nothing is in it.
     fn remove_folder(&mut self, path: &str)
-        ensures { done self.new ≡ spec.then_done (done self.old)
-            (spec.RemovedFolder path.now ∷ []) };
+        ensures { done self.new ≡ then_done (done self.old) (RemovedFolder path.now ∷ []) };
 
     /// Renames a folder, with all that lies in it, to a name that nothing has, or an empty folder.
     /// Refused as the system refuses: then nothing is changed.
     fn rename_folder(&mut self, from: &str, to: &str) -> io::Result<()>
         ensures renamed { OnOk result
-            (done self.new ≡ spec.then_done (done self.old)
-            (spec.RenamedFolder from.now to.now ∷ [])) }
+            (done self.new ≡ then_done (done self.old) (RenamedFolder from.now to.now ∷ [])) }
         ensures refused { OnErr result (done self.new ≡ done self.old) };
 
     /// Syncs a folder, so that the names in it last.
     fn sync_names(&mut self, folder: &str) -> io::Result<()>
         ensures synced { OnOk result
-            (done self.new ≡ spec.then_done (done self.old) (spec.SyncedNames folder.now ∷ [])) }
+            (done self.new ≡ then_done (done self.old) (SyncedNames folder.now ∷ [])) }
         ensures refused { OnErr result (done self.new ≡ done self.old) }
         ensures kept { there self.new ≡ there self.old };
 
     /// Syncs the folder in which a file or a folder lies, so that its name lasts.
     fn sync_folder(&mut self, path: &str) -> io::Result<()>
         ensures synced { OnOk result
-            (done self.new ≡ spec.then_done (done self.old) (spec.Synced path.now ∷ [])) }
+            (done self.new ≡ then_done (done self.old) (Synced path.now ∷ [])) }
         ensures refused { OnErr result (done self.new ≡ done self.old) };
 }
 
@@ -209,7 +215,7 @@ fn fill<F: Write + OpenFile>(
     bytes: &[u8],
     permissions: Option<&Permissions>,
 ) -> io::Result<()>
-    ensures { OnOk result (spec.Appends (F.contents file.old) (F.contents file.new) bytes.now) }
+    ensures { OnOk result (Appends (F.contents file.old) (F.contents file.new) bytes.now) }
 {
     if let Some(permissions) = permissions {
         file.set_permissions(permissions.clone()?)?;
@@ -220,7 +226,7 @@ fn fill<F: Write + OpenFile>(
 
 // The folder in which a file lies: that of the process where the path names none.
 fn folder_of(path: &str) -> &str
-    ensures { result.now ≡ spec.folder_of path.now }
+    ensures { result.now ≡ folder_of path.now }
 {
     match Path::new(path).parent() {
         Some(folder) => or_here(folder.as_os_str()),
@@ -230,7 +236,7 @@ fn folder_of(path: &str) -> &str
 
 // The folder of the process in the place of none.
 fn or_here(folder: &str) -> &str
-    ensures { result.now ≡ spec.or_here folder.now }
+    ensures { result.now ≡ or_here folder.now }
 {
     if folder.is_empty() { "." } else { folder }
 }

@@ -1,6 +1,10 @@
 //! Reading whole files.
 ghost use Rattle.std.specs.Prelude.{◌≡◌, ◌≤◌, IfErr, IfOk, IfSome, None, OnOk, Some, false, length};
-ghost use Rattle.tool_files.specs.Words as spec;
+ghost use Rattle.std.specs.Fs.{IsDir, IsFile, file_type, metadata_len};
+ghost use Rattle.std.specs.Io.KnownBytes.{IsAtEnd};
+ghost use Rattle.tool_files.specs.Files.{IsCutBehind, IsCutShort, IsReadFault, is_memory_fault};
+ghost use Rattle.tool_files.specs.Files.{path_text};
+ghost use Rattle.tool_files.specs.declared.file_error.FileFault.TheVariants.{Folder};
 
 use crate::{FileError, FileFault, FileName, Place};
 use logpurple::block::Slice;
@@ -20,11 +24,11 @@ pub fn read_file<'a, P: Place, A: Allocator + Copy>(
     ensures bytes { IfOk result (λ bytes.
         IfSome (P.content place.now path.now) (λ known. bytes ≡ known)) }
     // A refusal names the file.
-    ensures named { IfErr result (λ e. spec.path_text e.name ≡ path.now) }
-    ensures refused { IfErr result (λ e. spec.IsReadFault e.fault) }
+    ensures named { IfErr result (λ e. path_text e.name ≡ path.now) }
+    ensures refused { IfErr result (λ e. IsReadFault e.fault) }
     // Where its bytes are known, memory is wanted.
     ensures known { IfErr result (λ e.
-        spec.is_memory_fault e.fault ≡ false → P.content place.now path.now ≡ None) }
+        is_memory_fault e.fault ≡ false → P.content place.now path.now ≡ None) }
 {
     match place.read(alloc, path) {
         Ok(bytes) => Ok(bytes),
@@ -43,7 +47,7 @@ pub(crate) fn read_path<R: Files, A: Allocator + Copy>(
     alloc: A,
     path: &str,
 ) -> Result<Slice<A>, FileFault>
-    ensures { IfErr result spec.IsReadFault }
+    ensures { IfErr result IsReadFault }
 {
     let mut file = fs::open(files, path)?;
     let size = size_of(&file.metadata()?)?;
@@ -52,14 +56,12 @@ pub(crate) fn read_path<R: Files, A: Allocator + Copy>(
 
 // How many bytes a file has; none is known of what is no plain file. A folder is refused.
 fn size_of(metadata: &Metadata) -> Result<Option<u64>, FileFault>
-    ensures refused { IfErr result spec.IsReadFault }
-    ensures folder { IfErr result (λ fault. (fault ≡ spec.Folder)
-        × spec.IsDir (spec.file_type metadata.now)) }
-    ensures file { OnOk result (¬ spec.IsDir (spec.file_type metadata.now)) }
+    ensures refused { IfErr result IsReadFault }
+    ensures folder { IfErr result (λ fault. (fault ≡ Folder) × IsDir (file_type metadata.now)) }
+    ensures file { OnOk result (¬ IsDir (file_type metadata.now)) }
     ensures plain { IfOk result (λ size.
-        spec.IsFile (spec.file_type metadata.now) → size ≡ Some (spec.metadata_len metadata.now)) }
-    ensures other { IfOk result (λ size. ¬ spec.IsFile (spec.file_type metadata.now) →
-        size ≡ None) }
+        IsFile (file_type metadata.now) → size ≡ Some (metadata_len metadata.now)) }
+    ensures other { IfOk result (λ size. ¬ IsFile (file_type metadata.now) → size ≡ None) }
 {
     if metadata.is_dir() {
         return Err(FileFault::Folder);
@@ -80,12 +82,12 @@ pub fn read_whole<R: Read, A: Allocator + Copy>(
 ) -> Result<Slice<A>, FileFault>
     // They are all that the reader had, where that is known, to its end,
     ensures bytes { IfOk result (λ s. IfSome (R.remaining reader.old) (λ bytes. s ≡ bytes)) }
-    ensures end { OnOk result (spec.IsAtEnd (R.remaining reader.new)) }
+    ensures end { OnOk result (IsAtEnd (R.remaining reader.new)) }
     // and as many as there should be, or more.
     ensures sized { IfOk result (λ s. IfSome size (λ n. n ≤ length s)) }
-    ensures cut { IfErr result (λ fault. spec.IsCutShort fault size) }
-    ensures behind { IfErr result (λ fault. spec.IsCutBehind fault (R.remaining reader.old)) }
-    ensures refused { IfErr result spec.IsReadFault }
+    ensures cut { IfErr result (λ fault. IsCutShort fault size) }
+    ensures behind { IfErr result (λ fault. IsCutBehind fault (R.remaining reader.old)) }
+    ensures refused { IfErr result IsReadFault }
 {
     let mut bytes = Vec::new(alloc);
     if let Some(size) = size {

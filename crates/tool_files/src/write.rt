@@ -1,7 +1,20 @@
 //! Writing files beside their names.
 ghost use Rattle.std.specs.Prelude.{◌≡◌, ◌<◌, ◌∷◌, [], Any, IfErr, IfOk, IfSome, OnErr, OnOk, drop};
 ghost use Rattle.std.specs.Prelude.{◌⊎◌, IsSomeAnd, false, length, string_bytes, take};
-ghost use Rattle.tool_files.specs.Words as spec;
+ghost use Rattle.std.specs.Option.{option_copied, option_map};
+ghost use Rattle.std.specs.Fs.{IsFile, file_type, metadata_mode, permissions_mode};
+ghost use Rattle.tool_files.specs.Files.{IsBeside, path_text};
+ghost use Rattle.tool_files.specs.Placed.{AreBeside, AreNotPlaced, AreNotPut, ArePlaced, IfLeft};
+ghost use Rattle.tool_files.specs.Placed.{IsEarly, IsLookFault, StopLooking, StopSyncing};
+ghost use Rattle.tool_files.specs.Placed.{StopsBefore, StopsRenamingAt, TellsAllTaken, TellsKind};
+ghost use Rattle.tool_files.specs.Placed.{TellsLeft, TellsRenamed};
+ghost use Rattle.tool_files.specs.Placed.{removing, renaming, syncing, writing};
+ghost use Rattle.tool_files.specs.Modes.{AreModesKept};
+ghost use Rattle.tool_files.specs.Standing.{HaveModesKept, IsAdded, IsWritten, standing_in};
+ghost use Rattle.tool_files.specs.Standing.{standing_of};
+ghost use Rattle.tool_files.specs.Steps.{then_done};
+ghost use Rattle.tool_files.specs.Steps.Step.{Wrote};
+ghost use Rattle.tool_files.specs.There.{SameElsewhere};
 
 use crate::{FileError, FileFault, FileName, Place, check_free};
 use std::alloc::{AllocError, Allocator};
@@ -46,21 +59,20 @@ pub fn place_series<'a, P: Place, A: Allocator + Copy>(
 ) -> Result<(), FileError<'a>>
     // Where it answers, nothing had the name behind the last.
     ensures free { OnOk result
-        (IfSome (P.there place.old (spec.path_text next.entry)) (λ there. there ≡ false)) }
-    ensures placed { OnOk result (spec.ArePlaced (P.done place.old) wanted.now (P.done place.new)) }
+        (IfSome (P.there place.old (path_text next.entry)) (λ there. there ≡ false)) }
+    ensures placed { OnOk result (ArePlaced (P.done place.old) wanted.now (P.done place.new)) }
     ensures kept { OnOk result
-        (spec.AreModesKept (P.modes place.old) (P.done place.old) (P.done place.new)) }
+        (AreModesKept (P.modes place.old) (P.done place.old) (P.done place.new)) }
     // Where it is refused for what has that name, this is told, and nothing was done.
-    ensures left { IfErr result (λ e. spec.TellsLeft e (spec.path_text next.entry)
-        (P.there place.old (spec.path_text next.entry)) (P.done place.old) (P.done place.new)) }
+    ensures left { IfErr result (λ e. TellsLeft e (path_text next.entry)
+        (P.there place.old (path_text next.entry)) (P.done place.old) (P.done place.new)) }
     ensures named { IfErr result (λ e.
         (e.name ≡ next.entry) ⊎ Any (λ file. file.name ≡ e.name) wanted.now) }
     // Where it is refused, this was done and no more.
     ensures refused { IfErr result (λ e.
-        spec.StopLooking (P.done place.old) (spec.path_text next.entry)
-        (P.there place.old (spec.path_text next.entry)) e (P.done place.new)
-        ⊎ spec.AreNotPlaced (P.there place.old) (P.done place.old) wanted.now e
-        (P.done place.new)) }
+        StopLooking (P.done place.old) (path_text next.entry)
+        (P.there place.old (path_text next.entry)) e (P.done place.new)
+        ⊎ AreNotPlaced (P.there place.old) (P.done place.old) wanted.now e (P.done place.new)) }
 {
     match check_next(place, alloc, &next) {
         Ok(()) => place_files(place, alloc, wanted),
@@ -75,9 +87,9 @@ fn check_next<P: Place, A: Allocator + Copy>(
     name: &FileName<'_>,
 ) -> Result<(), FileFault>
     ensures free { OnOk result
-        (IfSome (P.there place.now (spec.path_text name.now)) (λ there. there ≡ false)) }
+        (IfSome (P.there place.now (path_text name.now)) (λ there. there ≡ false)) }
     ensures left { IfErr result (λ fault.
-        spec.IsLookFault fault (P.there place.now (spec.path_text name.now))) }
+        IsLookFault fault (P.there place.now (path_text name.now))) }
 {
     let path = path_of(alloc, name)?;
     check_free(place, path.as_str(), FileFault::Left)
@@ -99,16 +111,16 @@ pub fn place_files<'a, P: Place, A: Allocator + Copy>(
     wanted: &[NewFile<'a, '_>],
 ) -> Result<(), FileError<'a>>
     // Where it answers, all were written, then renamed, then synced.
-    ensures placed { OnOk result (spec.ArePlaced (P.done place.old) wanted.now (P.done place.new)) }
+    ensures placed { OnOk result (ArePlaced (P.done place.old) wanted.now (P.done place.new)) }
     // Each has the permissions of the plain file that it replaces, and replaces nothing else.
     ensures kept { OnOk result
-        (spec.AreModesKept (P.modes place.old) (P.done place.old) (P.done place.new)) }
+        (AreModesKept (P.modes place.old) (P.done place.old) (P.done place.new)) }
     // Where it is refused, this was done and no more, and a refusal says which file it was.
     ensures refused { IfErr result (λ e.
-        spec.AreNotPlaced (P.there place.old) (P.done place.old) wanted.now e (P.done place.new)) }
+        AreNotPlaced (P.there place.old) (P.done place.old) wanted.now e (P.done place.new)) }
     // That names one of the files, and tells none of an earlier write.
     ensures named { IfErr result (λ e. Any (λ file. file.name ≡ e.name) wanted.now) }
-    ensures left { IfErr result (λ e. spec.IfLeft e.fault ⊥) }
+    ensures left { IfErr result (λ e. IfLeft e.fault ⊥) }
 {
     let mut written = Vec::new(alloc);
     match write_each(place, alloc, wanted, &mut written) {
@@ -128,14 +140,13 @@ fn write_each<'a, 'b, P: Place, A: Allocator + Copy>(
     written: &mut Vec<Beside<'a, 'b, A>, A>,
 ) -> Result<(), FileError<'a>>
     requires { written.old.items ≡ [] }
-    ensures all { OnOk result (spec.AreBeside wanted.now (spec.standing_in written.new.items)) }
-    ensures kept { OnOk result
-        (spec.HaveModesKept (P.modes place.old) (spec.standing_in written.new.items)
-        (spec.standing_in written.new.items)) }
+    ensures all { OnOk result (AreBeside wanted.now (standing_in written.new.items)) }
+    ensures kept { OnOk result (HaveModesKept (P.modes place.old) (standing_in written.new.items)
+        (standing_in written.new.items)) }
     ensures refused { IfErr result (λ e.
-        spec.StopsBefore (P.there place.old) wanted.now (spec.standing_in written.new.items) e) }
+        StopsBefore (P.there place.old) wanted.now (standing_in written.new.items) e) }
     ensures done { P.done place.new
-        ≡ spec.then_done (P.done place.old) (spec.writing (spec.standing_in written.new.items)) }
+        ≡ then_done (P.done place.old) (writing (standing_in written.new.items)) }
 {
     for file in wanted {
         if let Err(fault) = add_beside(place, alloc, file, written) {
@@ -155,12 +166,12 @@ fn add_beside<'a, 'b, P: Place, A: Allocator + Copy>(
     file: &NewFile<'a, 'b>,
     written: &mut Vec<Beside<'a, 'b, A>, A>,
 ) -> Result<(), FileFault>
-    ensures added { OnOk result (spec.IsAdded file.now (spec.standing_in written.old.items)
-        (spec.standing_in written.new.items) (P.there place.old) (P.there place.new)
+    ensures added { OnOk result (IsAdded file.now (standing_in written.old.items)
+        (standing_in written.new.items) (P.there place.old) (P.there place.new)
         (P.modes place.old) (P.modes place.new) (P.done place.old) (P.done place.new)) }
-    ensures early { IfErr result spec.IsEarly }
+    ensures early { IfErr result IsEarly }
     ensures taken { IfErr result
-        (spec.TellsAllTaken (P.there place.old) (spec.path_text file.now.name)) }
+        (TellsAllTaken (P.there place.old) (path_text file.now.name)) }
     ensures kept { OnErr result (written.new.items ≡ written.old.items) }
     ensures nothing { OnErr result (P.done place.new ≡ P.done place.old) }
 {
@@ -177,12 +188,12 @@ fn write_beside<'a, 'b, P: Place, A: Allocator + Copy>(
     alloc: A,
     file: &NewFile<'a, 'b>,
 ) -> Result<Beside<'a, 'b, A>, FileFault>
-    ensures written { IfOk result (λ b. spec.IsWritten file.now (spec.standing_of b)
+    ensures written { IfOk result (λ b. IsWritten file.now (standing_of b)
         (P.there place.old) (P.there place.new) (P.modes place.old) (P.modes place.new)
         (P.done place.old) (P.done place.new)) }
-    ensures early { IfErr result spec.IsEarly }
+    ensures early { IfErr result IsEarly }
     ensures taken { IfErr result
-        (spec.TellsAllTaken (P.there place.old) (spec.path_text file.now.name)) }
+        (TellsAllTaken (P.there place.old) (path_text file.now.name)) }
     ensures nothing { OnErr result (P.done place.new ≡ P.done place.old) }
 {
     let path = path_of(alloc, &file.name)?;
@@ -202,7 +213,7 @@ pub(crate) fn path_of<A: Allocator + Copy>(
     alloc: A,
     name: &FileName<'_>,
 ) -> Result<String<A>, AllocError>
-    ensures { IfOk result (λ path. string_bytes path ≡ spec.path_text name.now) }
+    ensures { IfOk result (λ path. string_bytes path ≡ path_text name.now) }
 {
     format!(in alloc; "{name}")
 }
@@ -211,10 +222,10 @@ pub(crate) fn path_of<A: Allocator + Copy>(
 // file: a link too.
 fn kept(there: Option<Metadata>) -> Result<Option<Permissions>, FileFault>
     ensures same { IfOk result (λ p.
-        spec.option_map spec.permissions_mode p ≡ spec.option_map spec.metadata_mode there) }
-    ensures plain { OnOk result (IfSome there (λ m. spec.IsFile (spec.file_type m))) }
-    ensures other { IfErr result (λ fault. IsSomeAnd there (spec.TellsKind fault)) }
-    ensures early { IfErr result spec.IsEarly }
+        option_map permissions_mode p ≡ option_map metadata_mode there) }
+    ensures plain { OnOk result (IfSome there (λ m. IsFile (file_type m))) }
+    ensures other { IfErr result (λ fault. IsSomeAnd there (TellsKind fault)) }
+    ensures early { IfErr result IsEarly }
 {
     match there {
         Some(metadata) if metadata.is_file() => Ok(Some(metadata.permissions())),
@@ -232,16 +243,16 @@ fn write_under<P: Place, A: Allocator + Copy>(
     bytes: &[u8],
     permissions: Option<&Permissions>,
 ) -> Result<String<A>, FileFault>
-    ensures beside { IfOk result (λ t. spec.IsBeside path.now (string_bytes t)) }
+    ensures beside { IfOk result (λ t. IsBeside path.now (string_bytes t)) }
     ensures written { IfOk result (λ t. P.done place.new
-        ≡ spec.then_done (P.done place.old) (spec.Wrote (string_bytes t) bytes.now
-        (spec.option_map spec.permissions_mode (spec.option_copied permissions.entry)) ∷ [])) }
+        ≡ then_done (P.done place.old) (Wrote (string_bytes t) bytes.now
+        (option_map permissions_mode (option_copied permissions.entry)) ∷ [])) }
     ensures elsewhere { IfOk result (λ t.
-        spec.SameElsewhere (string_bytes t) (P.there place.old) (P.there place.new)) }
+        SameElsewhere (string_bytes t) (P.there place.old) (P.there place.new)) }
     ensures same { IfOk result (λ t.
-        spec.SameElsewhere (string_bytes t) (P.modes place.old) (P.modes place.new)) }
-    ensures early { IfErr result spec.IsEarly }
-    ensures taken { IfErr result (spec.TellsAllTaken (P.there place.old) path.now) }
+        SameElsewhere (string_bytes t) (P.modes place.old) (P.modes place.new)) }
+    ensures early { IfErr result IsEarly }
+    ensures taken { IfErr result (TellsAllTaken (P.there place.old) path.now) }
     ensures nothing { OnErr result (P.done place.new ≡ P.done place.old) }
 {
     for number in 1..=NAMES {
@@ -256,7 +267,7 @@ fn write_under<P: Place, A: Allocator + Copy>(
 // Removes what stands beside its name.
 fn remove_all<P: Place, A: Allocator>(place: &mut P, written: &[Beside<'_, '_, A>])
     ensures { P.done place.new
-        ≡ spec.then_done (P.done place.old) (spec.removing (spec.standing_in written.now)) }
+        ≡ then_done (P.done place.old) (removing (standing_in written.now)) }
 {
     for beside in written {
         place.remove(beside.temporary.as_str());
@@ -269,11 +280,10 @@ fn put_each<'a, P: Place, A: Allocator>(
     place: &mut P,
     written: &[Beside<'a, '_, A>],
 ) -> Result<(), FileError<'a>>
-    ensures all { OnOk result (P.done place.new ≡ spec.then_done (spec.then_done (P.done place.old)
-        (spec.renaming (spec.standing_in written.now)))
-        (spec.syncing (spec.standing_in written.now))) }
+    ensures all { OnOk result (P.done place.new ≡ then_done (then_done (P.done place.old)
+        (renaming (standing_in written.now))) (syncing (standing_in written.now))) }
     ensures refused { IfErr result (λ e.
-        spec.AreNotPut (P.done place.old) (spec.standing_in written.now) e (P.done place.new)) }
+        AreNotPut (P.done place.old) (standing_in written.now) e (P.done place.new)) }
 {
     match rename_each(place, written) {
         Ok(()) => sync_each(place, written),
@@ -287,11 +297,10 @@ fn rename_each<P: Place, A: Allocator>(
     written: &[Beside<'_, '_, A>],
 ) -> Result<(), (usize, io::Error)>
     ensures all { OnOk result (P.done place.new
-        ≡ spec.then_done (P.done place.old) (spec.renaming (spec.standing_in written.now))) }
+        ≡ then_done (P.done place.old) (renaming (standing_in written.now))) }
     ensures within { IfErr result (λ r. r.0 < length written.now) }
     ensures some { IfErr result (λ r. P.done place.new
-        ≡ spec.then_done (P.done place.old)
-        (spec.renaming (take r.0 (spec.standing_in written.now)))) }
+        ≡ then_done (P.done place.old) (renaming (take r.0 (standing_in written.now)))) }
 {
     for at in 0..written.len() {
         let (from, to) = (&written[at].temporary, &written[at].path);
@@ -310,10 +319,9 @@ fn give_up<'a, P: Place, A: Allocator>(
     error: io::Error,
 ) -> FileError<'a>
     requires { renamed < length written.now }
-    ensures stops { spec.StopsRenamingAt (spec.standing_in written.now) renamed result }
+    ensures stops { StopsRenamingAt (standing_in written.now) renamed result }
     ensures removed { P.done place.new
-        ≡ spec.then_done (P.done place.old)
-        (spec.removing (drop renamed (spec.standing_in written.now))) }
+        ≡ then_done (P.done place.old) (removing (drop renamed (standing_in written.now))) }
 {
     remove_all(place, &written[renamed..]);
     FileError {
@@ -324,7 +332,7 @@ fn give_up<'a, P: Place, A: Allocator>(
 
 // What is wrong with a file that was not renamed, behind so many that were.
 fn rename_fault(renamed: u64, error: io::Error) -> FileFault
-    ensures { spec.TellsRenamed result renamed }
+    ensures { TellsRenamed result renamed }
 {
     if renamed == 0 {
         FileFault::Io(error)
@@ -339,9 +347,9 @@ fn sync_each<'a, P: Place, A: Allocator>(
     written: &[Beside<'a, '_, A>],
 ) -> Result<(), FileError<'a>>
     ensures all { OnOk result (P.done place.new
-        ≡ spec.then_done (P.done place.old) (spec.syncing (spec.standing_in written.now))) }
+        ≡ then_done (P.done place.old) (syncing (standing_in written.now))) }
     ensures refused { IfErr result (λ e.
-        spec.StopSyncing (P.done place.old) (spec.standing_in written.now) e (P.done place.new)) }
+        StopSyncing (P.done place.old) (standing_in written.now) e (P.done place.new)) }
 {
     for beside in written {
         if let Err(error) = place.sync_folder(beside.path.as_str()) {

@@ -1,9 +1,20 @@
 //! Entries as lines.
-ghost use Rattle.std.specs.Prelude.{◌≡◌, IfErr, IfOk, false};
-ghost use Rattle.tool_lines.specs.Words as spec;
-ghost use Rattle.tool_lines.specs.declared.entry_line.Format.TheVariants.{Json};
+ghost use Rattle.std.specs.Prelude.{◌≡◌, ◌≢◌, ◌++◌, ◌∷◌, ℕ, [], All, IfErr, IfOk, List, OnOk};
+ghost use Rattle.std.specs.Prelude.{Err, false};
+ghost use Rattle.std.specs.Str.{IsUtf8};
+ghost use Rattle.sst_entries.specs.Entry.{Entry};
+ghost use Rattle.sst_entries.specs.Lending.{entry_of_ref};
+ghost use Rattle.json.specs.Print.{print};
+ghost use Rattle.json.specs.Token.{Token};
+ghost use Rattle.tool_lines.specs.Faults.{lacks_memory};
+ghost use Rattle.tool_lines.specs.ObjectLine.{IsObjectFault, SpellsObject, WritesEntry};
+ghost use Rattle.tool_lines.specs.WordLine.{IsEarlyFault, IsWordFault, SpellsEntry, word_line};
+ghost use Rattle.tool_lines.specs.declared.entry_line.Format.TheVariants.{Json, Lines};
+ghost use Rattle.tool_lines.specs.declared.entry_line.LineError.{LineError as LineFault};
+ghost use Rattle.tool_lines.specs.declared.entry_line.LineError.TheVariants as told;
+ghost use Rattle.tool_lines.specs.declared.entry_line.LineError.TheVariants.{OutOfMemory};
 
-use crate::object_line::{append_object, parse_object};
+use crate::object_line::{parse_object, push_object};
 use crate::word_line::{parse_words, push_words};
 use sst_entries::{EntryRef, InternalValue};
 use std::alloc::{AllocError, AllocFailed, Allocator};
@@ -27,24 +38,80 @@ pub fn append_entry<A: Allocator + Copy>(
     text: Vec<u8, A>,
     entry: &EntryRef<'_>,
     format: Format,
-) -> Result<Vec<u8, A>, AllocError> {
+) -> Result<Vec<u8, A>, AllocError>
+    ensures words { format ≡ Lines → IfOk result (λ t. t.items ≡
+        text.items ++ word_line (entry_of_ref entry.now) ++ 10 ∷ []) }
+    ensures object { format ≡ Json → IfOk result (λ t. (ts : List Token)
+        × WritesEntry (entry_of_ref entry.now) ts × (t.items ≡ text.items ++ print ts ++ 10 ∷ [])) }
+    // The words spell the entry, and so does the object.
+    ensures spells { format ≡ Lines → OnOk result
+        (SpellsEntry (word_line (entry_of_ref entry.now)) (entry_of_ref entry.now)) }
+    ensures spells_object { format ≡ Json → OnOk result ((ts : List Token)
+        → WritesEntry (entry_of_ref entry.now) ts
+        → SpellsObject (print ts) (entry_of_ref entry.now)) }
+    // It is one line.
+    ensures one_line { IfOk result (λ t. (line : List ℕ) × (t.items ≡ text.items ++ line ++ 10 ∷ [])
+        × All (λ b. b ≢ 10) line) }
+{
+    end_line(append_line(alloc, text, entry, format)?)
+}
+
+// Appends an entry's line without its end.
+fn append_line<A: Allocator + Copy>(
+    alloc: A,
+    text: Vec<u8, A>,
+    entry: &EntryRef<'_>,
+    format: Format,
+) -> Result<Vec<u8, A>, AllocError>
+    ensures words { format ≡ Lines → IfOk result (λ t. t.items ≡
+        text.items ++ word_line (entry_of_ref entry.now)) }
+    ensures object { format ≡ Json → IfOk result (λ t. (ts : List Token)
+        × WritesEntry (entry_of_ref entry.now) ts × (t.items ≡ text.items ++ print ts)) }
+    ensures spells { format ≡ Lines → OnOk result
+        (SpellsEntry (word_line (entry_of_ref entry.now)) (entry_of_ref entry.now)) }
+    ensures spells_object { format ≡ Json → OnOk result ((ts : List Token)
+        → WritesEntry (entry_of_ref entry.now) ts
+        → SpellsObject (print ts) (entry_of_ref entry.now)) }
+{
     match format {
         Format::Lines => append_words(text, entry),
-        Format::Json => end_line(append_object(alloc, text, entry)?),
+        Format::Json => push_object(alloc, text, entry),
     }
+}
+
+// Appends a line's end.
+fn end_line<A: Allocator>(mut text: Vec<u8, A>) -> Result<Vec<u8, A>, AllocError>
+    ensures { IfOk result (λ t. t.items ≡ text.items ++ 10 ∷ []) }
+{
+    text.extend_from_slice(b"\n")?;
+    Ok(text)
 }
 
 fn append_words<A: Allocator>(
     mut text: Vec<u8, A>,
     entry: &EntryRef<'_>,
-) -> Result<Vec<u8, A>, AllocError> {
+) -> Result<Vec<u8, A>, AllocError>
+    ensures text { IfOk result
+        (λ t. t.items ≡ text.items ++ word_line (entry_of_ref entry.now)) }
+    ensures spells { OnOk result
+        (SpellsEntry (word_line (entry_of_ref entry.now)) (entry_of_ref entry.now)) }
+{
     push_words(&mut text, entry)?;
-    end_line(text)
+    Ok(text)
 }
 
-fn end_line<A: Allocator>(mut text: Vec<u8, A>) -> Result<Vec<u8, A>, AllocError> {
-    text.extend_from_slice(b"\n")?;
-    Ok(text)
+/// Writes an entry's line, without its end, and reads it back: it is the same. Refused for want of
+/// memory alone.
+pub fn read_back<A: Allocator + Copy>(
+    alloc: A,
+    entry: &EntryRef<'_>,
+    format: Format,
+) -> Result<InternalValue<A>, LineError>
+    ensures same { IfOk result (λ e. e ≡ entry_of_ref entry.now) }
+    ensures refused { IfErr result (λ e. e ≡ OutOfMemory) }
+{
+    let line = append_line(alloc, Vec::new(alloc), entry, format)?;
+    parse_entry(alloc, &line, format)
 }
 
 /// The entry of a line without its end. The members of an object may come in any order, and no
@@ -55,13 +122,19 @@ pub fn parse_entry<A: Allocator + Copy>(
     line: &[u8],
     format: Format,
 ) -> Result<InternalValue<A>, LineError>
-    ensures spells { format ≡ spec.Lines → IfOk result (λ e. spec.SpellsEntry line.now e) }
-    ensures object { format ≡ Json → IfOk result (λ e. spec.SpellsObject line.now e) }
-    // A line that is refused spells no entry, but for want of memory.
-    ensures no_words { format ≡ spec.Lines → IfErr result (λ e. spec.lacks_memory e ≡ false
-        → (item : spec.Entry) → ¬ spec.SpellsEntry line.now item) }
-    ensures no_object { format ≡ Json → IfErr result (λ e. spec.lacks_memory e ≡ false
-        → (item : spec.Entry) → ¬ spec.SpellsObject line.now item) }
+    ensures spells { format ≡ Lines → IfOk result (λ e. SpellsEntry line.now e) }
+    ensures refused { format ≡ Lines → IfErr result (λ e. IsWordFault line.now e) }
+    ensures object { format ≡ Json → IfOk result (λ e. SpellsObject line.now e) }
+    ensures refused_object { format ≡ Json → IfErr result (λ e. IsObjectFault line.now e) }
+    // What takes no memory to be found is told whatever memory there is.
+    ensures early { format ≡ Lines → (fault : LineFault) → IsEarlyFault line.now fault →
+        result ≡ Err fault }
+    ensures early_object { format ≡ Json → ¬ IsUtf8 line.now → result ≡ Err told.Json }
+    // So a line that is refused spells no entry, but for want of memory.
+    ensures no_words { format ≡ Lines → IfErr result (λ e. lacks_memory e ≡ false
+        → (item : Entry) → ¬ SpellsEntry line.now item) }
+    ensures no_object { format ≡ Json → IfErr result (λ e. lacks_memory e ≡ false
+        → (item : Entry) → ¬ SpellsObject line.now item) }
 {
     match format {
         Format::Lines => parse_words(alloc, line),

@@ -1,7 +1,12 @@
 //! Any bytes as one word of visible bytes.
-ghost use Rattle.std.specs.Prelude.{◌≡◌, ◌≢◌, ◌<◌, ℕ, List, ◌∷◌, ◌++◌, length, false};
-ghost use Rattle.std.specs.Prelude.{IfSome, IfNone, IfOk, IfErr};
-ghost use Rattle.tool_lines.specs.Words as spec;
+ghost use Rattle.std.specs.Prelude.{◌≡◌, ◌≢◌, ◌⊎◌, ◌<◌, ℕ, List, ◌∷◌, ◌++◌, length, false, OnOk};
+ghost use Rattle.std.specs.Prelude.{[], Err, IfSome, IfNone, IfOk, IfErr, IsOk};
+ghost use Rattle.std.specs.Char.{digit_char};
+ghost use Rattle.tool_lines.specs.Escapes.{AreBytes, AreCodes, Begins, BeginsSome, WordMeans};
+ghost use Rattle.tool_lines.specs.Escapes.{byte_code};
+ghost use Rattle.tool_lines.specs.Escapes.{codes_of, escaped, is_plain, bytes_word};
+ghost use Rattle.tool_lines.specs.Faults.{lacks_memory};
+ghost use Rattle.tool_lines.specs.declared.entry_line.LineError.TheVariants.{Key};
 
 use crate::LineError;
 use std::alloc::{AllocError, Allocator};
@@ -11,7 +16,11 @@ use std::alloc::{AllocError, Allocator};
 pub fn append_bytes<A: Allocator>(
     mut text: Vec<u8, A>,
     bytes: &[u8],
-) -> Result<Vec<u8, A>, AllocError> {
+) -> Result<Vec<u8, A>, AllocError>
+    ensures text { IfOk result (λ t. t.items ≡ text.items ++ bytes_word bytes.now) }
+    // What is appended stands for the bytes.
+    ensures stands { OnOk result (WordMeans (bytes_word bytes.now) bytes.now) }
+{
     push_bytes(&mut text, bytes)?;
     Ok(text)
 }
@@ -20,30 +29,52 @@ pub fn append_bytes<A: Allocator>(
 pub(crate) fn push_bytes<A: Allocator>(
     text: &mut Vec<u8, A>,
     bytes: &[u8],
-) -> Result<(), AllocError> {
+) -> Result<(), AllocError>
+    ensures text { OnOk result (text.new.items ≡ text.old.items ++ bytes_word bytes.now) }
+    ensures stands { OnOk result (WordMeans (bytes_word bytes.now) bytes.now) }
+{
     if bytes.is_empty() {
-        return text.extend_from_slice(b"-");
+        text.extend_from_slice(b"-")
+    } else if bytes == b"-".as_slice() {
+        push_escaped(text, b'-')
+    } else {
+        push_codes(text, bytes)
     }
-    if bytes == b"-".as_slice() {
-        return push_escaped(text, b'-');
-    }
+}
+
+// Each byte by its code.
+fn push_codes<A: Allocator>(text: &mut Vec<u8, A>, bytes: &[u8]) -> Result<(), AllocError>
+    requires { AreBytes bytes.now }
+    ensures text { OnOk result (text.new.items ≡ text.old.items ++ codes_of bytes.now) }
+    ensures bytes { AreBytes bytes.now }
+{
     for byte in bytes {
-        if is_plain(*byte) {
-            text.extend_from_slice(&[*byte])?;
-        } else {
-            push_escaped(text, *byte)?;
-        }
+        push_code(text, *byte)?;
     }
     Ok(())
 }
 
-fn push_escaped<A: Allocator>(text: &mut Vec<u8, A>, byte: u8) -> Result<(), AllocError> {
+// A byte as itself where it may stand so, else escaped.
+fn push_code<A: Allocator>(text: &mut Vec<u8, A>, byte: u8) -> Result<(), AllocError>
+    ensures { OnOk result (text.new.items ≡ text.old.items ++ byte_code byte) }
+{
+    if is_plain(byte) {
+        text.extend_from_slice(&[byte])
+    } else {
+        push_escaped(text, byte)
+    }
+}
+
+fn push_escaped<A: Allocator>(text: &mut Vec<u8, A>, byte: u8) -> Result<(), AllocError>
+    ensures { OnOk result (text.new.items ≡ text.old.items ++ escaped byte) }
+{
     text.extend_from_slice(&[b'\\', b'x', hex_digit(byte / 16), hex_digit(byte % 16)])
 }
 
 // The digit of a value below 16.
 fn hex_digit(value: u8) -> u8
     requires { value < 16 }
+    ensures { result ≡ digit_char value }
 {
     if value < 10 {
         b'0' + value
@@ -54,7 +85,7 @@ fn hex_digit(value: u8) -> u8
 
 // Whether a byte stands for itself.
 fn is_plain(byte: u8) -> bool
-    ensures { result ≡ spec.is_plain byte }
+    ensures { result ≡ is_plain byte }
 {
     byte.is_ascii_graphic() && byte != b'\\'
 }
@@ -62,9 +93,13 @@ fn is_plain(byte: u8) -> bool
 /// The bytes that a word stands for, as [`append_bytes`] writes them; a visible byte may be escaped
 /// too. Refused [`LineError::Key`] where it stands for none, and [`LineError::OutOfMemory`].
 pub fn parse_bytes<A: Allocator>(alloc: A, word: &[u8]) -> Result<Vec<u8, A>, LineError>
-    ensures bytes { IfOk result (λ bytes. spec.WordMeans word.now bytes.items) }
-    ensures refused { IfErr result (λ e. spec.lacks_memory e ≡ false →
-        (e ≡ spec.Key) × ((bytes : List ℕ) → ¬ spec.WordMeans word.now bytes)) }
+    ensures bytes { IfOk result (λ bytes. WordMeans word.now bytes.items) }
+    ensures refused { IfErr result (λ e. lacks_memory e ≡ false →
+        (e ≡ Key) × ((bytes : List ℕ) → ¬ WordMeans word.now bytes)) }
+    // A word that begins with no byte's code is refused so whatever memory there is, and one for no
+    // bytes wants none.
+    ensures early { ¬ BeginsSome word.now → result ≡ Err Key }
+    ensures none { word.now ≡ 45 ∷ [] → IsOk result }
 {
     parse_word(alloc, word, LineError::Key)
 }
@@ -76,9 +111,12 @@ pub(crate) fn parse_word<A: Allocator>(
     word: &[u8],
     fault: LineError,
 ) -> Result<Vec<u8, A>, LineError>
-    ensures bytes { IfOk result (λ bytes. spec.WordMeans word.now bytes.items) }
-    ensures refused { IfErr result (λ e. spec.lacks_memory e ≡ false →
-        (e ≡ fault) × ((bytes : List ℕ) → ¬ spec.WordMeans word.now bytes)) }
+    ensures bytes { IfOk result (λ bytes. WordMeans word.now bytes.items) }
+    ensures refused { IfErr result (λ e. lacks_memory e ≡ false →
+        (e ≡ fault) × ((bytes : List ℕ) → ¬ WordMeans word.now bytes)) }
+    // Memory is wanted behind the first code.
+    ensures began { IfErr result (λ e. (e ≡ fault) ⊎ BeginsSome word.now) }
+    ensures none { word.now ≡ 45 ∷ [] → IsOk result }
 {
     if word.is_empty() {
         return Err(fault);
@@ -95,9 +133,10 @@ fn parse_codes<A: Allocator>(
     word: &[u8],
     fault: LineError,
 ) -> Result<Vec<u8, A>, LineError>
-    ensures bytes { IfOk result (λ bytes. spec.AreCodes word.now bytes.items) }
-    ensures refused { IfErr result (λ e. spec.lacks_memory e ≡ false →
-        (e ≡ fault) × ((bytes : List ℕ) → ¬ spec.AreCodes word.now bytes)) }
+    ensures bytes { IfOk result (λ bytes. AreCodes word.now bytes.items) }
+    ensures refused { IfErr result (λ e. lacks_memory e ≡ false →
+        (e ≡ fault) × ((bytes : List ℕ) → ¬ AreCodes word.now bytes)) }
+    ensures began { IfErr result (λ e. (e ≡ fault) ⊎ BeginsSome word.now) }
 {
     let mut bytes = Vec::new(alloc);
     let mut rest = word;
@@ -115,9 +154,9 @@ fn parse_codes<A: Allocator>(
 
 // The byte of the code at the front of a word, and what follows it.
 fn parse_code(word: &[u8]) -> Option<(u8, &[u8])>
-    ensures some { IfSome result (λ r. spec.Begins word.now r.0 r.1.now) }
+    ensures some { IfSome result (λ r. Begins word.now r.0 r.1.now) }
     ensures shorter { IfSome result (λ r. length r.1.now < length word.now) }
-    ensures none { IfNone result ((byte : ℕ) (rest : List ℕ) → ¬ spec.Begins word.now byte rest) }
+    ensures none { IfNone result ((byte : ℕ) (rest : List ℕ) → ¬ Begins word.now byte rest) }
 {
     let (byte, rest) = word.split_first()?;
     if *byte == b'\\' {
@@ -131,11 +170,10 @@ fn parse_code(word: &[u8]) -> Option<(u8, &[u8])>
 
 // The byte of the two digits behind a backslash, and what follows them.
 fn parse_escape(word: &[u8]) -> Option<(u8, &[u8])>
-    ensures some { IfSome result
-        (λ r. (r.0 < 256) × (92 ∷ word.now ≡ spec.escaped r.0 ++ r.1.now)) }
+    ensures some { IfSome result (λ r. (r.0 < 256) × (92 ∷ word.now ≡ escaped r.0 ++ r.1.now)) }
     ensures shorter { IfSome result (λ r. length r.1.now < length word.now) }
     ensures none { IfNone result ((byte : ℕ) (rest : List ℕ) → byte < 256 →
-        92 ∷ word.now ≢ spec.escaped byte ++ rest) }
+        92 ∷ word.now ≢ escaped byte ++ rest) }
 {
     let (mark, rest) = word.split_first()?;
     let (high, rest) = rest.split_first()?;
@@ -150,8 +188,8 @@ fn parse_escape(word: &[u8]) -> Option<(u8, &[u8])>
 
 // The value of a digit.
 fn hex_value(digit: u8) -> Option<u8>
-    ensures some { IfSome result (λ value. (value < 16) × (digit ≡ spec.digit_char value)) }
-    ensures none { IfNone result ((value : ℕ) → value < 16 → digit ≢ spec.digit_char value) }
+    ensures some { IfSome result (λ value. (value < 16) × (digit ≡ digit_char value)) }
+    ensures none { IfNone result ((value : ℕ) → value < 16 → digit ≢ digit_char value) }
 {
     match digit {
         b'0'..=b'9' => Some(digit - b'0'),

@@ -8,6 +8,6 @@ mod object_line;
 mod word_line;
 
 pub use counts::word_for;
-pub use entry_line::{Format, LineError, append_entry, parse_entry};
+pub use entry_line::{Format, LineError, append_entry, parse_entry, read_back};
 pub use escapes::{append_bytes, parse_bytes};
 pub use object_line::write_bytes;

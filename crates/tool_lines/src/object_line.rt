@@ -1,8 +1,23 @@
 //! Entries as objects of JSON.
-ghost use Rattle.std.specs.Prelude.{◌≡◌, ◌≢◌, ℕ, IfErr, IfNone, IfOk, IfSome, List, OnOk, false};
-ghost use Rattle.std.specs.Prelude.{length};
-ghost use Rattle.tool_lines.specs.Words as spec;
-ghost use Rattle.json.specs.Json.{Json};
+ghost use Rattle.std.specs.Prelude.{◌≡◌, ◌≢◌, ◌<◌, ◌^◌, ◌++◌, ◌∷◌, ℕ, IfErr, IfNone, IfOk};
+ghost use Rattle.std.specs.Prelude.{Err, IfSome, List, OnOk, false, length};
+ghost use Rattle.std.specs.Str.{IsUtf8};
+ghost use Rattle.json.specs.Json.{Json, Members, object, string};
+ghost use Rattle.json.specs.Strict.{keys};
+ghost use Rattle.json.specs.Print.{print};
+ghost use Rattle.json.specs.Token.{Token};
+ghost use Rattle.json.specs.Value.{value_view};
+ghost use Rattle.sst_entries.specs.Lending.{entry_of_ref};
+ghost use Rattle.sst_entries.specs.declared.value_type.ValueType.{ValueType};
+ghost use Rattle.tool_lines.specs.Escapes.{AreBytes};
+ghost use Rattle.tool_lines.specs.Faults.{lacks_memory};
+ghost use Rattle.tool_lines.specs.ObjectLine.{AreMembers, HasMore, IsEntryObject, IsObjectFault};
+ghost use Rattle.tool_lines.specs.ObjectLine.{IsStrictLine, LacksMembers, MeansBytes, MeansNumber};
+ghost use Rattle.tool_lines.specs.ObjectLine.{SpellsObject, StandsInDigits, WritesBytes};
+ghost use Rattle.tool_lines.specs.ObjectLine.{WritesEntry, digits_tokens, kind_name};
+ghost use Rattle.tool_lines.specs.declared.entry_line.LineError.TheVariants as told;
+ghost use Rattle.tool_lines.specs.declared.entry_line.LineError.TheVariants.{KindMember};
+ghost use Rattle.tool_lines.specs.declared.entry_line.LineError.TheVariants.{NumberMember};
 
 use crate::LineError;
 use crate::word_line::{parse_number, slice_of};
@@ -11,11 +26,16 @@ use sst_entries::{EntryRef, InternalValue, Slice, ValueType};
 use std::alloc::{AllocError, Allocator};
 
 /// Appends an entry's object.
-pub(crate) fn append_object<A: Allocator + Copy>(
+pub(crate) fn push_object<A: Allocator + Copy>(
     alloc: A,
     text: Vec<u8, A>,
     entry: &EntryRef<'_>,
-) -> Result<Vec<u8, A>, AllocError> {
+) -> Result<Vec<u8, A>, AllocError>
+    ensures text { IfOk result (λ t. (ts : List Token) × WritesEntry (entry_of_ref entry.now) ts
+        × (t.items ≡ text.items ++ print ts)) }
+    ensures spells { OnOk result ((ts : List Token) → WritesEntry (entry_of_ref entry.now) ts
+        → SpellsObject (print ts) (entry_of_ref entry.now)) }
+{
     let mut writer = Writer::new(text);
     write_members(alloc, &mut writer, entry)?;
     Ok(writer.into_inner())
@@ -25,17 +45,36 @@ fn write_members<A: Allocator + Copy>(
     alloc: A,
     writer: &mut Writer<A>,
     entry: &EntryRef<'_>,
-) -> Result<(), AllocError> {
+) -> Result<(), AllocError>
+    ensures tokens { OnOk result ((ts : List Token) × WritesEntry (entry_of_ref entry.now) ts
+        × HasMore writer.old writer.new ts) }
+    // What any entry has, which no text of it says.
+    ensures bytes { OnOk result (AreBytes (entry_of_ref entry.now).user_key
+        × AreBytes (entry_of_ref entry.now).value × ((entry_of_ref entry.now).seqno < 2 ^ 64)) }
+{
     writer.begin_object()?;
-    writer.key("key")?;
-    write_bytes(alloc, writer, entry.user_key)?;
+    write_member(alloc, writer, "key", entry.user_key)?;
     writer.key("seqno")?;
     writer.u64(entry.seqno)?;
     writer.key("kind")?;
     writer.string(name_of(entry.value_type))?;
-    writer.key("value")?;
-    write_bytes(alloc, writer, entry.value)?;
+    write_member(alloc, writer, "value", entry.value)?;
     writer.end_object()
+}
+
+// Writes a member that stands for bytes.
+fn write_member<A: Allocator + Copy>(
+    alloc: A,
+    writer: &mut Writer<A>,
+    name: &str,
+    bytes: &[u8],
+) -> Result<(), AllocError>
+    ensures tokens { OnOk result ((ts : List Token) × WritesBytes bytes.now ts
+        × HasMore writer.old writer.new (Token.key name.now ∷ ts)) }
+    ensures bytes { AreBytes bytes.now }
+{
+    writer.key(name)?;
+    write_bytes(alloc, writer, bytes)
 }
 
 /// Writes bytes as a string, or, where they are no UTF-8, as an object `{"hex":"ff00"}`. Refused
@@ -44,10 +83,23 @@ pub fn write_bytes<A: Allocator + Copy>(
     alloc: A,
     writer: &mut Writer<A>,
     bytes: &[u8],
-) -> Result<(), AllocError> {
-    if let Ok(text) = str::from_utf8(bytes) {
-        return writer.string(text);
+) -> Result<(), AllocError>
+    ensures { OnOk result ((ts : List Token) × WritesBytes bytes.now ts
+        × HasMore writer.old writer.new ts) }
+{
+    match str::from_utf8(bytes) {
+        Ok(text) => writer.string(text),
+        Err(_) => write_digits(alloc, writer, bytes),
     }
+}
+
+fn write_digits<A: Allocator + Copy>(
+    alloc: A,
+    writer: &mut Writer<A>,
+    bytes: &[u8],
+) -> Result<(), AllocError>
+    ensures { OnOk result (HasMore writer.old writer.new (digits_tokens bytes.now)) }
+{
     let digits = hex::encode(alloc, bytes)?;
     writer.begin_object()?;
     writer.key("hex")?;
@@ -56,7 +108,9 @@ pub fn write_bytes<A: Allocator + Copy>(
 }
 
 // A kind's name.
-fn name_of(kind: ValueType) -> &'static str {
+fn name_of(kind: ValueType) -> &'static str
+    ensures { result.now ≡ kind_name kind }
+{
     match kind {
         ValueType::Value => "value",
         ValueType::Tombstone => "tombstone",
@@ -71,9 +125,9 @@ pub(crate) fn parse_object<A: Allocator + Copy>(
     alloc: A,
     line: &[u8],
 ) -> Result<InternalValue<A>, LineError>
-    ensures spells { IfOk result (λ e. spec.SpellsObject line.now e) }
-    ensures refused { IfErr result (λ e. spec.lacks_memory e ≡ false
-        → (item : spec.Entry) → ¬ spec.SpellsObject line.now item) }
+    ensures spells { IfOk result (λ e. SpellsObject line.now e) }
+    ensures refused { IfErr result (λ e. IsObjectFault line.now e) }
+    ensures early { ¬ IsUtf8 line.now → result ≡ Err told.Json }
 {
     let Ok(text) = str::from_utf8(line) else {
         return Err(LineError::Json);
@@ -100,11 +154,10 @@ fn read_object<A: Allocator + Copy>(
     alloc: A,
     object: &Value<'_, A>,
 ) -> Result<InternalValue<A>, LineError>
-    ensures spells { (line : List ℕ) → spec.IsStrictLine line (spec.value_view object.now)
-        → IfOk result (λ e. spec.SpellsObject line e) }
-    ensures refused { (line : List ℕ) → spec.IsStrictLine line (spec.value_view object.now)
-        → IfErr result (λ e. spec.lacks_memory e ≡ false
-        → (item : spec.Entry) → ¬ spec.SpellsObject line item) }
+    ensures spells { (line : List ℕ) → IsStrictLine line (value_view object.now)
+        → IfOk result (λ e. SpellsObject line e) }
+    ensures refused { (line : List ℕ) → IsStrictLine line (value_view object.now)
+        → IfErr result (λ e. IsObjectFault line e) }
 {
     let members = split_members(object)?;
     let seqno = read_number(members.seqno)?;
@@ -120,11 +173,9 @@ fn read_object<A: Allocator + Copy>(
 fn split_members<'v, 'a, A: Allocator>(
     value: &'v Value<'a, A>,
 ) -> Result<EntryMembers<'v, 'a, A>, LineError>
-    ensures ok { IfOk result
-        (λ m. spec.IsEntryObject (spec.value_view value.now) (spec.value_view m.key.now)
-        (spec.value_view m.seqno.now) (spec.value_view m.kind.now) (spec.value_view m.value.now)) }
-    ensures refused { IfErr result (λ _. (key seqno kind other : Json)
-        → ¬ spec.IsEntryObject (spec.value_view value.now) key seqno kind other) }
+    ensures ok { IfOk result (λ m. IsEntryObject (value_view value.now) (value_view m.key.now)
+        (value_view m.seqno.now) (value_view m.kind.now) (value_view m.value.now)) }
+    ensures refused { IfErr result (LacksMembers (value_view value.now)) }
 {
     test_members(value)?;
     find_members(value).ok_or(LineError::Members)
@@ -132,11 +183,9 @@ fn split_members<'v, 'a, A: Allocator>(
 
 // Tests that a value is an object of four members.
 fn test_members<A: Allocator>(value: &Value<'_, A>) -> Result<(), LineError>
-    ensures ok { OnOk result
-        ((members : spec.Members) × (spec.value_view value.now ≡ spec.object members)
-        × (length (spec.keys members) ≡ 4)) }
-    ensures refused { IfErr result (λ _. (key seqno kind other : Json)
-        → ¬ spec.IsEntryObject (spec.value_view value.now) key seqno kind other) }
+    ensures ok { OnOk result ((members : Members) × (value_view value.now ≡ object members)
+        × (length (keys members) ≡ 4)) }
+    ensures refused { IfErr result (LacksMembers (value_view value.now)) }
 {
     match value {
         Value::Object(members) if members.len() == 4 => Ok(()),
@@ -147,12 +196,12 @@ fn test_members<A: Allocator>(value: &Value<'_, A>) -> Result<(), LineError>
 
 // The members that are an entry's, where a value has each.
 fn find_members<'v, 'a, A: Allocator>(value: &'v Value<'a, A>) -> Option<EntryMembers<'v, 'a, A>>
-    ensures some { IfSome result (λ m. (members : spec.Members)
-        → spec.value_view value.now ≡ spec.object members → length (spec.keys members) ≡ 4
-        → spec.AreMembers members (spec.value_view m.key.now) (spec.value_view m.seqno.now)
-        (spec.value_view m.kind.now) (spec.value_view m.value.now)) }
+    ensures some { IfSome result (λ m. (members : Members)
+        → value_view value.now ≡ object members → length (keys members) ≡ 4
+        → AreMembers members (value_view m.key.now) (value_view m.seqno.now)
+        (value_view m.kind.now) (value_view m.value.now)) }
     ensures none { IfNone result ((key seqno kind other : Json)
-        → ¬ spec.IsEntryObject (spec.value_view value.now) key seqno kind other) }
+        → ¬ IsEntryObject (value_view value.now) key seqno kind other) }
 {
     Some(EntryMembers {
         key: value.get("key")?,
@@ -163,9 +212,9 @@ fn find_members<'v, 'a, A: Allocator>(value: &'v Value<'a, A>) -> Option<EntryMe
 }
 
 fn read_number<A: Allocator>(value: &Value<'_, A>) -> Result<u64, LineError>
-    ensures ok { IfOk result (λ n. spec.MeansNumber (spec.value_view value.now) n) }
-    ensures refused { IfErr result (λ _. (n : ℕ) →
-        ¬ spec.MeansNumber (spec.value_view value.now) n) }
+    ensures ok { IfOk result (λ n. MeansNumber (value_view value.now) n) }
+    ensures refused { IfErr result (λ e.
+        (e ≡ NumberMember) × ((n : ℕ) → ¬ MeansNumber (value_view value.now) n)) }
 {
     match value {
         Value::Number(text) => parse_number(text.as_bytes()).ok_or(LineError::NumberMember),
@@ -174,11 +223,9 @@ fn read_number<A: Allocator>(value: &Value<'_, A>) -> Result<u64, LineError>
 }
 
 fn read_kind<A: Allocator>(value: &Value<'_, A>) -> Result<ValueType, LineError>
-    ensures ok { IfOk result (λ kind. spec.value_view value.now
-        ≡ spec.string (spec.kind_name kind)) }
-    ensures refused { IfErr result
-        (λ _. (kind : spec.ValueType) →
-        spec.value_view value.now ≢ spec.string (spec.kind_name kind)) }
+    ensures ok { IfOk result (λ kind. value_view value.now ≡ string (kind_name kind)) }
+    ensures refused { IfErr result (λ e. (e ≡ KindMember)
+        × ((kind : ValueType) → value_view value.now ≢ string (kind_name kind))) }
 {
     match value {
         Value::String(text) => kind_named(text).ok_or(LineError::KindMember),
@@ -187,8 +234,8 @@ fn read_kind<A: Allocator>(value: &Value<'_, A>) -> Result<ValueType, LineError>
 }
 
 fn kind_named(name: &str) -> Option<ValueType>
-    ensures some { IfSome result (λ kind. name.now ≡ spec.kind_name kind) }
-    ensures none { IfNone result ((kind : spec.ValueType) → name.now ≢ spec.kind_name kind) }
+    ensures some { IfSome result (λ kind. name.now ≡ kind_name kind) }
+    ensures none { IfNone result ((kind : ValueType) → name.now ≢ kind_name kind) }
 {
     match name {
         "value" => Some(ValueType::Value),
@@ -205,9 +252,9 @@ fn read_bytes<A: Allocator + Copy>(
     value: &Value<'_, A>,
     fault: LineError,
 ) -> Result<Slice<A>, LineError>
-    ensures ok { IfOk result (λ bytes. spec.MeansBytes (spec.value_view value.now) bytes) }
-    ensures refused { IfErr result (λ e. spec.lacks_memory e ≡ false →
-        (bytes : List ℕ) → ¬ spec.MeansBytes (spec.value_view value.now) bytes) }
+    ensures ok { IfOk result (λ bytes. MeansBytes (value_view value.now) bytes) }
+    ensures refused { IfErr result (λ e. lacks_memory e ≡ false →
+        (e ≡ fault) × ((bytes : List ℕ) → ¬ MeansBytes (value_view value.now) bytes)) }
 {
     match value {
         Value::String(text) => slice_of(Vec::from_slice(alloc, text.as_bytes())?),
@@ -226,9 +273,9 @@ fn read_digits<A: Allocator + Copy>(
     value: &Value<'_, A>,
     fault: LineError,
 ) -> Result<Slice<A>, LineError>
-    ensures ok { IfOk result (λ bytes. spec.StandsInDigits (spec.value_view value.now) bytes) }
-    ensures refused { IfErr result (λ e. spec.lacks_memory e ≡ false →
-        (bytes : List ℕ) → ¬ spec.StandsInDigits (spec.value_view value.now) bytes) }
+    ensures ok { IfOk result (λ bytes. StandsInDigits (value_view value.now) bytes) }
+    ensures refused { IfErr result (λ e. lacks_memory e ≡ false →
+        (e ≡ fault) × ((bytes : List ℕ) → ¬ StandsInDigits (value_view value.now) bytes)) }
 {
     let Value::String(digits) = value else {
         return Err(fault);

@@ -1,7 +1,17 @@
 //! Entries as words: KEY NUMBER KIND VALUE.
-ghost use Rattle.std.specs.Prelude.{◌≡◌, ◌≢◌, ◌==◌, ◌<◌, ℕ, List, ◌∷◌, [], length};
-ghost use Rattle.std.specs.Prelude.{false, Some, IfSome, IfNone, IfOk, IfErr};
-ghost use Rattle.tool_lines.specs.Words as spec;
+ghost use Rattle.std.specs.Prelude.{◌≡◌, ◌≢◌, ◌⊎◌, ◌==◌, ◌<◌, ℕ, List, ◌∷◌, [], ◌++◌, length};
+ghost use Rattle.std.specs.Prelude.{false, Err, Some, OnOk, IfSome, IfNone, IfOk, IfErr};
+ghost use Rattle.std.specs.Option.{SomeIff, option_copied};
+ghost use Rattle.std.specs.List.{position};
+ghost use Rattle.std.specs.Str.Parse.{digits_value};
+ghost use Rattle.sst_entries.specs.Lending.{entry_of_ref};
+ghost use Rattle.sst_entries.specs.declared.value_type.ValueType.{ValueType};
+ghost use Rattle.tool_lines.specs.Escapes.{BeginsSome, WordMeans};
+ghost use Rattle.tool_lines.specs.Faults.{lacks_memory};
+ghost use Rattle.tool_lines.specs.WordLine.{IsEarlyFault, IsNumberWord, IsWordFault, SpellsEntry};
+ghost use Rattle.tool_lines.specs.WordLine.{kind_letter, line_words, line_words_behind, word_line};
+ghost use Rattle.tool_lines.specs.declared.entry_line.LineError.{LineError as LineFault};
+ghost use Rattle.tool_lines.specs.declared.entry_line.LineError.TheVariants.{OutOfMemory};
 
 use crate::LineError;
 use crate::escapes::{parse_word, push_bytes};
@@ -22,7 +32,12 @@ struct Words<'a> {
 pub(crate) fn push_words<A: Allocator>(
     text: &mut Vec<u8, A>,
     entry: &EntryRef<'_>,
-) -> Result<(), AllocError> {
+) -> Result<(), AllocError>
+    ensures text { OnOk result
+        (text.new.items ≡ text.old.items ++ word_line (entry_of_ref entry.now)) }
+    ensures spells { OnOk result
+        (SpellsEntry (word_line (entry_of_ref entry.now)) (entry_of_ref entry.now)) }
+{
     push_bytes(text, entry.user_key)?;
     text.extend_from_slice(b" ")?;
     text.extend_from_slice(Buffer::new().format(entry.seqno).as_bytes())?;
@@ -31,7 +46,9 @@ pub(crate) fn push_words<A: Allocator>(
 }
 
 // A kind's letter.
-fn letter_of(kind: ValueType) -> u8 {
+fn letter_of(kind: ValueType) -> u8
+    ensures { result ≡ kind_letter kind }
+{
     match kind {
         ValueType::Value => b'V',
         ValueType::Tombstone => b'T',
@@ -47,9 +64,9 @@ pub(crate) fn parse_words<A: Allocator + Copy>(
     alloc: A,
     line: &[u8],
 ) -> Result<InternalValue<A>, LineError>
-    ensures spells { IfOk result (λ e. spec.SpellsEntry line.now e) }
-    ensures refused { IfErr result (λ e. spec.lacks_memory e ≡ false
-        → (item : spec.Entry) → ¬ spec.SpellsEntry line.now item) }
+    ensures spells { IfOk result (λ e. SpellsEntry line.now e) }
+    ensures refused { IfErr result (λ e. IsWordFault line.now e) }
+    ensures early { (fault : LineFault) → IsEarlyFault line.now fault → result ≡ Err fault }
 {
     let Some(words) = split_line(line) else {
         return Err(LineError::Words);
@@ -73,9 +90,10 @@ fn parse_slice<A: Allocator + Clone>(
     word: &[u8],
     fault: LineError,
 ) -> Result<Slice<A>, LineError>
-    ensures bytes { IfOk result (λ bytes. spec.WordMeans word.now bytes) }
-    ensures refused { IfErr result (λ e. spec.lacks_memory e ≡ false →
-        (e ≡ fault) × ((bytes : List ℕ) → ¬ spec.WordMeans word.now bytes)) }
+    ensures bytes { IfOk result (λ bytes. WordMeans word.now bytes) }
+    ensures refused { IfErr result (λ e. lacks_memory e ≡ false →
+        (e ≡ fault) × ((bytes : List ℕ) → ¬ WordMeans word.now bytes)) }
+    ensures began { IfErr result (λ e. (e ≡ fault) ⊎ BeginsSome word.now) }
 {
     slice_of(parse_word(alloc, word, fault)?)
 }
@@ -83,7 +101,7 @@ fn parse_slice<A: Allocator + Clone>(
 // The bytes of a vector, which is given up.
 pub(crate) fn slice_of<A: Allocator + Clone>(bytes: Vec<u8, A>) -> Result<Slice<A>, LineError>
     ensures ok { IfOk result (λ slice. slice ≡ bytes.items) }
-    ensures err { IfErr result (λ e. e ≡ spec.OutOfMemory) }
+    ensures err { IfErr result (λ e. e ≡ OutOfMemory) }
 {
     match Slice::from_vec(bytes) {
         Ok(slice) => Ok(slice),
@@ -93,9 +111,9 @@ pub(crate) fn slice_of<A: Allocator + Clone>(bytes: Vec<u8, A>) -> Result<Slice<
 
 // The four words of a line.
 fn split_line(line: &[u8]) -> Option<Words<'_>>
-    ensures some { IfSome result (λ w. spec.line_words line.now ≡
+    ensures some { IfSome result (λ w. line_words line.now ≡
         w.key.now ∷ w.seqno.now ∷ w.kind.now ∷ w.value.now ∷ []) }
-    ensures none { IfNone result (length (spec.line_words line.now) ≢ 4) }
+    ensures none { IfNone result (length (line_words line.now) ≢ 4) }
 {
     let (key, rest) = split_word(line);
     let (seqno, rest) = split_word(rest?);
@@ -114,8 +132,7 @@ fn split_line(line: &[u8]) -> Option<Words<'_>>
 
 // The first word, and what follows the space behind it.
 fn split_word(line: &[u8]) -> (&[u8], Option<&[u8]>)
-    ensures { spec.line_words line.now ≡ result.0.now ∷ spec.line_words_behind
-        (spec.option_copied result.1) }
+    ensures { line_words line.now ≡ result.0.now ∷ line_words_behind (option_copied result.1) }
 {
     match find_space(line) {
         Some(at) => (&line[..at], Some(&line[at + 1..])),
@@ -124,7 +141,7 @@ fn split_word(line: &[u8]) -> (&[u8], Option<&[u8]>)
 }
 
 fn find_space(line: &[u8]) -> Option<usize>
-    ensures first { result ≡ spec.position (λ byte. byte == 32) line.now }
+    ensures first { result ≡ position (λ byte. byte == 32) line.now }
     ensures within { IfSome result (λ at. at < length line.now) }
 {
     line.iter().position(|byte| *byte == b' ')
@@ -132,7 +149,7 @@ fn find_space(line: &[u8]) -> Option<usize>
 
 /// A decimal number without leading zeros.
 pub(crate) fn parse_number(word: &[u8]) -> Option<u64>
-    ensures { spec.SomeIff result (spec.IsNumberWord word.now) (spec.digits_value 10 word.now) }
+    ensures { SomeIff result (IsNumberWord word.now) (digits_value 10 word.now) }
 {
     if let [b'+', ..] | [b'0', _, ..] = word {
         return None;
@@ -145,9 +162,8 @@ pub(crate) fn parse_number(word: &[u8]) -> Option<u64>
 
 // The kind of a letter.
 fn parse_kind(word: &[u8]) -> Option<ValueType>
-    ensures letter { IfSome result (λ kind. word.now ≡ spec.kind_letter kind ∷ []) }
-    ensures all { (kind : spec.ValueType) → word.now ≡ spec.kind_letter kind ∷ [] →
-        result ≡ Some kind }
+    ensures letter { IfSome result (λ kind. word.now ≡ kind_letter kind ∷ []) }
+    ensures all { (kind : ValueType) → word.now ≡ kind_letter kind ∷ [] → result ≡ Some kind }
 {
     match word {
         b"V" => Some(ValueType::Value),

@@ -7,3 +7,4 @@ mod Scanning
 mod Sorting
 mod TableFiles
 mod Taken
+mod Texts

@@ -15,8 +15,8 @@ use Rattle.lsm_compactions.specs.declared.any_runs.CompactionOutcome.TheVariants
 use Rattle.logpurple.specs.Words.{Entry, Error, HaveEntries, OpenTable, OutOfMemory, RunsHoldLists}
 use Rattle.logpurple.specs.Words.{kept_in}
 use Rattle.tool_files.specs.Targets.{largest_table}
-use Rattle.tool_files.specs.declared.error.ToolError.{ToolError}
-use Rattle.tool_files.specs.declared.error.ToolError.TheVariants as error
+use Rattle.tool_make.specs.declared.compact_error.CompactError.{CompactError}
+use Rattle.tool_make.specs.declared.compact_error.CompactError.TheVariants as error
 use Rattle.tool_make.specs.declared.compact_options.CompactOptions.{CompactOptions}
 
 -- the writer that is asked for
@@ -57,7 +57,7 @@ HasNoTables (Tables tables left) = ⊥
 HasNoTables _ = Unit {0}
 
 -- where an error says that entries came out of order, this holds
-abbrev pub IfOutOfOrder : ToolError → Type 0 → Type 0
+abbrev pub IfOutOfOrder : CompactError → Type 0 → Type 0
 IfOutOfOrder (error.OutOfOrder path) P = P
 IfOutOfOrder error.Repeated P = P
 IfOutOfOrder error.Unordered P = P
@@ -65,25 +65,25 @@ IfOutOfOrder _ P = Unit {0}
 
 -- where tables of lists are said to have entries out of order, one of what is kept of all together
 -- may not follow those before it
-abbrev pub TellsOrder : CompactOptions → List OpenTable → ToolError → Type 0
+abbrev pub TellsOrder : CompactOptions → List OpenTable → CompactError → Type 0
 TellsOrder o opened e = (lists : List (List (List Entry))) → RunsHoldLists (each_alone opened) lists
     → AllByRecursion HaveEntries lists
     → IfOutOfOrder e (LeavesOrder (compactor_by o) (ok_results (kept_in o.rules lists)))
 
 -- memory aside, an error is this refusal of the library, and names no file
-abbrev pub IsRefusalWith : Option Error → ToolError → Type 0
+abbrev pub IsRefusalWith : Option Error → CompactError → Type 0
 IsRefusalWith told (error.Refused f) = is_memory f ≡ false → told ≡ Some f
 IsRefusalWith told (error.Unplaced f) = told ≡ Some f
 IsRefusalWith told e = ⊥
 
 -- memory aside, an error is the first fault of writing a list and opening its tables; where they
 -- fit, with an id left for each, it is want of memory
-pub record IsRefusedFor (o : CompactOptions) (es : List Entry) (e : ToolError) : Type 0 where
+pub record IsRefusedFor (o : CompactOptions) (es : List Entry) (e : CompactError) : Type 0 where
   pub told : IsRefusalWith (run_with_fault (compactor_by o) es 0) e
   pub taken : FitsBy (compactor_by o) es → highest_seqno es + 0 < 2 ^ 64
       → e ≡ error.Refused OutOfMemory
 
 -- of tables that may be compacted, each alone, the refusal is that of what is kept of their lists
-abbrev pub TellsLibrary : CompactOptions → List OpenTable → ToolError → Type 0
+abbrev pub TellsLibrary : CompactOptions → List OpenTable → CompactError → Type 0
 TellsLibrary o opened e = AreCompactable (each_alone opened) → (lists : List (List (List Entry)))
     → RunsHoldLists (each_alone opened) lists → IsRefusedFor o (kept_in o.rules lists) e

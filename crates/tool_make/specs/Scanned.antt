@@ -1,7 +1,7 @@
 -- What reading tables whole finds.
 use denote.Ref.{Bor}
 use Rattle.std.specs.Prelude.{◌≡◌, ◌<◌, ℕ, Bool, true, false, List, [], Option, None, Some}
-use Rattle.std.specs.Prelude.{codes, length, take}
+use Rattle.std.specs.Prelude.{length, take}
 use Rattle.std.specs.List.{AllByRecursion, slice_get}
 use Rattle.sst_entries.specs.Error.{is_memory}
 use Rattle.sst_entries.specs.Stream.{first, up_to_error}
@@ -10,14 +10,10 @@ use Rattle.sst_entries.specs.declared.error.Error.{Error}
 use Rattle.lsm_merge.specs.Ends.{R}
 use Rattle.lsm_merge.specs.Union.{entries_among, errors_among}
 use Rattle.lsm_runs.specs.RunScan.{early_scan_fault, table_scan}
-use Rattle.tool_files.specs.declared.error.ToolError.{ToolError}
-use Rattle.tool_files.specs.declared.error.ToolError.TheVariants as error
+use Rattle.tool_make.specs.declared.compact_error.CompactError.{CompactError}
+use Rattle.tool_make.specs.declared.compact_error.CompactError.TheVariants as error
+use Rattle.tool_make.specs.Printed.{path_or_mark}
 use Rattle.logpurple.specs.Words.{Entry, OpenTable, StoresList}
-
--- a path, and a question mark where there is none
-abbrev pub path_or_mark : Option (Bor (List ℕ)) → List ℕ
-path_or_mark None = codes "?"
-path_or_mark (Some path) = path.now
 
 -- the bytes of a table store no list that has an entry
 abbrev pub StoresNoEntries : OpenTable → Type 0
@@ -53,7 +49,7 @@ ComesInOrder t = come_in_order (table_scan t) ≡ true
 -- where a file is told to be out of order, it is the first whose entries do not come in order, and
 -- the bytes of its table store no list; where none is told, each comes in order, or as far as there
 -- was memory to find that out
-abbrev pub NamesOrder : List (Bor (List ℕ)) → List OpenTable → ToolError → Type 0
+abbrev pub NamesOrder : List (Bor (List ℕ)) → List OpenTable → CompactError → Type 0
 NamesOrder paths tables (error.OutOfOrder path) = (place : ℕ) × (t : OpenTable)
     × (slice_get tables place ≡ Some t) × (path.now ≡ path_or_mark (slice_get paths place))
     × StoresNone t × (come_in_order (table_scan t) ≡ false)

@@ -5,9 +5,9 @@ use Rattle.std.specs.List.Sorted.{IsSortedBy, IsStableBy}
 use Rattle.sst_entries.specs.Entry.{Entry}
 use Rattle.sst_entries.specs.Strict.{IsStrict, is_before, last_of, may_follow}
 use Rattle.tool_lines.specs.declared.entry_line.Format.{Format}
-use Rattle.tool_files.specs.declared.error.LineFault.TheVariants.{OutOfOrder, Repeated}
-use Rattle.tool_files.specs.declared.error.ToolError.{ToolError}
-use Rattle.tool_files.specs.declared.error.ToolError.TheVariants.{Line}
+use Rattle.tool_make.specs.declared.make_error.LineFault.TheVariants.{OutOfOrder, Repeated}
+use Rattle.tool_make.specs.declared.make_error.MakeError.{MakeError}
+use Rattle.tool_make.specs.declared.make_error.MakeError.TheVariants.{Line}
 use Rattle.tool_make.specs.Entries.{LineSpells, Spell, SpellRows, input_lines}
 
 -- a list that is put in order: the same items, none before the one in front of it, and those that
@@ -54,7 +54,7 @@ pub record IsFirstOutOfOrder (format : Format) (lines : List (List ℕ)) (number
 
 -- a line that is told as repeated is the first such one of all lines, put in order; one that is
 -- told as out of order is the first such one
-abbrev pub TellsLineOrder : Format → Option (List ℕ) → ToolError → Type 0
+abbrev pub TellsLineOrder : Format → Option (List ℕ) → MakeError → Type 0
 TellsLineOrder format input (Line n Repeated) = IfSome input (λ bytes. (rows : List (ℕ × Entry))
     × SpellRows format 1 (input_lines bytes) rows × IsFirstRepeated rows n)
 TellsLineOrder format input (Line n OutOfOrder) =

@@ -3,15 +3,16 @@ use Rattle.std.specs.Prelude.{◌≡◌, ◌≤◌, ◌+◌, ◌⊎◌, ℕ, Boo
 use Rattle.std.specs.Prelude.{IfSome, Option, Some, None, codes, map}
 use Rattle.std.specs.Fmt.{decimal}
 use Rattle.lsm_writers.specs.declared.writer.FinishedTable.{FinishedTable}
-use Rattle.tool_files.specs.Files.{error_of_file, path_text}
+use Rattle.tool_files.specs.Files.{path_text}
 use Rattle.tool_files.specs.Numbered.{named_bytes, numbered_files}
 use Rattle.tool_files.specs.Placed.{AreNotPlaced, ArePlaced, IfLeft, StopLooking}
 use Rattle.tool_files.specs.Steps.{Step}
 use Rattle.tool_files.specs.declared.file_error.FileError.{FileError}
 use Rattle.tool_files.specs.declared.write.NewFile.{NewFile}
-use Rattle.tool_files.specs.declared.error.ToolError.{ToolError}
-use Rattle.tool_files.specs.declared.error.ToolError.TheVariants.{File, Refused}
+use Rattle.tool_make.specs.declared.make_error.MakeError.{MakeError}
+use Rattle.tool_make.specs.declared.make_error.MakeError.TheVariants.{File, Refused}
 use Rattle.logpurple.specs.Words.{OutOfMemory}
+use Rattle.tool_make.specs.Faults.{error_of_file}
 
 -- the name of a table's file: the path where there is one table, and the number behind it where
 -- there may be several
@@ -27,13 +28,13 @@ files_from {A} path target number fs =
 
 -- where a file of an earlier write is told, it has the name behind the tables that were to be
 -- written
-abbrev pub TellsEarlier : List ℕ → Option ℕ → ℕ → ToolError → Type 0
+abbrev pub TellsEarlier : List ℕ → Option ℕ → ℕ → MakeError → Type 0
 TellsEarlier path target tables (File error) =
     IfLeft error.fault (path_text error.name ≡ table_file_name path target (tables + 1))
 TellsEarlier path target tables error = Unit {0}
 
 -- where a file is told, it is that of one of the tables, or the one behind them
-abbrev pub TellsTableFile : List ℕ → Option ℕ → ℕ → ToolError → Type 0
+abbrev pub TellsTableFile : List ℕ → Option ℕ → ℕ → MakeError → Type 0
 TellsTableFile path target tables (File error) =
     (number : ℕ) × (number ≤ tables)
     × (path_text error.name ≡ table_file_name path target (number + 1))
@@ -72,7 +73,7 @@ pub record AreTablesNotPlaced {A : Type 0} (path : List ℕ) (target : Option �
 -- the list of files was refused memory, and nothing was done; or a file is told, or want of memory
 -- at it, and so they were not placed
 abbrev pub RefusesTables : {A : Type 0} → List ℕ → Option ℕ → List (FinishedTable A)
-    → (List ℕ → Option Bool) → Option (List Step) → ToolError → Option (List Step) → Type 0
+    → (List ℕ → Option Bool) → Option (List Step) → MakeError → Option (List Step) → Type 0
 RefusesTables path target fs there known error new =
     ((error ≡ Refused OutOfMemory) × (new ≡ known))
     ⊎ ((file : FileError) × (error ≡ error_of_file file)

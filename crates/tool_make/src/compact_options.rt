@@ -1,6 +1,7 @@
 //! How files are compacted.
 ghost use Rattle.std.specs.Prelude.{◌≡◌, IfErr, IfOk};
-ghost use Rattle.tool_make.specs.Words as spec;
+ghost use Rattle.logpurple.specs.Words.{OutOfMemory};
+ghost use Rattle.tool_make.specs.Compacted.{compactor_by};
 
 use logpurple::block::Error;
 use logpurple::compaction::Rules;
@@ -22,8 +23,8 @@ pub struct CompactOptions {
 impl CompactOptions {
     /// A writer of tables of the first level, with ids from 1 on. Refused for want of memory alone.
     pub(crate) fn writer<A: Allocator + Copy>(&self, alloc: A) -> Result<MultiWriter<A>, Error>
-        ensures ok { IfOk result (λ w. w ≡ spec.compactor_by self.now) }
-        ensures err { IfErr result (λ e. e ≡ spec.OutOfMemory) }
+        ensures ok { IfOk result (λ w. w ≡ compactor_by self.now) }
+        ensures err { IfErr result (λ e. e ≡ OutOfMemory) }
     {
         let (ids, target) = (TableIds::new(1), largest_table(self.target));
         MultiWriter::new(alloc, ids, target, 0, self.created_at)

@@ -1,15 +1,27 @@
 //! Entries that are read from lines and written into tables.
 ghost use Rattle.std.specs.Prelude.{◌≡◌, ◌++◌, ◌∷◌, [], IfOk, IsTrue, IsPermutation, List, None};
 ghost use Rattle.std.specs.Prelude.{IfErr, OnOk, length, true, if◌then◌else◌};
-ghost use Rattle.tool_make.specs.Words as spec;
+ghost use Rattle.std.specs.Io.BufRead.{strip_last};
+ghost use Rattle.sst_entries.specs.Entry.{Entry};
+ghost use Rattle.sst_entries.specs.Strict.{version_cmp};
+ghost use Rattle.lsm_writers.specs.Tables.{all_written, took, took_fault};
+ghost use Rattle.lsm_writers.specs.Writing.{may_be_written};
+ghost use Rattle.tool_make.specs.declared.make_error.LineFault.TheVariants.{OutOfOrder, Repeated};
+ghost use Rattle.tool_make.specs.Entries.{HasEntries, HasRows, LineSpells, ReadsInputLine};
+ghost use Rattle.tool_make.specs.Entries.{numbered, row_entries};
+ghost use Rattle.tool_make.specs.Faults.{IsOfInput, StopsAmong, StopsIn, StopsReading, TellsEntry};
+ghost use Rattle.tool_make.specs.Faults.{TellsLine, TellsSpelling};
+ghost use Rattle.tool_make.specs.Sorting.{IsSortOf, is_row_before};
+ghost use Rattle.tool_make.specs.Taken.{TookAll};
+ghost use Rattle.tool_make.specs.Written.{TookLine};
 
+use crate::{LineFault, MakeError};
 use logpurple::block::{Error, InternalValue, SeqNo};
 use logpurple::table::MultiWriter;
 use std::alloc::{AllocError, Allocator};
 use std::cmp::Ordering;
 use std::io;
 use std::io::{BufRead, ErrorKind};
-use tool_files::{LineFault, ToolError};
 use tool_lines::{Format, LineError, parse_entry};
 
 /// An entry, and the number of its line.
@@ -23,24 +35,20 @@ pub(crate) struct Numbered<A: Allocator> {
 fn read_line<I: BufRead, A: Allocator>(
     input: &mut I,
     line: &mut Vec<u8, A>,
-) -> Result<bool, ToolError<'static>>
-    ensures ok { IfOk result (spec.ReadsInputLine
+) -> Result<bool, MakeError<'static>>
+    ensures ok { IfOk result (ReadsInputLine
         (I.remaining input.old) (I.remaining input.new) line.new.items) }
-    ensures refused { IfErr result spec.IsOfInput }
+    ensures refused { IfErr result IsOfInput }
 {
     line.clear();
-    match input.read_until(b'\n', line) {
-        Ok(length) => {
-            strip_end(line);
-            Ok(length > 0)
-        }
-        Err(error) => Err(ToolError::Input(error)),
-    }
+    let length = input.read_until(b'\n', line)?;
+    strip_end(line);
+    Ok(length > 0)
 }
 
 // Takes away the end of a line, which the last line may lack.
 fn strip_end<A: Allocator>(line: &mut Vec<u8, A>)
-    ensures { line.new.items ≡ spec.strip_last 10 line.old.items }
+    ensures { line.new.items ≡ strip_last 10 line.old.items }
 {
     if line.last() == Some(&b'\n') {
         line.pop();
@@ -48,10 +56,10 @@ fn strip_end<A: Allocator>(line: &mut Vec<u8, A>)
 }
 
 // There are more lines than can be counted.
-fn too_many() -> ToolError<'static>
-    ensures { spec.IsOfInput result }
+fn too_many() -> MakeError<'static>
+    ensures { IsOfInput result }
 {
-    ToolError::Input(io::Error::from(ErrorKind::FileTooLarge))
+    MakeError::Input(io::Error::from(ErrorKind::FileTooLarge))
 }
 
 // The entry that a line spells.
@@ -60,15 +68,15 @@ fn parse_line<A: Allocator + Copy>(
     number: u64,
     line: &[u8],
     format: Format,
-) -> Result<InternalValue<A>, ToolError<'static>>
-    ensures ok { IfOk result (λ entry. spec.LineSpells format line.now entry) }
-    ensures refused { IfErr result (λ error. spec.TellsSpelling number format line.now error) }
+) -> Result<InternalValue<A>, MakeError<'static>>
+    ensures ok { IfOk result (λ entry. LineSpells format line.now entry) }
+    ensures refused { IfErr result (λ error. TellsSpelling number format line.now error) }
 {
     match parse_entry(alloc, line, format) {
         Ok(entry) => Ok(entry),
         // That says nothing of the line.
-        Err(LineError::OutOfMemory) => Err(ToolError::Refused(Error::OutOfMemory)),
-        Err(error) => Err(ToolError::Line {
+        Err(LineError::OutOfMemory) => Err(MakeError::Refused(Error::OutOfMemory)),
+        Err(error) => Err(MakeError::Line {
             number,
             fault: LineFault::Spelling(error),
         }),
@@ -77,7 +85,7 @@ fn parse_line<A: Allocator + Copy>(
 
 // What is wrong with an entry that may not follow the one before it.
 fn order_fault(sorted: bool) -> LineFault
-    ensures { result ≡ (if sorted then spec.Repeated else spec.OutOfOrder) }
+    ensures { result ≡ (if sorted then Repeated else OutOfOrder) }
 {
     if sorted {
         LineFault::Repeated
@@ -94,32 +102,31 @@ fn write_entry<A: Allocator + Copy>(
     number: u64,
     entry: &InternalValue<A>,
     sorted: bool,
-) -> Result<(), ToolError<'static>>
-    ensures ok { OnOk result (writer.new ≡ spec.took writer.old entry.now) }
+) -> Result<(), MakeError<'static>>
+    ensures ok { OnOk result (writer.new ≡ took writer.old entry.now) }
     ensures listed { OnOk result
-        (spec.all_written writer.new ≡ spec.all_written writer.old ++ entry.now ∷ []) }
-    ensures taken { OnOk result (spec.took_fault writer.old entry.now ≡ None) }
+        (all_written writer.new ≡ all_written writer.old ++ entry.now ∷ []) }
+    ensures taken { OnOk result (took_fault writer.old entry.now ≡ None) }
     ensures follows { OnOk result
-        (spec.may_be_written (spec.all_written writer.old) entry.now.user_key entry.now.seqno
-        ≡ true) }
+        (may_be_written (all_written writer.old) entry.now.user_key entry.now.seqno ≡ true) }
     ensures refused { IfErr result (λ error.
-        spec.TellsEntry number sorted writer.old entry.now error) }
+        TellsEntry number sorted writer.old entry.now error) }
 {
     let entry = entry.as_entry_ref();
     if entry.seqno == SeqNo::MAX {
         let fault = LineFault::TooHigh;
-        return Err(ToolError::Line { number, fault });
+        return Err(MakeError::Line { number, fault });
     }
     if !writer.can_follow_ref(&entry) {
         let fault = order_fault(sorted);
-        return Err(ToolError::Line { number, fault });
+        return Err(MakeError::Line { number, fault });
     }
     match writer.write_ref(&entry) {
         Ok(()) => Ok(()),
-        Err(Error::OutOfMemory) => Err(ToolError::Refused(Error::OutOfMemory)),
+        Err(Error::OutOfMemory) => Err(MakeError::Refused(Error::OutOfMemory)),
         Err(error) => {
             let fault = LineFault::Refused(error);
-            Err(ToolError::Line { number, fault })
+            Err(MakeError::Line { number, fault })
         }
     }
 }
@@ -132,10 +139,10 @@ fn write_line<A: Allocator + Copy>(
     line: &[u8],
     format: Format,
     writer: &mut MultiWriter<A>,
-) -> Result<(), ToolError<'static>>
-    ensures ok { OnOk result (spec.TookLine format line.now writer.old writer.new) }
+) -> Result<(), MakeError<'static>>
+    ensures ok { OnOk result (TookLine format line.now writer.old writer.new) }
     ensures refused { IfErr result (λ error.
-        spec.TellsLine number format writer.old line.now error) }
+        TellsLine number format writer.old line.now error) }
 {
     let entry = parse_line(alloc, number, line, format)?;
     write_entry(writer, number, &entry, false)
@@ -151,13 +158,12 @@ pub(crate) fn write_lines<I: BufRead, A: Allocator + Copy>(
     input: &mut I,
     format: Format,
     writer: &mut MultiWriter<A>,
-) -> Result<u64, ToolError<'static>>
-    ensures ok { IfOk result
-        (λ n. (es : List spec.Entry) × spec.HasEntries format (I.remaining input.old) es
-        × (n ≡ length es) × spec.TookAll writer.old es writer.new) }
+) -> Result<u64, MakeError<'static>>
+    ensures ok { IfOk result (λ n. (es : List Entry) × HasEntries format (I.remaining input.old) es
+        × (n ≡ length es) × TookAll writer.old es writer.new) }
     // Where a line is named, it is the first that is wrong, and so it is.
     ensures refused { IfErr result (λ error.
-        spec.StopsIn format (I.remaining input.old) writer.old error) }
+        StopsIn format (I.remaining input.old) writer.old error) }
 {
     let mut line = Vec::new(alloc);
     let mut count = 0u64;
@@ -179,14 +185,14 @@ pub(crate) fn collect_lines<I: BufRead, A: Allocator + Copy>(
     alloc: A,
     input: &mut I,
     format: Format,
-) -> Result<Vec<Numbered<A>, A>, ToolError<'static>>
+) -> Result<Vec<Numbered<A>, A>, MakeError<'static>>
     ensures entries { IfOk result (λ rows.
-        spec.HasEntries format (I.remaining input.old) (spec.row_entries rows.items)) }
+        HasEntries format (I.remaining input.old) (row_entries rows.items)) }
     // Each has the number of its line.
     ensures rows { IfOk result (λ rows.
-        spec.HasRows format (I.remaining input.old) (spec.numbered rows.items)) }
+        HasRows format (I.remaining input.old) (numbered rows.items)) }
     // Where a line is named, it is the first that spells no entry.
-    ensures refused { IfErr result (spec.StopsReading format (I.remaining input.old)) }
+    ensures refused { IfErr result (StopsReading format (I.remaining input.old)) }
 {
     let mut rows = Vec::new(alloc);
     let mut line = Vec::new(alloc);
@@ -207,7 +213,7 @@ pub(crate) fn collect_lines<I: BufRead, A: Allocator + Copy>(
 
 // By key upward, then by number downward.
 fn compare_rows<A: Allocator>(left: &Numbered<A>, right: &Numbered<A>) -> Ordering
-    ensures { result ≡ spec.version_cmp left.now.entry right.now.entry }
+    ensures { result ≡ version_cmp left.now.entry right.now.entry }
 {
     let (left, right) = (left.entry.as_entry_ref(), right.entry.as_entry_ref());
     left.compare_version(&right)
@@ -218,8 +224,7 @@ fn compare_rows<A: Allocator>(left: &Numbered<A>, right: &Numbered<A>) -> Orderi
 pub(crate) fn sort_rows<A: Allocator>(rows: &mut Vec<Numbered<A>, A>) -> Result<(), AllocError>
     ensures rows { IsPermutation rows.old.items rows.new.items }
     ensures order { OnOk result
-        (spec.IsSortOf spec.is_row_before (spec.numbered rows.old.items)
-        (spec.numbered rows.new.items)) }
+        (IsSortOf is_row_before (numbered rows.old.items) (numbered rows.new.items)) }
 {
     rows.sort_by(compare_rows)
 }
@@ -229,11 +234,11 @@ pub(crate) fn sort_rows<A: Allocator>(rows: &mut Vec<Numbered<A>, A>) -> Result<
 pub(crate) fn write_rows<A: Allocator + Copy>(
     rows: &[Numbered<A>],
     writer: &mut MultiWriter<A>,
-) -> Result<u64, ToolError<'static>>
+) -> Result<u64, MakeError<'static>>
     ensures ok { IfOk result (λ n.
-        (n ≡ length rows.now) × spec.TookAll writer.old (spec.row_entries rows.now) writer.new) }
+        (n ≡ length rows.now) × TookAll writer.old (row_entries rows.now) writer.new) }
     // Those before the one that is named were taken.
-    ensures refused { IfErr result (spec.StopsAmong (spec.numbered rows.now) writer.old) }
+    ensures refused { IfErr result (StopsAmong (numbered rows.now) writer.old) }
 {
     for row in rows {
         write_entry(writer, row.line, &row.entry, true)?;

@@ -1,12 +1,16 @@
 //! What is asked for.
 ghost use Rattle.std.specs.Prelude.{◌≡◌, ◌↔◌, ◌≤◌, IfErr, IfOk, OnOk};
-ghost use Rattle.tool_make.specs.Words as spec;
+ghost use Rattle.lsm_writers.specs.Writing.{IsSmallIndex};
+ghost use Rattle.tool_make.specs.declared.make_error.MakeError.TheVariants.{SizeTooLarge};
+ghost use Rattle.tool_make.specs.Refusing.{TellsSizes};
+ghost use Rattle.tool_make.specs.Written.{HasSmallSizes, options_of, writer_by};
 
+use crate::MakeError;
 use logpurple::table::{
     BloomConstructionPolicy, IndexKind, MultiWriter, Options, TableIds, Timestamp,
 };
 use std::alloc::Allocator;
-use tool_files::{ToolError, largest_table};
+use tool_files::largest_table;
 use tool_lines::Format;
 
 // The largest size of a block and of a partition, in bytes.
@@ -35,7 +39,7 @@ pub struct WriteOptions {
 
 // How many bytes the partitions of an index have, where it has some.
 fn partition_size(index: IndexKind) -> u32
-    ensures { result ≤ 4194304 ↔ spec.IsSmallIndex index }
+    ensures { result ≤ 4194304 ↔ IsSmallIndex index }
 {
     match index {
         IndexKind::Full => 0,
@@ -46,7 +50,7 @@ fn partition_size(index: IndexKind) -> u32
 impl WriteOptions {
     // What the tables are written with.
     fn table_options(&self) -> Options
-        ensures { result ≡ spec.options_of self.now }
+        ensures { result ≡ options_of self.now }
     {
         Options {
             data_block_size: self.block_size,
@@ -57,13 +61,12 @@ impl WriteOptions {
     }
 
     /// Refused where a block or a partition would be too large, and only there.
-    pub(crate) fn check_sizes(&self) -> Result<(), ToolError<'static>>
-        ensures ok { OnOk result (spec.HasSmallSizes self.now) }
-        ensures large { IfErr result (λ e. (e ≡ spec.SizeTooLarge)
-            × ¬ spec.HasSmallSizes self.now) }
+    pub(crate) fn check_sizes(&self) -> Result<(), MakeError<'static>>
+        ensures ok { OnOk result (HasSmallSizes self.now) }
+        ensures large { IfErr result (λ e. (e ≡ SizeTooLarge) × ¬ HasSmallSizes self.now) }
     {
         if self.block_size > LARGEST || partition_size(self.index) > LARGEST {
-            return Err(ToolError::SizeTooLarge);
+            return Err(MakeError::SizeTooLarge);
         }
         Ok(())
     }
@@ -73,10 +76,10 @@ impl WriteOptions {
     pub(crate) fn writer<A: Allocator + Copy>(
         &self,
         alloc: A,
-    ) -> Result<MultiWriter<A>, ToolError<'static>>
-        ensures ok { IfOk result (λ w. w ≡ spec.writer_by self.now) }
-        ensures small { OnOk result (spec.HasSmallSizes self.now) }
-        ensures refused { IfErr result (spec.TellsSizes self.now) }
+    ) -> Result<MultiWriter<A>, MakeError<'static>>
+        ensures ok { IfOk result (λ w. w ≡ writer_by self.now) }
+        ensures small { OnOk result (HasSmallSizes self.now) }
+        ensures refused { IfErr result (TellsSizes self.now) }
     {
         self.check_sizes()?;
         let (ids, target) = (TableIds::new(1), largest_table(self.target));

@@ -1,15 +1,32 @@
 //! Tables that are written of lines.
 ghost use Rattle.std.specs.Prelude.{◌≡◌, ◌⊎◌, ◌+◌, ◌<◌, Any, IfErr, IfOk, IsErrAnd};
 ghost use Rattle.std.specs.Prelude.{List, OnOk, length, map, ℕ};
-ghost use Rattle.tool_make.specs.Words as spec;
+ghost use Rattle.sst_entries.specs.Entry.{Entry};
+ghost use Rattle.sst_entries.specs.Strict.{is_before};
+ghost use Rattle.lsm_writers.specs.declared.writer.FinishedTable.{FinishedTable};
+ghost use Rattle.tool_files.specs.Files.{path_text};
+ghost use Rattle.tool_files.specs.Numbered.{named_bytes, numbered_path};
+ghost use Rattle.tool_files.specs.Modes.{AreModesKept};
+ghost use Rattle.tool_files.specs.Placed.{ArePlaced, IfLeft};
+ghost use Rattle.logpurple.specs.Words.{OutOfMemory};
+ghost use Rattle.tool_make.specs.declared.make_error.MakeError.TheVariants.{Refused, SizeTooLarge};
+ghost use Rattle.tool_make.specs.Entries.{HasEntries};
+ghost use Rattle.tool_make.specs.Faults.{StopsInOrder, StopsLines};
+ghost use Rattle.tool_make.specs.Refusing.{RefusesLines, RefusesToWrite, TellsEnd};
+ghost use Rattle.tool_make.specs.Sorting.{IsSortOf, TellsLineOrder};
+ghost use Rattle.tool_make.specs.TableFiles.{AreTablesPlaced, IsFreeBehind, RefusesTables};
+ghost use Rattle.tool_make.specs.TableFiles.{StopsPlacing, TellsEarlier, TellsTableFile};
+ghost use Rattle.tool_make.specs.TableFiles.{files_from, table_file_name};
+ghost use Rattle.tool_make.specs.Taken.{TookAll};
+ghost use Rattle.tool_make.specs.Written.{AreOfLines, AreTablesOf, HasSmallSizes, TookLines};
 
-use crate::WriteOptions;
 use crate::entries::{collect_lines, sort_rows, write_lines, write_rows};
+use crate::{MakeError, WriteOptions};
 use logpurple::table::{FinishedTable, MultiWriter};
 use std::alloc::Allocator;
 use std::io::{BufRead, BufReader, Read};
 use tool_files::{
-    FileError, FileName, Made, NewFile, Place, ToolError, place_files, place_series, table_files,
+    FileError, FileName, Made, NewFile, Place, place_files, place_series, table_files,
 };
 use tool_lines::Format;
 
@@ -19,14 +36,13 @@ fn write_sorted<I: BufRead, A: Allocator + Copy>(
     input: &mut I,
     format: Format,
     writer: &mut MultiWriter<A>,
-) -> Result<u64, ToolError<'static>>
-    ensures ok { IfOk result
-        (λ n. (es : List spec.Entry) × spec.HasEntries format (I.remaining input.old) es
+) -> Result<u64, MakeError<'static>>
+    ensures ok { IfOk result (λ n. (es : List Entry) × HasEntries format (I.remaining input.old) es
         × (n ≡ length es)
-        × ((sorted : List spec.Entry) × spec.IsSortOf spec.is_before es sorted
-        × spec.TookAll writer.old sorted writer.new)) }
+        × ((sorted : List Entry) × IsSortOf is_before es sorted
+        × TookAll writer.old sorted writer.new)) }
     ensures refused { IfErr result
-        (spec.StopsInOrder format (I.remaining input.old) writer.old) }
+        (StopsInOrder format (I.remaining input.old) writer.old) }
 {
     let mut rows = collect_lines(alloc, input, format)?;
     sort_rows(&mut rows)?;
@@ -39,11 +55,11 @@ fn fill<I: BufRead, A: Allocator + Copy>(
     input: &mut I,
     options: &WriteOptions,
     writer: &mut MultiWriter<A>,
-) -> Result<u64, ToolError<'static>>
+) -> Result<u64, MakeError<'static>>
     ensures ok { IfOk result (λ n.
-        spec.TookLines options.now (I.remaining input.old) writer.old writer.new n) }
+        TookLines options.now (I.remaining input.old) writer.old writer.new n) }
     ensures refused { IfErr result
-        (spec.StopsLines options.now.sort options.now.format (I.remaining input.old) writer.old) }
+        (StopsLines options.now.sort options.now.format (I.remaining input.old) writer.old) }
 {
     if options.sort {
         write_sorted(alloc, input, options.format, writer)
@@ -59,9 +75,9 @@ type Tables<A> = (Vec<FinishedTable<A>, A>, u64);
 fn finish<A: Allocator + Copy>(
     writer: MultiWriter<A>,
     count: u64,
-) -> Result<Tables<A>, ToolError<'static>>
-    ensures ok { IfOk result (λ r. (r.1 ≡ count) × spec.AreTablesOf writer r.0.items) }
-    ensures refused { IfErr result (spec.TellsEnd writer) }
+) -> Result<Tables<A>, MakeError<'static>>
+    ensures ok { IfOk result (λ r. (r.1 ≡ count) × AreTablesOf writer r.0.items) }
+    ensures refused { IfErr result (TellsEnd writer) }
 {
     let tables = writer.finish()?;
     Ok((tables, count))
@@ -72,11 +88,11 @@ fn tables_of<I: BufRead, A: Allocator + Copy>(
     alloc: A,
     input: &mut I,
     options: &WriteOptions,
-) -> Result<Tables<A>, ToolError<'static>>
+) -> Result<Tables<A>, MakeError<'static>>
     ensures lines { IfOk result (λ r.
-        spec.AreOfLines options.now (I.remaining input.old) r.0.items r.1) }
-    ensures small { OnOk result (spec.HasSmallSizes options.now) }
-    ensures refused { IfErr result (spec.RefusesLines options.now (I.remaining input.old)) }
+        AreOfLines options.now (I.remaining input.old) r.0.items r.1) }
+    ensures small { OnOk result (HasSmallSizes options.now) }
+    ensures refused { IfErr result (RefusesLines options.now (I.remaining input.old)) }
 {
     let mut writer = options.writer(alloc)?;
     match fill(alloc, input, options, &mut writer) {
@@ -93,26 +109,25 @@ fn read_tables<I: Read + Drop, A: Allocator + Copy>(
     alloc: A,
     input: I,
     options: &WriteOptions,
-) -> Result<Tables<A>, ToolError<'static>>
-    ensures lines { IfOk result (λ r. spec.AreOfLines options.now (I.remaining input) r.0.items
-        r.1) }
+) -> Result<Tables<A>, MakeError<'static>>
+    ensures lines { IfOk result (λ r. AreOfLines options.now (I.remaining input) r.0.items r.1) }
     ensures some { IfOk result (λ r. 0 < length r.0.items) }
-    ensures small { OnOk result (spec.HasSmallSizes options.now) }
-    ensures refused { IfErr result (spec.RefusesLines options.now (I.remaining input)) }
+    ensures small { OnOk result (HasSmallSizes options.now) }
+    ensures refused { IfErr result (RefusesLines options.now (I.remaining input)) }
 {
     let mut input = BufReader::new(alloc, input)?;
     let (tables, entries) = tables_of(alloc, &mut input, options)?;
     drop(input);
     if tables.is_empty() {
-        return Err(ToolError::NoEntries);
+        return Err(MakeError::NoEntries);
     }
     Ok((tables, entries))
 }
 
 // The name of a table's file: the path, or with a target one of several, which are numbered.
 fn name_of<'a>(path: &'a str, target: Option<u64>, number: u64) -> FileName<'a>
-    ensures path { spec.path_text result ≡ spec.table_file_name path.now target number }
-    ensures paths { (n : ℕ) → spec.numbered_path result n ≡ spec.table_file_name path.now target n }
+    ensures path { path_text result ≡ table_file_name path.now target number }
+    ensures paths { (n : ℕ) → numbered_path result n ≡ table_file_name path.now target n }
 {
     match target {
         None => FileName::Plain(path),
@@ -126,10 +141,10 @@ fn files_of<'a, 'b, A: Allocator + Copy>(
     path: &'a str,
     target: Option<u64>,
     tables: &'b [FinishedTable<A>],
-) -> Result<Vec<NewFile<'a, 'b>, A>, ToolError<'a>>
+) -> Result<Vec<NewFile<'a, 'b>, A>, MakeError<'a>>
     ensures files { IfOk result (λ wanted.
-        map spec.named_bytes wanted.items ≡ spec.files_from path.now target 1 tables.now) }
-    ensures refused { IfErr result (λ e. e ≡ spec.Refused spec.OutOfMemory) }
+        map named_bytes wanted.items ≡ files_from path.now target 1 tables.now) }
+    ensures refused { IfErr result (λ e. e ≡ Refused OutOfMemory) }
 {
     Ok(table_files(alloc, name_of(path, target, 1), tables)?)
 }
@@ -143,21 +158,21 @@ fn place_tables<'a, P: Place, A: Allocator + Copy>(
     target: Option<u64>,
     wanted: &[NewFile<'a, '_>],
 ) -> Result<(), FileError<'a>>
-    ensures placed { OnOk result (spec.ArePlaced (P.done place.old) wanted.now (P.done place.new)) }
+    ensures placed { OnOk result (ArePlaced (P.done place.old) wanted.now (P.done place.new)) }
     ensures kept { OnOk result
-        (spec.AreModesKept (P.modes place.old) (P.done place.old) (P.done place.new)) }
-    ensures free { OnOk result (spec.IsFreeBehind target
-        (P.there place.old (spec.table_file_name path.now target (length wanted.now + 1)))) }
+        (AreModesKept (P.modes place.old) (P.done place.old) (P.done place.new)) }
+    ensures free { OnOk result (IsFreeBehind target
+        (P.there place.old (table_file_name path.now target (length wanted.now + 1)))) }
     ensures stops { IfErr result (λ e.
-        spec.StopsPlacing target (spec.table_file_name path.now target (length wanted.now + 1))
+        StopsPlacing target (table_file_name path.now target (length wanted.now + 1))
         (P.there place.old) (P.done place.old) wanted.now e (P.done place.new)) }
     // A refusal names one of the files, or the one behind them, and this one where it is left of an
     // earlier write.
     ensures named { IfErr result (λ e.
-        (spec.path_text e.name ≡ spec.table_file_name path.now target (length wanted.now + 1))
+        (path_text e.name ≡ table_file_name path.now target (length wanted.now + 1))
         ⊎ Any (λ file. file.name ≡ e.name) wanted.now) }
-    ensures left { IfErr result (λ e. spec.IfLeft e.fault
-        (spec.path_text e.name ≡ spec.table_file_name path.now target (length wanted.now + 1))) }
+    ensures left { IfErr result (λ e. IfLeft e.fault
+        (path_text e.name ≡ table_file_name path.now target (length wanted.now + 1))) }
 {
     match target {
         None => place_files(place, alloc, wanted),
@@ -175,15 +190,15 @@ fn put_tables<'a, P: Place, A: Allocator + Copy>(
     path: &'a str,
     target: Option<u64>,
     tables: &[FinishedTable<A>],
-) -> Result<(), ToolError<'a>>
-    ensures placed { OnOk result (spec.AreTablesPlaced path.now target tables.now
+) -> Result<(), MakeError<'a>>
+    ensures placed { OnOk result (AreTablesPlaced path.now target tables.now
         (P.there place.old) (P.done place.old) (P.done place.new)) }
     ensures kept { OnOk result
-        (spec.AreModesKept (P.modes place.old) (P.done place.old) (P.done place.new)) }
-    ensures refused { IfErr result (λ e. spec.RefusesTables path.now target tables.now
+        (AreModesKept (P.modes place.old) (P.done place.old) (P.done place.new)) }
+    ensures refused { IfErr result (λ e. RefusesTables path.now target tables.now
         (P.there place.old) (P.done place.old) e (P.done place.new)) }
-    ensures named { IfErr result (spec.TellsTableFile path.now target (length tables.now)) }
-    ensures left { IfErr result (spec.TellsEarlier path.now target (length tables.now)) }
+    ensures named { IfErr result (TellsTableFile path.now target (length tables.now)) }
+    ensures left { IfErr result (TellsEarlier path.now target (length tables.now)) }
 {
     let wanted = files_of(alloc, path, target, tables)?;
     Ok(place_tables(place, alloc, path, target, &wanted)?)
@@ -204,30 +219,29 @@ pub fn write_entries<'a, P: Place, I: Read + Drop, A: Allocator + Copy>(
     input: I,
     path: &'a str,
     options: &WriteOptions,
-) -> Result<Made, ToolError<'a>>
+) -> Result<Made, MakeError<'a>>
     // Where it answers, so many tables were made of so many entries, which the lines spell, and
     // just their files were placed, with their bytes.
-    ensures lines { IfOk result (λ made. (fs : List (spec.FinishedTable A))
+    ensures lines { IfOk result (λ made. (fs : List (FinishedTable A))
         × (made.tables ≡ length fs)
-        × spec.AreOfLines options.now (I.remaining input) fs made.entries
-        × spec.AreTablesPlaced path.now options.now.target fs
+        × AreOfLines options.now (I.remaining input) fs made.entries
+        × AreTablesPlaced path.now options.now.target fs
         (P.there place.old) (P.done place.old) (P.done place.new)) }
     // Each file has the permissions of the plain file that it replaces, and replaces nothing else.
     ensures kept { OnOk result
-        (spec.AreModesKept (P.modes place.old) (P.done place.old) (P.done place.new)) }
+        (AreModesKept (P.modes place.old) (P.done place.old) (P.done place.new)) }
     // There is an entry then, and so a table, and no block or partition is too large.
     ensures some { IfOk result (λ made. 0 < made.tables) }
-    ensures small { OnOk result (spec.HasSmallSizes options.now) }
+    ensures small { OnOk result (HasSmallSizes options.now) }
     // Where one would be, nothing else is told.
-    ensures large { ¬ spec.HasSmallSizes options.now →
-        IsErrAnd result (λ e. e ≡ spec.SizeTooLarge) }
+    ensures large { ¬ HasSmallSizes options.now → IsErrAnd result (λ e. e ≡ SizeTooLarge) }
     // Where it is refused, no tables came of the lines, for what is told, and nothing was done; or
     // just their files were not placed, or not for good.
-    ensures refused { IfErr result (λ e. spec.RefusesToWrite A options.now (I.remaining input)
-        path.now (P.there place.old) (P.done place.old) e (P.done place.new)) }
+    ensures refused { IfErr result (λ e. RefusesToWrite A options.now (I.remaining input) path.now
+        (P.there place.old) (P.done place.old) e (P.done place.new)) }
     // A line that is told as out of order is the first such one. One that is told as repeated is
     // the first in order that has the key and number of another one, which is of an earlier line.
-    ensures order { IfErr result (spec.TellsLineOrder options.now.format (I.remaining input)) }
+    ensures order { IfErr result (TellsLineOrder options.now.format (I.remaining input)) }
 {
     // What is told of the sizes comes before any want of memory.
     options.check_sizes()?;

@@ -1,5 +1,9 @@
--- The program's commands, as a parse reads them.
+-- The program's commands, as a parse reads them, and beside them what each value has to be: a
+-- number within bounds, or one of some words.
 use Rattle.std.specs.Prelude.{◌∷◌, ℕ, List, [], Option, Some, None, true, codes, map}
+use Rattle.clap.specs.declared.builder.value_parser.ValueParser.{ValueParser}
+use Rattle.clap.specs.declared.builder.value_parser.ValueParser.TheVariants as parser
+use Rattle.tool_options.specs.Tasks.{texts_of}
 use Rattle.clap.specs.Lexer.{usize_max}
 use Rattle.clap.specs.Simple.{Shape}
 use Rattle.clap.specs.Words.{App, Rule, Text, new_rule}
@@ -79,3 +83,37 @@ commands = (
 -- the commands of a program and what each takes, whatever a value has to be
 abbrev pub commands_in : App → List (Text × List Rule)
 commands_in a = map {A = Shape} (λ s. (s.name, map {A = Rule} (λ r. record r { parser = None }) s.rules)) a.subs
+
+-- what a value has to be, where not any text will do: a number within two bounds, or one of words
+abbrev pub choice_of : Option ValueParser → Option (ℕ × ℕ) × List Text
+choice_of (Some (parser.Unsigned least most)) = (Some (least, most), [])
+choice_of (Some (parser.Names names)) = (None, texts_of names.now)
+choice_of _ = (None, [])
+
+-- what each value has to be of each command that a program has
+abbrev pub choices_in : App → List (List (Option (ℕ × ℕ) × List Text))
+choices_in a = map {A = Shape} (λ s. map {A = Rule} (λ r. choice_of r.parser) s.rules) a.subs
+
+-- any text will do
+abbrev any : Option (ℕ × ℕ) × List Text
+any = (None, [])
+
+abbrev number_within : ℕ → ℕ → Option (ℕ × ℕ) × List Text
+number_within least most = (Some (least, most), [])
+
+abbrev one_of_words : List Text → Option (ℕ × ℕ) × List Text
+one_of_words words = (None, words)
+
+-- what each value of the program's commands has to be
+unfoldable pub choices : List (List (Option (ℕ × ℕ) × List Text))
+choices = (any ∷ one_of_words (codes "full" ∷ codes "partitioned" ∷ []) ∷ any ∷ number_within 1 4194304
+    ∷ number_within 1 4194304 ∷ number_within 0 255 ∷ number_within 1 18446744073709551615 ∷ any ∷ any ∷ [])
+    ∷ (any ∷ any ∷ any ∷ any ∷ number_within 0 18446744073709551615 ∷ any ∷ [])
+    ∷ (any ∷ number_within 0 18446744073709551615 ∷ any ∷ any ∷ [])
+    ∷ (any ∷ any ∷ [])
+    ∷ (any ∷ [])
+    ∷ (any ∷ any ∷ number_within 0 18446744073709551615 ∷ any ∷ any ∷ number_within 1 18446744073709551615 ∷ [])
+    ∷ (any ∷ [])
+    ∷ (one_of_words (codes "bash" ∷ []) ∷ [])
+    ∷ []
+    ∷ []

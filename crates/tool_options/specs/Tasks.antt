@@ -1,10 +1,12 @@
 -- What the rows that a parse finds for a command say: the command's task.
 use Rattle.std.specs.Prelude.{◌≡◌, ◌⊎◌, ◌↔◌, ◌<◌, ◌≤◌, ◌^◌, ◌++◌, ◌∷◌, ℕ, List, [], Option, Some, None}
-use Rattle.std.specs.Prelude.{IsTrue, codes, map, option_map, unwrap_or}
+use Rattle.std.specs.Prelude.{⊤, IsTrue, codes, map, option_map, unwrap_or}
 use Rattle.std.specs.Borrow.{Bor}
 use Rattle.std.specs.Option.{SomeIff}
 use Rattle.std.specs.Str.Parse.{IsNumeral, digits_value, without_leading_plus}
 use Rattle.clap.specs.Words.{Row, Text, all_of, first_of, one_of}
+use Rattle.tool_options.specs.declared.read.Misread.{Misread}
+use Rattle.tool_options.specs.declared.read.Misread.TheVariants as misread
 use Rattle.tool_options.specs.declared.tasks.Task.{Task}
 use Rattle.tool_options.specs.declared.tasks.Task.TheVariants as task
 use Rattle.tool_options.specs.declared.tasks.WriteTask.{WriteTask}
@@ -89,3 +91,13 @@ AsksFor name rows (task.Stat t) = (name ≡ codes "stat") × AsksForStat rows t
 AsksFor name rows (task.Verify t) = (name ≡ codes "verify") × (texts_of t.files.items ≡ placed rows)
 AsksFor name rows (task.Compact t) = (name ≡ codes "compact") × AsksToCompact rows t
 AsksFor name rows (task.Pack t) = (name ≡ codes "pack") × (texts_of t.files.items ≡ placed rows)
+
+-- the command of this name asks for no task
+abbrev pub AsksForNone : Text → List Row → Type 0
+AsksForNone name rows = (t : Task) → AsksFor name rows t → ⊥
+
+-- why a command comes to no task: memory did not suffice, or it asks for none
+abbrev pub Misreads : Text → List Row → Misread → Type 0
+Misreads name rows misread.OutOfMemory = ⊤
+Misreads name rows misread.Filter = AsksForNone name rows
+Misreads name rows misread.Absent = AsksForNone name rows

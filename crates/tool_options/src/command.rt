@@ -1,6 +1,9 @@
 //! The parser of the command line, made from the texts.
 ghost use Rattle.std.specs.Prelude.{◌≡◌, IfOk, false};
-ghost use Rattle.tool_options.specs.Words as spec;
+ghost use Rattle.clap.specs.Words.{app_of, new_app, rule_of};
+ghost use Rattle.clap.specs.declared.builder.command.Command.TheViews.{out-Command};
+ghost use Rattle.tool_options.specs.Program.{argument_rule, bare_program, command_app, parser_of};
+ghost use Rattle.tool_options.specs.Program.{program_of, unformed, value_of};
 
 use crate::texts::{ABOUT, ArgumentText, CommandText, Form, NOTES, PROGRAM, Takes, VERSION};
 use clap::builder::ValueParser;
@@ -12,8 +15,8 @@ pub(crate) fn program<'a>(
     alloc: Global,
     commands: &'static [CommandText],
 ) -> Result<Command<'a>, AllocError>
-    ensures app { IfOk result (λ c. spec.app_of c ≡ spec.program_of commands.now) }
-    ensures local { IfOk result (λ c. (spec.out-Command c).has_globals ≡ false) }
+    ensures app { IfOk result (λ c. app_of c ≡ program_of commands.now) }
+    ensures local { IfOk result (λ c. (out-Command c).has_globals ≡ false) }
 {
     let mut program = bare(alloc);
     for text in commands {
@@ -24,8 +27,8 @@ pub(crate) fn program<'a>(
 
 // The program, without its commands.
 fn bare<'a>(alloc: Global) -> Command<'a>
-    ensures app { spec.app_of result ≡ spec.bare_program }
-    ensures local { (spec.out-Command result).has_globals ≡ false }
+    ensures app { app_of result ≡ bare_program }
+    ensures local { (out-Command result).has_globals ≡ false }
 {
     Command::new(alloc, PROGRAM)
         .about(ABOUT)
@@ -37,8 +40,8 @@ fn bare<'a>(alloc: Global) -> Command<'a>
 
 // One command, with what it takes.
 fn command<'a>(alloc: Global, text: &'static CommandText) -> Result<Command<'a>, AllocError>
-    ensures app { IfOk result (λ c. spec.app_of c ≡ spec.command_app text.now) }
-    ensures local { IfOk result (λ c. (spec.out-Command c).has_globals ≡ false) }
+    ensures app { IfOk result (λ c. app_of c ≡ command_app text.now) }
+    ensures local { IfOk result (λ c. (out-Command c).has_globals ≡ false) }
 {
     let mut command = named(alloc, text);
     for taken in text.arguments {
@@ -49,8 +52,8 @@ fn command<'a>(alloc: Global, text: &'static CommandText) -> Result<Command<'a>,
 
 // One command, without what it takes.
 fn named<'a>(alloc: Global, text: &CommandText) -> Command<'a>
-    ensures app { spec.app_of result ≡ spec.new_app text.now.name.now }
-    ensures local { (spec.out-Command result).has_globals ≡ false }
+    ensures app { app_of result ≡ new_app text.now.name.now }
+    ensures local { (out-Command result).has_globals ≡ false }
 {
     Command::new(alloc, text.name)
         .about(text.about)
@@ -60,7 +63,7 @@ fn named<'a>(alloc: Global, text: &CommandText) -> Command<'a>
 
 // One argument.
 fn argument<'a>(alloc: Global, text: &'static ArgumentText) -> Arg<'a>
-    ensures rule { spec.rule_of result ≡ spec.argument_rule text.now }
+    ensures rule { rule_of result ≡ argument_rule text.now }
     ensures local { result.global ≡ false }
 {
     let argument = unformed(alloc, text);
@@ -74,7 +77,7 @@ fn argument<'a>(alloc: Global, text: &'static ArgumentText) -> Arg<'a>
 
 // One argument, but for its form.
 fn unformed<'a>(alloc: Global, text: &'static ArgumentText) -> Arg<'a>
-    ensures rule { spec.rule_of result ≡ spec.unformed text.now }
+    ensures rule { rule_of result ≡ unformed text.now }
     ensures local { result.global ≡ false }
 {
     Arg::new(alloc, text.name)
@@ -88,7 +91,7 @@ fn unformed<'a>(alloc: Global, text: &'static ArgumentText) -> Arg<'a>
 
 // What each value has to be.
 fn value_parser<'a>(form: Form) -> ValueParser<'a>
-    ensures { result ≡ spec.parser_of form }
+    ensures { result ≡ parser_of form }
 {
     match form {
         Form::Flag => ValueParser::Bool,
@@ -99,7 +102,7 @@ fn value_parser<'a>(form: Form) -> ValueParser<'a>
 
 // What one value has to be.
 fn value_of<'a>(takes: Takes) -> ValueParser<'a>
-    ensures { result ≡ spec.value_of takes }
+    ensures { result ≡ value_of takes }
 {
     match takes {
         Takes::Text | Takes::File => ValueParser::String,

@@ -1,6 +1,13 @@
 //! The words of the command line, parsed.
-ghost use Rattle.std.specs.Prelude.{◌≡◌, IfOk, List, Option, Some, map, true};
-ghost use Rattle.tool_options.specs.Words as spec;
+ghost use Rattle.std.specs.Prelude.{◌≡◌, ◌≢◌, ◌⊎◌, IfOk, Some, map, true};
+ghost use Rattle.clap.specs.Words.{found_of, is_simple, is_simple_and_free, kind_of, rows_of};
+ghost use Rattle.clap.specs.Words.{subcommand_of, subcommand_rows_of};
+ghost use Rattle.clap.specs.declared.error.kind.ErrorKind.TheVariants.{DisplayHelp, DisplayVersion};
+ghost use Rattle.clap.specs.declared.error.kind.ErrorKind.TheVariants.{OutOfMemory};
+ghost use Rattle.tool_options.specs.Program.{program_of};
+ghost use Rattle.tool_options.specs.Asks.{AnswersBy, AnswersCommand, AsksBy, AsksFrom, IsMistake};
+ghost use Rattle.tool_options.specs.Asks.{IsShown, IsText, MistakesOf, ShowsOf};
+ghost use Rattle.tool_options.specs.declared.read.Misread.TheVariants.{OutOfMemory as wants_memory};
 
 use crate::command::program;
 use crate::completion::completion;
@@ -34,7 +41,7 @@ pub enum Parsed<'a> {
 ///
 /// Refused for want of memory alone.
 pub fn parse<'a, S: AsStr>(alloc: Global, words: &'a [S]) -> Result<Parsed<'a>, AllocError>
-    ensures { IfOk result (spec.AsksFrom (map S.text words.now)) }
+    ensures { IfOk result (AsksFrom (map S.text words.now)) }
 {
     parse_by(alloc, COMMANDS.as_slice(), words)
 }
@@ -45,8 +52,10 @@ fn parse_by<'a, S: AsStr>(
     commands: &'static [CommandText],
     words: &'a [S],
 ) -> Result<Parsed<'a>, AllocError>
-    ensures { spec.is_simple (spec.program_of commands.now) ≡ true → IfOk result (spec.AsksBy
-        (spec.subcommand_of (spec.program_of commands.now) (map S.text words.now))) }
+    ensures asks { is_simple (program_of commands.now) ≡ true → IfOk result (AsksBy
+        (subcommand_of (program_of commands.now) (map S.text words.now))) }
+    ensures answers { is_simple_and_free (program_of commands.now) ≡ true →
+        IfOk result (AnswersBy (program_of commands.now) (map S.text words.now)) }
 {
     match program(alloc, commands)?.try_get_matches_from(words) {
         Ok(matches) => answer(alloc, commands, &matches),
@@ -60,7 +69,8 @@ fn answer<'a>(
     commands: &[CommandText],
     matches: &ArgMatches<'a>,
 ) -> Result<Parsed<'a>, AllocError>
-    ensures { IfOk result (spec.AsksBy (spec.subcommand_rows_of matches.now)) }
+    ensures asks { IfOk result (AsksBy (subcommand_rows_of matches.now)) }
+    ensures answers { IfOk result (AnswersCommand (subcommand_rows_of matches.now)) }
 {
     match matches.subcommand() {
         Some((name, matches)) => answer_to(alloc, commands, name, matches),
@@ -75,8 +85,9 @@ fn answer_to<'a>(
     name: &str,
     matches: &ArgMatches<'a>,
 ) -> Result<Parsed<'a>, AllocError>
-    ensures { IfOk result
-        (spec.AsksBy (Some (name.now, spec.rows_of (spec.found_of matches.now)))) }
+    ensures shows { IfOk result (ShowsOf name.now) }
+    ensures mistakes { IfOk result (MistakesOf name.now (rows_of (found_of matches.now))) }
+    ensures asks { IfOk result (AsksBy (Some (name.now, rows_of (found_of matches.now)))) }
 {
     match name {
         "completion" => Ok(Parsed::Shown(completion(alloc, commands)?)),
@@ -90,7 +101,12 @@ fn answer_to<'a>(
 
 // What the parser says of words that it does not take, or that ask for help or the version.
 fn explain<'a>(alloc: Global, error: &Error) -> Result<Parsed<'a>, AllocError>
-    ensures { (found : Option (spec.Text × List spec.Row)) → IfOk result (spec.AsksBy found) }
+    ensures asks { IfOk result IsText }
+    ensures memory { kind_of error.now ≡ OutOfMemory → IfOk result (λ _. ⊥) }
+    ensures mistaken { (kind_of error.now ≢ DisplayHelp) × (kind_of error.now ≢ DisplayVersion) →
+        IfOk result IsMistake }
+    ensures shown { (kind_of error.now ≡ DisplayHelp) ⊎ (kind_of error.now ≡ DisplayVersion) →
+        IfOk result IsShown }
 {
     if error.kind() == ErrorKind::OutOfMemory {
         return Err(AllocError);
@@ -105,7 +121,9 @@ fn explain<'a>(alloc: Global, error: &Error) -> Result<Parsed<'a>, AllocError>
 
 // What was expected of the command `name`, in the parser's own form.
 fn mistake<'a>(alloc: Global, name: &str, misread: Misread) -> Result<Parsed<'a>, AllocError>
-    ensures { (found : Option (spec.Text × List spec.Row)) → IfOk result (spec.AsksBy found) }
+    ensures memory { misread ≡ wants_memory → IfOk result (λ _. ⊥) }
+    ensures asks { IfOk result IsText }
+    ensures mistaken { IfOk result IsMistake }
 {
     let expected = match misread {
         Misread::OutOfMemory => return Err(AllocError),

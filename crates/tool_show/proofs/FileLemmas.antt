@@ -2,19 +2,26 @@
 use Rattle.std.proofs.Common.{◌≡◌, refl, sym, ◌∙◌, ap, ℕ, ◌+◌, ◌<◌, List, [], ◌∷◌, ◌++◌, length, get_or}
 use Rattle.std.proofs.Common.{arith, map, subst, suc, take, true, false, zero}
 use Rattle.std.specs.Prelude.{Bool, Option, None, Some, Result, Ok, Err, IfErr, IfSome, cond, find, is_some}
-use Rattle.std.specs.Result.{result_err}
+use Rattle.std.specs.Result.{IsErrAnd, result_err}
 use Rattle.sst_entries.specs.declared.error.Error.TheVariants.{OutOfMemory}
 use Rattle.std.proofs.lemmas.List.{map-append, take_more}
 use Rattle.sst_entries.specs.Entry.{Entry}
-use Rattle.sst_entries.specs.Error.{is_memory}
+use Rattle.sst_entries.specs.Error.{Refuses, is_memory}
 use Rattle.sst_entries.specs.declared.error.Error.{Error}
+use Rattle.lsm_ranges.specs.KeyRange.{has_key}
+use Rattle.lsm_readers.specs.Answer.{table_answer}
 use Rattle.lsm_readers.specs.Stored.{StoresList}
 use Rattle.lsm_readers.specs.Table.{OpenTable}
-use Rattle.tool_files.specs.declared.error.ToolError.{ToolError}
-use Rattle.tool_files.specs.declared.error.ToolError.TheVariants as error
-use Rattle.tool_show.specs.Failures.{BlamesFaulty, BlamesFile, FailsAs, NamesFaulty, NamesNone}
-use Rattle.tool_show.specs.Failures.{NamesOnly, NamesRefusal, read_refusal, refused_file}
+use Rattle.lsm_runs.specs.RunParts.{range_of}
+use Rattle.tool_show.specs.Failures.{BlamesFaulty, BlamesNoFile, FailsAs, IsRefusedAt}
+use Rattle.tool_show.specs.Failures.{IfNamed, IfRefusal, NamesFaulty, NamesNone, read_early}
+use Rattle.tool_show.specs.Failures.{read_refusal, refused_file}
+use Rattle.tool_show.specs.Failures.{NamesOnly, TellsFailure, TellsRefusal}
 use Rattle.tool_show.specs.Files.{IsSoundTable, runs_in}
+use Rattle.tool_show.specs.declared.error.Failure.{Failure}
+use Rattle.tool_show.specs.declared.error.Failure.TheVariants as failure
+use Rattle.tool_show.specs.declared.error.ShowError.{ShowError}
+use Rattle.tool_show.specs.declared.error.ShowError.TheVariants as show
 use Rattle.tool_show.specs.declared.named.NamedTable.{NamedTable}
 
 -- the run of one more file
@@ -83,48 +90,104 @@ found_here p (y ∷ ys) (suc i) x h is none so =
 -- what one of the files is blamed for
 pub one_named : {A : Type 0} (key : List ℕ) (n : ℕ) (fs : List (NamedTable A)) (i : ℕ)
     (f : NamedTable A) → i < length fs → f ≡ get_or fs i f
-    → refused_file key n (take i fs) ≡ None → (e : ToolError) → BlamesFaulty key n f e
+    → refused_file key n (take i fs) ≡ None → (e : ShowError) → BlamesFaulty key n f e
     → NamesFaulty key n fs e
-one_named {A} key n fs i f h is before (error.Unreadable name at e) told = (
+one_named {A} key n fs i f h is before (show.Refused name place error) told = (
   f,
   found_here (λ (g : NamedTable A). is_some (read_refusal key n g.table)) fs i f h is before
-      (ap is_some told.1),
+      (ap is_some told.0.1),
   told,
 )
-one_named key n fs i f h is before (error.Refused e) told = told
-one_named key n fs i f h is before e told = tt
+one_named key n fs i f h is before (show.Output error) told = tt
+one_named key n fs i f h is before show.OutOfMemory told = tt
 
-named_refusal : {A : Type 0} (f : NamedTable A) (IsTold : Error → Type 0) (r : Error)
-    (e : ToolError) → IsTold r → NamesRefusal f r e → NamesOnly f IsTold e
-named_refusal f IsTold r (error.Unreadable name at x) is told =
-    (told.0, subst IsTold (sym told.1) is)
-named_refusal f IsTold r e is told = absurd told
+refusal_only : {A : Type 0} (f : NamedTable A) (IsTold : Error → Type 0) (r : Error) (e : ShowError)
+    → IsTold r → TellsRefusal f r e → NamesOnly f IsTold e
+refusal_only f IsTold r (show.Refused name place error) is told = (
+  told.0,
+  subst IsTold (sym told.1) is,
+  subst (λ (x : Error). IsRefusedAt f.table x place) (sym told.1) told.2,
+)
+refusal_only f IsTold r (show.Output error) is told = tt
+refusal_only f IsTold r show.OutOfMemory is told = tt
 
-by_memory : {A : Type 0} (f : NamedTable A) (IsTold : Error → Type 0) (r : Error) (e : ToolError)
-    (b : Bool) → is_memory r ≡ b → FailsAs IsTold (error.Refused r)
-    → BlamesFile f (error.Refused r) e → NamesOnly f IsTold e
-by_memory f IsTold r e true so fails told = subst (NamesOnly f IsTold) (sym (told.0 so)) so
-by_memory f IsTold r e false so fails told = named_refusal f IsTold r e (fails so) (told.1 so)
+memory_only : {A : Type 0} (f : NamedTable A) (IsTold : Error → Type 0) (e : ShowError)
+    → e ≡ show.OutOfMemory → NamesOnly f IsTold e
+memory_only f IsTold (show.Refused name place error) is = absurd cc
+memory_only f IsTold (show.Output error) is = tt
+memory_only f IsTold show.OutOfMemory is = tt
+
+by_memory : {A : Type 0} (f : NamedTable A) (IsTold : Error → Type 0) (r : Error) (e : ShowError)
+    (b : Bool) → is_memory r ≡ b → FailsAs IsTold (failure.Refused r)
+    → TellsFailure (failure.Refused r) f e → NamesOnly f IsTold e
+by_memory f IsTold r e true so fails told = memory_only f IsTold e (told.0 so)
+by_memory f IsTold r e false so fails told = refusal_only f IsTold r e (fails so) (told.1 so)
 
 -- a failure of a file names it, if any
-pub failure_only : {A : Type 0} (f : NamedTable A) (IsTold : Error → Type 0) (x e : ToolError)
-    → FailsAs IsTold x → BlamesFile f x e → NamesOnly f IsTold e
-failure_only f IsTold (error.Refused r) e fails told =
-    by_memory f IsTold r e (is_memory r) refl fails told
-failure_only f IsTold (error.Unreadable name at r) e fails told = absurd fails
-failure_only f IsTold x e fails told = subst (NamesOnly f IsTold) (sym told) tt
+pub failure_only : {A : Type 0} (f : NamedTable A) (IsTold : Error → Type 0) (x : Failure)
+    (e : ShowError) → FailsAs IsTold x → TellsFailure x f e → NamesOnly f IsTold e
+failure_only f IsTold (failure.Output error) (show.Refused name place r) fails told = absurd cc
+failure_only f IsTold (failure.Output error) (show.Output r) fails told = tt
+failure_only f IsTold (failure.Output error) show.OutOfMemory fails told = tt
+failure_only f IsTold (failure.Refused error) e fails told =
+    by_memory f IsTold error e (is_memory error) refl fails told
 
 -- a failure that is no file's fault names none
-pub failure_none : {A : Type 0} (f : NamedTable A) (x e : ToolError) → BlamesFile f x e
-    → NamesNone x → NamesNone e
-failure_none f (error.Refused r) e told none = subst NamesNone (sym (told.0 none)) none
-failure_none f x e told none = subst NamesNone (sym told) none
+pub failure_none : {A : Type 0} (f : NamedTable A) (x : Failure) (e : ShowError)
+    → TellsFailure x f e → BlamesNoFile x → NamesNone e
+failure_none f (failure.Output error) (show.Refused name place r) told none = absurd cc
+failure_none f (failure.Output error) (show.Output r) told none = tt
+failure_none f (failure.Output error) show.OutOfMemory told none = tt
+failure_none f (failure.Refused error) (show.Refused name place r) told none =
+    let is : show.Refused name place r ≡ show.OutOfMemory = told.0 none in absurd cc
+failure_none f (failure.Refused error) (show.Output r) told none = tt
+failure_none f (failure.Refused error) show.OutOfMemory told none = tt
 
--- any other failure is told as it is
-pub blames_other : {A : Type 0} (f : NamedTable A) (x : ToolError)
-    → ((r : Error) → x ≡ error.Refused r → ⊥) → BlamesFile f x x
-blames_other f (error.Refused r) other = absurd (other r refl)
-blames_other f x other = refl
+-- a file that is named and stores no list is blamed
+pub faulty_blamed : {A : Type 0} (key : List ℕ) (n : ℕ) (f : NamedTable A) (e : ShowError)
+    → NamesOnly f (λ e. read_refusal key n f.table ≡ Some e) e → (IsSoundTable f.table → ⊥)
+    → BlamesFaulty key n f e
+faulty_blamed key n f (show.Refused name place error) named faulty = (named, faulty)
+faulty_blamed key n f (show.Output error) named faulty = tt
+faulty_blamed key n f show.OutOfMemory named faulty = tt
+
+-- want of memory is no file's fault
+pub memory_blames_none : {X : Type 0} (r : Result X Failure) (e : Error)
+    → IsErrAnd r (λ x. x ≡ failure.Refused e) → is_memory e ≡ true → IfErr r BlamesNoFile
+memory_blames_none (Ok x) e is memory = tt
+memory_blames_none (Err x) e is memory = subst BlamesNoFile (sym is) memory
+
+-- what is refused is what a read tells
+pub fails_as : {X : Type 0} (r : Result X Failure) (e : Error) (IsTold : Error → Type 0)
+    → IsErrAnd r (λ x. x ≡ failure.Refused e) → (is_memory e ≡ false → IsTold e)
+    → IfErr r (FailsAs IsTold)
+fails_as (Ok x) e IsTold is told = tt
+fails_as (Err x) e IsTold is told = subst (FailsAs IsTold) (sym is) told
+
+-- what holds where a file is refused
+pub if_refused : {X : Type 0} (r : Result X Failure) (e : Error) (Holds : Type 0)
+    → IsErrAnd r (λ x. x ≡ failure.Refused e) → (is_memory e ≡ false → Holds)
+    → IfErr r (IfRefusal Holds)
+if_refused (Ok x) e Holds is told = tt
+if_refused (Err x) e Holds is told = subst (IfRefusal Holds) (sym is) told
+
+named_by : {A : Type 0} (f : NamedTable A) (Holds : Type 0) (error : Error) (e : ShowError)
+    (b : Bool) → is_memory error ≡ b → (is_memory error ≡ false → Holds)
+    → TellsFailure (failure.Refused error) f e → IfNamed Holds e
+named_by f Holds error (show.Refused name place r) true so holds told =
+    let is : show.Refused name place r ≡ show.OutOfMemory = told.0 so in absurd cc
+named_by f Holds error (show.Refused name place r) false so holds told = holds so
+named_by f Holds error (show.Output r) b so holds told = tt
+named_by f Holds error show.OutOfMemory b so holds told = tt
+
+-- what holds of a refusal holds where its file is named
+pub named_if : {A : Type 0} (f : NamedTable A) (Holds : Type 0) (x : Failure) (e : ShowError)
+    → IfRefusal Holds x → TellsFailure x f e → IfNamed Holds e
+named_if f Holds (failure.Output error) (show.Refused name place r) holds told = absurd cc
+named_if f Holds (failure.Refused error) (show.Refused name place r) holds told =
+    named_by f Holds error (show.Refused name place r) (is_memory error) refl holds told
+named_if f Holds x (show.Output r) holds told = tt
+named_if f Holds x show.OutOfMemory holds told = tt
 
 -- a read that is refused, and not for want of memory, is one of a file that stores no list
 pub refused_faulty : {X : Type 0} (r : Result X Error) (e : Error) → r ≡ Err e
@@ -135,28 +198,28 @@ refused_faulty (Err x) e is other memory =
     let both : true ≡ false = sym (ap is_memory (sym same ∙ memory)) ∙ other in
     absurd cc
 
-faulty_named : {A : Type 0} (key : List ℕ) (n : ℕ) (f : NamedTable A) (r : Error) (e : ToolError)
-    → read_refusal key n f.table ≡ Some r → (IsSoundTable f.table → ⊥) → NamesRefusal f r e
-    → BlamesFaulty key n f e
-faulty_named key n f r (error.Unreadable name at x) told faulty is =
-    (is.0, told ∙ ap Some (sym is.1), faulty)
-faulty_named key n f r e told faulty is = absurd is
-
-blamed_by : {A : Type 0} (key : List ℕ) (n : ℕ) (f : NamedTable A) (r : Error) (e : ToolError)
+blamed_by : {A : Type 0} (key : List ℕ) (n : ℕ) (f : NamedTable A) (r : Error) (e : ShowError)
     (b : Bool) → is_memory r ≡ b → (is_memory r ≡ false → read_refusal key n f.table ≡ Some r)
-    → (is_memory r ≡ false → IsSoundTable f.table → ⊥) → BlamesFile f (error.Refused r) e
+    → (is_memory r ≡ false → IsSoundTable f.table → ⊥) → TellsFailure (failure.Refused r) f e
     → BlamesFaulty key n f e
 blamed_by key n f r e true so told faulty is =
-    subst (λ (x : ToolError). BlamesFaulty key n f x) (sym (is.0 so)) so
+    subst (λ (x : ShowError). BlamesFaulty key n f x) (sym (is.0 so)) tt
 blamed_by key n f r e false so told faulty is =
-    faulty_named key n f r e (told so) (faulty so) (is.1 so)
+    faulty_blamed key n f e (failure_only f (λ x. read_refusal key n f.table ≡ Some x)
+    (failure.Refused r) e told is) (faulty so)
 
 -- a file is blamed for what a read of its table is refused
 pub read_blamed : {A : Type 0} (key : List ℕ) (n : ℕ) (f : NamedTable A) (r : Error)
-    (e : ToolError) → (is_memory r ≡ false → read_refusal key n f.table ≡ Some r)
-    → (is_memory r ≡ false → IsSoundTable f.table → ⊥) → BlamesFile f (error.Refused r) e
+    (e : ShowError) → (is_memory r ≡ false → read_refusal key n f.table ≡ Some r)
+    → (is_memory r ≡ false → IsSoundTable f.table → ⊥) → TellsFailure (failure.Refused r) f e
     → BlamesFaulty key n f e
 read_blamed key n f r e told faulty is = blamed_by key n f r e (is_memory r) refl told faulty is
+
+-- a refusal that is no want of memory is told
+pub refusal_told : {A : Type 0} (f : NamedTable A) (r e : Error) (x : ShowError) → r ≡ e
+    → is_memory e ≡ false → TellsFailure (failure.Refused r) f x → TellsRefusal f e x
+refusal_told f r e x same other is =
+    subst (λ (y : Error). TellsRefusal f y x) same (is.1 (ap is_memory same ∙ other))
 
 -- so it is with what a call of it answers as its error
 pub error_faulty : {X : Type 0} (r : Result X Error) (t : OpenTable)
@@ -165,3 +228,16 @@ pub error_faulty : {X : Type 0} (r : Result X Error) (t : OpenTable)
 error_faulty {X} (Ok x) t memory = tt
 error_faulty {X} (Err e) t memory =
     λ other sound. refused_faulty {X = X} (Err e) e refl other (memory sound.0 sound.1)
+
+-- what is found before memory is taken is the error that a call answers
+pub error_early : {X : Type 0} (r : Result X Error) (e : Error) → Refuses r (Some e)
+    → result_err r ≡ Some e
+error_early (Ok x) e told = absurd (let not : Some e ≡ None = told in cc)
+error_early (Err x) e told = sym told
+
+-- it is that of the read, where the table is asked
+pub asked_early : (key : List ℕ) (n : ℕ) (t : OpenTable) (e : Error)
+    → has_key (range_of t) key ≡ true → read_early key n t ≡ Some e
+    → (table_answer t key n).early ≡ Some e
+asked_early key n t e asked early =
+    sym (ap (λ (b : Bool). cond b (table_answer t key n).early None) asked) ∙ early

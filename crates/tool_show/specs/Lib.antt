@@ -1,4 +1,8 @@
+pub mod Checked
 pub mod Failures
+pub mod Faults
 pub mod Files
-pub mod Read
-pub mod Words
+pub mod Lines
+pub mod Loads
+pub mod Printed
+pub mod Stats

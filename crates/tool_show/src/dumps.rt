@@ -1,15 +1,25 @@
 //! The entries of files, a line each.
 ghost use Rattle.std.specs.Prelude.{◌≡◌, ◌-◌, IfErr, IfOk, List, OnOk, Option, Some};
 ghost use Rattle.std.specs.Prelude.{false, length, true};
-ghost use Rattle.tool_show.specs.Words as spec;
+ghost use Rattle.sst_entries.specs.Entry.{Entry};
+ghost use Rattle.sst_entries.specs.Lending.{entry_of_ref};
+ghost use Rattle.sst_entries.specs.Stream.{CanDeal};
+ghost use Rattle.lsm_block_indexes.specs.Dealt.{DealsEnding};
+ghost use Rattle.lsm_readers.specs.Stored.{StoresList};
+ghost use Rattle.lsm_runs.specs.RunLists.{DealsList};
+ghost use Rattle.tool_show.specs.Failures.{BlamesNoFile, FailsAs, IfNamed, IfRefusal, NamesNone};
+ghost use Rattle.tool_show.specs.Failures.{NamesOnly};
+ghost use Rattle.tool_show.specs.Printed.{DealsTo, PrintsLine, PrintsLines, PrintsResults, Outcome};
+ghost use Rattle.tool_show.specs.Printed.{ShowsItem, before_error, chosen, dumped, first_error, from_key};
+ghost use Rattle.tool_show.specs.Printed.{readable, up_to_key};
 
-use crate::NamedTable;
+use crate::error::Failure;
+use crate::{NamedTable, ShowError};
 use lsm_readers::Table;
 use sst_blocks::{EntryRef, IterItem, Lending, Slice, UserKey};
 use std::alloc::Allocator;
 use std::io::Write;
 use std::ops::Bound;
-use tool_files::ToolError;
 use tool_lines::{Format, append_entry};
 
 /// Which entries of a file are dumped, and how.
@@ -33,30 +43,37 @@ pub fn dump<'a, A: Allocator + Copy, W: Write>(
     file: &NamedTable<'a, A>,
     options: &DumpOptions<'_>,
     left: u64,
-) -> Result<u64, ToolError<'a>>
-    // Whatever the bytes, what is read between the keys, in their order or from the last on, as
-    // many as may be, are entries: no refusal is passed over.
-    ensures told { OnOk result ((es : List spec.Entry)
-        × (spec.dumped options.now.reverse left (spec.readable options.now file.now.table)
-        ≡ spec.ok_results es)) }
+) -> Result<u64, ShowError<'a>>
+    // Whatever the bytes, what is printed are entries that can be read between the keys, in their
+    // order or from the last on, as many as may be: no refusal is passed over.
+    ensures told { OnOk result (PrintsResults options.now.format
+        (dumped options.now.reverse left (readable options.now file.now.table))
+        (W.contents output.old) (W.contents output.new)) }
     // Of a list they are its entries.
-    ensures left { let t = file.now.table in (es : List spec.Entry) → spec.StoresList t.bytes es →
+    ensures printed { let t = file.now.table in (es : List Entry) → StoresList t.bytes es →
+        OnOk result (PrintsLines options.now.format
+        (dumped options.now.reverse left (chosen options.now t es))
+        (W.contents output.old) (W.contents output.new)) }
+    ensures left { let t = file.now.table in (es : List Entry) → StoresList t.bytes es →
         IfOk result (λ rest. rest ≡
-        left - length (spec.dumped options.now.reverse left (spec.chosen options.now t es))) }
+        left - length (dumped options.now.reverse left (chosen options.now t es))) }
     ensures rest { IfOk result (λ rest. rest ≡
-        left - length (spec.dumped options.now.reverse left
-        (spec.readable options.now file.now.table))) }
-    // Where a file is named, it is this one, with the first refusal of what is read; and its bytes
-    // store no list.
-    ensures named { let read = spec.dumped options.now.reverse left
-        (spec.readable options.now file.now.table)
-        in IfErr result (spec.NamesOnly file.now (λ e. spec.first_error read ≡ Some e)) }
-    ensures sound { (es : List spec.Entry) → spec.StoresList file.now.table.bytes es →
-        IfErr result spec.NamesNone }
+        left - length (dumped options.now.reverse left (readable options.now file.now.table))) }
+    // Where a file is named, it is this one, with the first refusal of what is read, and the first
+    // block that is refused so; and its bytes store no list.
+    ensures named { let read = dumped options.now.reverse left (readable options.now file.now.table)
+        in IfErr result (NamesOnly file.now (λ e. first_error read ≡ Some e)) }
+    ensures sound { (es : List Entry) → StoresList file.now.table.bytes es →
+        IfErr result NamesNone }
+    // Before that the lines of the entries were printed that come before it.
+    ensures before { let read = dumped options.now.reverse left
+        (readable options.now file.now.table) in IfErr result
+        (IfNamed (PrintsLines options.now.format (before_error read)
+        (W.contents output.old) (W.contents output.new))) }
 {
     match dump_table(alloc, output, &file.table, options, left) {
         Ok(rest) => Ok(rest),
-        Err(error) => Err(file.blame(alloc, error)),
+        Err(failure) => Err(failure.of_file(alloc, file)),
     }
 }
 
@@ -67,21 +84,26 @@ fn dump_table<A: Allocator + Copy, W: Write>(
     table: &Table<A>,
     options: &DumpOptions<'_>,
     left: u64,
-) -> Result<u64, ToolError<'static>>
-    ensures told { OnOk result ((es : List spec.Entry)
-        × (spec.dumped options.now.reverse left (spec.readable options.now table.now)
-        ≡ spec.ok_results es)) }
-    ensures left { let t = table.now in (es : List spec.Entry) → spec.StoresList t.bytes es →
+) -> Result<u64, Failure>
+    ensures told { OnOk result (PrintsResults options.now.format
+        (dumped options.now.reverse left (readable options.now table.now))
+        (W.contents output.old) (W.contents output.new)) }
+    ensures printed { let t = table.now in (es : List Entry) → StoresList t.bytes es →
+        OnOk result (PrintsLines options.now.format
+        (dumped options.now.reverse left (chosen options.now t es))
+        (W.contents output.old) (W.contents output.new)) }
+    ensures left { let t = table.now in (es : List Entry) → StoresList t.bytes es →
         IfOk result (λ rest. rest ≡
-        left - length (spec.dumped options.now.reverse left (spec.chosen options.now t es))) }
+        left - length (dumped options.now.reverse left (chosen options.now t es))) }
     ensures rest { IfOk result (λ rest. rest ≡
-        left - length (spec.dumped options.now.reverse left
-        (spec.readable options.now table.now))) }
-    ensures refused { let read = spec.dumped options.now.reverse left
-        (spec.readable options.now table.now) in
-        IfErr result (spec.FailsAs (λ e. spec.first_error read ≡ Some e)) }
-    ensures sound { (es : List spec.Entry) → spec.StoresList table.now.bytes es →
-        IfErr result spec.NamesNone }
+        left - length (dumped options.now.reverse left (readable options.now table.now))) }
+    ensures refused { let read = dumped options.now.reverse left (readable options.now table.now) in
+        IfErr result (FailsAs (λ e. first_error read ≡ Some e)) }
+    ensures sound { (es : List Entry) → StoresList table.now.bytes es →
+        IfErr result BlamesNoFile }
+    ensures before { let read = dumped options.now.reverse left (readable options.now table.now) in
+        IfErr result (IfRefusal (PrintsLines options.now.format (before_error read)
+        (W.contents output.old) (W.contents output.new))) }
 {
     let bounds = bounds_of(alloc, options)?;
     let items = table.range(bounds.0, bounds.1)?;
@@ -92,10 +114,10 @@ fn dump_table<A: Allocator + Copy, W: Write>(
 fn bounds_of<A: Allocator + Copy>(
     alloc: A,
     options: &DumpOptions<'_>,
-) -> Result<(Bound<UserKey<A>>, Bound<UserKey<A>>), ToolError<'static>>
-    ensures lower { IfOk result (λ bounds. bounds.0 ≡ spec.from_key options.now.from) }
-    ensures upper { IfOk result (λ bounds. bounds.1 ≡ spec.up_to_key options.now.to) }
-    ensures memory { IfErr result spec.NamesNone }
+) -> Result<(Bound<UserKey<A>>, Bound<UserKey<A>>), Failure>
+    ensures lower { IfOk result (λ bounds. bounds.0 ≡ from_key options.now.from) }
+    ensures upper { IfOk result (λ bounds. bounds.1 ≡ up_to_key options.now.to) }
+    ensures memory { IfErr result BlamesNoFile }
 {
     let lower = match options.from {
         None => Bound::Unbounded,
@@ -119,21 +141,25 @@ fn dump_items<
     mut items: I,
     options: &DumpOptions<'_>,
     most: u64,
-) -> Result<u64, ToolError<'static>>
-    requires can { spec.CanDeal I.advances I.next_back_gives I.can_advance I.can_next_back items }
-    // It shows the first items, all of which are entries, or in reverse the last ones.
-    ensures told { (rs : List spec.Outcome) → spec.DealsTo I.advances I.next_back_gives rs items →
-        OnOk result ((es : List spec.Entry)
-        × (spec.dumped options.now.reverse most rs ≡ spec.ok_results es)) }
-    ensures left { (rs : List spec.Outcome) → spec.DealsTo I.advances I.next_back_gives rs items →
-        IfOk result (λ rest. rest ≡ most - length (spec.dumped options.now.reverse most rs)) }
+) -> Result<u64, Failure>
+    requires can { CanDeal I.advances I.next_back_gives I.can_advance I.can_next_back items }
+    // It prints the first items, all of which are entries, or in reverse the last ones.
+    ensures printed { (rs : List Outcome) → DealsTo I.advances I.next_back_gives rs items →
+        OnOk result (PrintsResults options.now.format (dumped options.now.reverse most rs)
+        (W.contents output.old) (W.contents output.new)) }
+    ensures left { (rs : List Outcome) → DealsTo I.advances I.next_back_gives rs items →
+        IfOk result (λ rest. rest ≡ most - length (dumped options.now.reverse most rs)) }
     // It fails with the first error among these items.
-    ensures refused { (rs : List spec.Outcome) → spec.DealsEnding I.advances I.next_back_gives
+    ensures refused { (rs : List Outcome) → DealsEnding I.advances I.next_back_gives
         (λ _. Unit {0}) (λ _. Unit {0}) items rs →
-        IfErr result (spec.FailsAs (λ e. spec.first_error (spec.dumped options.now.reverse most rs)
-        ≡ Some e)) }
-    ensures sound { (es : List spec.Entry) → spec.DealsList I.advances I.next_back_gives es items →
-        IfErr result spec.NamesNone }
+        IfErr result (FailsAs (λ e. first_error (dumped options.now.reverse most rs) ≡ Some e)) }
+    ensures sound { (es : List Entry) → DealsList I.advances I.next_back_gives es items →
+        IfErr result BlamesNoFile }
+    ensures before { (rs : List Outcome) → DealsEnding I.advances I.next_back_gives
+        (λ _. Unit {0}) (λ _. Unit {0}) items rs →
+        IfErr result (IfRefusal (PrintsLines options.now.format
+        (before_error (dumped options.now.reverse most rs))
+        (W.contents output.old) (W.contents output.new))) }
 {
     let mut left = most;
     // What stands behind the last of them is not read.
@@ -152,13 +178,14 @@ fn print_item<I: Lending + DoubleEndedIterator<Item = IterItem<A>>, A: Allocator
     output: &mut W,
     items: &mut I,
     options: &DumpOptions<'_>,
-) -> Result<bool, ToolError<'static>>
+) -> Result<bool, Failure>
     requires can { I.can_advance items.old }
     requires can_back { I.can_next_back items.old }
-    ensures { (item : Option spec.Outcome)
+    ensures { (item : Option Outcome)
         × (options.now.reverse ≡ false → I.advances items.old item items.new)
         × (options.now.reverse ≡ true → I.next_back_gives items.old item items.new)
-        × spec.ShowsItem item result }
+        × ShowsItem options.now.format item result
+        (W.contents output.old) (W.contents output.new) }
 {
     if options.reverse {
         print_last(alloc, output, items, options.format)
@@ -173,10 +200,10 @@ fn print_next<I: Lending, A: Allocator + Copy, W: Write>(
     output: &mut W,
     items: &mut I,
     format: Format,
-) -> Result<bool, ToolError<'static>>
+) -> Result<bool, Failure>
     requires { I.can_advance items.old }
-    ensures { (item : Option spec.Outcome) × I.advances items.old item items.new
-        × spec.ShowsItem item result }
+    ensures { (item : Option Outcome) × I.advances items.old item items.new
+        × ShowsItem format item result (W.contents output.old) (W.contents output.new) }
 {
     items.advance()?;
     let Some(entry) = items.entry() else {
@@ -192,10 +219,10 @@ fn print_last<I: DoubleEndedIterator<Item = IterItem<A>>, A: Allocator + Copy, W
     output: &mut W,
     items: &mut I,
     format: Format,
-) -> Result<bool, ToolError<'static>>
+) -> Result<bool, Failure>
     requires { I.can_next_back items.old }
-    ensures { (item : Option spec.Outcome) × I.next_back_gives items.old item items.new
-        × spec.ShowsItem item result }
+    ensures { (item : Option Outcome) × I.next_back_gives items.old item items.new
+        × ShowsItem format item result (W.contents output.old) (W.contents output.new) }
 {
     let Some(item) = items.next_back() else {
         return Ok(false);
@@ -209,8 +236,10 @@ fn print_entry<A: Allocator + Copy, W: Write>(
     output: &mut W,
     entry: &EntryRef<'_>,
     format: Format,
-) -> Result<(), ToolError<'static>>
-    ensures { IfErr result spec.NamesNone }
+) -> Result<(), Failure>
+    ensures printed { OnOk result (PrintsLine format (entry_of_ref entry.now)
+        (W.contents output.old) (W.contents output.new)) }
+    ensures sound { IfErr result BlamesNoFile }
 {
     let text = append_entry(alloc, Vec::new(alloc), entry, format)?;
     output.write_all(&text)?;

@@ -1,13 +1,19 @@
 //! Which blocks a read of a key loads.
+ghost use Rattle.std.specs.Prelude.{◌≡◌, ◌++◌, IfErr, IfOk, OnOk};
+ghost use Rattle.sst_entries.specs.declared.error.Error.TheVariants.{OutOfMemory};
+ghost use Rattle.sst_sections.specs.Sections.{body_of};
+ghost use Rattle.sst_sections.specs.declared.section.SectionName.TheVariants.{Data, Filter};
+ghost use Rattle.tool_show.specs.Loads.{block_if, blocks_loaded, data_by};
+ghost use Rattle.tool_show.specs.Loads.{data_place, filter_place, index_place, index_section};
+ghost use Rattle.tool_show.specs.Loads.{loads_told};
+ghost use Rattle.tool_show.specs.Loads.{reached};
+
+use crate::BlockPlace;
 use crate::blocks::{handles_in, source_of};
-use crate::members::{line_of, write_number, write_text};
-use json::Writer;
 use lsm_ranges::Ranged;
 use lsm_readers::{ParsedRegions, Table};
 use sst_blocks::{BlockHandle, BlockSource, Error, Opened, SectionName, SeqNo};
 use std::alloc::{AllocError, Allocator, Global};
-use std::io::{self, Write};
-use tool_files::{BlockPlace, section_name};
 
 /// What a read of a key loads of a table.
 #[derive(Drop)]
@@ -24,7 +30,11 @@ pub(crate) fn loaded_by<A: Allocator + Copy>(
     table: &Table<A>,
     key: &[u8],
     seqno: SeqNo,
-) -> Result<TableLoads<A>, Error> {
+) -> Result<TableLoads<A>, Error>
+    ensures opened { IfOk result (λ l. l.opened ≡ loads_told table.now key.now seqno) }
+    ensures places { IfOk result (λ l. l.places.items ≡ blocks_loaded table.now key.now seqno) }
+    ensures err { IfErr result (λ e. e ≡ OutOfMemory) }
+{
     let opened = loads_of_read(table, key, seqno)?;
     let low = seqno.saturating_sub(table.global_seqno());
     let asked = asked_places(alloc, table, key, low)?;
@@ -38,7 +48,10 @@ fn loads_of_read<A: Allocator + Copy>(
     table: &Table<A>,
     key: &[u8],
     seqno: SeqNo,
-) -> Result<Opened, Error> {
+) -> Result<Opened, Error>
+    ensures ok { IfOk result (λ o. o ≡ loads_told table.now key.now seqno) }
+    ensures err { IfErr result (λ e. e ≡ OutOfMemory) }
+{
     if !table.key_range().contains_key(key) {
         return Ok(Opened::none());
     }
@@ -54,7 +67,12 @@ fn places_of_loads<A: Allocator + Copy>(
     alloc: A,
     opened: Opened,
     asked: &AskedPlaces,
-) -> Result<Vec<BlockPlace, A>, AllocError> {
+) -> Result<Vec<BlockPlace, A>, AllocError>
+    ensures { IfOk result (λ places. places.items
+        ≡ block_if Filter opened.filter_loads asked.now.filter
+        ++ (block_if asked.now.index_section opened.index_loads asked.now.index
+        ++ block_if Data opened.data_loads asked.now.data)) }
+{
     let mut places = Vec::new(alloc);
     add_loaded(
         &mut places,
@@ -83,7 +101,10 @@ fn add_loaded<A: Allocator>(
     section: SectionName,
     loads: u64,
     place: Option<BlockHandle>,
-) -> Result<(), AllocError> {
+) -> Result<(), AllocError>
+    ensures { OnOk result
+        (places.new.items ≡ places.old.items ++ block_if section loads place) }
+{
     match place {
         Some(place) if loads > 0 => {
             let offset = place.offset().0;
@@ -114,7 +135,17 @@ fn asked_places<A: Allocator + Copy>(
     table: &Table<A>,
     key: &[u8],
     seqno: SeqNo,
-) -> Result<AskedPlaces, Error> {
+) -> Result<AskedPlaces, Error>
+    ensures filter { let t = table.now in IfOk result (λ p.
+        p.filter ≡ filter_place (body_of t.bytes) t.parts.regions key.now) }
+    ensures index { let t = table.now in IfOk result (λ p.
+        p.index ≡ index_place (body_of t.bytes) t.parts.regions key.now seqno) }
+    ensures section { IfOk result (λ p.
+        p.index_section ≡ index_section table.now.parts.regions) }
+    ensures data { let t = table.now in IfOk result (λ p.
+        p.data ≡ data_place (body_of t.bytes) t.parts.regions key.now seqno) }
+    ensures err { IfErr result (λ e. e ≡ OutOfMemory) }
+{
     let source = source_of(alloc, table)?;
     let asked = asked_in(&source, &table.regions, key, seqno);
     drop(source);
@@ -128,7 +159,16 @@ fn asked_in<A: Allocator + Copy>(
     regions: &ParsedRegions,
     key: &[u8],
     seqno: SeqNo,
-) -> Result<AskedPlaces, Error> {
+) -> Result<AskedPlaces, Error>
+    ensures filter { IfOk result (λ p.
+        p.filter ≡ filter_place (body_of source.now) regions.now key.now) }
+    ensures index { IfOk result (λ p.
+        p.index ≡ index_place (body_of source.now) regions.now key.now seqno) }
+    ensures section { IfOk result (λ p. p.index_section ≡ index_section regions.now) }
+    ensures data { IfOk result (λ p.
+        p.data ≡ data_place (body_of source.now) regions.now key.now seqno) }
+    ensures err { IfErr result (λ e. e ≡ OutOfMemory) }
+{
     let filter = filter_place(source, regions, key)?;
     let index = index_place(source, regions, key, seqno)?;
     let data = data_place(source, &index, key, seqno)?;
@@ -141,7 +181,9 @@ fn asked_in<A: Allocator + Copy>(
 }
 
 // The section of the block of the index that a read asks.
-fn index_section(regions: &ParsedRegions) -> SectionName {
+fn index_section(regions: &ParsedRegions) -> SectionName
+    ensures { result ≡ index_section regions.now }
+{
     if regions.index.is_some() {
         SectionName::Index
     } else {
@@ -154,7 +196,11 @@ fn filter_place<A: Allocator + Copy>(
     source: &BlockSource<A>,
     regions: &ParsedRegions,
     key: &[u8],
-) -> Result<Option<BlockHandle>, Error> {
+) -> Result<Option<BlockHandle>, Error>
+    ensures ok { IfOk result (λ p.
+        p ≡ filter_place (body_of source.now) regions.now key.now) }
+    ensures err { IfErr result (λ e. e ≡ OutOfMemory) }
+{
     match regions.filter_tli {
         None => Ok(regions.filter),
         Some(tops) => reached(source, &tops, key, SeqNo::MAX),
@@ -167,7 +213,11 @@ fn index_place<A: Allocator + Copy>(
     regions: &ParsedRegions,
     key: &[u8],
     seqno: SeqNo,
-) -> Result<Option<BlockHandle>, Error> {
+) -> Result<Option<BlockHandle>, Error>
+    ensures ok { IfOk result (λ p.
+        p ≡ index_place (body_of source.now) regions.now key.now seqno) }
+    ensures err { IfErr result (λ e. e ≡ OutOfMemory) }
+{
     let tli = regions.tli;
     if regions.index.is_none() {
         return Ok(Some(tli));
@@ -182,7 +232,10 @@ fn data_place<A: Allocator + Copy>(
     index: &Option<BlockHandle>,
     key: &[u8],
     seqno: SeqNo,
-) -> Result<Option<BlockHandle>, Error> {
+) -> Result<Option<BlockHandle>, Error>
+    ensures ok { IfOk result (λ p. p ≡ data_by (body_of source.now) index.now key.now seqno) }
+    ensures err { IfErr result (λ e. e ≡ OutOfMemory) }
+{
     match index {
         None => Ok(None),
         Some(place) => reached(source, place, key, seqno),
@@ -196,65 +249,12 @@ fn reached<A: Allocator + Copy>(
     place: &BlockHandle,
     key: &[u8],
     seqno: SeqNo,
-) -> Result<Option<BlockHandle>, Error> {
+) -> Result<Option<BlockHandle>, Error>
+    ensures ok { IfOk result (λ p. p ≡ reached (body_of source.now) place.now key.now seqno) }
+    ensures err { IfErr result (λ e. e ≡ OutOfMemory) }
+{
     match handles_in(source, place)? {
         Some(handles) => Ok(handles.find(key, seqno)),
         None => Ok(None),
     }
-}
-
-/// Writes which blocks were loaded of a file, on a line of words.
-pub(crate) fn print_words<A: Allocator, W: Write>(
-    output: &mut W,
-    name: &str,
-    loaded: &TableLoads<A>,
-) -> io::Result<()> {
-    let opened = loaded.opened;
-    let (data, index) = (opened.data_loads, opened.index_loads);
-    let (filter, meta) = (opened.filter_loads, opened.meta_loads);
-    write!(
-        output,
-        "{name}: loaded data {data}, index {index}, filter {filter}, meta {meta}"
-    )?;
-    for place in &loaded.places {
-        write!(output, "; {place}")?;
-    }
-    output.write_all(b"\n")
-}
-
-/// Which blocks were loaded of a file, as an object of JSON on a line.
-pub(crate) fn object_of<A: Allocator + Copy>(
-    alloc: A,
-    name: &str,
-    loaded: &TableLoads<A>,
-) -> Result<Vec<u8, A>, AllocError> {
-    let mut writer = Writer::new(Vec::new(alloc));
-    writer.begin_object()?;
-    write_text(&mut writer, "name", name)?;
-    writer.key("loaded")?;
-    write_counts(&mut writer, loaded.opened)?;
-    writer.key("blocks")?;
-    writer.begin_array()?;
-    for place in &loaded.places {
-        write_place(&mut writer, *place)?;
-    }
-    writer.end_array()?;
-    writer.end_object()?;
-    line_of(writer)
-}
-
-fn write_counts<A: Allocator>(writer: &mut Writer<A>, opened: Opened) -> Result<(), AllocError> {
-    writer.begin_object()?;
-    write_number(writer, "data", opened.data_loads)?;
-    write_number(writer, "index", opened.index_loads)?;
-    write_number(writer, "filter", opened.filter_loads)?;
-    write_number(writer, "meta", opened.meta_loads)?;
-    writer.end_object()
-}
-
-fn write_place<A: Allocator>(writer: &mut Writer<A>, place: BlockPlace) -> Result<(), AllocError> {
-    writer.begin_object()?;
-    write_text(writer, "section", section_name(place.section))?;
-    write_number(writer, "offset", place.offset)?;
-    writer.end_object()
 }

@@ -1,4 +1,8 @@
 //! Members of objects of JSON.
+ghost use Rattle.std.specs.Prelude.{OnOk};
+ghost use Rattle.tool_lines.specs.ObjectLine.{HasMore};
+ghost use Rattle.tool_show.specs.Lines.{number_member, text_member};
+
 use json::Writer;
 use std::alloc::{AllocError, Allocator};
 
@@ -7,7 +11,9 @@ pub(crate) fn write_number<A: Allocator>(
     writer: &mut Writer<A>,
     name: &str,
     number: u64,
-) -> Result<(), AllocError> {
+) -> Result<(), AllocError>
+    ensures { OnOk result (HasMore writer.old writer.new (number_member name.now number)) }
+{
     writer.key(name)?;
     writer.u64(number)
 }
@@ -17,14 +23,9 @@ pub(crate) fn write_text<A: Allocator>(
     writer: &mut Writer<A>,
     name: &str,
     text: &str,
-) -> Result<(), AllocError> {
+) -> Result<(), AllocError>
+    ensures { OnOk result (HasMore writer.old writer.new (text_member name.now text.now)) }
+{
     writer.key(name)?;
     writer.string(text)
-}
-
-/// The text of what was written, with an end of line.
-pub(crate) fn line_of<A: Allocator>(writer: Writer<A>) -> Result<Vec<u8, A>, AllocError> {
-    let mut text = writer.into_inner();
-    text.push(b'\n')?;
-    Ok(text)
 }

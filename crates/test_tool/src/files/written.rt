@@ -3,9 +3,11 @@ use crate::files::memory::Memory;
 use logpurple::compaction::Rules;
 use logpurple::table::{BloomConstructionPolicy, IndexKind, Timestamp};
 use std::alloc::Global;
-use tool_files::{FileFault, Place, ToolError, open_table};
+use tool_files::{FileFault, Place, open_table};
 use tool_lines::Format;
-use tool_make::{CompactOptions, WriteOptions, compact_files, write_entries};
+use tool_make::{
+    CompactError, CompactOptions, MakeError, WriteOptions, compact_files, write_entries,
+};
 
 /// A step that is never made, so that none is refused.
 pub(crate) const NEVER: u64 = 1_000;
@@ -56,20 +58,20 @@ pub(crate) enum Asked<'a> {
 
 // Why lines are not written: 1 for their sizes, 2 where there is no entry, 3 for a line, 4 for what
 // else.
-fn why_unwritten(error: &ToolError<'_>) -> u8 {
+fn why_unwritten(error: &MakeError<'_>) -> u8 {
     match error {
-        ToolError::SizeTooLarge => 1,
-        ToolError::NoEntries => 2,
-        ToolError::Line { .. } => 3,
+        MakeError::SizeTooLarge => 1,
+        MakeError::NoEntries => 2,
+        MakeError::Line { .. } => 3,
         _ => 4,
     }
 }
 
 // Why a compaction is refused: 1 where its folder's path is taken, 2 for another fault of a file, 3
 // for what else.
-fn why_not(error: &ToolError<'_>) -> u8 {
+fn why_not(error: &CompactError<'_>) -> u8 {
     match error {
-        ToolError::File(error) => match error.fault {
+        CompactError::File(error) => match error.fault {
             FileFault::Taken => 1,
             _ => 2,
         },

@@ -4,9 +4,9 @@ use Rattle.logpurple.specs.Words.{Gives, OpenTable, recovered_told}
 use Rattle.sst.proofs.Files.{no_table}
 use Rattle.sst.proofs.show.verify_bytes.Goals as goal
 
-pub returns-in-Err-clause-faulty : goal.returns-in-Err-clause-faulty
-returns-in-Err-clause-faulty g c =
-    no_table c.args.bytes c.in-Err.error c.print_unopened.result
+pub returns-clause-checks : goal.returns-clause-checks
+returns-clause-checks g c =
+    no_table c.args.bytes c.args.name.now c.in-Err.error c.print_unopened.result _ _
     (subst (λ (bytes : List ℕ). Gives (λ (t : OpenTable). t.parts) (Err c.in-Err.error)
     (recovered_told bytes 0 false false)) c.in_ok-shared.ensures.cases c.in-Err.ensures.told)
-    c.print_unopened.ensures.memory
+    c.print_unopened.ensures.count c.print_unopened.ensures.memory c.print_unopened.ensures.printed

@@ -8,5 +8,14 @@ returns-clause-complete g c = λ es stores.
     c.look_on-looked.ensures.complete es
     (subst (λ (v : Verifying). StoresList v.table.bytes es) (sym c.in-Ok.ensures.ok) stores)
 
+pub returns-clause-reads : goal.returns-clause-reads
+returns-clause-reads g c = rw c.in-Ok.ensures.ok at c.look_on-looked.ensures.reads
+
+pub returns-clause-whole : goal.returns-clause-whole
+returns-clause-whole g c = rw c.in-Ok.ensures.ok at c.look_on-looked.ensures.whole
+
+pub returns-clause-told : goal.returns-clause-told
+returns-clause-told g c = rw c.in-Ok.ensures.ok at c.look_on-looked.ensures.told
+
 pub returns-clause-sound : goal.returns-clause-sound
 returns-clause-sound g c = rw c.in-Ok.ensures.ok at c.look_on-looked.ensures.sound

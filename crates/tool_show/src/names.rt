@@ -1,0 +1,29 @@
+//! Names that stand in files.
+ghost use Rattle.std.specs.Prelude.{◌≡◌};
+ghost use Rattle.lsm_formats.specs.MetaBlock.{name_of};
+ghost use Rattle.tool_show.specs.Lines.{section_text};
+
+use lsm_formats::ItemName;
+use sst_blocks::SectionName;
+
+/// A section's name in a file.
+pub(crate) fn section_name(section: SectionName) -> &'static str
+    ensures { result.now ≡ section_text section }
+{
+    match section {
+        SectionName::Data => "data",
+        SectionName::Index => "index",
+        SectionName::Tli => "tli",
+        SectionName::Filter => "filter",
+        SectionName::FilterTli => "filter_tli",
+        SectionName::TableVersion => "table_version",
+        SectionName::Meta => "meta",
+    }
+}
+
+/// An item's name in a file.
+pub(crate) fn item_name(item: ItemName) -> &'static str
+    ensures { result.now ≡ name_of item }
+{
+    str::from_utf8(item.key()).unwrap_or("of no name")
+}
