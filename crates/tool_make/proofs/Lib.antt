@@ -1,5 +1,5 @@
 mod Blaming
-mod Library
+mod FromLibrary
 mod Lines
 mod LinesLaw
 mod Refusals

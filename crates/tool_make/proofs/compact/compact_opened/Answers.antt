@@ -1,4 +1,4 @@
-use Rattle.tool_make.proofs.Library.{none_so, refused_so}
+use Rattle.tool_make.proofs.FromLibrary.{none_so, refused_so}
 use Rattle.tool_make.proofs.compact.compact_opened.Goals as goal
 
 pub returns-in-Err-clause-library : goal.returns-in-Err-clause-library
