@@ -1,5 +1,6 @@
 // Reads through the calls of sst.h, as a program in C makes them, by the signature of those of
-// `tool_bench`: so they stand beside these, and the time of a call that does no pass is taken off.
+// `bench_library`: so they stand beside these, and the time of a call that does no pass is taken
+// off.
 #pragma once
 
 #include <vector>

@@ -1,4 +1,4 @@
-// What the static library `tool_bench` exports. A slice is passed as a pointer and a length; the
+// What the static library `bench_library` exports. A slice is passed as a pointer and a length; the
 // library's allocator is the C library's, and takes no bytes.
 #pragma once
 

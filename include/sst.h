@@ -1,4 +1,4 @@
-/* Sorted tables of a log-structured store, for callers in C and C++ and in what calls C.
+/* Sorted tables of a log-structured store, for callers in C, C++ and languages that call C.
  *
  *     sst_handle table = {0};
  *     sst_entry entry;
@@ -10,48 +10,57 @@
  *     }
  *     sst_close(&table);
  *
- * What a caller holds is a handle: two words in memory of its own, which begin as zeros
- * (`sst_handle table = {0};`). A call fills it; `sst_close` empties it, and may be called twice.
- * What was opened from what a handle holds has shares of its own, so handles may be closed in any
- * order. A handle may be moved, and no copy of it may be used beside it.
+ * A handle is two words in the caller's memory, zeros at first (`sst_handle table = {0};`). A call
+ * fills it, and `sst_close` empties it. A handle may be closed twice, and handles may be closed in
+ * any order: what was opened through a handle has shares of its own. A handle may be moved in
+ * memory, but a copy must not be used beside it.
  *
- * Where a call that fills a handle is given the same one for what it reads, it fills nothing: it
- * answers SST_OPEN where the handle holds something, and SST_CLOSED where it holds nothing.
- * `sst_runs_add`, which fills none, may not be given one handle twice.
+ * If a call gets one handle both to fill and to read, it fills nothing. It returns SST_OPEN if the
+ * handle is in use, else SST_CLOSED. `sst_runs_add` fills no handle and must not get one handle
+ * twice.
  *
- * Threads: one thread uses a handle at a time. Threads that use different handles at once need
- * nothing between them, whatever the handles share: a table's bytes and blocks are never written,
- * shares are counted by atomic steps, and so is noted which blocks were compared. So several
- * threads read one table at once by a handle each, which `sst_table_share` makes, or by ranges and
- * lists of runs of it. A handle that goes from one thread to another, as one that is made for it,
- * needs what orders memory between the two, as a lock, a thread's start or its join.
+ * Threads: one thread uses a handle at a time. Threads that use different handles need no
+ * synchronization, whatever the handles share. A table's bytes and blocks are never written.
+ * Reference counts and the verified-block cache are updated atomically. So several threads read one
+ * table at once through a handle each, which `sst_table_share` makes, or through its ranges and
+ * lists of runs. Passing a handle to another thread, even one made for it, needs memory ordering: a
+ * lock, or the thread's start or join.
  *
- * Each call answers 0, or the number of what refused it, but for `sst_version`, `sst_close`,
- * `sst_options_default` and `sst_strerror_copy`, which nothing refuses. 1 to 24 are the library's
- * refusals, from SST_OUT_OF_MEMORY to SST_SOURCE_ERROR, and from 100 on those of the calls below.
+ * Results: each call returns 0 or an error code. `sst_version`, `sst_close`, `sst_options_default`
+ * and `sst_strerror_copy` have no errors. Codes 1 to 24, from SST_OUT_OF_MEMORY to
+ * SST_SOURCE_ERROR, are the library's. Codes from 100 on are those of the calls below.
  * `sst_strerror` has a sentence for each.
  *
- * Where several apply, SST_OPEN is answered before SST_CLOSED, this before SST_OTHER_KIND, then
- * SST_NO_SUCH and SST_NO_ROOM, and each of these before any other. A call that opens, reads,
- * verifies, adds, packs, writes or compacts may be refused for want of memory, whether its comment
- * says so or not. Where a call is refused, what a comment does not name stays as it was: what
- * handles hold, and what the call would have told. But `sst_table_get`, `sst_runs_get`,
- * `sst_range_next` and `sst_scan_next` tell zeros then and keep nothing; and `sst_table_verify` and
- * `sst_verification_step` tell zeros where they are refused other than by SST_FAULTY, but for how
- * far a verification is. Calls in bulk (`sst_range_take`, `sst_scan_take`, `sst_writer_add_many`)
- * report in `count` how many entries were done before the error.
+ * If several errors apply, a call returns the first in this order: SST_OPEN, SST_CLOSED,
+ * SST_OTHER_KIND, SST_NO_SUCH, SST_NO_ROOM, any other. A call that opens, reads, verifies, adds,
+ * packs, writes or compacts may return SST_OUT_OF_MEMORY. The comments below do not repeat this.
  *
- * Pointers: none may be NULL, and each is aligned as what it points to. Bytes, and other arrays,
- * are a pointer and how many there are, in this order; where there are none, any such pointer that
- * is not NULL will do. What a call is given is read until it returns, and never kept, but for the
- * bytes of `sst_table_open_kept`. What a call writes to may not overlap what else it is given, but
- * for one handle that is given twice, as above.
+ * After an error, the content of handles and all outputs stay as they were, unless the call's
+ * comment states otherwise. There are three exceptions:
  *
- * What each call answers, tells and leaves is proved, by the library's own contracts; docs/C.md has
- * what of it is not. Relied on, and not proved: that pointers are as said above, that a handle's
- * words are written by these calls alone, that bytes which are kept stay, and that `malloc` aligns
- * to 16 bytes. Where lent pointers point is tested, and not proved; so is what comes of one handle
- * that is given twice.
+ * - `sst_table_get`, `sst_runs_get`, `sst_range_next` and `sst_scan_next` set their outputs to
+ *   zeros and keep no entry.
+ * - `sst_table_verify` and `sst_verification_step` set `verified` to zeros, unless the error is
+ *   SST_FAULTY. `progress` still reports how far an open verification is.
+ * - `sst_range_take`, `sst_scan_take` and `sst_writer_add_many` set `count` to the number of
+ *   entries that were done before the error.
+ *
+ * Pointers: no pointer may be NULL, and each is aligned for its type. Bytes and other arrays are a
+ * pointer and a length, in this order. If the length is 0, any pointer other than NULL will do. A
+ * call reads its arguments until it returns and keeps none, except for the bytes of
+ * `sst_table_open_kept`. An output must not overlap another argument, except for one handle that is
+ * passed twice, as above.
+ *
+ * The library's contracts prove the result, the outputs and the effect of each call. docs/C.md
+ * lists what is not proved. The proofs rely on these conditions:
+ *
+ * - Pointers are as described above.
+ * - Only these calls write to the words of a handle.
+ * - The bytes of `sst_table_open_kept` stay in place and unchanged.
+ * - `malloc` aligns to 16 bytes.
+ *
+ * Two things are tested, and not proved: where borrowed pointers point, and the effect of one
+ * handle that is passed twice.
  */
 #ifndef SST_H
 #define SST_H
@@ -64,48 +73,48 @@
 extern "C" {
 #endif
 
-/* The version of these calls; `sst_version` answers that of the library. */
+/* The version of these calls. `sst_version` returns that of the library. */
 #define SST_VERSION 4
 
-/* What a call answers beside 0: the library's refusals. */
+/* Error codes of the library. A call that succeeds returns 0. */
 enum {
   SST_OUT_OF_MEMORY = 1,
   SST_TRUNCATED = 2,         /* a block reaches past the sections */
-  SST_INVALID_HEADER = 3,    /* of a block */
-  SST_INVALID_TAG = 4,       /* a block is of another kind than is asked for */
+  SST_INVALID_HEADER = 3,    /* a block's header is invalid */
+  SST_INVALID_TAG = 4,       /* a block is of another kind than required */
   SST_CHECKSUM_MISMATCH = 5, /* a block was damaged */
-  SST_INVALID_BLOCK = 6,     /* a block's payload is none */
+  SST_INVALID_BLOCK = 6,     /* a block's payload is invalid */
   SST_KEY_TOO_LONG = 7,
   SST_VALUE_TOO_LONG = 8,
   SST_BLOCK_TOO_LARGE = 9,
   SST_SECTION_TOO_LARGE = 10,
   SST_INVALID_TRAILER = 11, /* the bytes do not end as a table does */
   SST_MISSING_SECTION = 12,
-  SST_META_KEY_MISSING = 13,          /* an item of the meta block is not there */
+  SST_META_KEY_MISSING = 13,          /* an item of the meta block is missing */
   SST_INVALID_META_VALUE = 14,        /* the value of an item of the meta block is too short */
-  SST_UNSUPPORTED_TABLE_VERSION = 15, /* it is not 3 or 4 */
+  SST_UNSUPPORTED_TABLE_VERSION = 15, /* the version is not 3 or 4 */
   SST_UNSUPPORTED_HASH_TYPE = 16,
   SST_UNSUPPORTED_CHECKSUM_TYPE = 17,
   SST_UNSUPPORTED_INDEX_INTERVAL = 18,
   SST_UNSUPPORTED_COMPRESSION = 19,
-  SST_GLOBAL_SEQNO_TOO_LARGE = 20, /* the highest stored number and the global one have no sum */
-  SST_SEQNO_OVERFLOW = 21,         /* an entry's number and the global one have no sum */
+  SST_GLOBAL_SEQNO_TOO_LARGE = 20, /* highest stored seqno plus global seqno overflows */
+  SST_SEQNO_OVERFLOW = 21,         /* an entry's seqno plus global seqno overflows */
   SST_TABLE_IDS_SPENT = 22,
-  SST_WRITER_FAILED = 23, /* the writer has refused before */
-  SST_SOURCE_ERROR = 24   /* of a source of entries, which none of these calls has */
+  SST_WRITER_FAILED = 23, /* the writer has failed before */
+  SST_SOURCE_ERROR = 24   /* a source of entries failed; none of these calls has one */
 };
 
-/* The same, of the calls themselves; and a further name of SST_OUT_OF_MEMORY. */
+/* Error codes of the calls themselves, and another name of SST_OUT_OF_MEMORY. */
 enum {
   SST_NO_MEMORY = SST_OUT_OF_MEMORY,
   SST_CLOSED = 100,       /* the handle holds nothing */
-  SST_OPEN = 101,         /* the handle that is to be filled holds something */
+  SST_OPEN = 101,         /* the handle to fill holds something */
   SST_OTHER_KIND = 102,   /* the handle holds something of another kind */
-  SST_NO_ROOM = 103,      /* there is less room than what is to be copied needs */
-  SST_OUT_OF_ORDER = 104, /* an entry does not follow the one before it, or a key */
-  SST_NO_SUCH = 105,      /* a number names none of what it may name */
+  SST_NO_ROOM = 103,      /* the buffer is too small for what is copied */
+  SST_OUT_OF_ORDER = 104, /* an entry or a key does not follow the one before it */
+  SST_NO_SUCH = 105,      /* an index, a length, a kind or an option is invalid */
   SST_NOTHING = 106,      /* the last read by the handle found nothing */
-  SST_FAULTY = 107        /* a verification found something wrong */
+  SST_FAULTY = 107        /* a verification found a fault */
 };
 
 /* Kinds of entries. */
@@ -114,16 +123,16 @@ enum {
   SST_VALUE = 1,
   SST_TOMBSTONE = 2,      /* a deletion of every older version of the key */
   SST_WEAK_TOMBSTONE = 3, /* a deletion of the one version directly before it */
-  SST_INDIRECTION = 5     /* a value that lies elsewhere */
+  SST_INDIRECTION = 5     /* a value that is stored elsewhere */
 };
 
 /* Bounds of a range. */
 enum { SST_UNBOUNDED = 0, SST_INCLUDED = 1, SST_EXCLUDED = 2 };
 
-/* The largest number: a read at it finds the newest version of those that are numbered below it.
- * No writer takes an entry of this number itself; a global number may lift one to it, and bytes
- * from elsewhere may have one. No read at a number finds it; a range or a scan of the table gives
- * it.
+/* The largest sequence number. A read at it finds the newest version with a smaller sequence
+ * number. `sst_writer_add` does not take an entry with this sequence number. A global sequence
+ * number may raise an entry to it, and bytes of another writer may have such an entry. No read at a
+ * sequence number finds that entry; a range or a scan of the table yields it.
  */
 #define SST_NEWEST UINT64_MAX
 
@@ -131,7 +140,7 @@ typedef struct sst_handle {
   uint64_t words[2];
 } sst_handle;
 
-/* What is told of an entry; all of it 0 where there is none. */
+/* The kind, the sequence number and the lengths of an entry, in bytes; zeros if there is none. */
 typedef struct sst_entry {
   uint64_t kind;
   uint64_t seqno;
@@ -139,7 +148,7 @@ typedef struct sst_entry {
   uint64_t value_len;
 } sst_entry;
 
-/* Where the key and the value of an entry lie. */
+/* The addresses and the lengths of an entry's key and value, in bytes. */
 typedef struct sst_lent {
   const uint8_t *key;
   uint64_t key_len;
@@ -147,61 +156,67 @@ typedef struct sst_lent {
   uint64_t value_len;
 } sst_lent;
 
-/* Answers SST_VERSION of the header that the library was built with. */
+/* Returns the SST_VERSION of the header that the library was built with. */
 uint32_t sst_version(void);
 
-/* Closes a handle, whatever it holds; one that holds nothing stays as it is. */
+/* Closes a handle of any kind. A handle that holds nothing stays as it is. */
 void sst_close(sst_handle *handle);
 
-/* What a read found. A handle has the entry that the last read by it found (`sst_table_get`,
- * `sst_runs_get`, `sst_range_next`, `sst_range_take`, `sst_scan_next`, `sst_scan_take`) until the
- * next one. Point reads, scans of one table or of several, and ranges of one table borrow the entry
- * from the table's memory: no bytes are copied, and no reference to it is counted. Ranges of several
- * tables hold a counted reference. Where the last read found nothing, or none was made, the two
- * calls answer SST_NOTHING, whatever is held.
+/* The entry that a read found. A handle has the entry that its last read found, until its next
+ * read. The reads are `sst_table_get`, `sst_runs_get`, `sst_range_next`, `sst_range_take`,
+ * `sst_scan_next` and `sst_scan_take`. Point reads, scans of one table or of several, and ranges of
+ * one table borrow the entry from the table's memory. They copy no bytes and count no reference to
+ * the entry. Ranges of several tables hold a counted reference. The two calls below return
+ * SST_NOTHING, for a handle of any kind, unless its last read found an entry.
  */
 
-/* Copies the key and the value of what the last read by a handle found. SST_NOTHING where nothing
- * was found; SST_NO_ROOM where one of them has more bytes than its room: nothing is copied then,
- * the lengths stand in the `sst_entry` of the read, and the call may be made again with more room.
+/* Copies the key and the value of the entry that the handle's last read found. The `sst_entry` of
+ * that read has both lengths.
+ *
+ * Errors: SST_NOTHING if that read found nothing; SST_NO_ROOM if the key or the value is longer
+ * than its buffer. Nothing is copied then, and the call may be repeated with larger buffers.
  */
 uint32_t sst_found_copy(sst_handle *handle, uint8_t *key, size_t key_room, uint8_t *value,
                         size_t value_room);
 
-/* Lends the key and the value of what the last read by a handle found: they lie there, and may be
- * read, until the next read by the handle or its close: a key that is to be given to that read is
- * copied before. SST_NOTHING where nothing was found.
+/* Returns pointers to the key and the value of the entry that the handle's last read found. They
+ * are valid until the next read through the handle, or its close. Copy a borrowed key before
+ * passing it to that read.
+ *
+ * Errors: SST_NOTHING if that read found nothing.
  */
 uint32_t sst_found_lend(sst_handle *handle, sst_lent *lent);
 
 /* Tables. */
 
 /* Opens a table from a copy of its bytes, into a handle that holds nothing. `global_seqno` is added
- * to every stored number. A filter and an index in one block stay loaded where they are pinned,
- * else each read loads them. Refused with the first fault of the bytes; the handle stays as it is
- * then. Bytes whose blocks are damaged may open: reads that meet the damage are refused, and
- * `sst_table_verify` finds it.
+ * to every stored sequence number. `pin_filter` and `pin_index` pin a filter and an index of one
+ * block; else each read loads them.
+ *
+ * Errors: the first fault of the bytes; the handle stays as it is. Bytes with damaged blocks may
+ * open: reads that meet the damage fail, and `sst_table_verify` finds it.
  */
 uint32_t sst_table_open(const uint8_t *file, size_t len, uint64_t global_seqno, bool pin_filter,
                         bool pin_index, sst_handle *table);
 
-/* As `sst_table_open`, over the bytes themselves: none is copied. They have to stay where and as
- * they are until this handle and all that was opened from what it holds are closed: its shares,
- * ranges, scans, answers and verifications, lists of runs that it was added to, and what was opened
- * from these. Nobody writes to them meanwhile, another process neither, as to a file that is
- * mapped.
+/* Opens a table as `sst_table_open` does, over the bytes themselves, without a copy. The bytes must
+ * stay in place and unchanged until this handle and all that was opened from its content are
+ * closed. These are its shares, ranges, scans, answers and verifications, the lists of runs that it
+ * was added to, and what was opened from these. No process may write to the bytes meanwhile, for
+ * example to a mapped file.
  */
 uint32_t sst_table_open_kept(const uint8_t *file, size_t len, uint64_t global_seqno,
                              bool pin_filter, bool pin_index, sst_handle *table);
 
-/* Finds the newest version of a key that is numbered below `seqno`, a deletion too, and keeps it.
- * Where there is none it answers 0, and the kind is SST_NO_ENTRY. Refused with the first fault of
- * the blocks that it loads; zeros are told then.
+/* Finds the newest version of a key whose sequence number is below `seqno`, and keeps it. The
+ * version may be a deletion. If there is none, the call returns 0 and the kind is SST_NO_ENTRY.
+ *
+ * Errors: the first fault of the blocks that it loads; `entry` is all zeros then.
  */
 uint32_t sst_table_get(sst_handle *table, const uint8_t *key, size_t key_len, uint64_t seqno,
                        sst_entry *entry);
 
-/* What a table says of itself. The numbers of entries are as stored, without the global number. */
+/* What a table claims about itself. Sequence numbers are as stored, without the global one. */
 typedef struct sst_facts {
   uint64_t id;
   uint64_t version; /* of the format: 3 or 4 */
@@ -213,68 +228,72 @@ typedef struct sst_facts {
   uint64_t weak_tombstone_count;
   uint64_t data_block_count;
   uint64_t index_block_count;
-  uint64_t data_size; /* how many bytes the data blocks have */
+  uint64_t data_size; /* size of the data blocks in bytes */
 } sst_facts;
 
-/* Tells what a table says of itself, which may be wrong in bytes from elsewhere. */
+/* Reports what a table claims about itself. Bytes of another writer may claim what is not so. */
 uint32_t sst_table_facts(sst_handle *table, sst_facts *facts);
 
-/* How much memory a table holds, in bytes, once for all of its handles and for what was opened from
- * them.
+/* The memory of a table, in bytes. It counts once for all handles of the table and for what was
+ * opened from them.
  */
 typedef struct sst_memory {
-  uint64_t file_len;           /* its file; where its bytes are kept they are the caller's */
-  uint64_t pinned_index_size;  /* of these the index that stays loaded, the whole or the top level;
-                                  0 where none does */
-  uint64_t pinned_filter_size; /* of these the filter that stays loaded; 0 where none does, and of a
-                                  filter in partitions */
-  uint64_t marks_size;         /* beside the file, what tells which blocks were compared: 8 for each
-                                  2,048 bytes of the file and 8 more, or 0 where there was no memory
-                                  for them */
+  uint64_t file_len;           /* the file; the caller's memory after `sst_table_open_kept` */
+  uint64_t pinned_index_size;  /* of these the pinned index, the whole or the top level;
+                                  0 if none is pinned */
+  uint64_t pinned_filter_size; /* of these the pinned filter; 0 if none is pinned, and for a
+                                  partitioned filter */
+  uint64_t marks_size;         /* beside the file, the verified-block cache: 8 for each 2,048 bytes
+                                  of the file and 8 more, or 0 if its allocation failed */
 } sst_memory;
 
-/* Tells how much memory a table holds. What reads found, and the handles themselves, come to it. */
+/* Reports the memory of a table, without that of found entries and of the handles themselves. */
 uint32_t sst_table_memory(sst_handle *table, sst_memory *memory);
 
-/* Makes a further handle of the table that a handle holds, in one that holds nothing. Both read the
- * same bytes, and neither knows what the other has found: so one may go to another thread. No bytes
- * are copied.
+/* Makes another handle of a table, in one that holds nothing. Both handles read the same bytes, and
+ * no bytes are copied. Each has its own found entry, so one may go to another thread.
  */
 uint32_t sst_table_share(sst_handle *table, sst_handle *other);
 
 /* Many reads at once. */
 
-/* Finds of each of some keys what `sst_table_get` finds, and keeps all of it in a handle that holds
- * nothing, until that is closed. The keys stand one behind another in `keys`; `key_lens` has how
- * many bytes each has, and they have `keys_len` together: SST_NO_SUCH where they do not. The keys
- * may stand in any order and repeat; a block in which several stand is loaded once for them.
+/* Finds for each of several keys what `sst_table_get` finds. It stores the results in a handle that
+ * holds nothing, until that is closed. The keys are one after another in `keys`. `key_lens` has the
+ * length of each in bytes, and `keys_len` is their sum. The keys may be in any order and may
+ * repeat. A block that has several of them is loaded once for them.
  *
- * `entries` is told of each what a read would tell, in the order of the keys; what is behind them
- * stays. SST_NO_ROOM where it has fewer places than there are keys. Refused as the read of the
- * first key is that is refused, or for want of memory: `entries` stays then, and nothing is kept.
+ * `entries` receives what `sst_table_get` reports for each key, in the order of the keys. What
+ * follows them in `entries` stays.
+ *
+ * Errors: SST_NO_SUCH if the lengths do not add up to `keys_len`; SST_NO_ROOM if `entry_room` is
+ * below `key_count`; else the error of the first key whose read fails. `entries` stays then, and
+ * `answers` holds nothing.
  */
 uint32_t sst_table_get_many(sst_handle *table, const uint8_t *keys, size_t keys_len,
                             const uint64_t *key_lens, size_t key_count, uint64_t seqno,
                             sst_entry *entries, size_t entry_room, sst_handle *answers);
 
-/* Lends what was found of the key at a place, from 0 on, as `sst_found_lend` does: it lies there
- * until the answers are closed. SST_NO_SUCH where there is no key at that place, SST_NOTHING where
- * nothing was found of it.
+/* Returns pointers to what was found of the key at `index`, from 0 on, as `sst_found_lend` does.
+ * They are valid until the answers are closed.
+ *
+ * Errors: SST_NO_SUCH if there is no key at `index`; SST_NOTHING if nothing was found of it.
  */
 uint32_t sst_answers_lend(sst_handle *answers, uint64_t index, sst_lent *lent);
 
-/* Copies what was found of the key at a place, as `sst_found_copy` does. SST_NO_SUCH and
- * SST_NOTHING as above; SST_NO_ROOM where one of the two has more bytes than its room, and nothing
- * is copied then.
+/* Copies what was found of the key at `index`, from 0 on, as `sst_found_copy` does.
+ *
+ * Errors: SST_NO_SUCH if there is no key at `index`; SST_NOTHING if nothing was found of it;
+ * SST_NO_ROOM if its key or its value is longer than the buffer. Nothing is copied then.
  */
 uint32_t sst_answers_copy(sst_handle *answers, uint64_t index, uint8_t *key, size_t key_room,
                           uint8_t *value, size_t value_room);
 
 /* Copies what was found of the keys from index `first` on, one after another, to the front of
- * `bytes`: key, value, key, value, and so on, up to the first that does not fit. `count` is set to
- * the number of keys that were passed. A key of which nothing was found counts and takes no bytes.
- * The lengths are those in the `entries` of `sst_table_get_many`. SST_NO_SUCH if there are fewer
- * than `first` keys.
+ * `bytes`: key, value, key, value, and so on. It stops at the first that does not fit. `count` is
+ * set to the number of keys that were passed. A key of which nothing was found counts and takes no
+ * bytes. The lengths are those in the `entries` of `sst_table_get_many`.
+ *
+ * Errors: SST_NO_SUCH if there are fewer than `first` keys.
  */
 uint32_t sst_answers_take(sst_handle *answers, uint64_t first, uint8_t *bytes, size_t byte_room,
                           uint64_t *count);
@@ -290,84 +309,93 @@ enum {
   SST_SECTION_META = 7
 };
 
-/* What may be wrong with a block. 12, another checksum of the file, is not told by these calls. */
+/* Faults of a block. These calls do not report 12, another checksum of the file. */
 enum {
   SST_FAULT_UNLOADED = 1,     /* it does not load */
   SST_FAULT_HOLLOW = 2,       /* it is empty */
-  SST_FAULT_MISPLACED = 3,    /* it does not begin where the one before it ended */
-  SST_FAULT_TOO_HIGH = 4,     /* an entry has the largest number */
+  SST_FAULT_MISPLACED = 3,    /* it does not start where the one before it ends */
+  SST_FAULT_TOO_HIGH = 4,     /* an entry has the largest sequence number */
   SST_FAULT_UNORDERED = 5,    /* an entry does not follow the one before it */
-  SST_FAULT_DENIED = 6,       /* the filter denies a key */
+  SST_FAULT_DENIED = 6,       /* a filter false negative for a key of the table */
   SST_FAULT_UNFILTERED = 7,   /* a block of the filter does not load */
-  SST_FAULT_OTHER_KEY = 8,    /* it does not end with the key by which it is named */
-  SST_FAULT_OTHER_NUMBER = 9, /* it does not end with the number by which it is named */
-  SST_FAULT_UNBORNE = 10,     /* the entries do not bear out an item of the meta block */
-  SST_FAULT_UNNAMED = 11      /* a data block that the index does not name */
+  SST_FAULT_OTHER_KEY = 8,    /* it does not end with the key of its index entry */
+  SST_FAULT_OTHER_NUMBER = 9, /* it does not end with the seqno of its index entry */
+  SST_FAULT_UNBORNE = 10,     /* the entries do not match an item of the meta block */
+  SST_FAULT_UNNAMED = 11      /* a data block that is not in the index */
 };
 
-/* What a verification found: the first two where the table is sound, else the rest. */
+/* The result of a verification: the two counts of a valid table, or the position of its fault. */
 typedef struct sst_verified {
   uint64_t item_count;
   uint64_t data_block_count;
-  uint64_t offset;  /* where the block begins at which something is wrong */
+  uint64_t offset;  /* of the block with the fault, in bytes of the file */
   uint32_t section; /* one of the sections above */
   uint32_t fault;   /* one of the faults above */
-  uint32_t detail;  /* of SST_FAULT_UNLOADED and SST_FAULT_UNFILTERED the load's refusal */
+  uint32_t detail;  /* SST_FAULT_UNLOADED, SST_FAULT_UNFILTERED: error code of the load */
   uint32_t unused;
 } sst_verified;
 
-/* Reads all blocks of a table once, and says whether its bytes store a list of entries in order,
- * whoever wrote them. SST_FAULTY where they do not: `verified` says what is wrong first, and where.
- * Refused for want of memory too, which says nothing of the table.
+/* Reads all blocks of a table once, and verifies that its bytes store a list of entries in order,
+ * whoever wrote them.
  *
- * Bytes that no read needs are not looked at, as that of the version section, and where the
- * trailer says that this section, the data blocks and partitions lie: a file in which one of these
- * differs may open, and be verified. The `checksum` of an `sst_file` is that of every byte.
+ * Errors: SST_FAULTY if they do not: `verified` has the first fault and its position.
+ * SST_OUT_OF_MEMORY does not mean that the table is invalid.
+ *
+ * Bytes that no read needs are not checked: the byte of the version section, and the trailer's
+ * positions of that section, the data blocks and partitions. A file that differs only there may
+ * open and be verified. The `checksum` of an `sst_file` covers every byte.
  */
 uint32_t sst_table_verify(sst_handle *table, sst_verified *verified);
 
-/* Begins to verify a table by steps, so that progress can be shown and the caller can stop, into a
- * handle that holds nothing. Nothing is read yet.
+/* Opens a verification by steps, into a handle that holds nothing. The caller can show its
+ * progress, and stop it. This call reads nothing yet.
  */
 uint32_t sst_verification_open(sst_handle *table, sst_handle *verification);
 
-/* How far a verification is. */
+/* The progress of a verification. */
 typedef struct sst_progress {
-  uint64_t bytes_read; /* of data blocks */
-  uint64_t data_size;  /* how many the table says that there are */
-  uint64_t at_end;     /* 1 where all was read and is sound, else 0 */
+  uint64_t bytes_read; /* bytes of data blocks read so far */
+  uint64_t data_size;  /* bytes of data blocks that the table claims to have */
+  uint64_t at_end;     /* 1 if all was read and is valid, else 0 */
 } sst_progress;
 
-/* Reads one further block, of the filter, of the index or a data block, and tells how far it is:
+/* Reads the next block of the filter, of the index or of the data, and reports the progress:
  *
  *     sst_progress progress = {0};
  *     while (progress.at_end == 0 && code == 0) {
  *       code = sst_verification_step(&verification, &progress, &verified);
  *     }
  *
- * Until the end `verified` is told zeros. At the end, and where it is refused, it tells and answers
- * what `sst_table_verify` does; nothing changes then. So a step that was refused for want of memory
- * can be made again, and one that found something wrong, SST_FAULTY, may be made again too: what it
- * found is wrong in the next block, or at the end where none is left.
+ * `verified` is all zeros before the end. At the end, the call returns and reports what
+ * `sst_table_verify` does; a further step changes nothing.
+ *
+ * Errors: as of `sst_table_verify`. A failed step changes nothing and may be repeated, after
+ * SST_OUT_OF_MEMORY and after SST_FAULTY. A fault that it finds is in the next block, or at the end
+ * if no block is left.
  */
 uint32_t sst_verification_step(sst_handle *verification, sst_progress *progress,
                                sst_verified *verified);
 
 /* Ranges. */
 
-/* Begins to read the entries of a table whose keys lie within two bounds, into a handle that holds
- * nothing. Nothing is loaded yet. A bound that is SST_UNBOUNDED does not look at its key; one of a
- * kind that is none is SST_NO_SUCH. Bounds between which no key lies, as where the lower one is
- * above the upper one, are not refused: the range has no entry.
+/* Opens a range of the entries of a table whose keys are within two bounds, into a handle that
+ * holds nothing. No block is loaded yet. The key of an SST_UNBOUNDED bound is ignored. A range
+ * between whose bounds is no key, for example with the lower bound above the upper one, has no
+ * entry.
+ *
+ * Errors: SST_NO_SUCH if a bound's kind does not exist.
  */
 uint32_t sst_range_open(sst_handle *table, uint32_t lower_kind, const uint8_t *lower,
                         size_t lower_len, uint32_t upper_kind, const uint8_t *upper,
                         size_t upper_len, sst_handle *range);
 
-/* Takes the next entry of a range from the front, or from the back, and keeps it: by key up, and of
- * one key by number down, every version; of a range of a list of runs one version of each key. At
- * the end it answers 0, and the kind is SST_NO_ENTRY. Where it is refused nothing more comes, from
- * either end.
+/* Takes the next entry of a range from the front, or from the back if `back` is set, and keeps it.
+ * Keys ascend, and sequence numbers of one key descend. A range of a table yields every version, a
+ * range of a list of runs one version of each key. At the end, the call returns 0 and the kind is
+ * SST_NO_ENTRY.
+ *
+ * Errors: the first fault of the blocks that it loads. The range is at its end then, from both
+ * sides.
  */
 uint32_t sst_range_next(sst_handle *range, bool back, sst_entry *entry);
 
@@ -377,196 +405,237 @@ uint32_t sst_range_next(sst_handle *range, bool back, sst_entry *entry);
  *
  * - when `entry_room` entries are copied;
  * - at the end, and returns 0;
- * - at an error, and returns it: the entries before it are copied, and no further entry comes;
+ * - at an error, and returns it: the entries before it are copied, and no further entry follows;
  * - at an entry that does not fit into the rest of `bytes`, and returns 0. That entry is not lost:
  *   the handle has found it, so `sst_found_lend` and `sst_found_copy` return it. `found` has its
- *   kind, number and lengths, and the next call goes on after it.
+ *   kind, sequence number and lengths, and the next call continues after it.
  *
- * In the other cases the handle has found nothing, and `found` is all zeros. So the end is reached
- * if 0 is returned, `count` is below `entry_room` and `found` is all zeros. Whatever follows the
- * copied entries in `entries` and `bytes` stays as it was. `count` is 0 if the handle is closed or
- * holds no range.
+ * In the other cases the handle has found nothing, and `found` is all zeros. So the range is at its
+ * end if the call returns 0, `count` is below `entry_room` and `found` is all zeros. What follows
+ * the copied entries in `entries` and `bytes` stays as it was. `count` is 0 if the handle is closed
+ * or holds no range.
  */
 uint32_t sst_range_take(sst_handle *range, bool back, sst_entry *entries, size_t entry_room,
                         uint8_t *bytes, size_t byte_room, uint64_t *count, sst_entry *found);
 
 /* Scans. */
 
-/* Begins to read all entries of a table in order, into a handle that holds nothing: its data blocks
- * as they lie in the file, each once, as many as the table says that it has, and no index. Of a
- * table that stores a list of entries, as one that a writer made, it gives all of them. The first
- * block is read at once: refused with its first fault, and the handle stays as it is then.
+/* Opens a scan of all entries of a table, into a handle that holds nothing. It reads the data
+ * blocks in file order, each once, as many as the table claims to have. It reads no index. If the
+ * table stores a list of entries, as a table of a writer does, the scan yields all of them in
+ * order. This call reads the first block.
+ *
+ * Errors: the first fault of that block; the handle stays as it is.
  */
 uint32_t sst_scan_open(sst_handle *table, sst_handle *scan);
 
-/* Takes the next entry of a scan, and keeps it: by key up, and of one key by number down, every
- * version; of a scan of a list of runs one version of each key. At the end it answers 0, and the
- * kind is SST_NO_ENTRY. Where it is refused nothing more comes.
+/* Takes the next entry of a scan, and keeps it. Keys ascend, and sequence numbers of one key
+ * descend. A scan of a table yields every version, a scan of a list of runs one version of each
+ * key. At the end, the call returns 0 and the kind is SST_NO_ENTRY.
+ *
+ * Errors: the first fault of the blocks that it loads. The scan is at its end then.
  */
 uint32_t sst_scan_next(sst_handle *scan, sst_entry *entry);
 
 /* Takes the next entries as `sst_scan_next` does, one after another, and copies them to the front
- * of `bytes`: key, value, key, value, and so on. Stops and reports as `sst_range_take` does.
+ * of `bytes`: key, value, key, value, and so on. It stops and reports as `sst_range_take` does.
  */
 uint32_t sst_scan_take(sst_handle *scan, sst_entry *entries, size_t entry_room, uint8_t *bytes,
                        size_t byte_room, uint64_t *count, sst_entry *found);
 
 /* Several tables as one. */
 
-/* Begins a list of runs, with none, into a handle that holds nothing. */
+/* Opens an empty list of runs, into a handle that holds nothing. */
 uint32_t sst_runs_open(sst_handle *runs);
 
-/* Adds a table to a list of runs, as a run of its own behind those that are there: the newest comes
- * first. The list has a share of the table. SST_OUT_OF_ORDER where the table says of itself that
- * its least key is above its greatest, as only damaged bytes do.
+/* Adds a table to a list of runs, as a run of its own after those that are there. Add the newest
+ * table first. The list has a share of the table.
+ *
+ * Errors: SST_OUT_OF_ORDER if the table claims a least key above its greatest, as only damaged
+ * bytes do. The runs stay as they are then.
  */
 uint32_t sst_runs_add(sst_handle *runs, sst_handle *table);
 
-/* Finds the newest version of a key that is numbered below `seqno`, a deletion too, in all tables
- * of a list of runs together, and keeps it, as `sst_table_get` does of one.
+/* Finds the newest version of a key whose sequence number is below `seqno`, in all tables of a list
+ * of runs together, and keeps it. Results and errors are those of `sst_table_get`.
  */
 uint32_t sst_runs_get(sst_handle *runs, const uint8_t *key, size_t key_len, uint64_t seqno,
                       sst_entry *entry);
 
-/* Begins to read what all tables of a list of runs have together within two bounds, into a handle
- * that holds nothing: of each key the newest version that is numbered below `seqno`, a deletion
- * too. Nothing is loaded yet. `sst_range_next` takes the entries, from both ends. The range has
- * shares of the tables: tables that are added to the list later are not in it. Bounds are as in
- * `sst_range_open`.
+/* Opens a range of all tables of a list of runs together, within two bounds, into a handle that
+ * holds nothing. For each key the range has the newest version whose sequence number is below
+ * `seqno`, deletions too. No block is loaded yet. `sst_range_next` takes the entries, from both
+ * ends. The range has shares of the tables: it does not include tables that are added to the list
+ * later. Bounds and errors are those of `sst_range_open`.
  */
 uint32_t sst_runs_range_open(sst_handle *runs, uint32_t lower_kind, const uint8_t *lower,
                              size_t lower_len, uint32_t upper_kind, const uint8_t *upper,
                              size_t upper_len, uint64_t seqno, sst_handle *range);
 
-/* Begins to read the same entries as `sst_runs_range_open` does, from the front alone, into a
- * handle that holds nothing. `sst_scan_next` takes them. It borrows each entry from the memory of
- * its table, where the range holds a reference to it. So threads that read the same tables change
- * no common counter for each entry.
+/* Opens a scan of the entries of `sst_runs_range_open`, from the front only, into a handle that
+ * holds nothing. `sst_scan_next` takes them. The scan borrows each entry from the memory of its
+ * table, but a range holds a counted reference to it. So threads that scan the same tables change
+ * no common counter for each entry, and a scan is faster than a range. Bounds and errors are those
+ * of `sst_range_open`.
  */
 uint32_t sst_runs_scan_open(sst_handle *runs, uint32_t lower_kind, const uint8_t *lower,
                             size_t lower_len, uint32_t upper_kind, const uint8_t *upper,
                             size_t upper_len, uint64_t seqno, sst_handle *scan);
 
-/* Packing: the tables of a list go in as few runs as there can be, so that each key keeps the order
- * of its tables. Each goes behind the last run that has one which overlaps it, or into the first.
+/* Packing puts the tables of a list into as few runs as possible, so that each key keeps the order
+ * of its tables. Each table goes after the last run with a table that overlaps it, or into the
+ * first run.
  */
 
-/* Makes a list of the packed runs, in a handle that holds nothing. It has shares of the tables, and
- * where each of these stores a list of entries, it has the same entries: reads find the same, over
- * fewer runs. The first list stays.
+/* Makes a list of the packed runs, in a handle that holds nothing. The new list has shares of the
+ * tables; the first list stays as it is. If each table stores a list of entries, reads of both
+ * lists find the same. The packed list never has more runs than the first.
  */
 uint32_t sst_runs_pack(sst_handle *runs, sst_handle *packed);
 
-/* Finds in which runs the tables of a list go, and why there are no fewer, and keeps it in a handle
- * that holds nothing, for the calls below. A table is named by its place among those of the list,
- * from 0 on: of a list of packed runs, run by run.
+/* Finds the runs that packing makes, and why there cannot be fewer. It keeps the result in a handle
+ * that holds nothing, for the calls below. These name a table by its index in the list, from 0 on;
+ * in a list of packed runs, run by run.
  */
 uint32_t sst_packing_open(sst_handle *runs, sst_handle *packing);
 
-/* Tells in how many runs they go. */
+/* Reports the number of runs that packing makes. */
 uint32_t sst_packing_count(sst_handle *packing, uint64_t *runs);
 
-/* Tells how many tables a run has. SST_NO_SUCH where there is no run at that place. */
+/* Reports the number of tables of a run.
+ *
+ * Errors: SST_NO_SUCH if there is no such run.
+ */
 uint32_t sst_packing_run(sst_handle *packing, uint64_t run, uint64_t *tables);
 
-/* Tells which table stands at a place of a run: they stand there by their keys. SST_NO_SUCH where
- * there is none.
+/* Reports which table is at index `place` of a run. The tables of a run are in key order.
+ *
+ * Errors: SST_NO_SUCH if there is no table at that index.
  */
 uint32_t sst_packing_table(sst_handle *packing, uint64_t run, uint64_t place, uint64_t *table);
 
-/* Tells which table stands at a place of a chain. SST_NO_SUCH where there is none: it has as many
- * as there are runs. Each overlaps the next, which is an older one, so no fewer runs can do.
+/* Reports which table is at index `place` of a chain. The chain has one table for each run. Each
+ * table overlaps the next one, which is older, so there cannot be fewer runs.
+ *
+ * Errors: SST_NO_SUCH if there is no table at that index.
  */
 uint32_t sst_packing_chain(sst_handle *packing, uint64_t place, uint64_t *table);
 
 /* Writing a table. */
 
-/* What a table is written with. */
+/* The options of a writer. */
 typedef struct sst_options {
   uint64_t id;
   uint64_t created_at; /* in nanoseconds since 1970 */
   uint32_t level;      /* at most 255 */
   uint32_t data_block_size;             /* in bytes of keys and values, at most 4 MiB */
-  uint32_t data_block_restart_interval; /* 1 to 255; stored in the meta block, nothing else */
-  uint32_t data_block_hash_ratio;       /* stored in the meta block, nothing else */
+  uint32_t data_block_restart_interval; /* 1 to 255; only stored in the meta block */
+  uint32_t data_block_hash_ratio;       /* only stored in the meta block */
   uint32_t index_partition_size;        /* in bytes, at most 4 MiB; 0 for one block */
   uint32_t filter_partition_size;       /* in bytes, at most 4 MiB; 0 for one block */
   uint32_t filter_bits_per_key;         /* in tenths of a bit; 0 for no filter */
   uint32_t unused;
 } sst_options;
 
-/* Fills in the defaults: blocks of 4,096 bytes, an index and a filter in one block each, ten bits a
- * key. The id, the timestamp and the level are 0, the restart interval is 16, the hash ratio 0; the
- * last two change nothing but the meta block.
+/* Fills in the defaults: blocks of 4,096 bytes, an index and a filter of one block each, and ten
+ * bits a key. The id, the timestamp and the level are 0, the restart interval is 16, the hash ratio
+ * 0. The last two are only stored in the meta block.
  */
 void sst_options_default(sst_options *options);
 
-/* Begins to write a table, into a handle that holds nothing. SST_NO_SUCH where an option is out of
- * its range: `level` is at most 255, `data_block_restart_interval` at least 1 and at most 255, and
- * `data_block_size`, `index_partition_size` and `filter_partition_size` at most 4,194,304 each. The
- * others may have any value.
+/* Opens a writer of a table, into a handle that holds nothing. Options without a stated range may
+ * have any value.
+ *
+ * Errors: SST_NO_SUCH if an option is out of range. `level` is at most 255, and
+ * `data_block_restart_interval` at least 1 and at most 255. `data_block_size`,
+ * `index_partition_size` and `filter_partition_size` are at most 4,194,304 each.
  */
 uint32_t sst_writer_open(const sst_options *options, sst_handle *writer);
 
-/* Writes an entry, whose key and value are copied. Entries come by key up, and of one key by number
- * down: SST_OUT_OF_ORDER where one does not, or where its number is UINT64_MAX; SST_NO_SUCH where
- * there is no such kind. The writer stays as it is then.
+/* Writes an entry and copies its key and value. Keys ascend, and sequence numbers of one key
+ * descend. An entry of any kind may have a value.
  *
- * SST_KEY_TOO_LONG where the key has more than 1,048,576 bytes, SST_VALUE_TOO_LONG where the value
- * has 2^32 or more; else SST_BLOCK_TOO_LARGE where the data block that is being filled would have
- * 2^32 or more: 28, and of each of its entries 17, the key and the value. After one of these, or
- * want of memory, an entry that may follow is refused SST_WRITER_FAILED. What is wrong with an
- * entry is found before any memory is taken. An entry of any kind may have a value.
+ * These errors leave the writer as it is:
+ *
+ * - SST_OUT_OF_ORDER if the entry does not follow the one before it, or if its sequence number is
+ *   UINT64_MAX;
+ * - SST_NO_SUCH if `kind` does not exist.
+ *
+ * After these errors the writer has failed. The first that applies is returned:
+ *
+ * - SST_KEY_TOO_LONG if the key has more than 1,048,576 bytes;
+ * - SST_VALUE_TOO_LONG if the value has 2^32 bytes or more;
+ * - SST_BLOCK_TOO_LARGE if the current data block would have 2^32 bytes or more. It counts 28, and
+ *   for each entry 17 plus the key and the value;
+ * - SST_OUT_OF_MEMORY.
+ *
+ * A writer that has failed returns SST_WRITER_FAILED for an entry that may follow. A fault of the
+ * entry is found before any memory is allocated.
  */
 uint32_t sst_writer_add(sst_handle *writer, const uint8_t *key, size_t key_len, uint64_t seqno,
                         uint32_t kind, const uint8_t *value, size_t value_len);
 
 /* Writes entries as `sst_writer_add` does, one after another, up to the first that fails, and
  * returns its error. `count` is set to the number of entries that were written. Each `sst_entry`
- * has the kind, the number and the lengths of one entry. The keys and values are one after another
- * in `bytes`: key, value, key, value, and so on. SST_NO_SUCH if the lengths do not add up to
- * `byte_len`: nothing is written then.
+ * has the kind, the sequence number and the lengths of one entry. The keys and values are one after
+ * another in `bytes`: key, value, key, value, and so on.
+ *
+ * Errors: those of `sst_writer_add`; SST_NO_SUCH if the lengths do not add up to `byte_len`.
+ * Nothing is written in this case.
  */
 uint32_t sst_writer_add_many(sst_handle *writer, const sst_entry *entries, size_t entry_count,
                              const uint8_t *bytes, size_t byte_len, uint64_t *count);
 
-/* Finishes the table: the handle holds it then, in the writer's place, or none where nothing was
- * written. Where it is refused, what was written is given up. SST_WRITER_FAILED where an entry was
- * refused other than by SST_OUT_OF_ORDER and SST_NO_SUCH, before any memory is taken; else, where
- * nothing was written, it is not refused.
+/* Finishes the table. The handle then holds the finished table in place of the writer, or no table
+ * if nothing was written.
+ *
+ * Errors: SST_WRITER_FAILED if an entry failed with an error other than SST_OUT_OF_ORDER and
+ * SST_NO_SUCH. This is found before any memory is allocated. Otherwise the call succeeds if nothing
+ * was written. SST_BLOCK_TOO_LARGE or SST_SECTION_TOO_LARGE if the index or the filter is too
+ * large, as docs/FORMAT.md describes. After an error, what was written is dropped.
  */
 uint32_t sst_writer_finish(sst_handle *writer);
 
 /* Compaction. */
 
-/* Writes what is kept of all entries of a list of runs into new tables, which a handle that holds
- * nothing gets, all finished; none where nothing is kept. The list and its tables stay.
+/* Merges all entries of a list of runs into new tables, and drops those that no reader needs. It
+ * stores the finished tables in a handle that holds nothing; there are none if no entry is kept.
+ * The list and its tables stay.
  *
- * No reader stands below `watermark`: of each key the versions that are not below it are kept, and
- * the newest one that is; all older ones go. Of those that are kept the oldest alone may go too: a
- * weak tombstone goes where the version directly behind it, which goes, is an SST_VALUE; where
- * `evict_tombstones` is set, an SST_TOMBSTONE goes, and a weak tombstone behind which the list has
- * no version of its key. A weak tombstone with any other version behind it stays, and so does any
- * deletion that is not the oldest. With `watermark` 0 and no eviction all entries are kept.
+ * `watermark` is the least snapshot that is still read. Of each key, the versions that are not
+ * below it are kept, and the newest version below it. All older ones are dropped. Of those that are
+ * kept, only the oldest may be dropped too:
  *
- * `evict_tombstones` is only for a list behind which no older table stands. Where `zero_seqnos` is
- * set, numbers below the watermark become 0. A new table begins at the next key once the data
- * blocks of the present one have `target_size` bytes; with UINT64_MAX there is one. The tables are
- * written with `options`, and their ids run on from `options->id`, or from the one behind it where
- * `target_size` is 0. `next_id` is told the first that is left, 0 where none is; `options->id` is
- * taken where nothing is kept, too.
+ * - A weak tombstone is dropped if the version directly after it is dropped, and is an SST_VALUE.
+ * - If `evict_tombstones` is set, an SST_TOMBSTONE is dropped, and so is a weak tombstone after
+ *   which the list has no version of its key.
  *
- * SST_NO_SUCH as of `sst_writer_open`; SST_OUT_OF_ORDER where an entry comes that does not follow
- * the one before it, or whose number is UINT64_MAX: a table does not hold what a writer makes, or
- * two tables have one key under one number. Else refused with the first fault of the blocks, as a
- * writer is, SST_TABLE_IDS_SPENT where no id is left, and for want of memory. No table is kept
- * then, and `next_id` stays.
+ * A weak tombstone with any other version after it is kept, and so is any deletion that is not the
+ * oldest. With `watermark` 0 and no eviction all entries are kept.
+ *
+ * `evict_tombstones` is only for a list after which there is no older table. If `zero_seqnos` is
+ * set, sequence numbers below the watermark become 0. A new table starts at the next key once the
+ * data blocks of the current one have `target_size` bytes; with UINT64_MAX there is one table. The
+ * tables are written with `options`. Their ids ascend by 1 from `options->id`, or from the id after
+ * it if `target_size` is 0. `next_id` is set to the first unused id, or to 0 if none is left.
+ * `options->id` is used up even if no entry is kept.
+ *
+ * Errors:
+ *
+ * - SST_NO_SUCH as of `sst_writer_open`;
+ * - SST_OUT_OF_ORDER if an entry does not follow the one before it, or has the sequence number
+ *   UINT64_MAX. Then a table is not as a writer makes it, or two tables have one key with one
+ *   sequence number;
+ * - the first fault of the blocks, and the errors of a writer;
+ * - SST_TABLE_IDS_SPENT if no id is left.
+ *
+ * After an error `files` holds nothing, and `next_id` stays.
  */
 uint32_t sst_compact(sst_handle *runs, const sst_options *options, uint64_t watermark,
                      bool evict_tombstones, bool zero_seqnos, uint64_t target_size,
                      sst_handle *files, uint64_t *next_id);
 
-/* Finished tables, by their places from 0 on. */
+/* Finished tables, by index from 0 on. */
 
 typedef struct sst_file {
   uint64_t id;
@@ -574,28 +643,32 @@ typedef struct sst_file {
   uint64_t len;
 } sst_file;
 
-/* Tells how many tables are finished: none of a writer that is not finished, or wrote nothing. A
- * writer finishes one, a compaction any number.
+/* Reports the number of finished tables. A writer that is not finished, or that wrote nothing, has
+ * none. A writer finishes one table, a compaction any number.
  */
 uint32_t sst_files_count(sst_handle *files, uint64_t *count);
 
-/* Tells what a finished table is called and how long it is. SST_NO_SUCH where there is none at that
- * place, as of a writer that is not finished.
+/* Reports the id, the checksum and the length of a finished table in bytes. `index` is from 0 on.
+ *
+ * Errors: SST_NO_SUCH if there is no finished table at `index`. A writer that is not finished has
+ * none.
  */
 uint32_t sst_files_tell(sst_handle *files, uint64_t index, sst_file *file);
 
-/* Copies a finished table's bytes from an offset on, as many as there is room for, and tells how
- * many: 0 at its end. SST_NO_SUCH where there is none at that place or the offset is past its end.
+/* Copies a finished table's bytes from `offset` on, as many as fit into `room`. `count` is set to
+ * the number of bytes copied, 0 at the end of the table.
+ *
+ * Errors: SST_NO_SUCH if there is no finished table at `index`, or if `offset` is past its end.
  */
 uint32_t sst_files_copy(sst_handle *files, uint64_t index, uint64_t offset, uint8_t *room,
                         size_t room_len, uint64_t *count);
 
-/* Copies a sentence for what a call answers, the one that `sst_strerror` has, as many bytes as
- * there is room for and no zero behind it, and answers how many bytes the sentence has.
+/* Copies the sentence of `sst_strerror` for an error code, as many bytes as fit, without a
+ * terminating zero. It returns the length of the sentence in bytes.
  */
 uint64_t sst_strerror_copy(uint32_t code, uint8_t *room, size_t room_len);
 
-/* A sentence for what a call answers. It stays for good. */
+/* Returns a sentence for an error code. The string is static. */
 static inline const char *sst_strerror(uint32_t code) {
   static const char *const library[] = {
       "done", "out of memory", "a block reaches past the sections", "invalid block header",

@@ -1,4 +1,4 @@
-/* Tests of the calls that read and write many entries at once: each does what the single call does,
+/* Tests the calls that read and write many entries at once: each does what the single call does,
  * repeated. `test.c` runs them.
  */
 #ifndef BULK_H
@@ -13,8 +13,8 @@ static uint32_t take(sst_handle *bulk, bool is_scan, bool back, sst_entry *entri
   return sst_range_take(bulk, back, entries, entry_room, room, byte_room, count, found);
 }
 
-/* Whether the next single read reports this entry, and finds its key and value at `at`, one after
- * the other. If there is no entry both report zeros.
+/* Returns whether the next single read reports this entry, and finds its key and value at `at`, one
+ * after the other. If there is no entry, both report zeros.
  */
 static bool is_told_next(sst_handle *single, bool back, const sst_entry *told, const uint8_t *at) {
   sst_entry entry;
@@ -27,7 +27,7 @@ static bool is_told_next(sst_handle *single, bool back, const sst_entry *told, c
          memcmp(at + lent.key_len, lent.value, lent.value_len) == 0;
 }
 
-/* What a bulk read found that did not fit, or that it found nothing. */
+/* Checks which entry a bulk read found that did not fit, or that it found nothing. */
 static void check_found(sst_handle *bulk, sst_handle *single, bool back, const sst_entry *found,
                         size_t left) {
   sst_lent lent;
@@ -43,7 +43,7 @@ static void check_found(sst_handle *bulk, sst_handle *single, bool back, const s
   CHECK(sst_found_lend(bulk, &lent) == 0 && memcmp(lent.key, both, lent.key_len) == 0);
 }
 
-/* Reads on to the end in bulk, with room for so many entries and bytes, beside single reads. */
+/* Reads to the end in bulk, with room for some entries and bytes, beside single reads. */
 static void read_beside(sst_handle *bulk, bool is_scan, sst_handle *single, bool back,
                         size_t entry_room, size_t byte_room) {
   sst_entry entries[8], found;
@@ -67,7 +67,7 @@ static void read_beside(sst_handle *bulk, bool is_scan, sst_handle *single, bool
   CHECK(is_told_next(single, back, &found, room));
 }
 
-/* With room for one entry or several, for none but tombstones, and for no byte. */
+/* Reads with room for one entry or several, for tombstones only, and for no byte. */
 static void test_takes(const uint8_t *file, size_t len) {
   const size_t rooms[][2] = {{8, 127}, {1, 127}, {3, 50}, {8, 21}, {8, 10}, {8, 0}};
   sst_handle table = {0}, runs = {0}, bulk = {0}, single = {0};
@@ -101,8 +101,8 @@ static void test_takes(const uint8_t *file, size_t len) {
   sst_close(&runs);
 }
 
-/* A bulk read of a scan of several runs stops at an entry that does not fit, which is lent then, and
- * goes on after it. A read of another kind has the scan forget it.
+/* A bulk read of a scan of several runs stops at an entry that does not fit, which may be borrowed
+ * then. The scan continues after it. A read of another kind clears the found entry.
  */
 static void test_runs_scan_refused(const uint8_t *file, sst_handle *table) {
   sst_handle runs = {0}, scan = {0};
@@ -125,8 +125,8 @@ static void test_runs_scan_refused(const uint8_t *file, sst_handle *table) {
   sst_close(&scan);
 }
 
-/* With no place nothing is read. Closed handles, and those of another kind, report nothing; a read
- * of another kind has a scan forget what it found.
+/* Without room for an entry nothing is read. Closed handles, and those of another kind, report
+ * nothing. A read of another kind clears the entry that a scan found.
  */
 static void test_takes_refused(const uint8_t *file, size_t len) {
   sst_handle table = {0}, scan = {0}, range = {0}, closed = {0};
@@ -156,7 +156,7 @@ static void test_takes_refused(const uint8_t *file, size_t len) {
   sst_close(&range);
 }
 
-/* What single reads and bulk reads of a scan come to, whatever the bytes. */
+/* Compares single and bulk reads of a scan, of any bytes. */
 static void scan_in_bulk(sst_handle *table, uint32_t code, uint64_t items) {
   sst_handle scan = {0};
   sst_entry entries[3], found;
@@ -173,8 +173,8 @@ static void scan_in_bulk(sst_handle *table, uint32_t code, uint64_t items) {
   sst_close(&scan);
 }
 
-/* A scan of damaged bytes gives entries up to the fault, and none from then on. Where the table
- * opens and each data block loads, it gives all.
+/* A scan of damaged bytes yields the entries before the fault, and none after it. If the table
+ * opens and each data block loads, it yields all.
  */
 static void scan_damaged(sst_handle *table, bool is_sound, uint64_t items) {
   sst_handle scan = {0};
@@ -193,7 +193,7 @@ static void scan_damaged(sst_handle *table, bool is_sound, uint64_t items) {
   scan_in_bulk(table, code, count);
 }
 
-/* What was found of several keys, copied from one of them on. */
+/* Copies what was found of several keys, from one of them on. */
 static void test_answers_take(sst_handle *answers) {
   uint8_t room[64];
   uint64_t count = 7;
@@ -209,7 +209,7 @@ static void test_answers_take(sst_handle *answers) {
   CHECK(sst_answers_take(answers, 6, room, 64, &count) == SST_NO_SUCH && count == 7);
 }
 
-/* Entries that are written in bulk are those that are written one by one. */
+/* Entries that are written in bulk are the same as those written one by one. */
 static void test_add_many(const sst_options *options) {
   const char *both = "bkeya1akeycdef"; /* the second key does not follow the first */
   sst_entry entries[] = {{SST_VALUE, 7, 4, 2}, {SST_TOMBSTONE, 6, 4, 0}, {SST_VALUE, 5, 1, 3}};

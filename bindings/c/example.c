@@ -1,6 +1,6 @@
-/* Writes two tables, opens them, reads keys and walks a range, of one table and of both together;
- * compacts them into one, and verifies it. In C99 and in C++: docs/C.md shows it whole, and
- * `bindings/test` builds and runs it as both.
+/* Writes two tables, opens them, and reads keys and ranges of one and of both together. Then it
+ * compacts them into one and verifies it. docs/C.md shows the program, and `bindings/test` builds
+ * and runs it as C99 and as C++.
  */
 #include "sst.h"
 
@@ -10,7 +10,7 @@
 
 static const uint8_t *bytes(const char *text) { return (const uint8_t *)text; }
 
-/* Ends the program where a call was refused. */
+/* Ends the program if a call failed. */
 static void test(uint32_t code) {
   if (code == 0) return;
   fprintf(stderr, "refused %u: %s\n", code, sst_strerror(code));
@@ -22,7 +22,7 @@ static void add(sst_handle *writer, const char *key, uint64_t seqno, uint32_t ki
   test(sst_writer_add(writer, bytes(key), strlen(key), seqno, kind, bytes(value), strlen(value)));
 }
 
-/* Opens the first finished table of a handle, which is closed. */
+/* Opens the first finished table of a handle, and closes the handle. */
 static void open_first(sst_handle *files, sst_handle *table) {
   sst_file told;
   uint64_t count;
@@ -41,7 +41,7 @@ static void write_older(sst_handle *table) {
   sst_options_default(&options);
   options.id = 1;
   test(sst_writer_open(&options, &writer));
-  add(&writer, "apple", 7, SST_VALUE, "red"); /* keys up, and the newest of a key first */
+  add(&writer, "apple", 7, SST_VALUE, "red"); /* keys ascend, and the newest of a key is first */
   add(&writer, "apple", 3, SST_VALUE, "green");
   add(&writer, "pear", 5, SST_VALUE, "yellow");
   add(&writer, "plum", 6, SST_TOMBSTONE, "");
@@ -67,7 +67,7 @@ static void print(const char *what, const sst_entry *entry, const sst_lent *lent
          (const char *)lent->value);
 }
 
-/* The version of a key that a reader at a number sees. */
+/* Prints the version of a key that is visible at a snapshot. */
 static void read_key(sst_handle *table, const char *key, uint64_t seqno) {
   sst_entry entry;
   sst_lent lent;
@@ -80,7 +80,7 @@ static void read_key(sst_handle *table, const char *key, uint64_t seqno) {
   print("found", &entry, &lent);
 }
 
-/* What a range has, from the front or from the back; it is closed then. */
+/* Prints the entries of a range, from the front or from the back, and closes it. */
 static void walk(sst_handle *range, bool back) {
   sst_entry entry;
   sst_lent lent;
@@ -93,7 +93,7 @@ static void walk(sst_handle *range, bool back) {
   sst_close(range);
 }
 
-/* What is left of all tables of a list where nobody reads older versions, as one new table. */
+/* Compacts the tables of a list into a new one. Nobody reads older versions. */
 static void compact(sst_handle *runs, sst_handle *table) {
   sst_options options;
   sst_handle files = {0};
@@ -110,7 +110,7 @@ int main(void) {
   write_older(&older);
   write_newer(&newer);
   read_key(&older, "apple", SST_NEWEST);
-  read_key(&older, "apple", 5); /* sees what is numbered below 5 */
+  read_key(&older, "apple", 5); /* sees versions below 5 */
   read_key(&older, "fig", SST_NEWEST);
   test(sst_range_open(&older, SST_INCLUDED, bytes("pear"), 4, SST_UNBOUNDED, bytes(""), 0, &range));
   walk(&range, true);

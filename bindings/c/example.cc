@@ -1,5 +1,5 @@
-// The program of example.c as one writes it in C++: a handle is closed by its destructor, can be
-// moved and not copied, and a refusal is thrown. `bindings/test` builds and runs it.
+// The program of example.c in C++. A destructor closes the handle, which can be moved and not
+// copied, and an error is an exception. `bindings/test` builds and runs it.
 #include "sst.h"
 
 #include <cstdio>
@@ -9,12 +9,12 @@
 #include <utility>
 #include <vector>
 
-// Throws where a call was refused.
+// Throws if a call failed.
 static void test(uint32_t code) {
   if (code != 0) throw std::runtime_error(sst_strerror(code));
 }
 
-// What a call fills. A moved handle takes its words along, so that no copy of them is used.
+// A handle that a call fills. A move takes its words along, so that no copy of them is used.
 class Handle {
  public:
   Handle() = default;
@@ -87,7 +87,7 @@ static Handle write_newer() {
   return finish(std::move(writer));
 }
 
-// What the last read by a handle found, copied into strings.
+// The entry that a handle's last read found, copied into strings.
 static void print(const char *what, Handle &handle, const sst_entry &entry) {
   sst_lent lent;
   test(sst_found_lend(handle.words(), &lent));

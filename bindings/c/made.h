@@ -1,4 +1,5 @@
-/* What the tests in C share: a check that goes on, tables that are written, and what a read found.
+/* Shared by the tests in C: checks that continue after a failure, written tables, and found
+ * entries.
  */
 #ifndef MADE_H
 #define MADE_H
@@ -21,7 +22,7 @@ static void check(bool holds, const char *text, const char *file, int line) {
 
 static const uint8_t *bytes(const char *text) { return (const uint8_t *)text; }
 
-/* Entry number i of n: keys ascend, each with two versions, and each seventh is deleted. */
+/* Keys ascend, each with two versions, and each seventh is deleted. */
 static void key_of(int i, char key[16]) { snprintf(key, 16, "key%06d", i); }
 
 static void value_of(int i, int version, char value[32]) {
@@ -43,7 +44,7 @@ static void write_entries(sst_handle *writer, int n) {
   }
 }
 
-/* The bytes of a finished table, in pieces of a few bytes where `piece` says so. */
+/* Copies the bytes of a finished table, at most `piece` bytes a call. */
 static uint8_t *file_of(sst_handle *files, size_t piece, size_t *len) {
   sst_file told;
   CHECK(sst_files_tell(files, 0, &told) == 0);
@@ -72,7 +73,7 @@ static uint8_t *write_table(const sst_options *options, int n, size_t piece, siz
   return file;
 }
 
-/* Whether a read found this entry, seen both copied and lent. */
+/* Returns whether a read found this entry, both copied and borrowed. */
 static bool has_found(sst_handle *handle, const sst_entry *entry, const char *key,
                       const char *value) {
   uint8_t key_room[32], value_room[64];

@@ -1,5 +1,5 @@
-/* The calls of sst.h, as a caller in C makes them. `bindings/test` builds it and runs it under
- * valgrind. It prints what failed, and answers 1 then.
+/* Tests the calls of sst.h, as a caller in C makes them. `bindings/test` builds it and runs it
+ * under valgrind. It prints what failed, and returns 1 then.
  */
 #include "bulk.h"
 
@@ -24,7 +24,7 @@ static void test_gets(sst_handle *table, int n) {
   CHECK(sst_table_get(table, bytes("nothing"), 7, SST_NEWEST, &entry) == 0 && entry.kind == 0);
 }
 
-/* A room that is too small loses nothing. */
+/* A buffer that is too small loses nothing. */
 static void test_rooms(sst_handle *table) {
   sst_entry entry;
   uint8_t key[9], value[32];
@@ -37,7 +37,7 @@ static void test_rooms(sst_handle *table) {
   CHECK(memcmp(key, "key000001", 9) == 0 && memcmp(value, "value 2 of 1.", 13) == 0);
 }
 
-/* All entries, from both ends in turn, while the table is closed in the middle. */
+/* Reads all entries, from both ends in turn. The table is closed in the middle. */
 static void test_range(sst_handle *table, int n) {
   sst_handle range = {0};
   sst_entry entry;
@@ -62,7 +62,7 @@ static void test_range(sst_handle *table, int n) {
   CHECK(sst_range_next(&range, false, &entry) == SST_CLOSED);
 }
 
-/* All entries from the front as a range gives them, of two scans, while the table is closed. */
+/* Two scans yield all entries as a range does from the front. The table is closed meanwhile. */
 static void test_scan(const uint8_t *file, size_t len, bool pin) {
   sst_handle table = {0}, scan = {0}, other = {0}, range = {0};
   sst_entry entry, same;
@@ -96,7 +96,7 @@ static void test_scan(const uint8_t *file, size_t len, bool pin) {
   sst_close(&range);
 }
 
-/* A scan reads no index: it goes on where a partition of it is damaged, which a range needs. */
+/* A scan reads no index: it continues past a damaged partition, which a range needs. */
 static void test_scan_alone(const uint8_t *file, size_t len, uint64_t items) {
   sst_handle table = {0}, range = {0};
   sst_facts facts;
@@ -107,7 +107,7 @@ static void test_scan_alone(const uint8_t *file, size_t len, uint64_t items) {
   CHECK(sst_table_open(file, len, 0, true, true, &table) == 0);
   CHECK(sst_table_facts(&table, &facts) == 0);
   sst_close(&table);
-  damaged[facts.data_size + 50] ^= 1; /* the index lies behind the data */
+  damaged[facts.data_size + 50] ^= 1; /* the index is after the data */
   CHECK(sst_table_open(damaged, len, 0, true, true, &table) == 0);
   CHECK(sst_range_open(&table, 0, file, 0, 0, file, 0, &range) == 0);
   while ((code = sst_range_next(&range, false, &entry)) == 0 && entry.kind != SST_NO_ENTRY) {
@@ -131,15 +131,15 @@ static void test_bounds(sst_handle *table) {
   sst_close(&range);
 }
 
-/* Whether the key and the value of what a handle found are in these bytes. */
+/* Returns whether the key and the value of a found entry are in these bytes. */
 static bool is_found_within(sst_handle *handle, const uint8_t *file, size_t len) {
   sst_lent lent;
   return sst_found_lend(handle, &lent) == 0 && lent.key >= file && lent.value >= file &&
          lent.key + lent.key_len <= file + len && lent.value + lent.value_len <= file + len;
 }
 
-/* What a point read, a scan, and a range from each end found: it is in the caller's bytes until the
- * next read by that handle, whatever other handles read.
+/* What a point read, a scan, and a range from each end found is in the caller's bytes. It stays
+ * there until the next read by that handle, whatever other handles read.
  */
 static void test_found(const uint8_t *file, size_t len) {
   sst_handle table = {0}, range = {0}, scan = {0}, runs = {0}, merged = {0};
@@ -187,7 +187,7 @@ static void test_found(const uint8_t *file, size_t len) {
   sst_close(&scan);
 }
 
-/* Two handles of one table: each reads for itself, and may be closed before the other. */
+/* Two handles of one table read independently, and are closed in any order. */
 static void test_shares(const uint8_t *file, size_t len) {
   sst_handle table = {0}, other = {0}, range = {0}, closed = {0};
   sst_entry entry;
@@ -209,7 +209,7 @@ static void test_shares(const uint8_t *file, size_t len) {
   sst_close(&range);
 }
 
-/* Many reads at once: keys that are there, deleted, absent, repeated and empty. */
+/* Reads many keys at once: present, deleted, absent, repeated and empty ones. */
 static void test_many(const uint8_t *file, size_t len) {
   sst_handle table = {0}, answers = {0}, closed = {0}, writer = {0};
   const char *keys = "key000004nothingkey000000key000004";
@@ -274,7 +274,7 @@ static void test_many(const uint8_t *file, size_t len) {
   sst_close(&table);
 }
 
-/* Takes the next entry of a range, which is this one. */
+/* Takes the next entry of a range, and compares it with this one. */
 static bool is_next(sst_handle *range, bool back, const char *key, const char *value,
                     uint64_t seqno) {
   sst_entry entry;
@@ -282,8 +282,8 @@ static bool is_next(sst_handle *range, bool back, const char *key, const char *v
          has_found(range, &entry, key, value);
 }
 
-/* A table over bytes that the caller keeps: what was opened from it reads them too, once it is
- * closed. What is lent of a value that lies whole in the bytes lies there.
+/* Reads a table over the caller's bytes. What was opened from it reads them after it is closed. A
+ * borrowed value that is whole in the bytes points into them.
  */
 static void test_kept(const uint8_t *file, size_t len, int n) {
   sst_handle table = {0}, copied = {0}, other = {0}, runs = {0}, range = {0}, answers = {0};
@@ -327,8 +327,8 @@ static void test_kept(const uint8_t *file, size_t len, int n) {
   sst_close(&table);
 }
 
-/* Steps of a verification to its end: as many bytes are told as the table says, and never fewer
- * than before. Answers the last code.
+/* Verifies a table by steps. The number of bytes read never descends, and never exceeds the size.
+ * Returns the last code.
  */
 static uint32_t verify_by_steps(sst_handle *verification, sst_progress *progress,
                                 sst_verified *verified) {
@@ -380,7 +380,7 @@ static void test_verification(const uint8_t *file, size_t len, uint64_t items) {
   CHECK(sst_verification_step(&steps, &progress, &verified) == SST_CLOSED);
 }
 
-/* By steps the same is found as at once, and again by a further step. */
+/* Steps find the same as one call, and a further step finds it again. */
 static void verify_damaged(sst_handle *table, uint32_t code, const sst_verified *at_once) {
   sst_handle steps = {0};
   sst_progress progress;
@@ -393,7 +393,7 @@ static void verify_damaged(sst_handle *table, uint32_t code, const sst_verified 
   sst_close(&steps);
 }
 
-/* A table of one entry for each of some keys of one letter. */
+/* Makes a table of one entry for each of some keys of one letter. */
 static void open_letters(const sst_options *options, const char *letters, uint64_t seqno,
                          sst_handle *table) {
   sst_handle writer = {0};
@@ -409,7 +409,7 @@ static void open_letters(const sst_options *options, const char *letters, uint64
   sst_close(&writer);
 }
 
-/* Whether a packed run has these tables, in this order. */
+/* Returns whether a packed run has these tables, in this order. */
 static bool has_tables(sst_handle *packing, uint64_t run, const uint64_t *tables, uint64_t count) {
   uint64_t told = 7, table = 7;
   if (sst_packing_run(packing, run, &told) != 0 || told != count) return false;
@@ -419,8 +419,8 @@ static bool has_tables(sst_handle *packing, uint64_t run, const uint64_t *tables
   return sst_packing_table(packing, run, count, &table) == SST_NO_SUCH;
 }
 
-/* Both lists find the same: each letter at each number, and all of them from both ends. A scan of
- * the one finds what a range of the other has from the front.
+/* Both lists find the same: each letter at each sequence number, and all letters from both ends. A
+ * scan of one finds what a range of the other has from the front.
  */
 static void compare_runs(sst_handle *runs, sst_handle *packed) {
   sst_handle one = {0}, other = {0};
@@ -451,7 +451,7 @@ static void compare_runs(sst_handle *runs, sst_handle *packed) {
   sst_close(&other);
 }
 
-/* Of five tables two pairs lie apart: `c..e` and `x..z` behind them, `a` beside `c..e`. */
+/* Packs five tables. Two pairs do not overlap: `x..z` is after `c..e`, and `a` is beside `c..e`. */
 static void test_packing(const sst_options *options) {
   const char *letters[] = {"cde", "a", "d", "xyz", "abcd"};
   const uint64_t first[] = {1, 0, 3}, second[] = {2}, third[] = {4};
@@ -497,7 +497,7 @@ static void test_packing(const sst_options *options) {
   CHECK(sst_packing_run(&packing, 0, &count) == SST_CLOSED);
   CHECK(sst_packing_table(&packing, 0, 0, &count) == SST_CLOSED);
   CHECK(sst_packing_chain(&packing, 0, &count) == SST_CLOSED);
-  /* packed runs are packed as they are, and take a table more */
+  /* packed runs stay as they are if packed again, and take another table */
   CHECK(sst_runs_pack(&packed, &again) == 0 && sst_packing_open(&packed, &packing) == 0);
   CHECK(sst_packing_count(&packing, &count) == 0 && count == 3);
   compare_runs(&packed, &again);
@@ -510,7 +510,7 @@ static void test_packing(const sst_options *options) {
   sst_close(&packed);
 }
 
-/* Takes the next entry of a scan, which is this one. */
+/* Takes the next entry of a scan, and compares it with this one. */
 static bool is_next_scanned(sst_handle *scan, const char *key, const char *value,
                             uint64_t seqno) {
   sst_entry entry;
@@ -518,7 +518,7 @@ static bool is_next_scanned(sst_handle *scan, const char *key, const char *value
          has_found(scan, &entry, key, value);
 }
 
-/* Whether a scan is at its end, and stays there. */
+/* Returns whether a scan is at its end, and stays there. */
 static bool is_scanned(sst_handle *scan) {
   sst_entry entry;
   sst_lent lent;
@@ -529,7 +529,7 @@ static bool is_scanned(sst_handle *scan) {
   return true;
 }
 
-/* A scan of a list of two runs, which is closed before the scan. */
+/* Scans a list of two runs, which is closed before the scan. */
 static void test_runs_scan(sst_handle *runs) {
   sst_handle scan = {0}, later = {0}, closed = {0}, table = {0};
   sst_entry entry;
@@ -567,7 +567,7 @@ static void test_runs_scan(sst_handle *runs) {
   sst_close(&table);
 }
 
-/* A list of two runs, as one range and as what it is compacted to. */
+/* Reads a list of two runs as one range, and compacts it. */
 static void test_merged(sst_handle *runs, const sst_options *options) {
   sst_handle range = {0}, files = {0}, table = {0}, closed = {0};
   sst_entry entry;
@@ -618,14 +618,16 @@ static void test_merged(sst_handle *runs, const sst_options *options) {
   sst_close(&table);
   sst_close(&files);
   free(file);
-  /* a table for each key, their ids run on */
+  /* a table for each key, with ascending ids */
   CHECK(sst_compact(runs, options, SST_NEWEST, true, true, 0, &files, &next_id) == 0);
   CHECK(sst_files_count(&files, &count) == 0 && count == 5);
   CHECK(sst_files_tell(&files, 4, &told) == 0 && told.id + 1 == next_id);
   sst_close(&files);
 }
 
-/* A table twice in a list has each key twice under one number: it is not compacted. */
+/* A table that is twice in a list has each key twice with one sequence number. It cannot be
+ * compacted.
+ */
 static void test_out_of_order(const sst_options *options, const uint8_t *file, size_t len) {
   sst_handle table = {0}, runs = {0}, files = {0};
   uint64_t next_id = 7, count;
@@ -642,7 +644,7 @@ static void test_out_of_order(const sst_options *options, const uint8_t *file, s
   sst_close(&table);
 }
 
-/* Two tables with the same keys: the newer version is found, wherever its table stands. */
+/* Two tables have the same keys: the newer version is found, wherever its table is. */
 static void test_runs(const sst_options *options, const uint8_t *file, size_t len) {
   sst_handle writer = {0}, older = {0}, newer = {0}, runs = {0};
   sst_entry entry;
@@ -682,8 +684,8 @@ static void test_runs(const sst_options *options, const uint8_t *file, size_t le
   sst_close(&writer);
 }
 
-/* Closed handles, open ones, and those of one or a few other kinds, in calls that take none of
- * these; and entries that a writer refuses.
+/* Passes closed handles, handles in use, and handles of other kinds to calls that fail with them.
+ * It also writes entries that a writer does not take.
  */
 static void test_misuse(const sst_options *options, const uint8_t *file, size_t len) {
   sst_handle closed = {0}, writer = {0}, table = {0};
@@ -746,7 +748,7 @@ static void test_misuse(const sst_options *options, const uint8_t *file, size_t 
   sst_close(&table);
 }
 
-/* One handle in both places of a call that fills one: nothing is filled, and it stays. */
+/* Passes one handle twice to calls that fill one: nothing is filled, and the handle stays. */
 static void fill_from_itself(sst_handle *handle, const sst_options *options, uint32_t code) {
   sst_handle before = *handle;
   sst_entry entry;
@@ -776,7 +778,7 @@ static void test_one_handle_twice(const sst_options *options, const uint8_t *fil
   sst_close(&runs);
 }
 
-/* A writer that was given nothing finishes without a table. */
+/* A writer without entries finishes without a table. */
 static void test_no_entry(const sst_options *options) {
   sst_handle writer = {0};
   uint64_t count = 7;
@@ -786,7 +788,7 @@ static void test_no_entry(const sst_options *options) {
   sst_close(&writer);
 }
 
-/* Each byte of a table is damaged in turn. What opens may be read; what verifies is the table. */
+/* Damages each byte of a table in turn. What opens may be read, and what verifies is the table. */
 static void test_damage(const uint8_t *file, size_t len, uint64_t items) {
   uint8_t *damaged = malloc(len);
   sst_verified verified;
@@ -813,7 +815,7 @@ static void test_damage(const uint8_t *file, size_t len, uint64_t items) {
     CHECK(sst_runs_scan_open(&runs, 0, file, 0, 0, file, 0, SST_NEWEST, &scan) == 0);
     while ((code = sst_scan_next(&scan, &entry)) == 0 && entry.kind != 0) {
     }
-    CHECK(code <= 24 && is_scanned(&scan)); /* behind an error nothing comes */
+    CHECK(code <= 24 && is_scanned(&scan)); /* no entry follows an error */
     sst_close(&table);
     sst_close(&range);
     sst_close(&runs);
@@ -834,12 +836,12 @@ static void test_facts(sst_handle *table, const sst_options *options, int n) {
   CHECK(verified.item_count == items && verified.data_block_count == facts.data_block_count);
 }
 
-/* What is pinned counts, and the marks are a word for each 2,048 bytes and one more. */
+/* Pinned blocks count, and the verified-block cache is a word for each 2,048 bytes and one more. */
 static void test_memory(sst_handle *table, const sst_options *options, size_t len, bool pin) {
   sst_handle other = {0};
   sst_memory memory, same;
   bool has_filter = pin && options->filter_partition_size == 0;
-  bool has_index = pin || options->index_partition_size > 0; /* the top level stays loaded */
+  bool has_index = pin || options->index_partition_size > 0; /* the top level is pinned */
   CHECK(sst_table_memory(table, &memory) == 0);
   CHECK(memory.file_len == len && memory.marks_size == 8 * (len / 2048 + 1));
   CHECK((memory.pinned_filter_size > 0) == has_filter);
@@ -884,7 +886,7 @@ static void test_table(const sst_options *options, int n, size_t piece, bool pin
   sst_close(&table);
 }
 
-/* The sentences that are copied are those of the header. */
+/* `sst_strerror_copy` returns the sentences of the header. */
 static void test_sentences(void) {
   char room[64];
   for (uint32_t code = 0; code < 200; code++) {

@@ -1,5 +1,5 @@
-/* Several threads that read one table at once, each by handles of its own: `bindings/test` builds
- * it and runs it, under helgrind too where valgrind is there. It answers 1 where a read is wrong.
+/* Several threads read one table at once, each by handles of its own. `bindings/test` builds it and
+ * runs it, under helgrind too if valgrind is installed. It returns 1 if a read is wrong.
  */
 #include "sst.h"
 
@@ -38,7 +38,7 @@ static uint8_t *write_table(size_t *len) {
   return file;
 }
 
-/* Whether the next entry of a scan is that of the key at a place. */
+/* Returns whether the next entry of a scan is that of the key at an index. */
 static bool is_key(sst_handle *scan, int i) {
   sst_entry entry;
   uint8_t key[9], found[9], value[9];
@@ -47,7 +47,7 @@ static bool is_key(sst_handle *scan, int i) {
          memcmp(key, found, 9) == 0;
 }
 
-/* Reads every key by a scan of a table, and by one of the table as a list of runs, twice. */
+/* Reads every key by a scan of a table, and by a scan of the table as a list of runs, twice. */
 static size_t scan_all(sst_handle *table) {
   sst_handle runs = {0}, scan = {0}, merged = {0};
   uint8_t none = 0;
@@ -64,8 +64,8 @@ static size_t scan_all(sst_handle *table) {
   return wrong;
 }
 
-/* Reads every key, by a point read, by a range and by scans, and a share of the handle that it is
- * given, which it closes.
+/* Reads every key by a point read, by a range and by scans. It makes shares of the given handle and
+ * closes them, and then the handle.
  */
 static void *read_all(void *handle) {
   sst_handle *table = handle, share = {0}, range = {0};
@@ -93,7 +93,7 @@ static void *read_all(void *handle) {
   return (void *)wrong;
 }
 
-/* Has the threads read shares of a table at once, which is closed while they read. */
+/* Lets the threads read shares of a table at once, which is closed while they read. */
 static int read_at_once(sst_handle *table, size_t *wrong) {
   sst_handle shares[THREADS] = {{{0}}};
   pthread_t threads[THREADS];
@@ -120,7 +120,7 @@ int main(void) {
   if (read_at_once(&table, &wrong) != 0) return 1;
   if (sst_table_open_kept(file, len, 0, false, false, &kept) != 0) return 1;
   if (read_at_once(&kept, &wrong) != 0) return 1;
-  free(file); /* all that read it is closed */
+  free(file); /* everything that reads it is closed */
   printf(wrong == 0 ? "all as it should be\n" : "threads read wrongly\n");
   return wrong > 0;
 }

@@ -43,7 +43,7 @@ class Entry(NamedTuple):
 
 
 class Facts(NamedTuple):
-    """The claims of a table about itself. In bytes from elsewhere they may be wrong.
+    """The claims of a table about itself. In bytes of another writer they may be wrong.
 
     `id`: the id that the table was written with.
     `version`: the format version, 3 or 4.

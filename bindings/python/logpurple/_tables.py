@@ -654,9 +654,9 @@ def _bounds(lower: Optional[BytesLike], upper: Optional[BytesLike]) -> Bounds:
 class Runs(_Reader):
     """Several tables that are read as one. The newest table comes first.
 
-    It reads as a mapping of the keys to their newest values in all tables, as a `Table` does: a key
-    whose newest version is a deletion is not in it, and it has no `len`. A point read looks into
-    each run. A run is one table, unless `packed` has put several in it that do not overlap.
+    It reads as a mapping of the keys to their newest values in all tables, as a `Table` does. A key
+    whose newest version is a deletion is not in it, and it has no `len`. A point read reads each
+    run. A run is one table, unless `packed` has put several in it that do not overlap.
 
     Unlike that of a `Table`, `entries` yields only the newest version of each key.
 
@@ -800,7 +800,7 @@ class Runs(_Reader):
 
 
 def listed(tables: Iterable[Table]) -> List[Table]:
-    """Returns some tables. A single one, which is an iterable of its keys, is a `TypeError`."""
+    """Returns some tables. Raises `TypeError` for a single one, which iterates over its keys."""
     if isinstance(tables, Table):
         raise TypeError("tables are expected, and not one table")
     return list(tables)

@@ -25,7 +25,7 @@ class Bulk(unittest.TestCase):
             self.assertIsNone(entries.take(reverse=True))
 
     def test_ends_of_several(self):
-        """Each end of several tables is read by a handle of its own. They end where they meet."""
+        """Two handles read the ends of several tables. They end where they meet."""
         newest = ENTRIES[::2]
         runs = Runs(table_of(newest[::2]), table_of(newest[1::2]), table_of(ENTRIES[1::2]))
         for seed in range(20):
@@ -136,7 +136,7 @@ class Bulk(unittest.TestCase):
             self.assertEqual(writer.finish(), single.finish())
 
     def test_many_that_are_no_pairs(self):
-        """Lists of other lengths are no pairs, whatever they have together."""
+        """Lists of other lengths are no pairs, whatever their total length."""
         for wrong in ([(b"a",), (b"b", b"1", b"2")], [(b"a", b"1", b"2")], [b"a"], [5], [None]):
             writer = Writer()
             with self.assertRaises((TypeError, ValueError)):

@@ -61,7 +61,7 @@ class Calls(unittest.TestCase):
                 else:
                     self.assertTrue(is_pointer(kind), name)
 
-    # The numbers of the header's enumeration that has a name, without the names' prefix.
+    # The numbers of the header's enumeration with a name, without the prefix of the names.
     def numbers(self, name, begin="SST_"):
         body = next(body for body in re.findall(r"enum \{(.*?)\};", self.header, re.S)
                     if re.search(r"\b%s =" % name, body))

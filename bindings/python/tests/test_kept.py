@@ -19,7 +19,7 @@ class Bytes(bytes):
 
 
 def counted(file):
-    """How many name some bytes, once what is garbage is collected."""
+    """Returns the number of references to some bytes, after a garbage collection."""
     gc.collect()
     return sys.getrefcount(file)
 

@@ -1,4 +1,4 @@
-"""Where the package finds its library, and what its error says."""
+"""The search for the library, and its error."""
 
 import os
 import shutil
@@ -80,7 +80,7 @@ class Library(unittest.TestCase):
         self.assertNotIn(self.built, self.run_with().stderr)
 
     def test_one_that_is_named_and_not_there(self):
-        """No other one is taken in its place."""
+        """The package takes no other one in its place."""
         open(self.built, "wb").close()
         self.fails("cannot load libsst.so", self.named, named=self.named)
 

@@ -16,7 +16,7 @@ TWO = [Entry(b"k%d" % digit, 1, Kind.VALUE, b"v%d" % digit) for digit in range(1
 
 class Mappings(unittest.TestCase):
     def check(self, reader, wanted):
-        """Compares all that a reader has with a dict, whose keys are in order."""
+        """Compares all entries of a reader with a dict, whose keys are in order."""
         self.assertEqual(dict(reader), wanted)
         self.assertEqual({**reader}, wanted)
         self.assertEqual(list(reader), list(wanted))
@@ -106,7 +106,7 @@ def references(file):
 
 
 class Iterations(unittest.TestCase):
-    """An iteration can be left at any time. Nothing of it stays then."""
+    """An iteration can be left at any time, and releases everything then."""
 
     def setUp(self):
         self.entries = entries_of(3, 900)

@@ -42,7 +42,7 @@ class Damage(unittest.TestCase):
             self.assertEqual(wanted[0], (written, 0))
 
     def is_sound(self, table, count, length):
-        """Whether `verify` finds no fault. A fault has a place, and a detail if it has a cause."""
+        """Returns whether `verify` finds no fault, and checks the parts of a fault."""
         try:
             self.assertEqual(table.verify().item_count, count)
         except logpurple.Faulty as error:
@@ -221,7 +221,7 @@ class Misuse(unittest.TestCase):
 
     def test_a_handle_that_holds_another_kind(self):
         table, writer = table_of(entries_of(7, 3)), Writer()
-        # What the methods call has to be there, so that the library itself says what is wrong.
+        # The methods call what is declared here, so that the library itself returns the error.
         for kind in Table.__mro__:
             for name, member in vars(kind).items():
                 if not hasattr(writer, name) and callable(member):

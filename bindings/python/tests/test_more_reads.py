@@ -18,7 +18,7 @@ ROWS = [Entry(b"a", 9, Kind.VALUE, b""), Entry(b"a", 7, Kind.VALUE, b""),
 
 
 def fnv(data):
-    """The FNV-1a hash of some bytes, which a block has as its checksum."""
+    """Returns the FNV-1a hash of some bytes, the checksum of a block."""
     found = 0xcbf29ce484222325
     for byte in data:
         found = (found ^ byte) * 0x100000001b3 % 2**64
@@ -34,7 +34,7 @@ def sections(file):
 
 
 def items_of(file):
-    """The items of the meta block: a tag, a number, a name and a value each."""
+    """Returns the items of the meta block: a tag, a sequence number, a name and a value each."""
     place, size = sections(file)[6]
     payload, at, items = file[place + 24:place + size], 4, []
     for _ in range(struct.unpack_from("<I", payload)[0]):
@@ -45,7 +45,7 @@ def items_of(file):
 
 
 def with_items(file, items):
-    """A table with other items in its meta block."""
+    """Returns a table with other items in its meta block."""
     place = sections(file)[6][0]
     payload = struct.pack("<I", len(items)) + b"".join(
         struct.pack("<BQII", tag, seqno, len(name), len(value)) + name + value
@@ -59,7 +59,7 @@ GONE = "gone"
 
 
 def changed(changes, file=file_of([A1], id=1, filter_bits_per_key=0)):
-    """A table where some items have another value, another number and tag, or are gone."""
+    """Returns a table where items have another value, another tag and seqno, or are missing."""
     items = []
     for tag, seqno, name, value in items_of(file):
         change = changes.get(name.decode(), value)
@@ -133,7 +133,7 @@ class Items(unittest.TestCase):
                 self.check({name: GONE}, None)
 
     def test_items_are_read_in_one_order(self):
-        """The error is that of the first of two faults."""
+        """Opening returns the error of the first of two faults."""
         two = b"\2"
         for first, second, error in (
                 (("table_version", two), ("filter_hash_type", GONE), VERSION),
@@ -148,7 +148,7 @@ class Items(unittest.TestCase):
                 self.check(dict([first, second]), error)
 
     def test_an_item_that_is_not_borne_out(self):
-        """Which item it is, `test_reads` compares."""
+        """`test_reads` compares which item it is."""
         none, three = bytes(8), struct.pack("<Q", 3)
         for name, value in (("block_count#data", none), ("block_count#data", three),
                             ("file_size", none), ("item_count", none), ("item_count", three),
@@ -215,7 +215,7 @@ class Laid(unittest.TestCase):
         self.assertEqual(list(Table.open(file).entries()), [A1])
 
     def test_steps_of_a_verification(self):
-        """The index and the block of data come before the answer: the table has no filter."""
+        """The steps read the index and a data block, since the table has no filter."""
         calls = []
         verified = table_of([A1], filter_bits_per_key=0).verify(
             lambda read, size: calls.append((read, size)))
@@ -282,7 +282,7 @@ class Written(unittest.TestCase):
                     self.assertEqual(table.entry(key), wanted[0])
 
     def test_the_largest_numbers(self):
-        """Each with the number that is added to it; the largest one is below no bound."""
+        """Adds the global sequence number to each. No snapshot sees the largest one."""
         for seqno, added in ((NONE - 1, 0), (NONE - 1, 1), (0, NONE - 1), (0, NONE),
                              (3, NONE - 3), (3, 10)):
             table = Table.open(file_of([A1._replace(seqno=seqno)]), added)
@@ -342,14 +342,14 @@ class Ranges(unittest.TestCase):
                                  (entries, lower, upper, ends))
 
     def test_by_two_levels(self):
-        """With a block for each entry, by an index of two levels."""
+        """Reads a block for each entry, by an index of two levels."""
         for entries in lists():
             file = file_of(entries, data_block_size=0, index_partition_size=1,
                            filter_bits_per_key=0)
             self.check(Table.open(file), entries)
 
     def test_on_demand(self):
-        """With blocks that entries of the empty key do not fill, by an index on demand."""
+        """Reads blocks that entries of the empty key do not fill, by an unpinned index."""
         for entries in lists():
             file = file_of(entries, data_block_size=1, filter_bits_per_key=0)
             self.check(Table.open(file, 0, True, False), entries)
@@ -367,7 +367,7 @@ class Many(unittest.TestCase):
         self.assertEqual(table.entry_many([b"c", b"a"], 1), [None, None])
 
     def test_the_earliest_error(self):
-        """The last byte of the block of a@7 is changed, and the mark of that of b@1."""
+        """Changes the last byte of the block of a@7, and the magic number of that of b@1."""
         file = bytearray(file_of(ROWS, data_block_size=0, filter_bits_per_key=0))
         file[91], file[138] = ord("?"), ord("?")
         table = Table.open(file)

@@ -1,5 +1,5 @@
-"""Several tables, case by case: below a number, with the longest key, with a global number, of both
-versions, packed, and as a compaction begins new ones."""
+"""Several tables: snapshots, the longest key, a global sequence number, both format versions,
+packing, and the cuts of a compaction."""
 
 import os
 import unittest
@@ -130,7 +130,7 @@ class BothVersions(unittest.TestCase):
             newer = table_of(last)
             self.assertEqual(newer.facts().version, 4)
             runs = Runs(newer, older).packed()
-            # The two are one run, the older one in front.
+            # The two are one run, the older one first.
             self.assertEqual(runs.packing().runs, [[0, 1]])
             firsts = [entry for place, entry in enumerate(entries)
                       if place == 0 or entry.key != entries[place - 1].key]

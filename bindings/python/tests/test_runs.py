@@ -13,7 +13,7 @@ from logpurple import NEWEST, Entry, Kind, Runs, Table, Writer, compact
 
 class Several(unittest.TestCase):
     def setUp(self):
-        # No two entries have one key under one number; the newest table is the first.
+        # No two entries have the same key and sequence number; the newest table is the first.
         self.lists = [entries_of(seed, 150, above, 4)
                       for seed, above in ((1, 20), (2, 11), (3, 2), (4, 1))]
         self.all = sorted_entries(*self.lists)
@@ -90,7 +90,7 @@ class Several(unittest.TestCase):
             packing, packed = runs.packing(), runs.packed()
             self.check_packing(packing, spans)
             self.assertEqual(list(packed.entries()), list(runs.entries()))
-            # Packed once more nothing changes but the numbers, which go run by run.
+            # Packing again only changes the indices, which go run by run.
             again, first = packed.packing(), itertools.count()
             self.assertEqual(again.runs, [[next(first) for _ in run] for run in packing.runs])
 
@@ -127,7 +127,7 @@ class Several(unittest.TestCase):
             table = Table.open(files[0])
             self.assertEqual((list(table.entries()), table.facts().id), (wanted, 5))
             self.assertEqual(table.verify().item_count, len(wanted))
-            # Readers at the watermark or above see the same, of all tables that there are.
+            # Snapshots at the watermark or above see the same in all tables.
             for at in (watermark, watermark + 1, 40, NEWEST):
                 if at >= max(watermark, 1) and at <= NEWEST:
                     self.assertEqual(list(table.range(at=at)), shown(self.all, at))
@@ -138,7 +138,7 @@ class Several(unittest.TestCase):
             files = compact(self.runs, watermark=NEWEST, target=target, id=9, data_block_size=64)
             tables = [Table.open(file) for file in files]
             self.assertGreater(len(tables), 2)
-            # At a target of 0 a table ends before its first key, and its id is passed over.
+            # At a target of 0 a table ends before its first key, so its id is skipped.
             first = 10 if target == 0 else 9
             self.assertEqual([table.facts().id for table in tables],
                              list(range(first, first + len(tables))))

@@ -1,4 +1,4 @@
-"""Threads: by one table in turns, and by a share each at the same time."""
+"""Threads that use one table in turns, or a share each at the same time."""
 
 import threading
 import unittest
@@ -33,7 +33,7 @@ class Threads(unittest.TestCase):
     def setUp(self):
         self.entries = entries_of(6, 300)
         self.keys = sorted({entry.key for entry in self.entries})
-        # Nothing was read yet, so that threads meet where blocks are compared first.
+        # Nothing was read yet, so that threads compare blocks at the same time.
         self.tables = [Table.open(file_of(self.entries, **small(seed)), 0, *pins)
                        for seed in range(4) for pins in ((True, True), (False, False))]
 

@@ -70,7 +70,7 @@ def _drained(table, source, is_back=False):
 
 
 def read_again(file, keys, pin_filter, pin_index):
-    """Returns what the second reader finds in the place of `read`."""
+    """Returns what the second reader finds, in the form of `read`."""
     try:
         table = _second["Table"](bytes(file), _second["Pins"](pin_filter, pin_index))
     except _second["Refused"] as error:

@@ -1,5 +1,5 @@
-//! Links the library that `bindings/build` leaves in `bindings/out`, or what pkg-config knows as
-//! `sst` where nothing lies there.
+//! Links the library that `bindings/build` has put into `bindings/out`, or else the one that
+//! pkg-config finds as `sst`.
 
 use std::env;
 use std::path::{Path, PathBuf};
@@ -31,7 +31,7 @@ fn link(kind: &str, folder: &Path) {
     println!("cargo:rustc-link-lib={kind}=sst");
 }
 
-// Where pkg-config says that the library lies.
+// Returns the folders in which pkg-config finds the library.
 fn folders_of_pkg_config() -> Vec<PathBuf> {
     let asked = Command::new("pkg-config").args(["--libs-only-L", "sst"]).output();
     match asked {

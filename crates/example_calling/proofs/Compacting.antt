@@ -1,9 +1,9 @@
 -- What readers see of what is kept of several runs.
 use Rattle.std.proofs.Common.{◌≡◌, ℕ, ◌≤◌, inl, List}
 use Rattle.std.specs.Prelude.{map}
-use Rattle.logpurple.specs.Words.{Entry, Rules, all_entries, joined, kept_in, ok_results, seen}
-use Rattle.logpurple.specs.Words.{union_in}
-use Rattle.logpurple.proofs.Laws.{ascends_in_order, reads_alike}
+use Rattle.lsm_tables.specs.Words.{Entry, Rules, all_entries, joined, kept_in, ok_results, seen}
+use Rattle.lsm_tables.specs.Words.{union_in}
+use Rattle.lsm_tables.proofs.TableLaws.{ascends_in_order, reads_alike}
 
 -- at the watermark and above they see what they saw
 pub kept_alike : (rules : Rules) (lists : List (List (List Entry))) (key : List ℕ) (bound : ℕ)

@@ -3,9 +3,9 @@ use Rattle.std.proofs.Common.{◌≡◌, refl, sym, ◌∙◌, ap, ℕ, ◌+◌,
 use Rattle.std.proofs.Common.{arith, false, inl, inr}
 use Rattle.std.specs.Prelude.{Option, Some, None, Result, Ok, Err, IfErr, IsErrAnd, min}
 use Rattle.std.proofs.lemmas.Bool.{cases_Bool}
-use Rattle.logpurple.specs.Words.{DealsList, Entry, Error, OutOfMemory, answer_stops, is_memory}
-use Rattle.logpurple.specs.Words.{ok_results}
-use Rattle.logpurple.proofs.Laws.{deals_front, memory_is}
+use Rattle.lsm_tables.specs.Words.{DealsList, Entry, Error, OutOfMemory, answer_stops, is_memory}
+use Rattle.lsm_tables.specs.Words.{ok_results}
+use Rattle.lsm_tables.proofs.TableLaws.{deals_front, memory_is}
 
 module _ {S : Type 0} (next back : S → Option (Result Entry Error) → S → Type 0) where
   -- a part of the list is counted, and the stream deals the rest

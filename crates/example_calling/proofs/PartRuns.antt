@@ -8,20 +8,20 @@ use Rattle.std.proofs.lemmas.List.{map-append, take_all, take_more}
 use Rattle.sst_entries.specs.declared.error.Error.{Error}
 use Rattle.sst_entries.specs.Entry.{Entry}
 use Rattle.sst_entries.specs.Strict.{IsStrict}
-use Rattle.lsm_formats.specs.Chunks.{joined}
-use Rattle.lsm_ranges.specs.Run.{IsInOrder}
-use Rattle.lsm_readers.specs.Table.{OpenTable}
+use Rattle.sst_blocks.specs.table.Chunks.{joined}
+use Rattle.lsm_sorted.specs.version.Run.{IsInOrder}
+use Rattle.lsm_readers.specs.point.Table.{OpenTable}
 use Rattle.lsm_sorted.specs.declared.compaction.Rules.{Rules}
 use Rattle.lsm_sorted.specs.Point.{shown}
 use Rattle.lsm_sorted.specs.ReadLaw.{AllNewer, IsPlain}
-use Rattle.lsm_compactions.specs.Chain.{IsRunOfList}
-use Rattle.lsm_compactions.specs.PartReads.{HoldSides, ReadsKept, ReadsOf, ShowAlike}
-use Rattle.lsm_compactions.specs.ReadsCompacted.{PointsStay, RangesStay, SideBySide, joined_in}
+use Rattle.lsm_runs.specs.compaction.Chain.{IsRunOfList}
+use Rattle.lsm_runs.specs.compaction.PartReads.{HoldSides, ReadsKept, ReadsOf, ShowAlike}
+use Rattle.lsm_runs.specs.compaction.ReadsCompacted.{PointsStay, RangesStay, SideBySide, joined_in}
 use Rattle.lsm_runs.specs.RunLists.{HoldLists, RunsHoldLists}
-use Rattle.lsm_runs.specs.RunParts.{range_of}
+use Rattle.lsm_run_parts.specs.RunParts.{range_of}
 use Rattle.lsm_runs.specs.SeveralRuns.{union_in}
-use Rattle.lsm_compactions.proofs.CompactedBack.{lift_zero}
-use Rattle.lsm_compactions.proofs.RunBack.{run_held}
+use Rattle.lsm_runs.proofs.CompactedBack.{lift_zero}
+use Rattle.lsm_runs.proofs.RunBack.{run_held}
 
 -- ---- what runs side by side hold
 

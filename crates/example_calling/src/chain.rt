@@ -1,13 +1,13 @@
 //! Writing a list as a run, and reading it.
 ghost use Rattle.std.specs.Prelude.{◌≡◌, ◌+◌, ◌^◌, ◌<◌, [], Some, IfErr, IfOk, IfSome, MatchOption};
 ghost use Rattle.sst_entries.specs.declared.error.Error.TheVariants.{OutOfMemory};
-ghost use Rattle.logpurple.specs.Words.{CanDeal, Faults, FitsAsTables, IsWritable, ReadsOf};
-ghost use Rattle.logpurple.specs.Words.{chain_fault, highest_seqno, lift};
+ghost use Rattle.lsm_tables.specs.Words.{CanDeal, Faults, FitsAsTables, IsWritable, ReadsOf};
+ghost use Rattle.lsm_tables.specs.Words.{chain_fault, highest_seqno, lift};
 
 use crate::{Reads, read_run};
-use logpurple::block::{Error, InternalValue, SeqNo, UserKey};
-use logpurple::run::{NewestOfRuns, write_run};
-use logpurple::table::{TableIds, Timestamp};
+use lsm_tables::block::{Error, InternalValue, SeqNo, UserKey};
+use lsm_tables::run::{NewestOfRuns, write_run};
+use lsm_tables::table::{TableIds, Timestamp};
 use std::alloc::Allocator;
 use std::ops::Bound;
 

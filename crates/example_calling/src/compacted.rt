@@ -2,17 +2,17 @@
 ghost use Rattle.std.specs.Prelude.{◌≡◌, ◌∷◌, [], List, IfErr, IfOk, IfSome, MatchOption, Some};
 ghost use Rattle.std.specs.Prelude.{length};
 ghost use Rattle.sst_entries.specs.declared.error.Error.TheVariants.{OutOfMemory};
-ghost use Rattle.logpurple.specs.Words.{AreCompactable, AreTables, CanDeal, Entry, Faults};
-ghost use Rattle.logpurple.specs.Words.{FitsAsTables, IsRunOfList, IsWritable, ReadsOf};
-ghost use Rattle.logpurple.specs.Words.{both_fault};
-ghost use Rattle.logpurple.specs.Words.{default_options, ids_behind, kept};
-ghost use Rattle.logpurple.specs.Words.{tables_fault, unfiltered};
+ghost use Rattle.lsm_tables.specs.Words.{AreCompactable, AreTables, CanDeal, Entry, Faults};
+ghost use Rattle.lsm_tables.specs.Words.{FitsAsTables, IsRunOfList, IsWritable, ReadsOf};
+ghost use Rattle.lsm_tables.specs.Words.{both_fault};
+ghost use Rattle.lsm_tables.specs.Words.{default_options, ids_behind, kept};
+ghost use Rattle.lsm_tables.specs.Words.{tables_fault, unfiltered};
 
 use crate::{Reads, read_run};
-use logpurple::block::{Error, InternalValue, SeqNo, UserKey};
-use logpurple::compaction::{Rules, compact_to_run};
-use logpurple::run::{NewestOfRuns, Run, write_run};
-use logpurple::table::{Table, TableIds, Timestamp};
+use lsm_tables::block::{Error, InternalValue, SeqNo, UserKey};
+use lsm_tables::compaction::{Rules, compact_to_run};
+use lsm_tables::run::{NewestOfRuns, Run, write_run};
+use lsm_tables::table::{Table, TableIds, Timestamp};
 use std::alloc::Allocator;
 use std::ops::Bound;
 use std::sync::Arc;

@@ -1,4 +1,4 @@
-//! Examples of proofs of a caller, who names the one crate `logpurple`.
+//! Examples of proofs of a caller, who names the one crate `lsm_tables`.
 //!
 //! - A read of a table that stores a list.
 //! - A list that is written, opened and read.
@@ -14,7 +14,7 @@
 
 ghost use Rattle.std.specs.Prelude.{◌≡◌, ◌-◌, ◌^◌, ◌≤◌, [], IfErr, IfOk, List, MatchOption, Some};
 ghost use Rattle.std.specs.Prelude.{false, length, map, min, true, ℕ};
-ghost use Rattle.logpurple.specs.Words as spec;
+ghost use Rattle.lsm_tables.specs.Words as spec;
 ghost use Rattle.std.specs.Arc.{arc_value};
 ghost use Rattle.std.specs.Iterator.{IsFinite};
 ghost use Rattle.std.specs.Option.{option_map_or};
@@ -28,11 +28,11 @@ mod written;
 
 pub use chain::read_run_back;
 pub use compacted::compact_run_back;
-use logpurple::block::{Error, InternalValue, IterItem, SeqNo};
-use logpurple::compaction::{Rules, compact_to_run};
-use logpurple::merge::NewestOf;
-use logpurple::run::{Run, range_runs_at};
-use logpurple::table::{Table, TableIds, Timestamp, VerifyError, write_and_open};
+use lsm_tables::block::{Error, InternalValue, IterItem, SeqNo};
+use lsm_tables::compaction::{Rules, compact_to_run};
+use lsm_tables::merge::NewestOf;
+use lsm_tables::run::{Run, range_runs_at};
+use lsm_tables::table::{Table, TableIds, Timestamp, VerifyError, write_and_open};
 pub use one_answer::{PointAndScan, Ranges, read_each_way};
 pub use part::compact_part_back;
 pub use reads::{Reads, read_run};

@@ -3,11 +3,11 @@ ghost use Rattle.std.specs.Prelude.{◌≡◌, [], IfErr, IfOk, List};
 ghost use Rattle.sst_entries.specs.declared.error.Error.TheVariants.{OutOfMemory};
 ghost use Rattle.lsm_readers.specs.Words.{DealsAll, DealsWithin, Entry, StoresList};
 ghost use Rattle.sst_entries.specs.Error.{Faults};
-ghost use Rattle.lsm_compactions.specs.Written.{ReadsList, reads_fault};
+ghost use Rattle.lsm_runs.specs.compaction.Written.{ReadsList, reads_fault};
 
-use logpurple::block::{Error, InternalValue, SeqNo, UserKey};
-use logpurple::table::{Iter, Scanner, Table};
 use lsm_iters::beside;
+use lsm_tables::block::{Error, InternalValue, SeqNo, UserKey};
+use lsm_tables::table::{Iter, Scanner, Table};
 use std::alloc::Allocator;
 use std::ops::Bound;
 

@@ -1,18 +1,18 @@
 //! Compacting a part of several runs, and reading the runs before and after.
 ghost use Rattle.std.specs.Prelude.{◌≡◌, ◌∷◌, ◌++◌, ◌⊎◌, [], IfErr, IfOk, List, MatchOption, OnOk};
 ghost use Rattle.std.specs.Prelude.{map};
-ghost use Rattle.logpurple.specs.Words as spec;
+ghost use Rattle.lsm_tables.specs.Words as spec;
 ghost use Rattle.std.specs.Arc.{arc_value};
 ghost use Rattle.lsm_sorted.specs.ReadLaw.{IsPlain};
 
 use crate::Reads;
 use crate::reads::read_runs;
-use logpurple::block::{Error, SeqNo, UserKey};
-use logpurple::compaction::{Rules, compact_to_run};
-use logpurple::laws::compaction_law;
-use logpurple::run::{NewestOfRuns, Run, share};
-use logpurple::table::{Table, TableIds, Timestamp};
 use lsm_iters::beside;
+use lsm_tables::block::{Error, SeqNo, UserKey};
+use lsm_tables::compaction::{Rules, compact_to_run};
+use lsm_tables::laws::compaction_law;
+use lsm_tables::run::{NewestOfRuns, Run, share};
+use lsm_tables::table::{Table, TableIds, Timestamp};
 use std::alloc::Allocator;
 use std::ops::Bound;
 use std::sync::Arc;

@@ -1,11 +1,11 @@
 //! Writing a list as a table, opening and reading it.
 ghost use Rattle.std.specs.Prelude.{◌≡◌, [], IfOk, MatchOption};
 ghost use Rattle.sst_entries.specs.Error.{Faults};
-ghost use Rattle.lsm_compactions.specs.Written.{ReadsList, opening_fault};
-ghost use Rattle.logpurple.specs.Words.{IsWritable, label_of};
+ghost use Rattle.lsm_runs.specs.compaction.Written.{ReadsList, opening_fault};
+ghost use Rattle.lsm_tables.specs.Words.{IsWritable, label_of};
 
-use logpurple::block::{Error, InternalValue, SeqNo};
-use logpurple::table::{Scanner, Table, Timestamp, write_and_open};
+use lsm_tables::block::{Error, InternalValue, SeqNo};
+use lsm_tables::table::{Scanner, Table, Timestamp, write_and_open};
 use std::alloc::Allocator;
 
 /// Writes a list, opens the table, and returns a point read and a scan of it; `None` if the list

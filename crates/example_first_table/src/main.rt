@@ -1,8 +1,8 @@
 //! Writes a table, opens it and reads it back: the first calls of a store.
 #![tactic(auto)]
 
-use logpurple::block::{Error, InternalValue, SeqNo, Slice, ValueType};
-use logpurple::table::{FinishedTable, OpenOptions, Table, Timestamp, Writer};
+use lsm_tables::block::{Error, InternalValue, SeqNo, Slice, ValueType};
+use lsm_tables::table::{FinishedTable, OpenOptions, Table, Timestamp, Writer};
 use std::alloc::Allocator;
 
 /// Keys, sequence numbers and values: keys in ascending order, and the versions of a key from the

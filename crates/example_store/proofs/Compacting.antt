@@ -5,11 +5,11 @@ use Rattle.std.specs.Prelude.{All, IfSome, IsPermutation, MatchOption, None, Opt
 use Rattle.std.specs.List.{AllByRecursion, flat_map}
 use Rattle.std.proofs.lemmas.List.Elements.{All-from_recursion, All-head, All-tail}
 use Rattle.std.proofs.lemmas.List.Sorted.{All-permutation}
-use Rattle.logpurple.specs.Words.{AllNewer, AreCompactable, AreReplaced, Entry, HasList}
-use Rattle.logpurple.specs.Words.{HaveAll, HoldUnion, IsInOrder, IsStrict, OpenTable, Rules}
-use Rattle.logpurple.specs.Words.{joined, joined_in, kept_in, range_of, seen, union_in}
-use Rattle.logpurple.proofs.Laws.{all_append, all_behind, all_front, one_way, points}
-use Rattle.logpurple.proofs.Laws.{reads_alike_of_part}
+use Rattle.lsm_tables.specs.Words.{AllNewer, AreCompactable, AreReplaced, Entry, HasList}
+use Rattle.lsm_tables.specs.Words.{HaveAll, HoldUnion, IsInOrder, IsStrict, OpenTable, Rules}
+use Rattle.lsm_tables.specs.Words.{joined, joined_in, kept_in, range_of, seen, union_in}
+use Rattle.lsm_tables.proofs.TableLaws.{all_append, all_behind, all_front, one_way, points}
+use Rattle.lsm_tables.proofs.TableLaws.{reads_alike_of_part}
 use Rattle.example_store.specs.Story.{HoldBelow, Holding, IsOwnRun, IsOwnTable, IsStore, IsStory}
 use Rattle.example_store.specs.Story.{IsTold, holding, option_list}
 use Rattle.example_store.proofs.Stories.{able_none, seen_more}

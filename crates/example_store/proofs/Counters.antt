@@ -4,7 +4,8 @@ use Rattle.std.proofs.Common.{arith, length}
 use Rattle.std.specs.Prelude.{IfSome, MatchOption, None, Option, Some, sum_by}
 use Rattle.std.specs.List.{AllByRecursion}
 use Rattle.std.specs.Option.{option_map, option_map_or}
-use Rattle.logpurple.specs.Words.{AreCutOf, Entry, HasList, Label, OpenTable, ids_behind, run_label}
+use Rattle.lsm_tables.specs.Words.{AreCutOf, Entry, HasList, Label, OpenTable, ids_behind}
+use Rattle.lsm_tables.specs.Words.{run_label}
 use Rattle.example_store.specs.Ids.{AreMadeOf, HasFlushed}
 use Rattle.example_store.specs.Story.{Holding, option_list}
 use Rattle.example_store.proofs.Compacting.{made_of}

@@ -6,8 +6,8 @@ use Rattle.std.specs.Prelude.{Ok, Err, IfErr, IsErrAnd, Result, map}
 use Rattle.std.specs.List.{AllByRecursion}
 use Rattle.std.proofs.lemmas.Bool.{cases_Bool}
 use Rattle.std.proofs.lemmas.List.{length-map, map-append}
-use Rattle.logpurple.specs.Words.{Entry, Error, IsInOrder, IsStrict, OpenTable, StoresList}
-use Rattle.logpurple.specs.Words.{is_memory, range_of, recovered_told, union_in}
+use Rattle.lsm_tables.specs.Words.{Entry, Error, IsInOrder, IsStrict, OpenTable, StoresList}
+use Rattle.lsm_tables.specs.Words.{is_memory, range_of, recovered_told, union_in}
 use Rattle.example_store.specs.Closed.{StoreLists, files_in}
 use Rattle.example_store.specs.Faulty.{AreOwnFiles, HasNumbers, IsFirstFault, IsFirstRun}
 use Rattle.example_store.specs.Faulty.{IsOpenFault, IsOwnFile, NamesFile, NamesInRun}

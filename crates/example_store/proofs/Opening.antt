@@ -6,12 +6,13 @@ use Rattle.std.specs.Prelude.{Ok, Err, IfOk, Result, map}
 use Rattle.std.specs.List.{AllByRecursion}
 use Rattle.std.proofs.lemmas.Bool.{cases_Bool}
 use Rattle.std.proofs.lemmas.List.{map-append, take_more}
-use Rattle.logpurple.specs.Words.{AreCompactable, Entry, Error, HoldLists, HoldsList, IsInOrder}
-use Rattle.logpurple.specs.Words.{IsStrict, OpenTable}
-use Rattle.logpurple.specs.Words.{RunsHoldLists, StoresList, is_memory, lift, range_of, seen}
-use Rattle.logpurple.specs.Words.{union_in}
-use Rattle.logpurple.proofs.Laws.{IsOpen, are_in_order, count_no, fits_told, highest_seqno, is_weak}
-use Rattle.logpurple.proofs.Laws.{lift_zero, none_counted, one_way, small_numbers}
+use Rattle.lsm_tables.specs.Words.{AreCompactable, Entry, Error, HoldLists, HoldsList, IsInOrder}
+use Rattle.lsm_tables.specs.Words.{IsStrict, OpenTable}
+use Rattle.lsm_tables.specs.Words.{RunsHoldLists, StoresList, is_memory, lift, range_of, seen}
+use Rattle.lsm_tables.specs.Words.{union_in}
+use Rattle.lsm_tables.proofs.TableLaws.{IsOpen, are_in_order, count_no, fits_told, highest_seqno}
+use Rattle.lsm_tables.proofs.TableLaws.{is_weak}
+use Rattle.lsm_tables.proofs.TableLaws.{lift_zero, none_counted, one_way, small_numbers}
 use Rattle.example_store.specs.Closed.{bytes_by_run}
 use Rattle.example_store.specs.Story.{Holding, IsOwn, IsOwnRun, IsOwnTable, IsStory, IsTold}
 use Rattle.example_store.proofs.Own.{bytes_of, own_run_lists}

@@ -5,13 +5,14 @@ use Rattle.std.specs.Prelude.{Option, Some, None, Result, Ok, Err, IfErr, IsErrA
 use Rattle.std.specs.List.{AllByRecursion, AllZip}
 use Rattle.std.proofs.lemmas.Bool.{cases_Bool}
 use Rattle.std.proofs.lemmas.List.{map-append, take_more}
-use Rattle.logpurple.specs.Words.{DealsList, Entry, Error, HoldLists, IsStrict}
-use Rattle.logpurple.specs.Words.{OpenTable, OutOfMemory, RunsHoldLists, answer_stops, is_memory}
-use Rattle.logpurple.specs.Words.{joined, ok_results}
-use Rattle.logpurple.specs.Words.{IsStrictAfter}
-use Rattle.logpurple.proofs.Laws.{Ascends, DealTogether, HaveEntries, RunScan, RunScansNext}
-use Rattle.logpurple.proofs.Laws.{apart, ascends_of, deals_front, may_follow, memory_is, nowhere}
-use Rattle.logpurple.proofs.Laws.{run_strict, zip_push}
+use Rattle.lsm_tables.specs.Words.{DealsList, Entry, Error, HoldLists, IsStrict}
+use Rattle.lsm_tables.specs.Words.{OpenTable, OutOfMemory, RunsHoldLists, answer_stops, is_memory}
+use Rattle.lsm_tables.specs.Words.{joined, ok_results}
+use Rattle.lsm_tables.specs.Words.{IsStrictAfter}
+use Rattle.lsm_tables.proofs.TableLaws.{Ascends, DealTogether, HaveEntries, RunScan, RunScansNext}
+use Rattle.lsm_tables.proofs.TableLaws.{apart, ascends_of, deals_front, may_follow, memory_is}
+use Rattle.lsm_tables.proofs.TableLaws.{nowhere}
+use Rattle.lsm_tables.proofs.TableLaws.{run_strict, zip_push}
 
 -- a refusal that can be nothing but want of memory
 pub only_memory : {X : Type 0} (r : Result X Error) (e : Error) → IsErrAnd r (λ y. y ≡ e)

@@ -4,13 +4,13 @@ use Rattle.std.proofs.Common.{[], ◌∷◌, length, arith}
 use Rattle.std.specs.Prelude.{IfSome, MatchOption, None, Option, Some, map}
 use Rattle.std.specs.List.{AllByRecursion, AllZip}
 use Rattle.std.proofs.lemmas.Simd.{map-map}
-use Rattle.logpurple.specs.Words.{AreCompactable, AreCutOf, Entry, HasList, HoldLists, IsStrict}
-use Rattle.logpurple.specs.Words.{Label, OpenTable, Rules, RunsHoldLists, StoresList}
-use Rattle.logpurple.specs.Words.{all_entries, joined, joined_in, kept_in, lift, ok_results}
-use Rattle.logpurple.specs.Words.{sort_entries, union_in}
-use Rattle.logpurple.proofs.Laws.{AreOpened, HaveEntries, all_append, all_behind, all_front}
-use Rattle.logpurple.proofs.Laws.{all_inserted, all_kept, all_more, entries_joined, one_way}
-use Rattle.logpurple.proofs.Laws.{lift_zero, tables_there, zeroed_below}
+use Rattle.lsm_tables.specs.Words.{AreCompactable, AreCutOf, Entry, HasList, HoldLists, IsStrict}
+use Rattle.lsm_tables.specs.Words.{Label, OpenTable, Rules, RunsHoldLists, StoresList}
+use Rattle.lsm_tables.specs.Words.{all_entries, joined, joined_in, kept_in, lift, ok_results}
+use Rattle.lsm_tables.specs.Words.{sort_entries, union_in}
+use Rattle.lsm_tables.proofs.TableLaws.{AreOpened, HaveEntries, all_append, all_behind, all_front}
+use Rattle.lsm_tables.proofs.TableLaws.{all_inserted, all_kept, all_more, entries_joined, one_way}
+use Rattle.lsm_tables.proofs.TableLaws.{lift_zero, tables_there, zeroed_below}
 use Rattle.example_store.specs.Closed.{StoreLists, bytes_by_run}
 use Rattle.example_store.specs.Story.{IsOwn, IsOwnRun, IsOwnTable, option_list}
 

@@ -6,13 +6,13 @@ use Rattle.std.specs.Prelude.{map, min}
 use Rattle.std.specs.List.{AllByRecursion, AllZip, drop-map}
 use Rattle.std.proofs.lemmas.Bool.{cases_lt}
 use Rattle.std.proofs.lemmas.List.{drop_all, take-map, take_all}
-use Rattle.logpurple.specs.Words.{AreCompactable, AreReplaced, Entry, HaveAll, HoldLists}
-use Rattle.logpurple.specs.Words.{IsInOrder, IsStrict, IsWritable, OpenTable, RunsHoldLists}
-use Rattle.logpurple.specs.Words.{joined, joined_in, kept_in, range_of, rules_by, seen, union_in}
-use Rattle.logpurple.proofs.Laws.{HaveEntries, all_append, all_behind, all_front, all_more}
-use Rattle.logpurple.proofs.Laws.{as_pairs, at, count_join, from_pairs, is_weak, once_strict}
-use Rattle.logpurple.proofs.Laws.{one_way, points, reads_alike_of_part, side_by_side}
-use Rattle.logpurple.proofs.Laws.{strict_once, union_count, union_up, writable_after}
+use Rattle.lsm_tables.specs.Words.{AreCompactable, AreReplaced, Entry, HaveAll, HoldLists}
+use Rattle.lsm_tables.specs.Words.{IsInOrder, IsStrict, IsWritable, OpenTable, RunsHoldLists}
+use Rattle.lsm_tables.specs.Words.{joined, joined_in, kept_in, range_of, rules_by, seen, union_in}
+use Rattle.lsm_tables.proofs.TableLaws.{HaveEntries, all_append, all_behind, all_front, all_more}
+use Rattle.lsm_tables.proofs.TableLaws.{as_pairs, at, count_join, from_pairs, is_weak, once_strict}
+use Rattle.lsm_tables.proofs.TableLaws.{one_way, points, reads_alike_of_part, side_by_side}
+use Rattle.lsm_tables.proofs.TableLaws.{strict_once, union_count, union_up, writable_after}
 use Rattle.example_store.specs.Part.{front_runs, part_runs}
 use Rattle.example_store.specs.Story.{HoldBelow, Holding, IsOwn, IsOwnRun, IsStore, IsStory}
 use Rattle.example_store.specs.Story.{IsTold}

@@ -10,11 +10,11 @@ use Rattle.std.specs.declared.cmp.Ordering.TheVariants.{Less, Equal, Greater}
 use Rattle.std.specs.List.Sorted.{IsPartitionedBy, IsPartitionPoint}
 use Rattle.std.proofs.lemmas.Bool.{cases_Bool}
 use Rattle.std.proofs.lemmas.Option.{slice_get_read}
-use Rattle.logpurple.specs.Words.{Entry, IsStrict, front_length, is_before, is_hit, point}
-use Rattle.logpurple.specs.Words.{read_place, same_key, version_cmp}
-use Rattle.logpurple.proofs.Laws.{AllBefore, apart, before_trans, hit_key, is_false, lt_other}
-use Rattle.logpurple.proofs.Laws.{number_total, pairs_of, parted, precedes_of, read_hit}
-use Rattle.logpurple.proofs.Laws.{read_other, read_past, same_itself, strict_from}
+use Rattle.lsm_tables.specs.Words.{Entry, IsStrict, front_length, is_before, is_hit, point}
+use Rattle.lsm_tables.specs.Words.{read_place, same_key, version_cmp}
+use Rattle.lsm_tables.proofs.TableLaws.{AllBefore, apart, before_trans, hit_key, is_false, lt_other}
+use Rattle.lsm_tables.proofs.TableLaws.{number_total, pairs_of, parted, precedes_of, read_hit}
+use Rattle.lsm_tables.proofs.TableLaws.{read_other, read_past, same_itself, strict_from}
 use Rattle.example_store.specs.Recent.{IsPut}
 
 -- ---- a place at which a test ends

@@ -7,13 +7,13 @@ use Rattle.std.specs.Result.{IsOkAnd}
 use Rattle.std.proofs.lemmas.List.Elements.{All-from_recursion}
 use Rattle.std.specs.declared.ops.Bound.{Bound}
 use Rattle.std.proofs.lemmas.Bool.{cases_Bool, lt-ltb, ltb-true}
-use Rattle.logpurple.specs.Words.{DealWithin, DealsList, Entry, Error, IsStrict, all_shown}
-use Rattle.logpurple.specs.Words.{is_from, is_hit, is_to, leading_of, newest, numbered_below}
-use Rattle.logpurple.specs.Words.{point, same_key, seen, shown, single, sort_entries, union_in}
-use Rattle.logpurple.specs.Words.{within}
-use Rattle.logpurple.proofs.Laws.{and_false, as_pairs, ascends_in_order}
-use Rattle.logpurple.proofs.Laws.{ascends_of, filter_ascends, hit_key, leading_sorted}
-use Rattle.logpurple.proofs.Laws.{leads_older, ranges_by_points, union_up}
+use Rattle.lsm_tables.specs.Words.{DealWithin, DealsList, Entry, Error, IsStrict, all_shown}
+use Rattle.lsm_tables.specs.Words.{is_from, is_hit, is_to, leading_of, newest, numbered_below}
+use Rattle.lsm_tables.specs.Words.{point, same_key, seen, shown, single, sort_entries, union_in}
+use Rattle.lsm_tables.specs.Words.{within}
+use Rattle.lsm_tables.proofs.TableLaws.{and_false, as_pairs, ascends_in_order}
+use Rattle.lsm_tables.proofs.TableLaws.{ascends_of, filter_ascends, hit_key, leading_sorted}
+use Rattle.lsm_tables.proofs.TableLaws.{leads_older, ranges_by_points, union_up}
 use Rattle.example_store.specs.Story.{Holding, IsStore, IsStory, IsTold}
 use Rattle.example_store.proofs.Own.{all_in_order}
 use Rattle.example_store.proofs.Places.{hit_first, hit_later}

@@ -4,10 +4,10 @@ use Rattle.std.proofs.Common.{false, List, [], arith, ltb, le-ltb}
 use Rattle.std.specs.Prelude.{Option, Some, None, Result, Ok, Err, IfErr, IfOk, IfSome}
 use Rattle.std.specs.Prelude.{IsErrAnd, IsOk, MatchOption}
 use Rattle.std.specs.Option.{option_map, option_or}
-use Rattle.logpurple.specs.Words.{AreCutOf, Entry, Error, HasList, IsRunOfList, IsWritable}
-use Rattle.logpurple.specs.Words.{Label, OpenTable, chain_fault, highest_seqno, is_memory}
-use Rattle.logpurple.specs.Words.{number_fault, tables_fault}
-use Rattle.logpurple.proofs.Laws.{of_cut_unlifted, small_numbers}
+use Rattle.lsm_tables.specs.Words.{AreCutOf, Entry, Error, HasList, IsRunOfList, IsWritable}
+use Rattle.lsm_tables.specs.Words.{Label, OpenTable, chain_fault, highest_seqno, is_memory}
+use Rattle.lsm_tables.specs.Words.{number_fault, tables_fault}
+use Rattle.lsm_tables.proofs.TableLaws.{of_cut_unlifted, small_numbers}
 
 -- a refusal that is passed on, memory aside
 pub passed_on : {X : Type 0} (r : Result X Error) (e : Error) (told : Option Error)

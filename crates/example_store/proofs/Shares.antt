@@ -7,9 +7,9 @@ use Rattle.std.specs.declared.ops.Bound.{Bound}
 use Rattle.std.specs.declared.vec.IntoIter.{IntoIter}
 use Rattle.std.proofs.lemmas.List.{map-append, take_more}
 use Rattle.std.proofs.lemmas.List.Elements.{filter-append}
-use Rattle.logpurple.specs.Words.{Deals, DealsList, Entry, Error, answer_stops, is_from, is_to}
-use Rattle.logpurple.specs.Words.{ok_results, within}
-use Rattle.logpurple.proofs.Laws.{map_append, vec_deals}
+use Rattle.lsm_tables.specs.Words.{Deals, DealsList, Entry, Error, answer_stops, is_from, is_to}
+use Rattle.lsm_tables.specs.Words.{ok_results, within}
+use Rattle.lsm_tables.proofs.TableLaws.{map_append, vec_deals}
 
 pub shared_more : {Y : Type 0} (shared made : List Y) (y : Y) (before rest all : List Y)
     → made ≡ shared ++ y ∷ [] → before ≡ y ∷ rest → shared ++ before ≡ all → made ++ rest ≡ all

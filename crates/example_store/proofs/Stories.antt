@@ -5,14 +5,14 @@ use Rattle.std.specs.Prelude.{Option, Some, None, map}
 use Rattle.std.specs.List.{AllByRecursion}
 use Rattle.std.specs.Option.{option_or}
 use Rattle.std.proofs.lemmas.Bool.{cases_Bool}
-use Rattle.logpurple.specs.Words.{AreCompactable, Distinct, Entry, HasList, IsStrict}
-use Rattle.logpurple.specs.Words.{IsStrictAfter, IsWritable, OpenTable, RunsHoldLists}
-use Rattle.logpurple.specs.Words.{all_entries, is_hit, joined, leading_of, ok_results, point}
-use Rattle.logpurple.specs.Words.{seen, shown, sort_entries, union_in}
-use Rattle.logpurple.proofs.Laws.{IsOfKey, all_inserted, all_more, as_pairs, ascends_of, at}
-use Rattle.logpurple.proofs.Laws.{count_join, distinct_once, entries_of, from_pairs, is_weak}
-use Rattle.logpurple.proofs.Laws.{leading_sorted, leads_older, once_strict, point_of_key}
-use Rattle.logpurple.proofs.Laws.{union_count, union_up}
+use Rattle.lsm_tables.specs.Words.{AreCompactable, Distinct, Entry, HasList, IsStrict}
+use Rattle.lsm_tables.specs.Words.{IsStrictAfter, IsWritable, OpenTable, RunsHoldLists}
+use Rattle.lsm_tables.specs.Words.{all_entries, is_hit, joined, leading_of, ok_results, point}
+use Rattle.lsm_tables.specs.Words.{seen, shown, sort_entries, union_in}
+use Rattle.lsm_tables.proofs.TableLaws.{IsOfKey, all_inserted, all_more, as_pairs, ascends_of, at}
+use Rattle.lsm_tables.proofs.TableLaws.{count_join, distinct_once, entries_of, from_pairs, is_weak}
+use Rattle.lsm_tables.proofs.TableLaws.{leading_sorted, leads_older, once_strict, point_of_key}
+use Rattle.lsm_tables.proofs.TableLaws.{union_count, union_up}
 use Rattle.example_store.specs.Recent.{IsPut}
 use Rattle.example_store.specs.Story.{AreNumbered, HoldBelow, Holding, IsOwn, IsOwnRun, IsStore}
 use Rattle.example_store.specs.Story.{IsStory, IsTold, holding}

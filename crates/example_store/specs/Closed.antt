@@ -3,7 +3,7 @@ use Rattle.std.specs.Prelude.{◌≡◌, ℕ, List, [], map}
 use Rattle.std.specs.List.{AllZip}
 use Rattle.example_store.specs.Story.{Holding}
 use Rattle.example_store.specs.declared.store.close.Closed.{Closed}
-use Rattle.logpurple.specs.Words.{Entry, OpenTable, StoresList}
+use Rattle.lsm_tables.specs.Words.{Entry, OpenTable, StoresList}
 
 -- the bytes of the tables of some runs, run by run
 abbrev pub bytes_by_run : List (List OpenTable) → List (List (List ℕ))

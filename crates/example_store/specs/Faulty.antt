@@ -2,9 +2,10 @@
 use Rattle.std.specs.Prelude.{◌≡◌, ℕ, ◌-◌, ◌^◌, ◌<◌, ◌≤◌, true, List, [], ◌∷◌, ◌++◌, count_by}
 use Rattle.std.specs.Prelude.{length, map, Ok, Err}
 use Rattle.std.specs.List.{AllByRecursion}
-use Rattle.logpurple.specs.Words.{Entry, Error, Finding, IsInOrder, IsStrict, OpenTable, StoresList}
-use Rattle.logpurple.specs.Words.{body_of, highest_seqno, is_weak, range_of, recovered_told}
-use Rattle.logpurple.specs.Words.{table_found, union_in}
+use Rattle.lsm_tables.specs.Words.{Entry, Error, Finding, IsInOrder, IsStrict, OpenTable}
+use Rattle.lsm_tables.specs.Words.{StoresList}
+use Rattle.lsm_tables.specs.Words.{body_of, highest_seqno, is_weak, range_of, recovered_told}
+use Rattle.lsm_tables.specs.Words.{table_found, union_in}
 use Rattle.example_store.specs.Closed.{StoreLists, files_in}
 use Rattle.example_store.specs.Story.{IsOwn, IsOwnRun, IsOwnTable}
 use Rattle.example_store.specs.declared.store.close.Closed.{Closed}

@@ -1,7 +1,7 @@
 -- The runs that a store makes of lists, and the counter of table ids after them.
 use Rattle.std.specs.Prelude.{◌≡◌, ℕ, ◌<◌, ◌≤◌, ◌⊎◌, List, [], ◌∷◌, ◌++◌, Option, length, sum_by}
 use Rattle.std.specs.List.{AllByRecursion}
-use Rattle.logpurple.specs.Words.{AreCutOf, Entry, HaveAll, OpenTable, ids_behind, run_label}
+use Rattle.lsm_tables.specs.Words.{AreCutOf, Entry, HaveAll, OpenTable, ids_behind, run_label}
 use Rattle.example_store.specs.Recent.{IsPut}
 use Rattle.example_store.specs.Story.{Holding}
 

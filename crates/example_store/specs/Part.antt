@@ -1,6 +1,6 @@
 -- A part of a store's runs that is compacted.
 use Rattle.std.specs.Prelude.{◌≡◌, ℕ, List, ◌++◌, drop, false, length, sum_by, take}
-use Rattle.logpurple.specs.Words.{Entry, OpenTable, ids_behind, kept_in, rules_by}
+use Rattle.lsm_tables.specs.Words.{Entry, OpenTable, ids_behind, kept_in, rules_by}
 use Rattle.example_store.specs.Ids.{AreMadeOf}
 use Rattle.example_store.specs.Story.{Holding}
 

@@ -1,6 +1,6 @@
 -- Entries in order, and one that is inserted.
 use Rattle.std.specs.Prelude.{◌≡◌, ℕ, List, ◌∷◌, ◌++◌}
-use Rattle.logpurple.specs.Words.{Entry, point}
+use Rattle.lsm_tables.specs.Words.{Entry, point}
 
 -- an entry was inserted into a list, and each read finds it before all others
 pub record IsPut (e : Entry) (old new : List Entry) : Type 0 where

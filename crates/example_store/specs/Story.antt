@@ -3,9 +3,9 @@ use Rattle.std.specs.Prelude.{◌≡◌, ℕ, ◌-◌, ◌^◌, ◌<◌, ◌≤�
 use Rattle.std.specs.Prelude.{false, if◌then◌else◌, length, None, Option, Some}
 use Rattle.std.specs.List.{AllByRecursion}
 use Rattle.std.specs.Option.{option_map}
-use Rattle.logpurple.specs.Words.{AreCompactable, Entry, Error, HoldsList, IsInOrder, KeyTooLong}
-use Rattle.logpurple.specs.Words.{OpenTable, RunsHoldLists, SeqNoOverflow, ValueTooLong, range_of}
-use Rattle.logpurple.specs.Words.{is_weak, seen, union_in}
+use Rattle.lsm_tables.specs.Words.{AreCompactable, Entry, Error, HoldsList, IsInOrder, KeyTooLong}
+use Rattle.lsm_tables.specs.Words.{OpenTable, RunsHoldLists, SeqNoOverflow, ValueTooLong, range_of}
+use Rattle.lsm_tables.specs.Words.{is_weak, seen, union_in}
 
 -- the state of a store: the entries in no table yet, the tables of its runs, the counter of their
 -- ids, and their target size. Also the seqno of the next write, the lower bound of the former

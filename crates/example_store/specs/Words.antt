@@ -4,17 +4,17 @@ pub use Rattle.std.specs.Iterator.{IsFinite}
 pub use Rattle.std.specs.List.{AllByRecursion}
 pub use Rattle.std.specs.Option.{option_map}
 pub use Rattle.std.specs.Result.{IsOkAnd}
-pub use Rattle.logpurple.specs.Words.{AreCompactable, AreCutOf, AreInOrder, CanDeal, DealTogether}
-pub use Rattle.logpurple.specs.Words.{DealsList, Entry, Gives, HasList, HaveAll, HaveEntries}
-pub use Rattle.logpurple.specs.Words.{HoldLists, HoldUnion, IsInOrder, IsLeastSize, IsStrict}
-pub use Rattle.logpurple.specs.Words.{IsWritable, OpenTable, Refuses, RunsHoldLists, SameTables}
-pub use Rattle.logpurple.specs.Words.{StoresList, Tombstone, Value, all_shown, entry, front_length}
-pub use Rattle.logpurple.specs.Words.{ids_behind, is_before, is_from, is_memory, is_to, is_weak}
-pub use Rattle.logpurple.specs.Words.{is_weak_kind, joined, kept_in, newest, nowhere}
-pub use Rattle.logpurple.specs.Words.{numbered_below, ok_results, range_of, read_place}
-pub use Rattle.logpurple.specs.Words.{recovered_told, rules_by, run_label, shown, single}
-pub use Rattle.logpurple.specs.Words.{sort_entries, tables_fault, union_in, within}
-unfoldable pub use Rattle.logpurple.specs.Words.{point}
+pub use Rattle.lsm_tables.specs.Words.{AreCompactable, AreCutOf, AreInOrder, CanDeal, DealTogether}
+pub use Rattle.lsm_tables.specs.Words.{DealsList, Entry, Gives, HasList, HaveAll, HaveEntries}
+pub use Rattle.lsm_tables.specs.Words.{HoldLists, HoldUnion, IsInOrder, IsLeastSize, IsStrict}
+pub use Rattle.lsm_tables.specs.Words.{IsWritable, OpenTable, Refuses, RunsHoldLists, SameTables}
+pub use Rattle.lsm_tables.specs.Words.{StoresList, Tombstone, Value, all_shown, entry, front_length}
+pub use Rattle.lsm_tables.specs.Words.{ids_behind, is_before, is_from, is_memory, is_to, is_weak}
+pub use Rattle.lsm_tables.specs.Words.{is_weak_kind, joined, kept_in, newest, nowhere}
+pub use Rattle.lsm_tables.specs.Words.{numbered_below, ok_results, range_of, read_place}
+pub use Rattle.lsm_tables.specs.Words.{recovered_told, rules_by, run_label, shown, single}
+pub use Rattle.lsm_tables.specs.Words.{sort_entries, tables_fault, union_in, within}
+unfoldable pub use Rattle.lsm_tables.specs.Words.{point}
 pub use Rattle.example_store.specs.Closed.{IsClosed, StoreLists, bytes_by_run, files_in}
 pub use Rattle.example_store.specs.Faulty.{IsFirstFault, IsOpenFault, NamesFile, NamesInRun}
 pub use Rattle.example_store.specs.Ids.{AreMadeOf, HasFlushed, IsTakenIn, StaysOrFlushes}

@@ -3,8 +3,8 @@ ghost use Rattle.std.specs.Prelude.{IfOk};
 ghost use Rattle.example_store.specs.Words as spec;
 
 use crate::store::Store;
-use logpurple::block::{Direction, Error, InternalValue, IterItem, SeqNo, Slice};
-use logpurple::merge::{Below, NewestOf};
+use lsm_tables::block::{Direction, Error, InternalValue, IterItem, SeqNo, Slice};
+use lsm_tables::merge::{Below, NewestOf};
 use std::alloc::{Allocator, Global};
 use std::collections::BTreeMap;
 use std::ops::Bound;

@@ -2,9 +2,9 @@
 ghost use Rattle.std.specs.Prelude.{◌≡◌, ◌<◌, ◌≤◌, ◌&&◌, [], length, not, IfErr, IfOk, List, Ok};
 ghost use Rattle.std.specs.Prelude.{None, OnErr, OnOk, Option};
 ghost use Rattle.example_store.specs.Words as spec;
-ghost use Rattle.logpurple.specs.Words.{OutOfMemory};
+ghost use Rattle.lsm_tables.specs.Words.{OutOfMemory};
 
-use logpurple::block::{Error, InternalValue, IterItem, SeqNo, UserKey};
+use lsm_tables::block::{Error, InternalValue, IterItem, SeqNo, UserKey};
 use std::alloc::{Allocator, Global};
 use std::marker::Model;
 use std::ops::Bound;
@@ -20,7 +20,7 @@ pub struct Memtable<A: Allocator = Global> {
 
 impl<A: Allocator> Model for Memtable<A> {
     ghost use Rattle.std.specs.Prelude.{List};
-    ghost use Rattle.logpurple.specs.Words.{Entry, IsStrict};
+    ghost use Rattle.lsm_tables.specs.Words.{Entry, IsStrict};
 
     ghost Value = { List Entry };
 

@@ -1,7 +1,7 @@
 //! Closing a store, writing its tables to files and reading them again, and opening it from those.
 use crate::store::{Closed, Store};
 use anyhow::bail;
-use logpurple::block::{Error, Slice};
+use lsm_tables::block::{Error, Slice};
 use std::path::PathBuf;
 use std::{env, fs, process};
 

@@ -3,7 +3,7 @@ ghost use Rattle.std.specs.Prelude.{◌≡◌, ◌+◌, ◌-◌, ◌^◌, ◌<�
 ghost use Rattle.std.specs.Prelude.{IfOk, IfSome, List, MatchOption, None, Ok, OnErr, OnOk};
 ghost use Rattle.std.specs.Prelude.{Option, Some, false, length, ℕ};
 ghost use Rattle.example_store.specs.Words as spec;
-ghost use Rattle.logpurple.specs.Words.{OutOfMemory};
+ghost use Rattle.lsm_tables.specs.Words.{OutOfMemory};
 
 mod close;
 mod compact;
@@ -14,9 +14,9 @@ mod range;
 
 use crate::memtable::Memtable;
 pub use close::Closed;
-use logpurple::block::{Error, InternalValue, SeqNo, Slice, ValueType};
-use logpurple::run::{Run, get_runs_by_age, write_run};
-use logpurple::table::{Table, TableIds, Timestamp};
+use lsm_tables::block::{Error, InternalValue, SeqNo, Slice, ValueType};
+use lsm_tables::run::{Run, get_runs_by_age, write_run};
+use lsm_tables::table::{Table, TableIds, Timestamp};
 pub use open::{FileFault, OpenError};
 pub use range::Range;
 use std::alloc::{Allocator, Global};

@@ -2,7 +2,7 @@
 use crate::compare::{Compared, KEYS, Plain, compare};
 use crate::reopen::reopen;
 use crate::store::Store;
-use logpurple::block::{Error, SeqNo};
+use lsm_tables::block::{Error, SeqNo};
 use std::alloc::Global;
 use std::collections::BTreeMap;
 

@@ -8,11 +8,11 @@ use Rattle.sst_entries.specs.declared.error.Error.TheVariants.{OutOfMemory}
 use Rattle.sst_entries.specs.declared.stream.Direction.{Direction}
 use Rattle.sst_entries.specs.Entry.{Entry}
 use Rattle.sst_entries.specs.Stream.{ok_results}
-use Rattle.lsm_walks.specs.Ends.{StepAnswers, StepGives, remains_in, taken_at}
-use Rattle.lsm_walks.specs.Parts.{early_behind, none_behind, own_of}
-use Rattle.lsm_walks.proofs.AtEnds.{behind_map, early_map, map_none, map_taken, none_at}
-use Rattle.lsm_walks.proofs.AtEnds.{none_taken}
-use Rattle.lsm_walks.proofs.AtEnds.{not_memory, nothing_behind}
+use Rattle.lsm_iters.specs.walk.Ends.{StepAnswers, StepGives, remains_in, taken_at}
+use Rattle.lsm_iters.specs.walk.Parts.{early_behind, none_behind, own_of}
+use Rattle.lsm_iters.proofs.AtEnds.{behind_map, early_map, map_none, map_taken, none_at}
+use Rattle.lsm_iters.proofs.AtEnds.{none_taken}
+use Rattle.lsm_iters.proofs.AtEnds.{not_memory, nothing_behind}
 use Rattle.lsm_iters.specs.Lending.{behind_in, cursor_remains}
 
 abbrev R : Type 0

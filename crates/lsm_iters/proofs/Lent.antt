@@ -11,11 +11,11 @@ use Rattle.sst_entries.specs.declared.stream.Direction.{Direction}
 use Rattle.sst_entries.specs.declared.stream.Direction.TheVariants.{Front, Back}
 use Rattle.sst_entries.specs.Entry.{Entry}
 use Rattle.sst_entries.specs.Lending.{came}
-use Rattle.lsm_walks.specs.Ends.{IsOver, StepGives, remains_in, taken_at}
-use Rattle.lsm_walks.specs.Parts.{IsDone, LoadGives}
-use Rattle.lsm_walks.specs.Walks.{WalkTakes, far, near, with_far, with_near}
-use Rattle.lsm_walks.proofs.Reaching.{Going, Reached, entered, fault, item, kept, parts_far}
-use Rattle.lsm_walks.proofs.Reaching.{parts_near, rest, starts}
+use Rattle.lsm_iters.specs.walk.Ends.{IsOver, StepGives, remains_in, taken_at}
+use Rattle.lsm_iters.specs.walk.Parts.{IsDone, LoadGives}
+use Rattle.lsm_iters.specs.walk.Walks.{WalkTakes, far, near, with_far, with_near}
+use Rattle.lsm_iters.proofs.Reaching.{Going, Reached, entered, fault, item, kept, parts_far}
+use Rattle.lsm_iters.proofs.Reaching.{parts_near, rest, starts}
 use Rattle.lsm_iters.specs.Blocks.{Blocks, KeepsBlocks, coming_blocks, lent_at, range_at}
 use Rattle.lsm_iters.specs.Blocks.{range_lending}
 use Rattle.lsm_iters.specs.Bounds.{lower_edge, upper_edge}

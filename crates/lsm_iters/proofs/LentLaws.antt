@@ -1,12 +1,12 @@
 -- What a range that lends deals, and how far off its end is.
 use Rattle.std.specs.Prelude.{Option, Some, None}
 use Rattle.sst_entries.specs.Stream.{Lowers, back_of, front_of}
-use Rattle.lsm_block_indexes.specs.Dealt.{DealsEnding}
-use Rattle.lsm_block_indexes.proofs.Dealing.{Ending, deals_ending}
+use Rattle.lsm_iters.specs.block_index.Dealt.{DealsEnding}
+use Rattle.lsm_iters.proofs.Dealing.{Ending, deals_ending}
 use Rattle.lsm_iters.specs.Lending.{RangeLends}
 use Rattle.lsm_iters.specs.Range.{IsEndedRange, Range, RangeGives, back_next, front_next}
 use Rattle.lsm_iters.specs.Range.{range_left, range_size}
-use Rattle.lsm_iters.proofs.Ends.{front_shortens}
+use Rattle.lsm_iters.proofs.RangeEnds.{front_shortens}
 use Rattle.lsm_iters.proofs.RangeLaws.{ends_by, nearer, nothing}
 use Rattle.lsm_iters.proofs.Ranges.{R}
 

@@ -6,11 +6,11 @@ use Rattle.std.specs.Prelude.{Option, Some, None, Result, Ok, Err}
 use Rattle.sst_entries.specs.declared.error.Error.{Error}
 use Rattle.sst_entries.specs.declared.stream.Direction.{Direction}
 use Rattle.sst_entries.specs.declared.stream.Direction.TheVariants.{Front, Back}
-use Rattle.lsm_walks.specs.declared.walk.Walk.{Walk}
-use Rattle.lsm_walks.specs.Ends.{Remains, StepAnswers, remains_in}
-use Rattle.lsm_walks.specs.Parts.{Coming, IsDone, LoadGives, Loading, all_results}
-use Rattle.lsm_walks.specs.Walks.{WalkTakes, far, near, walk_left, with_far, with_near}
-use Rattle.lsm_walks.proofs.Reaching.{rests_of}
+use Rattle.lsm_iters.specs.declared.walk.Walk.{Walk}
+use Rattle.lsm_iters.specs.walk.Ends.{Remains, StepAnswers, remains_in}
+use Rattle.lsm_iters.specs.walk.Parts.{Coming, IsDone, LoadGives, Loading, all_results}
+use Rattle.lsm_iters.specs.walk.Walks.{WalkTakes, far, near, walk_left, with_far, with_near}
+use Rattle.lsm_iters.proofs.Reaching.{rests_of}
 
 abbrev pub moved_walk : {P T : Type 0} → Walk P T → Walk P T
 moved_walk w = record { parts = w.parts; front = w.back; back = w.front }

@@ -10,11 +10,11 @@ use Rattle.sst_blocks.specs.declared.block_type.BlockType.TheVariants.{Data}
 use Rattle.sst_blocks.specs.Block.{place_fault}
 use Rattle.sst_blocks.specs.Cursor.{Cursor}
 use Rattle.sst_blocks.specs.Handle.{Handle}
-use Rattle.lsm_block_indexes.specs.Left.{Left, LeftGives}
-use Rattle.lsm_walks.specs.Ends.{taken_at}
-use Rattle.lsm_walks.specs.Parts.{Coming, LoadGives, Loading, Names, Tells}
-use Rattle.lsm_walks.proofs.Instances.{refused_first}
-use Rattle.lsm_walks.proofs.AtEnds.{map_first, map_none, map_taken}
+use Rattle.lsm_iters.specs.block_index.Left.{Left, LeftGives}
+use Rattle.lsm_iters.specs.walk.Ends.{taken_at}
+use Rattle.lsm_iters.specs.walk.Parts.{Coming, LoadGives, Loading, Names, Tells}
+use Rattle.lsm_iters.proofs.Instances.{refused_first}
+use Rattle.lsm_iters.proofs.AtEnds.{map_first, map_none, map_taken}
 use Rattle.lsm_iters.specs.Blocks.{Blocks, KeepsBlocks, block_named, coming_blocks, stored_rows}
 use Rattle.lsm_iters.specs.Lending.{cursor_remains}
 use Rattle.lsm_iters.specs.Range.{data_loaded, left_in}

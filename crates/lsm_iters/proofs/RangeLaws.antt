@@ -5,14 +5,14 @@ use Rattle.std.specs.Iterator.{MakesProgress, at_most}
 use Rattle.std.specs.Prelude.{Option, Some, None, Ok, Err}
 use Rattle.sst_entries.specs.declared.stream.Direction.{Direction}
 use Rattle.sst_entries.specs.Stream.{front_of, back_of}
-use Rattle.lsm_block_indexes.specs.Dealt.{DealsEnding}
-use Rattle.lsm_block_indexes.proofs.Dealing.{Ending, deals_ending}
-use Rattle.lsm_walks.specs.Ends.{StepAnswers, StepGives, taken_at}
-use Rattle.lsm_walks.proofs.Instances.{positive}
+use Rattle.lsm_iters.specs.block_index.Dealt.{DealsEnding}
+use Rattle.lsm_iters.proofs.Dealing.{Ending, deals_ending}
+use Rattle.lsm_iters.specs.walk.Ends.{StepAnswers, StepGives, taken_at}
+use Rattle.lsm_iters.proofs.Instances.{positive}
 use Rattle.lsm_iters.specs.Range.{IsEndedRange, Next, Range, RangeGives, back_next, front_next}
 use Rattle.lsm_iters.specs.Range.{next_at}
 use Rattle.lsm_iters.specs.Range.{range_left, range_loads, range_remains, range_size}
-use Rattle.lsm_iters.proofs.Ends.{Shortens, if_true}
+use Rattle.lsm_iters.proofs.RangeEnds.{Shortens, if_true}
 use Rattle.lsm_iters.proofs.Ranges.{R, End}
 
 module _ {A : Type 0} where

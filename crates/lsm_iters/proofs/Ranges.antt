@@ -10,11 +10,11 @@ use Rattle.sst_entries.specs.Error.{is_memory}
 use Rattle.sst_entries.specs.Stream.{answer_stops, first}
 use Rattle.sst_blocks.specs.declared.opened.Opened.{Opened}
 use Rattle.sst_blocks.specs.Handle.{Handle}
-use Rattle.lsm_walks.proofs.AtEnds.{pair, not_memory}
-use Rattle.lsm_block_indexes.specs.Left.{CountsLoads, IsEnded as IsLeftEnded, Left}
-use Rattle.lsm_block_indexes.specs.Left.{early_behind}
-use Rattle.lsm_block_indexes.specs.Left.{with_index_loads, none_behind}
-use Rattle.lsm_block_indexes.proofs.TwoLevels.{loaded_more}
+use Rattle.lsm_iters.proofs.AtEnds.{pair, not_memory}
+use Rattle.lsm_iters.specs.block_index.Left.{CountsLoads, IsEnded as IsLeftEnded, Left}
+use Rattle.lsm_iters.specs.block_index.Left.{early_behind}
+use Rattle.lsm_iters.specs.block_index.Left.{with_index_loads, none_behind}
+use Rattle.lsm_iters.proofs.TwoLevels.{loaded_more}
 use Rattle.lsm_iters.specs.Bounds.{lower_edge, upper_edge}
 use Rattle.lsm_iters.specs.Lift.{lift_told}
 use Rattle.lsm_iters.specs.Range.{CountsBlocks, IsEndedRange, LendsOn, Next, Range, RangeGives}
@@ -24,7 +24,7 @@ use Rattle.lsm_iters.specs.Range.{front_next, index_to_come, left_in, left_unles
 use Rattle.lsm_iters.specs.Range.{to_come}
 use Rattle.lsm_iters.specs.Rows.{Bounded, rows}
 use Rattle.lsm_iters.specs.Steps.{LoadsNone, SeeksOnce, over, stopped}
-use Rattle.lsm_iters.proofs.Ends.{if_false, if_true}
+use Rattle.lsm_iters.proofs.RangeEnds.{if_false, if_true}
 
 abbrev pub R : Type 0
 R = Result Entry Error

@@ -9,17 +9,17 @@ use Rattle.sst_entries.specs.declared.error.Error.TheVariants.{OutOfMemory}
 use Rattle.sst_entries.specs.declared.stream.Direction.{Direction}
 use Rattle.sst_entries.specs.declared.stream.Direction.TheVariants.{Front, Back}
 use Rattle.sst_entries.specs.Entry.{Entry}
-use Rattle.lsm_block_indexes.specs.Left.{Left}
-use Rattle.lsm_walks.specs.Ends.{taken_at}
-use Rattle.lsm_walks.specs.Walks.{near, with_near}
-use Rattle.lsm_walks.proofs.AtEnds.{not_memory}
+use Rattle.lsm_iters.specs.block_index.Left.{Left}
+use Rattle.lsm_iters.specs.walk.Ends.{taken_at}
+use Rattle.lsm_iters.specs.walk.Walks.{near, with_near}
+use Rattle.lsm_iters.proofs.AtEnds.{not_memory}
 use Rattle.lsm_iters.specs.Blocks.{range_at, range_lending}
 use Rattle.lsm_iters.specs.Lending.{RangeLendsAt, behind_in, lent_in}
 use Rattle.lsm_iters.specs.Lift.{lifted}
 use Rattle.lsm_iters.specs.Range.{CountsBlocks, Range, RangeGives, left_unless, next_at, range_left}
 use Rattle.lsm_iters.specs.Steps.{over, without_lent}
 use Rattle.lsm_iters.proofs.Cursors.{given}
-use Rattle.lsm_iters.proofs.Ends.{shortens_at}
+use Rattle.lsm_iters.proofs.RangeEnds.{shortens_at}
 use Rattle.lsm_iters.proofs.Ranges.{none_on}
 use Rattle.lsm_iters.proofs.Walked.{W}
 

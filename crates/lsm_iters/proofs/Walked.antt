@@ -15,18 +15,20 @@ use Rattle.sst_blocks.specs.declared.block_type.BlockType.TheVariants.{Data}
 use Rattle.sst_blocks.specs.Block.{Loaded, load_told, place_fault}
 use Rattle.sst_blocks.specs.Cursor.{Cursor}
 use Rattle.sst_blocks.specs.Handle.{Handle}
-use Rattle.lsm_block_indexes.specs.Left.{CountsLoads, early_behind, with_index_loads, none_behind}
-use Rattle.lsm_block_indexes.proofs.TwoLevels.{loaded_more}
-use Rattle.lsm_walks.specs.declared.walk.Walk.{Walk}
-use Rattle.lsm_walks.specs.Ends.{IsOver as IsWalkOver, Remains, StepAnswers, remains_in, seen_from}
-use Rattle.lsm_walks.specs.Ends.{taken_at}
-use Rattle.lsm_walks.specs.Parts.{Loading, Loads, all_results, early_among, loads_in, needed}
-use Rattle.lsm_walks.specs.Parts.{results_of}
-use Rattle.lsm_walks.specs.Walks.{WalkTakes, early_at, near, needed_at, walk_left}
-use Rattle.lsm_walks.proofs.Instances.{loads_one}
-use Rattle.lsm_walks.proofs.AtEnds.{early_map, behind_map, map_first, map_none, map_seen, map_taken}
-use Rattle.lsm_walks.proofs.AtEnds.{none_at}
-use Rattle.lsm_walks.proofs.Reaching.{all_over}
+use Rattle.lsm_iters.specs.block_index.Left.{CountsLoads, early_behind, with_index_loads}
+use Rattle.lsm_iters.specs.block_index.Left.{none_behind}
+use Rattle.lsm_iters.proofs.TwoLevels.{loaded_more}
+use Rattle.lsm_iters.specs.declared.walk.Walk.{Walk}
+use Rattle.lsm_iters.specs.walk.Ends.{IsOver as IsWalkOver, Remains, StepAnswers, remains_in}
+use Rattle.lsm_iters.specs.walk.Ends.{seen_from}
+use Rattle.lsm_iters.specs.walk.Ends.{taken_at}
+use Rattle.lsm_iters.specs.walk.Parts.{Loading, Loads, all_results, early_among, loads_in, needed}
+use Rattle.lsm_iters.specs.walk.Parts.{results_of}
+use Rattle.lsm_iters.specs.walk.Walks.{WalkTakes, early_at, near, needed_at, walk_left}
+use Rattle.lsm_iters.proofs.Instances.{loads_one}
+use Rattle.lsm_iters.proofs.AtEnds.{early_map, behind_map, map_first, map_none, map_seen, map_taken}
+use Rattle.lsm_iters.proofs.AtEnds.{none_at}
+use Rattle.lsm_iters.proofs.Reaching.{all_over}
 use Rattle.lsm_iters.specs.Blocks.{Blocks, KeepsBlocks, block_named, coming_blocks}
 use Rattle.lsm_iters.specs.Blocks.{range_lending, stored_in, stored_rows}
 use Rattle.lsm_iters.specs.Bounds.{lower_edge, upper_edge}

@@ -11,10 +11,10 @@ use Rattle.sst_entries.specs.declared.stream.Direction.{Direction}
 use Rattle.sst_entries.specs.Entry.{Entry}
 use Rattle.sst_entries.specs.Point.{within}
 use Rattle.sst_entries.specs.Stream.{ok_results}
-use Rattle.lsm_block_indexes.specs.Left.{CountsLoads}
-use Rattle.lsm_walks.specs.declared.walk.Walk.{Walk}
-use Rattle.lsm_walks.specs.Parts.{Coming, Loading, loads_in}
-use Rattle.lsm_walks.specs.Walks.{near}
+use Rattle.lsm_iters.specs.block_index.Left.{CountsLoads}
+use Rattle.lsm_iters.specs.declared.walk.Walk.{Walk}
+use Rattle.lsm_iters.specs.walk.Parts.{Coming, Loading, loads_in}
+use Rattle.lsm_iters.specs.walk.Walks.{near}
 use Rattle.lsm_iters.specs.Range.{Handles, Range, data_loaded, left_in}
 use Rattle.lsm_iters.specs.Rows.{Bounded}
 use Rattle.lsm_iters.specs.Lending.{behind_in, lent_in}

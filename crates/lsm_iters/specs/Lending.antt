@@ -6,7 +6,7 @@ use Rattle.sst_entries.specs.Entry.{Entry}
 use Rattle.sst_entries.specs.declared.stream.Direction.{Direction}
 use Rattle.sst_entries.specs.declared.stream.Direction.TheVariants.{Front}
 use Rattle.sst_entries.specs.Stream.{ok_results}
-use Rattle.lsm_walks.specs.Ends.{Remains, taken_at}
+use Rattle.lsm_iters.specs.walk.Ends.{Remains, taken_at}
 use Rattle.lsm_iters.specs.Lift.{lifted_told}
 use Rattle.lsm_iters.specs.Range.{Range, RangeGives, next_at}
 

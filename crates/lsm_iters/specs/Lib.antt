@@ -1,3 +1,5 @@
+pub mod walk
+pub mod block_index
 pub mod Lift
 pub mod Bounds
 pub mod Rows

@@ -15,10 +15,10 @@ use Rattle.sst_entries.specs.Stream.{answer_stops}
 use Rattle.sst_blocks.specs.Block.{place_fault}
 use Rattle.sst_blocks.specs.Handle.{Handle}
 use Rattle.sst_blocks.specs.Opened.{with_load, none_opened}
-use Rattle.lsm_block_indexes.specs.declared.kinds.BlockIndexIterImpl.{BlockIndexIterImpl}
-use Rattle.lsm_block_indexes.specs.Kinds.{left_of}
-use Rattle.lsm_block_indexes.specs.Left.{Left, early_behind, with_index_loads, none_behind}
-use Rattle.lsm_walks.specs.Ends.{Remains}
+use Rattle.lsm_iters.specs.declared.block_index.kinds.BlockIndexIterImpl.{BlockIndexIterImpl}
+use Rattle.lsm_iters.specs.block_index.Kinds.{left_of}
+use Rattle.lsm_iters.specs.block_index.Left.{Left, early_behind, with_index_loads, none_behind}
+use Rattle.lsm_iters.specs.walk.Ends.{Remains}
 use Rattle.lsm_iters.specs.Bounds.{lower_edge, upper_edge}
 use Rattle.lsm_iters.specs.Lift.{lift_told}
 use Rattle.lsm_iters.specs.Rows.{Bounded, block_rows, handle_rows, rows}

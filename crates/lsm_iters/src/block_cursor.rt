@@ -6,7 +6,7 @@ ghost use Rattle.sst_entries.specs.Lending.{entry_of_ref};
 ghost use Rattle.sst_entries.specs.declared.error.Error.TheVariants.{OutOfMemory};
 ghost use Rattle.lsm_iters.specs.Words.{cursor_of, cursor_remains, taken_at, unlent};
 
-use lsm_walks::Ends;
+use crate::Ends;
 use sst_blocks::{DataBlock, DataBlockCursor, EntryRef, Error, InternalValue, IterItem};
 use sst_entries::Direction;
 use std::alloc::Allocator;

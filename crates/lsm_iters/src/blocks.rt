@@ -8,11 +8,10 @@ ghost use Rattle.lsm_iters.specs.Words.{EndsBlocks, FaultsFirst, KeepsBlocks, Lo
 ghost use Rattle.lsm_iters.specs.Words.{SeeksOnce, coming_blocks, data_loaded, left_in, lower_edge};
 ghost use Rattle.lsm_iters.specs.Words.{place_fault, stored_rows, upper_edge};
 
-use crate::Bound;
 use crate::block_cursor::BlockCursor;
 use crate::cut::cut;
 use crate::handles::Handles;
-use lsm_walks::Parts;
+use crate::{Bound, Parts};
 use sst_blocks::{BlockSource, BlockType, DataBlock, Error, KeyedBlockHandle, Opened, SeqNo};
 use sst_entries::Direction;
 use std::alloc::Allocator;
@@ -29,7 +28,7 @@ pub struct Blocks<A: Allocator> {
 }
 
 impl<A: Allocator> Model for Blocks<A> {
-    ghost use Rattle.sst_sections.specs.Sections.{body_of};
+    ghost use Rattle.sst_blocks.specs.Sections.{body_of};
     ghost use Rattle.lsm_iters.specs.Bounds.{edge_in};
     ghost use Rattle.lsm_iters.specs.Blocks.{Blocks};
 

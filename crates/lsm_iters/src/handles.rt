@@ -7,8 +7,7 @@ ghost use Rattle.lsm_iters.specs.Words.{all_over};
 ghost use Rattle.lsm_iters.specs.Words.{edge_in, left_in, left_of, lower_edge, taken_at};
 ghost use Rattle.lsm_iters.specs.Words.{upper_edge};
 
-use crate::Bound;
-use lsm_block_indexes::{BlockIndexIter, BlockIndexIterImpl};
+use crate::{BlockIndexIter, BlockIndexIterImpl, Bound};
 use sst_blocks::{Error, KeyedBlockHandle, Opened, SeqNo};
 use sst_entries::Direction;
 use std::alloc::Allocator;
@@ -25,7 +24,7 @@ pub struct Handles<A: Allocator> {
 
 impl<A: Allocator> Model for Handles<A> {
     ghost use Rattle.std.specs.Prelude.{◌≡◌, false, None};
-    ghost use Rattle.lsm_block_indexes.specs.Kinds.{IsSought};
+    ghost use Rattle.lsm_iters.specs.block_index.Kinds.{IsSought};
     ghost use Rattle.lsm_iters.specs.Range.{Handles};
 
     ghost Value = { Handles A };

@@ -9,13 +9,11 @@ ghost use Rattle.lsm_iters.specs.Words.{front_of, new_range, next_at, opened_in,
 ghost use Rattle.lsm_iters.specs.Words.{range_remains, range_size, taken_at, with_sought};
 ghost use Rattle.lsm_iters.specs.Words.{without_lent};
 
-use crate::Bound;
 use crate::blocks::Blocks;
 use crate::handles::Handles;
 use crate::lending::{RangeWalk, end, entry_in, near, next_entry, share_in, unlend_in};
 use crate::pairs::beside;
-use lsm_block_indexes::BlockIndexIterImpl;
-use lsm_walks::{Ends, Walk};
+use crate::{BlockIndexIterImpl, Bound, Ends, Walk};
 use sst_blocks::{
     BlockSource, CompressionType, EntryRef, Error, InternalValue, IterItem, Lending, Opened, SeqNo,
 };
@@ -49,7 +47,7 @@ impl<A: Allocator> Model for Iter<A> {
     ghost use Rattle.lsm_iters.specs.Range.{Range};
     ghost use Rattle.lsm_iters.specs.Blocks.{range_at};
     ghost use Rattle.lsm_iters.specs.Lending.{lent_in};
-    ghost use Rattle.lsm_walks.specs.Walks.{near};
+    ghost use Rattle.lsm_iters.specs.walk.Walks.{near};
 
     ghost Value = { Range A };
 

@@ -12,8 +12,7 @@ ghost use Rattle.lsm_iters.specs.Words.{range_lending, swapped, taken_at, with_n
 
 use crate::block_cursor::BlockCursor;
 use crate::blocks::Blocks;
-use crate::lift_seqno;
-use lsm_walks::{Parts, Walk};
+use crate::{Parts, Walk, lift_seqno};
 use sst_blocks::{EntryRef, Error, InternalValue};
 use sst_entries::Direction;
 use std::alloc::Allocator;

@@ -8,7 +8,7 @@ use Rattle.sst_entries.specs.Entry.{Entry}
 use Rattle.sst_entries.specs.Error.{Gives, is_memory}
 use Rattle.sst_entries.specs.Point.{point}
 use Rattle.sst_entries.proofs.Refusals.{memory_is}
-use Rattle.lsm_points.specs.Answer.{lift}
+use Rattle.lsm_readers.specs.point.Answer.{lift}
 
 pub value_is : (told : Option Entry) (r : Result (Option Entry) Error)
     → Gives (λ (x : Option Entry). x) r (Ok told) → IfOk r (λ x. x ≡ told)

@@ -15,7 +15,7 @@ use Rattle.sst_entries.proofs.Booleans.{apart, is_false, or_right}
 use Rattle.sst_entries.proofs.OrderLemmas.{before_trans, less_of}
 use Rattle.sst_entries.specs.Strict.{is_before, IsStrictAfter, last_of}
 use Rattle.sst_blocks.proofs.Reaching.{reaches_after, above_reaches}
-use Rattle.lsm_formats.specs.Index.{last_entry}
+use Rattle.sst_blocks.specs.table.Index.{last_entry}
 
 -- the entry comes after a read of the key at the bound
 abbrev pub after : List ℕ → ℕ → Entry → Bool

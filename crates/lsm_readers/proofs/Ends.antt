@@ -13,10 +13,10 @@ use Rattle.sst_entries.specs.Point.{is_from, is_to, within}
 use Rattle.sst_entries.specs.Strict.{is_before, IsStrictAfter, IsStrict, last_of}
 use Rattle.sst_entries.proofs.Booleans.{and_both, and_parts, is_false}
 use Rattle.sst_entries.proofs.OrderLemmas.{before_trans}
-use Rattle.lsm_ranges.specs.KeyRange.{Interval, IsOutside, key_le, has_key}
-use Rattle.lsm_ranges.proofs.IntervalLemmas.{le_refl, le_trans}
-use Rattle.lsm_formats.specs.Facts.{facts}
-use Rattle.lsm_formats.specs.Index.{last_entry}
+use Rattle.lsm_sorted.specs.version.KeyRange.{Interval, IsOutside, key_le, has_key}
+use Rattle.lsm_sorted.proofs.IntervalLemmas.{le_refl, le_trans}
+use Rattle.sst_blocks.specs.table.Facts.{facts}
+use Rattle.sst_blocks.specs.table.Index.{last_entry}
 use Rattle.lsm_readers.specs.OfList.{ends_of}
 use Rattle.lsm_readers.proofs.FileLengths.{last_some}
 

@@ -8,32 +8,32 @@ use Rattle.std.proofs.lemmas.List.{take_at}
 use Rattle.sst_blocks.specs.declared.block_type.BlockType.TheVariants.{Data, Index}
 use Rattle.sst_entries.specs.declared.error.Error.TheVariants.{InvalidTag}
 use Rattle.sst_entries.specs.declared.error.TagName.TheVariants.{BlockType as BlockTypeTag}
-use Rattle.sst_sections.specs.declared.version.TableVersion.TheVariants.{V3, V4}
-use Rattle.sst_sections.specs.declared.version.TableVersion.{TableVersion}
+use Rattle.sst_blocks.specs.declared.version.TableVersion.TheVariants.{V3, V4}
+use Rattle.sst_blocks.specs.declared.version.TableVersion.{TableVersion}
 use Rattle.sst_blocks.specs.Block.{Loaded, block_bytes, header, header_fault, load_at_told}
 use Rattle.sst_blocks.specs.Block.{load_told}
 use Rattle.sst_entries.specs.Entry.{Entry}
 use Rattle.sst_blocks.specs.Handles.{handles_payload}
 use Rattle.sst_blocks.specs.Payload.{payload}
 use Rattle.sst_blocks.specs.Reading.{entries_in}
-use Rattle.sst_sections.specs.Sections.{body_of, finished}
+use Rattle.sst_blocks.specs.Sections.{body_of, finished}
 use Rattle.sst_entries.specs.Strict.{IsStrictAfter, last_of}
 use Rattle.sst_blocks.proofs.BlockLaws.{written_loads}
 use Rattle.sst_blocks.proofs.LoadLemmas.{load_at_fault}
-use Rattle.lsm_formats.specs.Chunks.{joined}
-use Rattle.lsm_formats.specs.File.{IsContent}
-use Rattle.lsm_formats.specs.Index.{handles, data_block, data_section, block_size, handle_of}
-use Rattle.lsm_formats.specs.Index.{handles_from}
-use Rattle.lsm_formats.specs.Content.{Content}
-use Rattle.lsm_formats.specs.Kinds.{AreIndexParts, index_sections}
-use Rattle.lsm_formats.specs.Layout.{bytes_in}
-use Rattle.lsm_formats.specs.Partitions.{handles_block}
-use Rattle.lsm_formats.specs.declared.options.Options.{Options}
-use Rattle.lsm_formats.specs.declared.label.Label.{Label}
-use Rattle.lsm_formats.specs.Fits.{EntryFits, BlockFits}
+use Rattle.sst_blocks.specs.table.Chunks.{joined}
+use Rattle.sst_blocks.specs.table.File.{IsContent}
+use Rattle.sst_blocks.specs.table.Index.{handles, data_block, data_section, block_size, handle_of}
+use Rattle.sst_blocks.specs.table.Index.{handles_from}
+use Rattle.sst_blocks.specs.table.Content.{Content}
+use Rattle.sst_blocks.specs.table.Kinds.{AreIndexParts, index_sections}
+use Rattle.sst_blocks.specs.table.Layout.{bytes_in}
+use Rattle.sst_blocks.specs.table.Partitions.{handles_block}
+use Rattle.sst_blocks.specs.declared.table.options.Options.{Options}
+use Rattle.sst_blocks.specs.declared.table.label.Label.{Label}
+use Rattle.sst_blocks.specs.table.Fits.{EntryFits, BlockFits}
 use Rattle.lsm_readers.specs.Scan.{behind}
 use Rattle.lsm_readers.proofs.ChunkReads.{AreSome}
-use Rattle.lsm_formats.proofs.BlockLengths.{length-block}
+use Rattle.sst_blocks.proofs.BlockLengths.{length-block}
 use Rattle.lsm_readers.proofs.FileLengths.{chunk_reads}
 use Rattle.sst_entries.proofs.Lists.{all_front, all_behind}
 use Rattle.sst_entries.proofs.Strictness.{strict_alone, strict_front, strict_back}

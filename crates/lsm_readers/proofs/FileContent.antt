@@ -3,42 +3,42 @@ use Rattle.std.proofs.Common.{◌≡◌, ℕ, ◌+◌, ◌^◌, ◌<◌, ◌≤�
 use Rattle.std.proofs.Common.{subst, ◌∙◌, length-append, arith}
 use Rattle.std.specs.Prelude.{unwrap_or}
 use Rattle.std.specs.List.{AllByRecursion, flat_map}
-use Rattle.sst_sections.specs.declared.version.TableVersion.{TableVersion}
-use Rattle.sst_sections.specs.declared.version.TableVersion.TheVariants.{V3, V4}
-use Rattle.sst_sections.specs.Sections.{finished, trailer}
-use Rattle.sst_sections.specs.Version.{longest_key}
+use Rattle.sst_blocks.specs.declared.version.TableVersion.{TableVersion}
+use Rattle.sst_blocks.specs.declared.version.TableVersion.TheVariants.{V3, V4}
+use Rattle.sst_blocks.specs.Sections.{finished, trailer}
+use Rattle.sst_blocks.specs.Version.{longest_key}
 use Rattle.sst_entries.specs.Entry.{Entry}
 use Rattle.sst_entries.specs.Strict.{IsStrict, last_of}
 use Rattle.sst_blocks.specs.declared.block_type.BlockType.TheVariants.{Filter, Meta}
 use Rattle.sst_blocks.specs.Handle.{Handle}
 use Rattle.sst_blocks.specs.Handles.{AreStrictHandles, IsSpellableHandle}
 use Rattle.sst_blocks.specs.Payload.{payload}
-use Rattle.sst_filters.specs.Filter.{BloomFilter, payload_of}
-use Rattle.lsm_formats.proofs.BlockLengths.{length-block}
-use Rattle.lsm_formats.specs.Chunks.{AreChunksFrom, joined}
-use Rattle.lsm_formats.specs.Content.{Content}
-use Rattle.lsm_formats.specs.Facts.{first_key, last_key}
-use Rattle.lsm_formats.specs.File.{IsContent, counted_blocks}
-use Rattle.lsm_formats.specs.Filters.{filter_block}
-use Rattle.lsm_formats.specs.Fits.{EntryFits, Fits, SectionFits}
-use Rattle.lsm_formats.specs.Index.{data_section, handles}
-use Rattle.lsm_formats.specs.Kinds.{filter_count, filter_sections}
-use Rattle.lsm_formats.specs.Layout.{bytes_in}
-use Rattle.lsm_formats.specs.declared.label.Label.{Label}
-use Rattle.lsm_formats.specs.declared.options.FilterKind.{FilterKind}
-use Rattle.lsm_formats.specs.declared.options.FilterKind.TheVariants.{Full as FullFilter}
-use Rattle.lsm_formats.specs.declared.options.FilterKind.TheVariants.{
+use Rattle.sst_blocks.specs.filter.Filter.{BloomFilter, payload_of}
+use Rattle.sst_blocks.proofs.BlockLengths.{length-block}
+use Rattle.sst_blocks.specs.table.Chunks.{AreChunksFrom, joined}
+use Rattle.sst_blocks.specs.table.Content.{Content}
+use Rattle.sst_blocks.specs.table.Facts.{first_key, last_key}
+use Rattle.sst_blocks.specs.table.File.{IsContent, counted_blocks}
+use Rattle.sst_blocks.specs.table.Filters.{filter_block}
+use Rattle.sst_blocks.specs.table.Fits.{EntryFits, Fits, SectionFits}
+use Rattle.sst_blocks.specs.table.Index.{data_section, handles}
+use Rattle.sst_blocks.specs.table.Kinds.{filter_count, filter_sections}
+use Rattle.sst_blocks.specs.table.Layout.{bytes_in}
+use Rattle.sst_blocks.specs.declared.table.label.Label.{Label}
+use Rattle.sst_blocks.specs.declared.table.options.FilterKind.{FilterKind}
+use Rattle.sst_blocks.specs.declared.table.options.FilterKind.TheVariants.{Full as FullFilter}
+use Rattle.sst_blocks.specs.declared.table.options.FilterKind.TheVariants.{
   Partitioned as PartitionedFilter,
 }
-use Rattle.lsm_formats.specs.declared.options.Options.{Options}
+use Rattle.sst_blocks.specs.declared.table.options.Options.{Options}
 use Rattle.lsm_readers.proofs.ChunkReads.{AreSome}
 use Rattle.lsm_readers.proofs.FileIndexKinds.{index_count}
 use Rattle.lsm_readers.proofs.FileLengths.{handle_fits, handles_strict, highest_below, last_fits}
 use Rattle.lsm_readers.proofs.FileLengths.{last_some, lowest_fits, section_wide}
 use Rattle.lsm_readers.proofs.FileSections.{body_is, data_len, the_end, the_filter, the_index}
 use Rattle.lsm_readers.proofs.FileSections.{the_items, the_meta, written}
-use Rattle.sst_sections.proofs.SectionLaws.{finished_body}
-use Rattle.lsm_formats.proofs.FactLaws.{length-handles}
+use Rattle.sst_blocks.proofs.SectionLaws.{finished_body}
+use Rattle.sst_blocks.proofs.FactLaws.{length-handles}
 use Rattle.lsm_readers.proofs.MetaBlocks.{meta_length}
 use Rattle.lsm_readers.proofs.MetaReads.{FactsFit}
 

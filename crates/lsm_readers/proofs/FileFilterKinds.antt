@@ -6,47 +6,48 @@ use Rattle.std.proofs.Common.{arith, if◌then◌else◌}
 use Rattle.std.specs.Prelude.{Ok, find, nat_lt, Option, Some, None, Result}
 use Rattle.std.specs.List.{AllByRecursion, flat_map}
 use Rattle.std.proofs.lemmas.List.{append-nil}
-use Rattle.sst_sections.specs.declared.version.TableVersion.{TableVersion}
+use Rattle.sst_blocks.specs.declared.version.TableVersion.{TableVersion}
 use Rattle.sst_entries.specs.Entry.{Entry}
 use Rattle.sst_entries.specs.Strict.{IsStrict}
 use Rattle.sst_blocks.specs.declared.block_type.BlockType.TheVariants.{Filter, Index}
 use Rattle.sst_blocks.specs.Handle.{Handle}
 use Rattle.sst_blocks.specs.Handles.{handles_payload, reaches}
-use Rattle.sst_filters.specs.declared.policy.BloomConstructionPolicy.{BloomConstructionPolicy}
-use Rattle.sst_filters.specs.Filter.{BloomFilter, payload_of, admits}
-use Rattle.sst_filters.specs.Policy.{tenths_of}
-use Rattle.lsm_formats.proofs.BlockLengths.{length-block}
-use Rattle.lsm_formats.specs.declared.options.FilterKind.{FilterKind}
-use Rattle.lsm_formats.specs.declared.options.FilterKind.TheVariants.{Full as FullFilter}
-use Rattle.lsm_formats.specs.declared.options.FilterKind.TheVariants.{
+use Rattle.sst_blocks.specs.declared.filter.policy.BloomConstructionPolicy.{BloomConstructionPolicy}
+use Rattle.sst_blocks.specs.filter.Filter.{BloomFilter, payload_of, admits}
+use Rattle.sst_blocks.specs.filter.Policy.{tenths_of}
+use Rattle.sst_blocks.proofs.BlockLengths.{length-block}
+use Rattle.sst_blocks.specs.declared.table.options.FilterKind.{FilterKind}
+use Rattle.sst_blocks.specs.declared.table.options.FilterKind.TheVariants.{Full as FullFilter}
+use Rattle.sst_blocks.specs.declared.table.options.FilterKind.TheVariants.{
   Partitioned as PartitionedFilter,
 }
-use Rattle.lsm_formats.specs.Filters.{AreFiltersFor, IsFilterFor, filter_block, filter_partitions}
-use Rattle.lsm_formats.specs.Filters.{filtered_keys, full_filter, is_full_filter, keys_of}
-use Rattle.lsm_formats.specs.Filters.{partitioned_filter}
-use Rattle.lsm_formats.specs.Fits.{SectionFits}
-use Rattle.lsm_formats.specs.Kinds.{AreFilterParts, filter_sections}
-use Rattle.lsm_formats.specs.Layout.{bytes_in}
-use Rattle.lsm_formats.specs.Partitions.{handles_block, tops_from}
-use Rattle.lsm_formats.specs.Parts.{ArePartsOf, joined_parts, rest_part}
-use Rattle.lsm_formats.proofs.FilterLaws.{is_built}
+use Rattle.sst_blocks.specs.table.Filters.{AreFiltersFor, IsFilterFor, filter_block}
+use Rattle.sst_blocks.specs.table.Filters.{filter_partitions}
+use Rattle.sst_blocks.specs.table.Filters.{filtered_keys, full_filter, is_full_filter, keys_of}
+use Rattle.sst_blocks.specs.table.Filters.{partitioned_filter}
+use Rattle.sst_blocks.specs.table.Fits.{SectionFits}
+use Rattle.sst_blocks.specs.table.Kinds.{AreFilterParts, filter_sections}
+use Rattle.sst_blocks.specs.table.Layout.{bytes_in}
+use Rattle.sst_blocks.specs.table.Partitions.{handles_block, tops_from}
+use Rattle.sst_blocks.specs.table.Parts.{ArePartsOf, joined_parts, rest_part}
+use Rattle.sst_blocks.proofs.FilterLaws.{is_built}
 use Rattle.lsm_readers.proofs.FileFilters.{Asked, KeyFits, LoadsFilter, filter_asked, filter_loads}
 use Rattle.lsm_readers.proofs.FileFilters.{filter_told as part_told, filter_tops_load}
 use Rattle.lsm_readers.proofs.FileFilters.{filters_asked, filters_each, no_key}
 use Rattle.lsm_readers.proofs.FileIndexes.{LoadsHandles, handles_at}
-use Rattle.lsm_formats.proofs.KeyLaws.{key_end}
+use Rattle.sst_blocks.proofs.KeyLaws.{key_end}
 use Rattle.lsm_readers.proofs.PartEnds.{no_parts, some_parts}
 use Rattle.lsm_readers.proofs.PartReads.{AreSomeParts}
 use Rattle.std.specs.Option.{option_map}
-use Rattle.sst_sections.specs.declared.section.SectionName.TheVariants.{Filter as FilterSection}
-use Rattle.sst_sections.specs.declared.section.SectionName.TheVariants.{FilterTli}
-use Rattle.sst_filters.specs.KeyHash.{hash_of}
+use Rattle.sst_blocks.specs.declared.section.SectionName.TheVariants.{Filter as FilterSection}
+use Rattle.sst_blocks.specs.declared.section.SectionName.TheVariants.{FilterTli}
+use Rattle.sst_blocks.specs.filter.KeyHash.{hash_of}
 use Rattle.sst_entries.specs.declared.error.Error.{Error}
 use Rattle.sst_blocks.specs.Place.{Place, place_of}
-use Rattle.lsm_points.specs.declared.regions.ParsedRegions.{ParsedRegions}
-use Rattle.lsm_points.specs.Answer.{filter_admits, part_admits}
+use Rattle.lsm_readers.specs.declared.regions.ParsedRegions.{ParsedRegions}
+use Rattle.lsm_readers.specs.point.Answer.{filter_admits, part_admits}
 use Rattle.lsm_readers.specs.OfList.{filter_said, filter_tops_said, place_from}
-use Rattle.lsm_points.specs.Parts.{filter_told, pinned_filter, tops_told}
+use Rattle.lsm_readers.specs.point.Parts.{filter_told, pinned_filter, tops_told}
 use Rattle.lsm_readers.specs.Stored.{FiltersLoad, LoadsAs}
 
 -- ---- it loads

@@ -6,9 +6,9 @@ use Rattle.std.proofs.Common.{append_assoc, length-append, arith}
 use Rattle.std.specs.Prelude.{Option, Some, None, Result, Ok, find, unwrap_or}
 use Rattle.std.specs.List.{AllByRecursion, flat_map}
 use Rattle.std.proofs.lemmas.List.Concat.{flat_map-append}
-use Rattle.sst_sections.specs.declared.version.TableVersion.{TableVersion}
-use Rattle.sst_filters.specs.KeyHash.{hash_of}
-use Rattle.sst_sections.specs.Version.{longest_key}
+use Rattle.sst_blocks.specs.declared.version.TableVersion.{TableVersion}
+use Rattle.sst_blocks.specs.filter.KeyHash.{hash_of}
+use Rattle.sst_blocks.specs.Version.{longest_key}
 use Rattle.sst_entries.specs.declared.error.Error.{Error}
 use Rattle.sst_entries.specs.declared.value_type.ValueType.TheVariants.{Value}
 use Rattle.sst_entries.specs.Entry.{Entry, entry}
@@ -20,22 +20,23 @@ use Rattle.sst_blocks.specs.Handle.{Handle}
 use Rattle.sst_blocks.specs.Handles.{AreStrictHandles, IsSpellableHandle, end_of, reaches}
 use Rattle.sst_blocks.specs.Handles.{handles_payload}
 use Rattle.sst_blocks.proofs.BlockLaws.{built_load}
-use Rattle.sst_filters.specs.declared.policy.BloomConstructionPolicy.{BloomConstructionPolicy}
-use Rattle.sst_filters.specs.Filter.{BloomFilter, IsBuilt, admits, filter_in, payload_of}
-use Rattle.sst_filters.specs.Policy.{tenths_of}
-use Rattle.sst_filters.proofs.Probes.{admits_its_hashes}
-use Rattle.lsm_formats.proofs.BlockLengths.{length-block}
-use Rattle.lsm_formats.specs.Facts.{starts_key}
-use Rattle.lsm_formats.specs.Filters.{AreFiltersFor, IsFilterFor, filter_block, filter_partitions}
-use Rattle.lsm_formats.specs.Filters.{keys_after, last_of_keys}
-use Rattle.lsm_formats.specs.Fits.{EntryFits}
-use Rattle.lsm_formats.specs.Index.{last_entry}
-use Rattle.lsm_formats.specs.Parts.{joined_parts}
-use Rattle.lsm_formats.specs.Partitions.{handles_block, tops_from}
-use Rattle.lsm_formats.proofs.KeyLaws.{key_end}
-use Rattle.lsm_formats.proofs.FilterLaws.{wide, is_built}
+use Rattle.sst_blocks.specs.declared.filter.policy.BloomConstructionPolicy.{BloomConstructionPolicy}
+use Rattle.sst_blocks.specs.filter.Filter.{BloomFilter, IsBuilt, admits, filter_in, payload_of}
+use Rattle.sst_blocks.specs.filter.Policy.{tenths_of}
+use Rattle.sst_blocks.proofs.Probes.{admits_its_hashes}
+use Rattle.sst_blocks.proofs.BlockLengths.{length-block}
+use Rattle.sst_blocks.specs.table.Facts.{starts_key}
+use Rattle.sst_blocks.specs.table.Filters.{AreFiltersFor, IsFilterFor, filter_block}
+use Rattle.sst_blocks.specs.table.Filters.{filter_partitions}
+use Rattle.sst_blocks.specs.table.Filters.{keys_after, last_of_keys}
+use Rattle.sst_blocks.specs.table.Fits.{EntryFits}
+use Rattle.sst_blocks.specs.table.Index.{last_entry}
+use Rattle.sst_blocks.specs.table.Parts.{joined_parts}
+use Rattle.sst_blocks.specs.table.Partitions.{handles_block, tops_from}
+use Rattle.sst_blocks.proofs.KeyLaws.{key_end}
+use Rattle.sst_blocks.proofs.FilterLaws.{wide, is_built}
 use Rattle.sst_blocks.specs.Place.{place_of}
-use Rattle.lsm_points.specs.Read.{◌>>=◌}
+use Rattle.lsm_readers.specs.point.Read.{◌>>=◌}
 use Rattle.lsm_readers.specs.Stored.{LoadsAs}
 use Rattle.lsm_readers.proofs.FileIndexes.{LoadsHandles, handles_load}
 use Rattle.lsm_readers.proofs.FileLengths.{longest_short}

@@ -5,33 +5,33 @@ use Rattle.std.proofs.Common.{refl, sym, ap, subst, ◌∙◌, append_assoc, len
 use Rattle.std.specs.Prelude.{Ok, Option, Some, None}
 use Rattle.std.specs.List.{AllByRecursion, AllZip, flat_map}
 use Rattle.std.proofs.lemmas.List.{append-nil}
-use Rattle.sst_sections.specs.declared.version.TableVersion.{TableVersion}
+use Rattle.sst_blocks.specs.declared.version.TableVersion.{TableVersion}
 use Rattle.sst_blocks.specs.declared.block_type.BlockType.TheVariants.{Index}
 use Rattle.sst_blocks.specs.Handle.{Handle}
 use Rattle.sst_blocks.specs.Handles.{AreStrictHandles, IsSpellableHandle, handles_payload}
-use Rattle.lsm_formats.proofs.BlockLengths.{length-block}
-use Rattle.lsm_formats.specs.declared.options.IndexKind.{IndexKind}
-use Rattle.lsm_formats.specs.declared.options.IndexKind.TheVariants.{Full as FullIndex}
-use Rattle.lsm_formats.specs.declared.options.IndexKind.TheVariants.{
+use Rattle.sst_blocks.proofs.BlockLengths.{length-block}
+use Rattle.sst_blocks.specs.declared.table.options.IndexKind.{IndexKind}
+use Rattle.sst_blocks.specs.declared.table.options.IndexKind.TheVariants.{Full as FullIndex}
+use Rattle.sst_blocks.specs.declared.table.options.IndexKind.TheVariants.{
   Partitioned as PartitionedIndex,
 }
-use Rattle.lsm_formats.specs.Fits.{SectionFits}
-use Rattle.lsm_formats.specs.Kinds.{AreIndexParts, full_index, index_sections}
-use Rattle.lsm_formats.specs.Layout.{bytes_in}
-use Rattle.lsm_formats.specs.Partitions.{handles_block, index_tops, is_full_index}
-use Rattle.lsm_formats.specs.Partitions.{partitioned_index}
-use Rattle.lsm_formats.specs.Parts.{ArePartsOf, joined_parts}
+use Rattle.sst_blocks.specs.table.Fits.{SectionFits}
+use Rattle.sst_blocks.specs.table.Kinds.{AreIndexParts, full_index, index_sections}
+use Rattle.sst_blocks.specs.table.Layout.{bytes_in}
+use Rattle.sst_blocks.specs.table.Partitions.{handles_block, index_tops, is_full_index}
+use Rattle.sst_blocks.specs.table.Partitions.{partitioned_index}
+use Rattle.sst_blocks.specs.table.Parts.{ArePartsOf, joined_parts}
 use Rattle.lsm_readers.proofs.FileIndexes.{LoadsHandles, handles_at, handles_load, parts_named}
 use Rattle.lsm_readers.proofs.FileIndexes.{tops_load}
 use Rattle.lsm_readers.proofs.PartEnds.{no_parts, some_parts}
 use Rattle.lsm_readers.proofs.PartReads.{AreSomeParts}
-use Rattle.sst_sections.specs.declared.section.SectionName.TheVariants.{Filter as FilterSection}
-use Rattle.sst_sections.specs.declared.section.SectionName.TheVariants.{FilterTli}
-use Rattle.sst_sections.specs.declared.section.SectionName.TheVariants.{Index as IndexSection, Tli}
-use Rattle.sst_sections.specs.declared.section.SectionName.TheVariants.{Meta as MetaSection}
+use Rattle.sst_blocks.specs.declared.section.SectionName.TheVariants.{Filter as FilterSection}
+use Rattle.sst_blocks.specs.declared.section.SectionName.TheVariants.{FilterTli}
+use Rattle.sst_blocks.specs.declared.section.SectionName.TheVariants.{Index as IndexSection, Tli}
+use Rattle.sst_blocks.specs.declared.section.SectionName.TheVariants.{Meta as MetaSection}
 use Rattle.sst_blocks.specs.Place.{Place}
-use Rattle.lsm_points.specs.declared.regions.ParsedRegions.{ParsedRegions}
-use Rattle.lsm_points.specs.IndexKinds.{index_said, index_told, handles_told}
+use Rattle.lsm_readers.specs.declared.regions.ParsedRegions.{ParsedRegions}
+use Rattle.lsm_readers.specs.point.IndexKinds.{index_said, index_told, handles_told}
 use Rattle.lsm_readers.specs.Stored.{HasPartitions, IndexHas, NamesPart}
 use Rattle.lsm_readers.specs.OfList.{place_from}
 

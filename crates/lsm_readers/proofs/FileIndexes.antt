@@ -4,8 +4,8 @@ use Rattle.std.proofs.Common.{ap, subst, ◌∙◌, append_assoc, length-append,
 use Rattle.std.specs.Prelude.{Option, Some, None, Ok, is_some, unwrap_or}
 use Rattle.std.specs.List.{AllByRecursion, AllZip, flat_map}
 use Rattle.std.proofs.lemmas.List.Concat.{flat_map-append}
-use Rattle.sst_sections.specs.declared.version.TableVersion.{TableVersion}
-use Rattle.sst_sections.specs.Version.{key_limit}
+use Rattle.sst_blocks.specs.declared.version.TableVersion.{TableVersion}
+use Rattle.sst_blocks.specs.Version.{key_limit}
 use Rattle.sst_entries.specs.declared.value_type.ValueType.TheVariants.{Value}
 use Rattle.sst_entries.specs.Entry.{entry}
 use Rattle.sst_entries.specs.Strict.{IsStrict, last_of}
@@ -17,12 +17,12 @@ use Rattle.sst_blocks.specs.Handles.{handles_payload}
 use Rattle.sst_blocks.specs.Place.{Place}
 use Rattle.sst_blocks.proofs.BlockLaws.{written_loads}
 use Rattle.sst_blocks.proofs.HandleLaws.{handles_read}
-use Rattle.lsm_formats.proofs.BlockLengths.{length-block}
-use Rattle.lsm_formats.specs.Index.{last_entry}
-use Rattle.lsm_formats.specs.Parts.{joined_parts}
-use Rattle.lsm_formats.specs.Partitions.{handles_block, index_tops, last_end}
-use Rattle.lsm_points.specs.IndexKinds.{handles_told}
-use Rattle.lsm_points.specs.Read.{◌>>=◌}
+use Rattle.sst_blocks.proofs.BlockLengths.{length-block}
+use Rattle.sst_blocks.specs.table.Index.{last_entry}
+use Rattle.sst_blocks.specs.table.Parts.{joined_parts}
+use Rattle.sst_blocks.specs.table.Partitions.{handles_block, index_tops, last_end}
+use Rattle.lsm_readers.specs.point.IndexKinds.{handles_told}
+use Rattle.lsm_readers.specs.point.Read.{◌>>=◌}
 use Rattle.lsm_readers.specs.Stored.{NamesPart}
 use Rattle.lsm_readers.proofs.FileLengths.{handles_short}
 use Rattle.lsm_readers.proofs.PartEnds.{block_of, ends_strict, part_all, part_strict}

@@ -3,30 +3,30 @@ use Rattle.std.proofs.Common.{◌≡◌, ℕ, ◌+◌, ◌^◌, ◌<◌, ◌≤�
 use Rattle.std.proofs.Common.{sym, ap, ◌∙◌, length-append, arith}
 use Rattle.std.specs.Prelude.{Option, Some, None, min, max}
 use Rattle.std.specs.List.{flat_map, AllByRecursion}
-use Rattle.sst_sections.specs.declared.version.TableVersion.{TableVersion}
-use Rattle.sst_sections.specs.declared.version.TableVersion.TheVariants.{V3, V4}
+use Rattle.sst_blocks.specs.declared.version.TableVersion.{TableVersion}
+use Rattle.sst_blocks.specs.declared.version.TableVersion.TheVariants.{V3, V4}
 use Rattle.sst_blocks.specs.declared.block_type.BlockType.TheVariants.{Data}
 use Rattle.sst_entries.specs.Entry.{Entry}
 use Rattle.sst_blocks.specs.Handle.{Handle}
 use Rattle.sst_blocks.specs.Handles.{handles_payload, handle_spelled, IsSpellableHandle}
 use Rattle.sst_blocks.specs.Handles.{AreStrictHandles, end_of}
-use Rattle.sst_sections.specs.Number.{le4}
+use Rattle.sst_blocks.specs.Number.{le4}
 use Rattle.sst_blocks.specs.Payload.{payload, spelled}
 use Rattle.sst_blocks.specs.Reading.{entries_in}
 use Rattle.sst_entries.specs.Strict.{may_follow, IsStrictAfter, IsStrict, last_of}
-use Rattle.sst_sections.specs.Version.{key_limit, longest_key}
+use Rattle.sst_blocks.specs.Version.{key_limit, longest_key}
 use Rattle.sst_entries.proofs.Lists.{all_front, all_behind}
 use Rattle.sst_entries.proofs.Strictness.{strict_front, strict_back, may_jump}
 use Rattle.sst_blocks.proofs.Entries.{entries_read, length-spelled}
 use Rattle.sst_blocks.proofs.HandleLaws.{length-handle_spelled}
-use Rattle.sst_sections.proofs.Numbers.{wide4}
-use Rattle.lsm_formats.specs.Chunks.{joined}
-use Rattle.lsm_formats.specs.Facts.{lowest_seqno, highest_seqno}
-use Rattle.lsm_formats.specs.Index.{last_entry, handle_of, handles_from, handles, block_size}
-use Rattle.lsm_formats.specs.Index.{data_block, data_section}
-use Rattle.lsm_formats.specs.Fits.{EntryFits, BlockFits}
+use Rattle.sst_blocks.proofs.Numbers.{wide4}
+use Rattle.sst_blocks.specs.table.Chunks.{joined}
+use Rattle.sst_blocks.specs.table.Facts.{lowest_seqno, highest_seqno}
+use Rattle.sst_blocks.specs.table.Index.{last_entry, handle_of, handles_from, handles, block_size}
+use Rattle.sst_blocks.specs.table.Index.{data_block, data_section}
+use Rattle.sst_blocks.specs.table.Fits.{EntryFits, BlockFits}
 use Rattle.lsm_readers.proofs.ChunkReads.{AreSome, later}
-use Rattle.lsm_formats.proofs.BlockLengths.{length-block}
+use Rattle.sst_blocks.proofs.BlockLengths.{length-block}
 use Rattle.sst_blocks.specs.Payload as written
 
 -- ---- entries and their blocks

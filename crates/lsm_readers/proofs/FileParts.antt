@@ -4,34 +4,34 @@ use Rattle.std.proofs.Common.{sym, ap, subst, ◌∙◌, append_assoc, length-ap
 use Rattle.std.specs.Prelude.{Option, None, Ok, Err, map, unwrap_or}
 use Rattle.std.specs.List.{AllByRecursion}
 use Rattle.std.proofs.lemmas.Bool.{cases_Bool}
-use Rattle.sst_sections.specs.declared.section.SectionName.TheVariants.{Filter as FilterSection}
-use Rattle.sst_sections.specs.declared.section.SectionName.TheVariants.{FilterTli}
-use Rattle.sst_sections.specs.declared.version.TableVersion.{TableVersion}
-use Rattle.sst_sections.specs.Sections.{body_of, finished, trailer_fault}
-use Rattle.sst_sections.proofs.SectionLaws.{finished_fine}
+use Rattle.sst_blocks.specs.declared.section.SectionName.TheVariants.{Filter as FilterSection}
+use Rattle.sst_blocks.specs.declared.section.SectionName.TheVariants.{FilterTli}
+use Rattle.sst_blocks.specs.declared.version.TableVersion.{TableVersion}
+use Rattle.sst_blocks.specs.Sections.{body_of, finished, trailer_fault}
+use Rattle.sst_blocks.proofs.SectionLaws.{finished_fine}
 use Rattle.sst_entries.specs.declared.error.Error.TheVariants.{GlobalSeqNoTooLarge}
 use Rattle.sst_entries.specs.Entry.{Entry}
 use Rattle.sst_entries.specs.Strict.{IsStrict}
 use Rattle.sst_blocks.specs.Place.{Place}
-use Rattle.lsm_formats.specs.Chunks.{joined}
-use Rattle.lsm_formats.specs.Content.{Content}
-use Rattle.lsm_formats.specs.Facts.{highest_seqno}
-use Rattle.lsm_formats.specs.File.{IsContent, counted_blocks, front_sections}
-use Rattle.lsm_formats.specs.Filters.{keys_of}
-use Rattle.lsm_formats.specs.Fits.{Fits}
-use Rattle.lsm_formats.specs.Index.{data_section, handles}
-use Rattle.lsm_formats.specs.Layout.{bytes_in}
-use Rattle.lsm_formats.specs.Table.{IsTable}
-use Rattle.lsm_formats.specs.declared.label.Label.{Label}
-use Rattle.lsm_formats.specs.declared.options.Options.{Options}
-use Rattle.lsm_formats.proofs.KeyLaws.{key_end, keys_strict}
-use Rattle.lsm_points.specs.declared.regions.ParsedRegions.{ParsedRegions}
-use Rattle.lsm_points.specs.Meta.{Facts, facts_said, facts_told, meta_told}
+use Rattle.sst_blocks.specs.table.Chunks.{joined}
+use Rattle.sst_blocks.specs.table.Content.{Content}
+use Rattle.sst_blocks.specs.table.Facts.{highest_seqno}
+use Rattle.sst_blocks.specs.table.File.{IsContent, counted_blocks, front_sections}
+use Rattle.sst_blocks.specs.table.Filters.{keys_of}
+use Rattle.sst_blocks.specs.table.Fits.{Fits}
+use Rattle.sst_blocks.specs.table.Index.{data_section, handles}
+use Rattle.sst_blocks.specs.table.Layout.{bytes_in}
+use Rattle.sst_blocks.specs.table.Table.{IsTable}
+use Rattle.sst_blocks.specs.declared.table.label.Label.{Label}
+use Rattle.sst_blocks.specs.declared.table.options.Options.{Options}
+use Rattle.sst_blocks.proofs.KeyLaws.{key_end, keys_strict}
+use Rattle.lsm_readers.specs.declared.regions.ParsedRegions.{ParsedRegions}
+use Rattle.lsm_readers.specs.point.Meta.{Facts, facts_said, facts_told, meta_told}
 use Rattle.lsm_readers.specs.OfList.{filter_said, filter_tops_said, list_told, no_place, parts_said}
 use Rattle.lsm_readers.specs.OfList.{pinned_said, place_from, regions_said}
-use Rattle.lsm_points.specs.IndexKinds.{index_said, index_told}
-use Rattle.lsm_points.specs.Parts.{Parts, Pinned, filter_told, parts_told, pinned_filter}
-use Rattle.lsm_points.specs.Parts.{pinned_told, places_told, recovered_told, tops_told}
+use Rattle.lsm_readers.specs.point.IndexKinds.{index_said, index_told}
+use Rattle.lsm_readers.specs.point.Parts.{Parts, Pinned, filter_told, parts_told, pinned_filter}
+use Rattle.lsm_readers.specs.point.Parts.{pinned_told, places_told, recovered_told, tops_told}
 use Rattle.lsm_readers.proofs.FileContent.{body_short, entries_fit, facts_fit, filter_within}
 use Rattle.lsm_readers.proofs.FileContent.{first_short, handles_fit, handles_line, index_within}
 use Rattle.lsm_readers.proofs.FileContent.{last_short, longest_below, meta_block_short, meta_short}
@@ -44,7 +44,7 @@ use Rattle.lsm_readers.proofs.FileSections.{index_at, meta_items_read, regions_r
 use Rattle.lsm_readers.proofs.FileSections.{the_filter, the_index, the_items, top_at, written}
 use Rattle.lsm_readers.proofs.MetaBlocks.{meta_reads}
 use Rattle.lsm_readers.proofs.MetaReads.{facts_read, interval_read, written_facts}
-use Rattle.lsm_points.proofs.Recovered.{Steps, ok_same, steps}
+use Rattle.lsm_readers.proofs.Recovered.{Steps, ok_same, steps}
 
 abbrev pub written_parts : TableVersion → Label → Options → Content → Bool → Bool → Parts
 written_parts v label options c pin_filter pin_index =

@@ -7,15 +7,15 @@ use Rattle.std.specs.Option.{option_or}
 use Rattle.std.proofs.lemmas.Bool.{lt-leb}
 use Rattle.std.proofs.lemmas.List.Concat.{flat_map-append}
 use Rattle.sst_entries.specs.declared.error.Error.{Error}
-use Rattle.sst_sections.specs.declared.section.Section.{Section}
-use Rattle.sst_sections.specs.declared.section.SectionName.{SectionName}
-use Rattle.sst_sections.specs.Sections.{AreAscending, next_start, section_of, slot_index}
+use Rattle.sst_blocks.specs.declared.section.Section.{Section}
+use Rattle.sst_blocks.specs.declared.section.SectionName.{SectionName}
+use Rattle.sst_blocks.specs.Sections.{AreAscending, next_start, section_of, slot_index}
 use Rattle.sst_blocks.specs.Place.{Place}
-use Rattle.lsm_formats.specs.Fits.{SectionFits}
-use Rattle.lsm_formats.specs.Layout.{Sections, bytes_in, starts_from}
+use Rattle.sst_blocks.specs.table.Fits.{SectionFits}
+use Rattle.sst_blocks.specs.table.Layout.{Sections, bytes_in, starts_from}
 use Rattle.lsm_readers.specs.OfList.{place_from}
-use Rattle.lsm_points.specs.Read.{◌>>=◌}
-use Rattle.lsm_points.specs.Regions.{needed_told, optional_told, region_told}
+use Rattle.lsm_readers.specs.point.Read.{◌>>=◌}
+use Rattle.lsm_readers.specs.point.Regions.{needed_told, optional_told, region_told}
 
 -- where a section of a name lies among some, the first of them at a position
 abbrev pub section_from : ℕ → Sections → SectionName → Option Section

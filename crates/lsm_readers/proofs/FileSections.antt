@@ -5,17 +5,17 @@ use Rattle.std.specs.Prelude.{Option, Some, None, Ok, is_some, unwrap_or}
 use Rattle.std.specs.List.{AllByRecursion}
 use Rattle.std.specs.Option.{option_or}
 use Rattle.std.proofs.lemmas.List.{append-nil}
-use Rattle.sst_sections.specs.declared.version.TableVersion.{TableVersion}
-use Rattle.sst_sections.specs.declared.section.Section.{Section}
-use Rattle.sst_sections.specs.declared.section.SectionName.{SectionName}
-use Rattle.sst_sections.specs.declared.section.SectionName.TheVariants.{Data, Index as IndexSection}
-use Rattle.sst_sections.specs.declared.section.SectionName.TheVariants.{Tli}
-use Rattle.sst_sections.specs.declared.section.SectionName.TheVariants.{Filter as FilterSection}
-use Rattle.sst_sections.specs.declared.section.SectionName.TheVariants.{FilterTli}
-use Rattle.sst_sections.specs.declared.section.SectionName.TheVariants.{Meta as MetaSection}
-use Rattle.sst_sections.specs.Sections.{AreAscending, Written, body_of, finished, section_in}
-use Rattle.sst_sections.specs.Sections.{section_names, section_of, slot_index}
-use Rattle.sst_sections.proofs.SectionLaws.{finished_body, finished_section}
+use Rattle.sst_blocks.specs.declared.version.TableVersion.{TableVersion}
+use Rattle.sst_blocks.specs.declared.section.Section.{Section}
+use Rattle.sst_blocks.specs.declared.section.SectionName.{SectionName}
+use Rattle.sst_blocks.specs.declared.section.SectionName.TheVariants.{Data, Index as IndexSection}
+use Rattle.sst_blocks.specs.declared.section.SectionName.TheVariants.{Tli}
+use Rattle.sst_blocks.specs.declared.section.SectionName.TheVariants.{Filter as FilterSection}
+use Rattle.sst_blocks.specs.declared.section.SectionName.TheVariants.{FilterTli}
+use Rattle.sst_blocks.specs.declared.section.SectionName.TheVariants.{Meta as MetaSection}
+use Rattle.sst_blocks.specs.Sections.{AreAscending, Written, body_of, finished, section_in}
+use Rattle.sst_blocks.specs.Sections.{section_names, section_of, slot_index}
+use Rattle.sst_blocks.proofs.SectionLaws.{finished_body, finished_section}
 use Rattle.sst_entries.specs.Entry.{Entry}
 use Rattle.sst_entries.proofs.Lists.{all_append}
 use Rattle.sst_blocks.specs.declared.block_type.BlockType.TheVariants.{Meta}
@@ -24,27 +24,27 @@ use Rattle.sst_blocks.specs.Payload.{payload}
 use Rattle.sst_blocks.specs.Place.{Place}
 use Rattle.sst_blocks.specs.Reading.{entries_in}
 use Rattle.sst_blocks.proofs.BlockLaws.{written_loads}
-use Rattle.lsm_formats.proofs.BlockLengths.{length-block}
-use Rattle.lsm_formats.specs.declared.options.FilterKind.{FilterKind}
-use Rattle.lsm_formats.specs.declared.options.FilterKind.TheVariants.{Full as FullFilter}
-use Rattle.lsm_formats.specs.declared.options.FilterKind.TheVariants.{
+use Rattle.sst_blocks.proofs.BlockLengths.{length-block}
+use Rattle.sst_blocks.specs.declared.table.options.FilterKind.{FilterKind}
+use Rattle.sst_blocks.specs.declared.table.options.FilterKind.TheVariants.{Full as FullFilter}
+use Rattle.sst_blocks.specs.declared.table.options.FilterKind.TheVariants.{
   Partitioned as PartitionedFilter,
 }
-use Rattle.lsm_formats.specs.declared.label.Label.{Label}
-use Rattle.lsm_formats.specs.declared.options.Options.{Options}
-use Rattle.lsm_formats.specs.Content.{Content}
-use Rattle.lsm_formats.specs.File.{closing_sections, counted_blocks, filter_part, index_part}
-use Rattle.lsm_formats.specs.File.{sections_of}
-use Rattle.lsm_formats.specs.Fits.{SectionFits}
-use Rattle.lsm_formats.specs.Index.{data_section, handles}
-use Rattle.lsm_formats.specs.Kinds.{filter_sections}
-use Rattle.lsm_formats.specs.Layout.{Sections, bytes_in, laid}
-use Rattle.lsm_formats.specs.MetaBlock.{meta_entries, version_number}
-use Rattle.sst_filters.specs.Filter.{BloomFilter}
-use Rattle.lsm_points.specs.declared.regions.ParsedRegions.{ParsedRegions}
-use Rattle.lsm_points.specs.Meta.{facts_told, meta_told}
+use Rattle.sst_blocks.specs.declared.table.label.Label.{Label}
+use Rattle.sst_blocks.specs.declared.table.options.Options.{Options}
+use Rattle.sst_blocks.specs.table.Content.{Content}
+use Rattle.sst_blocks.specs.table.File.{closing_sections, counted_blocks, filter_part, index_part}
+use Rattle.sst_blocks.specs.table.File.{sections_of}
+use Rattle.sst_blocks.specs.table.Fits.{SectionFits}
+use Rattle.sst_blocks.specs.table.Index.{data_section, handles}
+use Rattle.sst_blocks.specs.table.Kinds.{filter_sections}
+use Rattle.sst_blocks.specs.table.Layout.{Sections, bytes_in, laid}
+use Rattle.sst_blocks.specs.table.MetaBlock.{meta_entries, version_number}
+use Rattle.sst_blocks.specs.filter.Filter.{BloomFilter}
+use Rattle.lsm_readers.specs.declared.regions.ParsedRegions.{ParsedRegions}
+use Rattle.lsm_readers.specs.point.Meta.{facts_told, meta_told}
 use Rattle.lsm_readers.specs.OfList.{no_place, place_from, regions_laid, regions_said}
-use Rattle.lsm_points.specs.Regions.{regions_told, section_named}
+use Rattle.lsm_readers.specs.point.Regions.{regions_told, section_named}
 use Rattle.lsm_readers.proofs.FileIndexKinds.{index_none, top_lies, top_place}
 use Rattle.lsm_readers.proofs.FileRegions.{bytes_append, laid_ascending, needed_by, place_append}
 use Rattle.lsm_readers.proofs.FileRegions.{section_from, section_told, sections_laid}

@@ -3,38 +3,38 @@ use Rattle.std.proofs.Common.{◌≡◌, ℕ, ◌-◌, ◌^◌, ◌<◌, Bool, t
 use Rattle.std.proofs.Common.{refl, sym, ap, subst, ◌∙◌, arith}
 use Rattle.std.specs.Prelude.{Option, None, Result, Ok}
 use Rattle.std.specs.List.{AllZip}
-use Rattle.sst_sections.specs.declared.version.TableVersion.{TableVersion}
-use Rattle.sst_sections.specs.Sections.{finished}
-use Rattle.sst_filters.specs.Filter.{BloomFilter}
-use Rattle.sst_filters.specs.KeyHash.{hash_of}
+use Rattle.sst_blocks.specs.declared.version.TableVersion.{TableVersion}
+use Rattle.sst_blocks.specs.Sections.{finished}
+use Rattle.sst_blocks.specs.filter.Filter.{BloomFilter}
+use Rattle.sst_blocks.specs.filter.KeyHash.{hash_of}
 use Rattle.sst_entries.specs.declared.error.Error.{Error}
 use Rattle.sst_entries.specs.Entry.{Entry}
 use Rattle.sst_entries.specs.Strict.{IsStrict}
 use Rattle.sst_entries.proofs.Booleans.{apart}
 use Rattle.sst_entries.proofs.Lists.{all_more}
 use Rattle.sst_blocks.specs.Handle.{Handle}
-use Rattle.lsm_formats.proofs.FactLaws.{length-handles}
-use Rattle.lsm_formats.specs.Chunks.{joined}
-use Rattle.lsm_formats.specs.Content.{Content}
-use Rattle.lsm_formats.specs.File.{IsContent, counted_blocks}
-use Rattle.lsm_formats.specs.Filters.{keys_of}
-use Rattle.lsm_formats.specs.Fits.{EntryFits, Fits}
-use Rattle.lsm_formats.specs.Index.{data_section, handles}
-use Rattle.lsm_formats.specs.Layout.{bytes_in}
-use Rattle.lsm_formats.specs.Table.{IsTable}
-use Rattle.lsm_formats.specs.declared.label.Label.{Label}
-use Rattle.lsm_formats.specs.declared.options.FilterKind.{FilterKind}
-use Rattle.lsm_formats.specs.declared.options.FilterKind.TheVariants.{Full as FullFilter}
-use Rattle.lsm_formats.specs.declared.options.FilterKind.TheVariants.{
+use Rattle.sst_blocks.proofs.FactLaws.{length-handles}
+use Rattle.sst_blocks.specs.table.Chunks.{joined}
+use Rattle.sst_blocks.specs.table.Content.{Content}
+use Rattle.sst_blocks.specs.table.File.{IsContent, counted_blocks}
+use Rattle.sst_blocks.specs.table.Filters.{keys_of}
+use Rattle.sst_blocks.specs.table.Fits.{EntryFits, Fits}
+use Rattle.sst_blocks.specs.table.Index.{data_section, handles}
+use Rattle.sst_blocks.specs.table.Layout.{bytes_in}
+use Rattle.sst_blocks.specs.table.Table.{IsTable}
+use Rattle.sst_blocks.specs.declared.table.label.Label.{Label}
+use Rattle.sst_blocks.specs.declared.table.options.FilterKind.{FilterKind}
+use Rattle.sst_blocks.specs.declared.table.options.FilterKind.TheVariants.{Full as FullFilter}
+use Rattle.sst_blocks.specs.declared.table.options.FilterKind.TheVariants.{
   Partitioned as PartitionedFilter,
 }
-use Rattle.lsm_formats.specs.declared.options.Options.{Options}
-use Rattle.lsm_points.specs.declared.regions.ParsedRegions.{ParsedRegions}
-use Rattle.lsm_points.specs.Answer.{filter_admits}
+use Rattle.sst_blocks.specs.declared.table.options.Options.{Options}
+use Rattle.lsm_readers.specs.declared.regions.ParsedRegions.{ParsedRegions}
+use Rattle.lsm_readers.specs.point.Answer.{filter_admits}
 use Rattle.lsm_readers.specs.BlockIndexes.{StoresItsBlocks}
 use Rattle.lsm_readers.specs.OfList.{filter_said, filter_tops_said, regions_said}
 use Rattle.lsm_readers.specs.Stored.{Admits, BearsOut, FilterHas, IndexHas, NamesChunk, StoresList}
-use Rattle.lsm_points.specs.Table.{IsOpen, OpenTable}
+use Rattle.lsm_readers.specs.point.Table.{IsOpen, OpenTable}
 use Rattle.lsm_readers.proofs.FileChunks.{all_read, chunk_sizes, chunks_laid, chunks_named}
 use Rattle.lsm_readers.proofs.FileChunks.{empty_refused}
 use Rattle.lsm_readers.proofs.FileContent.{all_some, entries_fit, handles_fit, handles_line}

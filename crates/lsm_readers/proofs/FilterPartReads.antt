@@ -6,7 +6,7 @@ use Rattle.std.specs.Prelude.{Option, Some, None, find, ◌&&◌, ◌||◌, nat_
 use Rattle.std.specs.List.{flat_map}
 use Rattle.std.proofs.lemmas.List.{map-append}
 use Rattle.std.proofs.Math.Bool.{or_assoc, or-false}
-use Rattle.sst_sections.specs.declared.version.TableVersion.{TableVersion}
+use Rattle.sst_blocks.specs.declared.version.TableVersion.{TableVersion}
 use Rattle.sst_entries.specs.declared.value_type.ValueType.TheVariants.{Value}
 use Rattle.sst_entries.specs.Entry.{Entry, entry}
 use Rattle.sst_entries.specs.Key.{same_key, key_lt}
@@ -19,14 +19,15 @@ use Rattle.sst_blocks.specs.declared.block_type.BlockType.TheVariants.{Filter}
 use Rattle.sst_blocks.specs.Handle.{Handle}
 use Rattle.sst_blocks.specs.Handles.{reaches}
 use Rattle.sst_blocks.proofs.Reaching.{reaches_after}
-use Rattle.sst_filters.specs.declared.policy.BloomConstructionPolicy.{BloomConstructionPolicy}
-use Rattle.sst_filters.specs.Filter.{BloomFilter, payload_of}
-use Rattle.lsm_formats.proofs.BlockLengths.{length-block}
-use Rattle.lsm_formats.specs.Filters.{AreFiltersFor, IsFilterFor, filter_block, filter_partitions}
-use Rattle.lsm_formats.specs.Filters.{last_of_keys}
-use Rattle.lsm_formats.specs.Parts.{joined_parts}
-use Rattle.lsm_formats.specs.Partitions.{tops_from}
-use Rattle.lsm_formats.proofs.KeyLaws.{key_end, before_is}
+use Rattle.sst_blocks.specs.declared.filter.policy.BloomConstructionPolicy.{BloomConstructionPolicy}
+use Rattle.sst_blocks.specs.filter.Filter.{BloomFilter, payload_of}
+use Rattle.sst_blocks.proofs.BlockLengths.{length-block}
+use Rattle.sst_blocks.specs.table.Filters.{AreFiltersFor, IsFilterFor, filter_block}
+use Rattle.sst_blocks.specs.table.Filters.{filter_partitions}
+use Rattle.sst_blocks.specs.table.Filters.{last_of_keys}
+use Rattle.sst_blocks.specs.table.Parts.{joined_parts}
+use Rattle.sst_blocks.specs.table.Partitions.{tops_from}
+use Rattle.sst_blocks.proofs.KeyLaws.{key_end, before_is}
 use Rattle.lsm_readers.proofs.FilterReads.{has_key}
 use Rattle.lsm_readers.proofs.PartReads.{AreSomeParts}
 

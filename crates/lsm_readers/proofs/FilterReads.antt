@@ -4,15 +4,15 @@ use Rattle.std.proofs.Common.{subst, ◌∙◌, ◌⊎◌, inl, inr}
 use Rattle.std.specs.Prelude.{Option, Some, None, find, ◌||◌, ◌==◌, nat_lt}
 use Rattle.std.specs.List.{list_any}
 use Rattle.std.proofs.lemmas.Cmp.{nat_eq_equiv}
-use Rattle.sst_filters.specs.KeyHash.{hash_of}
+use Rattle.sst_blocks.specs.filter.KeyHash.{hash_of}
 use Rattle.sst_entries.specs.Entry.{Entry}
 use Rattle.sst_entries.specs.Key.{same_key}
 use Rattle.sst_entries.specs.Point.{is_hit}
 use Rattle.sst_entries.proofs.Booleans.{and_left, not_not, or_right}
 use Rattle.sst_entries.proofs.KeyLemmas.{same_is}
-use Rattle.sst_filters.specs.Filter.{is_in}
-use Rattle.lsm_formats.specs.Facts.{starts_key}
-use Rattle.lsm_formats.specs.Filters.{keys_after, keys_of}
+use Rattle.sst_blocks.specs.filter.Filter.{is_in}
+use Rattle.sst_blocks.specs.table.Facts.{starts_key}
+use Rattle.sst_blocks.specs.table.Filters.{keys_after, keys_of}
 
 -- a key is in a list of keys
 abbrev pub has_key : List ℕ → List (List ℕ) → Bool

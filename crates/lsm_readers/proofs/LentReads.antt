@@ -12,8 +12,8 @@ use Rattle.sst_blocks.specs.declared.entry_place.EntryPlace.{EntryPlace}
 use Rattle.sst_blocks.specs.declared.opened.Opened.{Opened}
 use Rattle.sst_blocks.specs.Asked.{told_map}
 use Rattle.sst_blocks.specs.EntryPlace.{IsPlacedIn, entry_placed, placed_in}
-use Rattle.lsm_points.specs.Read.{DoesRead, Opens, Read}
-use Rattle.lsm_points.proofs.ReadViews.{does_by, gives_by, gives_seen}
+use Rattle.lsm_readers.specs.point.Read.{DoesRead, Opens, Read}
+use Rattle.lsm_readers.proofs.ReadViews.{does_by, gives_by, gives_seen}
 
 -- within the bytes there is an entry
 pub placed_there : (bytes : List ℕ) (p : EntryPlace) → IsPlacedIn bytes p

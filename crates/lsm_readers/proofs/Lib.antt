@@ -1,3 +1,14 @@
+pub mod Steps
+pub mod Loads
+pub mod Recovered
+pub mod IndexKinds
+pub mod ReadLaws
+pub mod FewLoads
+pub mod Points
+pub mod AskedReads
+pub mod ReadViews
+pub mod ManyReads
+pub mod BatchReads
 pub mod ChunkReads
 pub mod PartReads
 pub mod FilterReads

@@ -3,12 +3,12 @@ use Rattle.std.proofs.Common.{◌≡◌, List}
 use Rattle.std.specs.Prelude.{Ok, map}
 use Rattle.sst_entries.specs.Entry.{Entry}
 use Rattle.sst_entries.specs.Point.{point}
-use Rattle.lsm_points.specs.Answer.{lift}
-use Rattle.lsm_points.specs.declared.many.Query.{Query}
-use Rattle.lsm_points.specs.Many.{found_told, many_told}
+use Rattle.lsm_readers.specs.point.Answer.{lift}
+use Rattle.lsm_readers.specs.declared.many.Query.{Query}
+use Rattle.lsm_readers.specs.point.Many.{found_told, many_told}
 use Rattle.lsm_readers.specs.Stored.{StoresList}
-use Rattle.lsm_points.specs.Table.{IsOpen, OpenTable}
-use Rattle.lsm_points.proofs.ManyReads.{all_answered}
+use Rattle.lsm_readers.specs.point.Table.{IsOpen, OpenTable}
+use Rattle.lsm_readers.proofs.ManyReads.{all_answered}
 use Rattle.lsm_readers.proofs.StoredParts.{stored_answers}
 
 pub many_of_list : {A : Type 0} (t : OpenTable) (held : IsOpen t) (es : List Entry)

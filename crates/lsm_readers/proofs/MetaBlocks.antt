@@ -3,27 +3,27 @@ use Rattle.std.proofs.Common.{◌≡◌, ℕ, ◌+◌, ◌^◌, ◌<◌, ◌≤�
 use Rattle.std.proofs.Common.{length-append}
 use Rattle.std.specs.Prelude.{Some, sum_by}
 use Rattle.std.specs.List.{flat_map, AllByRecursion}
-use Rattle.sst_sections.specs.declared.version.TableVersion.{TableVersion}
-use Rattle.sst_sections.specs.declared.version.TableVersion.TheVariants.{V3, V4}
+use Rattle.sst_blocks.specs.declared.version.TableVersion.{TableVersion}
+use Rattle.sst_blocks.specs.declared.version.TableVersion.TheVariants.{V3, V4}
 use Rattle.sst_entries.specs.Entry.{Entry}
-use Rattle.sst_sections.specs.Number.{le4}
+use Rattle.sst_blocks.specs.Number.{le4}
 use Rattle.sst_blocks.specs.Payload.{payload, spelled}
 use Rattle.sst_blocks.specs.Payload as written
 use Rattle.sst_blocks.specs.Reading.{entries_in}
 use Rattle.sst_entries.specs.Strict.{IsStrict}
-use Rattle.sst_sections.specs.Version.{key_width, key_limit}
+use Rattle.sst_blocks.specs.Version.{key_width, key_limit}
 use Rattle.sst_blocks.proofs.Entries.{entries_read, length-spelled}
-use Rattle.sst_sections.proofs.Numbers.{wide4}
-use Rattle.lsm_formats.specs.Chunks.{joined}
-use Rattle.lsm_formats.specs.Facts.{ListFacts, facts}
-use Rattle.lsm_formats.specs.Index.{data_section}
-use Rattle.lsm_formats.specs.MetaBlock.{BlockCounts, meta_entries, meta_entry, name_of}
-use Rattle.lsm_formats.specs.declared.item_name.ItemName.{ItemName}
-use Rattle.lsm_formats.specs.declared.item_name.ItemName.TheVariants as item
-use Rattle.lsm_formats.proofs.MetaItems.{IsShort, items_each, items_strict, items_sum}
+use Rattle.sst_blocks.proofs.Numbers.{wide4}
+use Rattle.sst_blocks.specs.table.Chunks.{joined}
+use Rattle.sst_blocks.specs.table.Facts.{ListFacts, facts}
+use Rattle.sst_blocks.specs.table.Index.{data_section}
+use Rattle.sst_blocks.specs.table.MetaBlock.{BlockCounts, meta_entries, meta_entry, name_of}
+use Rattle.sst_blocks.specs.declared.table.item_name.ItemName.{ItemName}
+use Rattle.sst_blocks.specs.declared.table.item_name.ItemName.TheVariants as item
+use Rattle.sst_blocks.proofs.MetaItems.{IsShort, items_each, items_strict, items_sum}
 use Rattle.std.proofs.lemmas.List.Sums.{sum_by-cons}
-use Rattle.lsm_formats.specs.declared.options.Options.{Options}
-use Rattle.lsm_formats.specs.declared.label.Label.{Label}
+use Rattle.sst_blocks.specs.declared.table.options.Options.{Options}
+use Rattle.sst_blocks.specs.declared.table.label.Label.{Label}
 
 key_narrow : (v : TableVersion) → key_width v ≤ 4
 key_narrow V3 = omega arith

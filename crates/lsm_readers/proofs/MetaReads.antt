@@ -5,31 +5,33 @@ use Rattle.std.specs.Prelude.{None, Ok, Err}
 use Rattle.std.proofs.lemmas.List.{append-nil}
 use Rattle.std.proofs.lemmas.List.Sums.{count_by-le-length}
 use Rattle.std.proofs.lemmas.Bool.{cases_Bool, eqb-true, le-ltb}
-use Rattle.sst_sections.specs.declared.version.TableVersion.{TableVersion}
-use Rattle.sst_sections.specs.declared.version.TableVersion.TheVariants.{V3, V4}
+use Rattle.sst_blocks.specs.declared.version.TableVersion.{TableVersion}
+use Rattle.sst_blocks.specs.declared.version.TableVersion.TheVariants.{V3, V4}
 use Rattle.sst_entries.specs.Entry.{Entry}
-use Rattle.sst_sections.specs.Number.{le8, le16, num8, num16}
+use Rattle.sst_blocks.specs.Number.{le8, le16, num8, num16}
 use Rattle.sst_entries.specs.Point.{point}
-use Rattle.sst_sections.proofs.Numbers.{wide8}
-use Rattle.lsm_formats.specs.Chunks.{joined}
-use Rattle.lsm_formats.specs.Facts.{ListFacts, facts, is_reclaimable, is_tombstone, is_weak}
-use Rattle.lsm_formats.proofs.FactLaws.{after_within}
-use Rattle.lsm_formats.specs.Index.{data_section}
-use Rattle.lsm_formats.specs.MetaBlock.{BlockCounts, meta_entries, name_of, version_number}
-use Rattle.lsm_formats.specs.declared.options.Options.{Options}
-use Rattle.lsm_formats.specs.declared.label.Label.{Label}
-use Rattle.lsm_formats.specs.declared.item_name.ItemName.{ItemName}
-use Rattle.lsm_formats.specs.declared.item_name.ItemName.TheVariants as item
+use Rattle.sst_blocks.proofs.Numbers.{wide8}
+use Rattle.sst_blocks.specs.table.Chunks.{joined}
+use Rattle.sst_blocks.specs.table.Facts.{ListFacts, facts, is_reclaimable, is_tombstone, is_weak}
+use Rattle.sst_blocks.proofs.FactLaws.{after_within}
+use Rattle.sst_blocks.specs.table.Index.{data_section}
+use Rattle.sst_blocks.specs.table.MetaBlock.{BlockCounts, meta_entries, name_of, version_number}
+use Rattle.sst_blocks.specs.declared.table.options.Options.{Options}
+use Rattle.sst_blocks.specs.declared.table.label.Label.{Label}
+use Rattle.sst_blocks.specs.declared.table.item_name.ItemName.{ItemName}
+use Rattle.sst_blocks.specs.declared.table.item_name.ItemName.TheVariants as item
 use Rattle.std.specs.Prelude.{nat_eq, ◌||◌, ◌==◌, false}
 use Rattle.std.specs.Cmp.Lexicographic.{pointwise}
 use Rattle.byteorder.specs.Numbers.{little_number-reads_back}
 use Rattle.sst_entries.specs.declared.error.Error.TheVariants.{UnsupportedTableVersion}
 use Rattle.sst_entries.specs.declared.error.Error.TheVariants.{UnsupportedIndexInterval}
-use Rattle.lsm_ranges.specs.KeyRange.{interval}
-use Rattle.lsm_points.specs.Meta.{Facts, facts_said, item_told, u64_told, version_told, kinds_told}
-use Rattle.lsm_points.specs.Meta.{byte_told, first_told, compressions_told, created_told}
-use Rattle.lsm_points.specs.Meta.{keys_told, seqnos_told, numbers_said, numbers_told, rest_told}
-use Rattle.lsm_points.specs.Meta.{facts_told}
+use Rattle.lsm_sorted.specs.version.KeyRange.{interval}
+use Rattle.lsm_readers.specs.point.Meta.{Facts, facts_said, item_told, u64_told, version_told}
+use Rattle.lsm_readers.specs.point.Meta.{kinds_told}
+use Rattle.lsm_readers.specs.point.Meta.{byte_told, first_told, compressions_told, created_told}
+use Rattle.lsm_readers.specs.point.Meta.{keys_told, seqnos_told, numbers_said, numbers_told}
+use Rattle.lsm_readers.specs.point.Meta.{rest_told}
+use Rattle.lsm_readers.specs.point.Meta.{facts_told}
 
 -- a number that was written is read
 pub u64_read : (es : List Entry) (name : ItemName) (n : ℕ) → item_told es name ≡ Ok (le8 n)

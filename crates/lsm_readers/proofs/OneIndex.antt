@@ -1,18 +1,18 @@
 -- The index of an opened table names the data blocks of the list that its bytes store. Tables of
 -- one list that are cut alike have the same data blocks, so their indexes tell the same.
 use Rattle.std.proofs.Common.{◌≡◌, ℕ, List, ap, subst, sym, ◌∙◌}
-use Rattle.sst_sections.specs.declared.version.TableVersion.{TableVersion}
+use Rattle.sst_blocks.specs.declared.version.TableVersion.{TableVersion}
 use Rattle.sst_entries.specs.Entry.{Entry}
 use Rattle.sst_entries.specs.Stream.{ok_results}
 use Rattle.sst_blocks.specs.Handle.{Handle}
 use Rattle.sst_blocks.specs.Handles.{window}
-use Rattle.lsm_formats.specs.Chunks.{AreChunks}
-use Rattle.lsm_formats.specs.Index.{handles}
-use Rattle.lsm_formats.specs.Table.{IsTable}
-use Rattle.lsm_formats.proofs.OneCut.{one_cut}
+use Rattle.sst_blocks.specs.table.Chunks.{AreChunks}
+use Rattle.sst_blocks.specs.table.Index.{handles}
+use Rattle.sst_blocks.specs.table.Table.{IsTable}
+use Rattle.sst_blocks.proofs.OneCut.{one_cut}
 use Rattle.lsm_readers.specs.BlockIndexes.{AreCutAlike, NamesBlocksOf, TellAlike, table_index}
 use Rattle.lsm_readers.specs.Stored.{StoresList}
-use Rattle.lsm_points.specs.Table.{IsOpen, OpenTable}
+use Rattle.lsm_readers.specs.point.Table.{IsOpen, OpenTable}
 use Rattle.lsm_readers.proofs.FileStored.{open_stores}
 use Rattle.lsm_readers.proofs.StoredParts.{stored_index}
 

@@ -9,8 +9,8 @@ use Rattle.sst_entries.specs.Entry.{Entry}
 use Rattle.sst_entries.specs.Strict.{IsStrict, IsStrictAfter, last_of}
 use Rattle.sst_entries.proofs.Lists.{all_front, all_behind}
 use Rattle.sst_entries.proofs.Strictness.{strict_alone, strict_front, strict_back}
-use Rattle.lsm_formats.specs.Index.{last_entry}
-use Rattle.lsm_formats.specs.Parts.{AreParts, joined_parts}
+use Rattle.sst_blocks.specs.table.Index.{last_entry}
+use Rattle.sst_blocks.specs.table.Parts.{AreParts, joined_parts}
 use Rattle.lsm_readers.proofs.FileLengths.{follow_last, last_some}
 use Rattle.lsm_readers.proofs.PartReads.{AreSomeParts}
 

@@ -7,8 +7,8 @@ use Rattle.sst_entries.specs.Strict.{IsStrictAfter, last_of}
 use Rattle.sst_blocks.specs.Handle.{Handle}
 use Rattle.sst_blocks.specs.Handles.{end_of, reaches}
 use Rattle.sst_blocks.proofs.Reaching.{reaches_after}
-use Rattle.lsm_formats.specs.Index.{last_entry}
-use Rattle.lsm_formats.specs.Partitions.{last_end}
+use Rattle.sst_blocks.specs.table.Index.{last_entry}
+use Rattle.sst_blocks.specs.table.Partitions.{last_end}
 use Rattle.lsm_readers.proofs.ChunkReads.{after, later, not_before}
 
 passed_one : (p : Handle → Bool) (x : Handle) (o : Option Handle) → p x ≡ false

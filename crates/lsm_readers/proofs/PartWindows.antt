@@ -19,11 +19,11 @@ use Rattle.sst_blocks.specs.Handles.{reaches, to_edge, up_to_first, window}
 use Rattle.sst_blocks.specs.Place.{Place, place_of}
 use Rattle.sst_blocks.specs.Block.{Loaded, handles_of, load_told}
 use Rattle.sst_blocks.proofs.Reaching.{above_reaches, reaches_after}
-use Rattle.lsm_formats.specs.Parts.{joined_parts}
-use Rattle.lsm_formats.specs.Partitions.{last_end}
-use Rattle.lsm_block_indexes.specs.Index.{between, block_between, parts_between}
-use Rattle.lsm_points.specs.IndexKinds.{handles_told}
-use Rattle.lsm_points.specs.Read.{◌>>=◌}
+use Rattle.sst_blocks.specs.table.Parts.{joined_parts}
+use Rattle.sst_blocks.specs.table.Partitions.{last_end}
+use Rattle.lsm_iters.specs.block_index.Index.{between, block_between, parts_between}
+use Rattle.lsm_readers.specs.point.IndexKinds.{handles_told}
+use Rattle.lsm_readers.specs.point.Read.{◌>>=◌}
 use Rattle.lsm_readers.specs.Stored.{NamesPart}
 use Rattle.lsm_readers.proofs.Windows.{AllCut, AllTell, Rises, Tells, parts_cut, to_here, to_later}
 

@@ -19,14 +19,14 @@ use Rattle.sst_entries.specs.Stream.{Answers, Deals, first, but_first, front_of,
 use Rattle.sst_entries.specs.Stream.{Lowers, answer_stops}
 use Rattle.sst_entries.proofs.StreamLemmas.{head_eq, deals_by}
 use Rattle.sst_entries.proofs.Refusals.{memory_is}
-use Rattle.lsm_points.specs.Answer.{lifted}
+use Rattle.lsm_readers.specs.point.Answer.{lifted}
 use Rattle.lsm_readers.specs.Scan.{FaultsAtBlock, FaultsAtEntry, IsEndedScan, Scan, ScanHas}
 use Rattle.lsm_readers.specs.Scan.{ScansLent, ScansNext, lend_first, lend_next, unlent}
 use Rattle.lsm_readers.specs.Scan.{behind, block_told, blocks_told, ended, entries_from}
 use Rattle.lsm_readers.specs.Scan.{entries_told, fault_of, lifted_told, loads, scan_loads_behind}
 use Rattle.lsm_readers.specs.Scan.{loads_from, loads_of, scan_left, scan_size, scan_told}
 use Rattle.lsm_readers.specs.Scan.{then_blocks, unless_left, up_to_error}
-use Rattle.lsm_points.specs.Read.{◌>>=◌}
+use Rattle.lsm_readers.specs.point.Read.{◌>>=◌}
 
 abbrev R : Type 0
 R = Result Entry Error

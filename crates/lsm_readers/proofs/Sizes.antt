@@ -13,14 +13,14 @@ use Rattle.sst_entries.proofs.Refusals.{memory_is}
 use Rattle.sst_blocks.specs.Handle.{Handle}
 use Rattle.sst_blocks.specs.Handles.{from_edge, from_first, is_above, reaches, to_edge, up_to_first}
 use Rattle.sst_blocks.specs.Handles.{window}
-use Rattle.lsm_block_indexes.specs.Index.{Index}
-use Rattle.lsm_block_indexes.specs.Left.{Left, LeftGives}
+use Rattle.lsm_iters.specs.block_index.Index.{Index}
+use Rattle.lsm_iters.specs.block_index.Left.{Left, LeftGives}
 use Rattle.lsm_iters.specs.Bounds.{lower_edge, upper_edge}
 use Rattle.lsm_readers.specs.BlockIndexes.{table_index}
-use Rattle.lsm_points.specs.Read.{◌>>=◌}
+use Rattle.lsm_readers.specs.point.Read.{◌>>=◌}
 use Rattle.lsm_readers.specs.Sizes.{dealt, size_of, size_told, size_within, sizes_told}
 use Rattle.lsm_readers.specs.Stored.{BearsOut, StoresList}
-use Rattle.lsm_points.specs.Table.{IsOpen, OpenTable}
+use Rattle.lsm_readers.specs.point.Table.{IsOpen, OpenTable}
 use Rattle.lsm_readers.proofs.StoredParts.{stored_index}
 
 -- ---- a sum that stops at the largest number

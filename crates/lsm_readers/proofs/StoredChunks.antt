@@ -9,8 +9,8 @@ use Rattle.sst_entries.proofs.Strictness.{strict_back, strict_front}
 use Rattle.sst_blocks.specs.Handle.{Handle}
 use Rattle.sst_blocks.specs.Handles.{AreStrictHandles, end_of, reaches}
 use Rattle.sst_blocks.proofs.Reaching.{reaches_after}
-use Rattle.lsm_formats.specs.Chunks.{joined}
-use Rattle.lsm_formats.specs.Index.{last_entry}
+use Rattle.sst_blocks.specs.table.Chunks.{joined}
+use Rattle.sst_blocks.specs.table.Index.{last_entry}
 use Rattle.lsm_readers.specs.Stored.{NamesChunk}
 use Rattle.lsm_readers.proofs.ChunkReads.{after}
 use Rattle.lsm_readers.proofs.FileLengths.{follow_last, last_some}

@@ -8,20 +8,20 @@ use Rattle.sst_entries.specs.declared.error.Error.{Error}
 use Rattle.sst_entries.specs.Key.{same_key}
 use Rattle.sst_entries.proofs.Booleans.{apart, is_false}
 use Rattle.sst_entries.proofs.KeyLemmas.{same_is, same_itself}
-use Rattle.sst_filters.specs.Filter.{BloomFilter, admits, filter_in}
-use Rattle.sst_filters.specs.KeyHash.{hash_of}
+use Rattle.sst_blocks.specs.filter.Filter.{BloomFilter, admits, filter_in}
+use Rattle.sst_blocks.specs.filter.KeyHash.{hash_of}
 use Rattle.sst_blocks.specs.declared.block_type.BlockType.TheVariants.{Filter}
 use Rattle.sst_blocks.specs.Block.{Loaded, load_told}
 use Rattle.sst_blocks.specs.Handle.{Handle}
 use Rattle.sst_blocks.specs.Handles.{reaches}
 use Rattle.sst_blocks.specs.Place.{Place, place_of}
-use Rattle.lsm_points.specs.Answer.{block_admits, filter_admits, part_admits}
-use Rattle.lsm_points.specs.Parts.{filter_told, tops_told}
-use Rattle.lsm_points.specs.Read.{◌>>=◌}
+use Rattle.lsm_readers.specs.point.Answer.{block_admits, filter_admits, part_admits}
+use Rattle.lsm_readers.specs.point.Parts.{filter_told, tops_told}
+use Rattle.lsm_readers.specs.point.Read.{◌>>=◌}
 use Rattle.lsm_readers.specs.Stored.{Admits, FilterHas, FiltersLoad, LoadsAs}
 use Rattle.lsm_readers.proofs.FileFilters.{Asked}
 use Rattle.lsm_readers.proofs.FilterReads.{has_key, in_front, in_rest}
-use Rattle.lsm_points.proofs.Recovered.{ok_same}
+use Rattle.lsm_readers.proofs.Recovered.{ok_same}
 
 -- ---- keys of a list
 

@@ -16,18 +16,19 @@ use Rattle.sst_blocks.specs.Handle.{Handle}
 use Rattle.sst_blocks.specs.Handles.{AreStrictHandles, end_of, reaches, window}
 use Rattle.sst_blocks.specs.Place.{Place, place_of}
 use Rattle.sst_blocks.proofs.Reaching.{reaches_after}
-use Rattle.lsm_formats.specs.Parts.{joined_parts}
-use Rattle.lsm_formats.specs.Partitions.{last_end}
-use Rattle.lsm_points.specs.declared.regions.ParsedRegions.{ParsedRegions}
-use Rattle.lsm_points.specs.IndexKinds.{PinnedIndex, full, two_level, volatile, handle_by}
-use Rattle.lsm_points.specs.IndexKinds.{handle_in_block, handle_in_part, handles_told, index_over}
-use Rattle.lsm_points.specs.IndexKinds.{index_told, place_in}
-use Rattle.lsm_points.specs.Read.{◌>>=◌}
+use Rattle.sst_blocks.specs.table.Parts.{joined_parts}
+use Rattle.sst_blocks.specs.table.Partitions.{last_end}
+use Rattle.lsm_readers.specs.declared.regions.ParsedRegions.{ParsedRegions}
+use Rattle.lsm_readers.specs.point.IndexKinds.{PinnedIndex, full, two_level, volatile, handle_by}
+use Rattle.lsm_readers.specs.point.IndexKinds.{handle_in_block, handle_in_part, handles_told}
+use Rattle.lsm_readers.specs.point.IndexKinds.{index_over}
+use Rattle.lsm_readers.specs.point.IndexKinds.{index_told, place_in}
+use Rattle.lsm_readers.specs.point.Read.{◌>>=◌}
 use Rattle.lsm_readers.specs.Stored.{HasPartitions, IndexHas, NamesPart}
 use Rattle.lsm_readers.proofs.ChunkReads.{after}
 use Rattle.lsm_readers.proofs.PartReads.{part_here, part_passed}
 use Rattle.lsm_readers.proofs.PartWindows.{between_here, parts_window, split}
-use Rattle.lsm_points.proofs.Recovered.{ok_same}
+use Rattle.lsm_readers.proofs.Recovered.{ok_same}
 
 -- ---- what one block answers
 

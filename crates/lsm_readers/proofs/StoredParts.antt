@@ -5,8 +5,8 @@ use Rattle.std.specs.Prelude.{Option, None, is_none, ◌&&◌, Result, Ok, Err, 
 use Rattle.std.specs.List.{AllByRecursion}
 use Rattle.std.specs.declared.ops.Bound.{Bound}
 use Rattle.std.proofs.lemmas.List.{length-map}
-use Rattle.sst_filters.specs.KeyHash.{hash_of}
-use Rattle.sst_sections.specs.Sections.{body_of, trailer_fault}
+use Rattle.sst_blocks.specs.filter.KeyHash.{hash_of}
+use Rattle.sst_blocks.specs.Sections.{body_of, trailer_fault}
 use Rattle.sst_entries.specs.declared.error.Error.{Error}
 use Rattle.sst_entries.specs.declared.error.Error.TheVariants.{GlobalSeqNoTooLarge, OutOfMemory}
 use Rattle.sst_entries.specs.Entry.{Entry}
@@ -18,29 +18,29 @@ use Rattle.sst_blocks.specs.declared.block_type.BlockType.TheVariants.{Data}
 use Rattle.sst_blocks.specs.Block.{load_at_told}
 use Rattle.sst_blocks.specs.Handle.{Handle}
 use Rattle.sst_blocks.specs.Handles.{window}
-use Rattle.lsm_formats.specs.Chunks.{joined}
-use Rattle.lsm_formats.specs.Facts.{highest_seqno, lowest_seqno}
-use Rattle.lsm_formats.specs.Filters.{keys_of}
+use Rattle.sst_blocks.specs.table.Chunks.{joined}
+use Rattle.sst_blocks.specs.table.Facts.{highest_seqno, lowest_seqno}
+use Rattle.sst_blocks.specs.table.Filters.{keys_of}
 use Rattle.lsm_iters.specs.Bounds.{lower_edge, upper_edge}
 use Rattle.lsm_iters.specs.Lift.{lift}
 use Rattle.lsm_iters.specs.Rows.{Bounded, rows}
-use Rattle.lsm_points.specs.declared.regions.ParsedRegions.{ParsedRegions}
-use Rattle.lsm_points.specs.Answer.{answer, filter_admits}
-use Rattle.lsm_points.specs.IndexKinds.{index_over}
-use Rattle.lsm_points.specs.Meta.{Facts, meta_told}
-use Rattle.lsm_points.specs.Parts.{Parts, Pinned, facts_fitting, parts_told, pinned_told}
-use Rattle.lsm_points.specs.Parts.{places_told, recovered_told}
+use Rattle.lsm_readers.specs.declared.regions.ParsedRegions.{ParsedRegions}
+use Rattle.lsm_readers.specs.point.Answer.{answer, filter_admits}
+use Rattle.lsm_readers.specs.point.IndexKinds.{index_over}
+use Rattle.lsm_readers.specs.point.Meta.{Facts, meta_told}
+use Rattle.lsm_readers.specs.point.Parts.{Parts, Pinned, facts_fitting, parts_told, pinned_told}
+use Rattle.lsm_readers.specs.point.Parts.{places_told, recovered_told}
 use Rattle.lsm_readers.specs.Scan.{LendsList, Scan, ScansLent, ScansList, ScansNext, fault_of}
 use Rattle.lsm_readers.specs.Scan.{scan_told}
 use Rattle.lsm_readers.specs.Stored.{BearsOut, FilterHas, IndexHas, StoresList, fits_told}
 use Rattle.lsm_readers.proofs.FileFilters.{Asked}
-use Rattle.lsm_points.proofs.Recovered.{PinnedSteps, Steps, ok_same, pinned_steps, steps}
+use Rattle.lsm_readers.proofs.Recovered.{PinnedSteps, Steps, ok_same, pinned_steps, steps}
 use Rattle.lsm_readers.proofs.StoredChunks.{handles_strict}
 use Rattle.lsm_readers.proofs.StoredFilters.{filter_asked, filter_opens}
 use Rattle.lsm_readers.proofs.StoredIndex.{TellsHandles, index_opens, index_tells}
 use Rattle.lsm_readers.proofs.StoredPoints.{reads_first}
 use Rattle.lsm_readers.proofs.StoredRanges.{LeavesRoom, window_rows}
-use Rattle.lsm_points.proofs.Steps.{same_fault}
+use Rattle.lsm_readers.proofs.Steps.{same_fault}
 use Rattle.lsm_readers.proofs.StoredScans.{Scans, chunks_scan, lends_list, scan_opens}
 
 -- something, or the refusal of a number that is too large

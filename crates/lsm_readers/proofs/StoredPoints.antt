@@ -6,7 +6,7 @@ use Rattle.std.specs.List.{AllZip}
 use Rattle.std.specs.Option.{option_map}
 use Rattle.std.proofs.lemmas.Bool.{cases_lt, lt-ltb, le-ltb, ltb-false}
 use Rattle.std.proofs.Math.Bool.{and-false}
-use Rattle.sst_filters.specs.KeyHash.{hash_of}
+use Rattle.sst_blocks.specs.filter.KeyHash.{hash_of}
 use Rattle.sst_entries.specs.declared.error.Error.{Error}
 use Rattle.sst_entries.specs.Entry.{Entry}
 use Rattle.sst_entries.specs.Key.{same_key}
@@ -17,13 +17,14 @@ use Rattle.sst_blocks.specs.Block.{Loaded, entries_of}
 use Rattle.sst_blocks.specs.Handle.{Handle}
 use Rattle.sst_blocks.specs.Handles.{reaches}
 use Rattle.sst_blocks.specs.Place.{Place, place_of}
-use Rattle.lsm_formats.specs.Chunks.{joined}
-use Rattle.lsm_formats.specs.Facts.{lowest_seqno}
-use Rattle.lsm_formats.specs.Filters.{keys_of}
-use Rattle.lsm_points.specs.Answer.{answer, filter_admits, handle_for, lift, lifted, match_at}
-use Rattle.lsm_points.specs.Answer.{match_in}
-use Rattle.lsm_points.specs.Parts.{Parts}
-use Rattle.lsm_points.specs.Read.{◌>>=◌, known, read_then}
+use Rattle.sst_blocks.specs.table.Chunks.{joined}
+use Rattle.sst_blocks.specs.table.Facts.{lowest_seqno}
+use Rattle.sst_blocks.specs.table.Filters.{keys_of}
+use Rattle.lsm_readers.specs.point.Answer.{answer, filter_admits, handle_for, lift, lifted}
+use Rattle.lsm_readers.specs.point.Answer.{match_at}
+use Rattle.lsm_readers.specs.point.Answer.{match_in}
+use Rattle.lsm_readers.specs.point.Parts.{Parts}
+use Rattle.lsm_readers.specs.point.Read.{◌>>=◌, known, read_then}
 use Rattle.lsm_readers.specs.Stored.{NamesChunk}
 use Rattle.lsm_readers.proofs.ChunkReads.{chunk_here, chunk_passed}
 use Rattle.lsm_readers.proofs.FileFilters.{Asked}

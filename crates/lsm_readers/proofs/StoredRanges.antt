@@ -29,10 +29,10 @@ use Rattle.sst_blocks.specs.Block.{Loaded}
 use Rattle.sst_blocks.specs.Handle.{Handle}
 use Rattle.sst_blocks.specs.Handles.{is_above, reaches, up_to_first, window}
 use Rattle.sst_blocks.proofs.Reaching.{above_reaches, reaches_after}
-use Rattle.lsm_ranges.proofs.PackLemmas.{filter-cons_no}
-use Rattle.lsm_formats.specs.Chunks.{joined}
-use Rattle.lsm_formats.specs.Facts.{highest_seqno}
-use Rattle.lsm_formats.specs.Index.{last_entry}
+use Rattle.lsm_sorted.proofs.PackLemmas.{filter-cons_no}
+use Rattle.sst_blocks.specs.table.Chunks.{joined}
+use Rattle.sst_blocks.specs.table.Facts.{highest_seqno}
+use Rattle.sst_blocks.specs.table.Index.{last_entry}
 use Rattle.lsm_iters.specs.Bounds.{lower_edge, upper_edge}
 use Rattle.lsm_iters.specs.Lift.{lift, lift_told, lifted, lifted_told}
 use Rattle.lsm_iters.specs.Rows.{Bounded, block_rows, rows, rows_in}

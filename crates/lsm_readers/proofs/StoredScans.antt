@@ -13,9 +13,9 @@ use Rattle.sst_entries.proofs.Refusals.{memory_is}
 use Rattle.sst_blocks.specs.declared.block_type.BlockType.TheVariants.{Data}
 use Rattle.sst_blocks.specs.Block.{Loaded, entries_of, load_at_told, load_told}
 use Rattle.sst_blocks.specs.Handle.{Handle}
-use Rattle.lsm_formats.specs.Chunks.{joined}
-use Rattle.lsm_formats.specs.Facts.{highest_seqno}
-use Rattle.lsm_points.specs.Answer.{lifted, lift}
+use Rattle.sst_blocks.specs.table.Chunks.{joined}
+use Rattle.sst_blocks.specs.table.Facts.{highest_seqno}
+use Rattle.lsm_readers.specs.point.Answer.{lifted, lift}
 use Rattle.lsm_readers.specs.Scan.{lifted_told, behind, blocks_told, then_blocks, entries_told}
 use Rattle.lsm_readers.specs.Scan.{up_to_error, entries_from, scan_told, fault_of, Scan, ScansList}
 use Rattle.lsm_readers.specs.Scan.{LendsList, ScansLent, ScansNext}

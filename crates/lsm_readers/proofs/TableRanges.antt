@@ -18,8 +18,8 @@ use Rattle.sst_entries.proofs.StreamLemmas.{map_reverse}
 use Rattle.sst_entries.proofs.Refusals.{memory_is}
 use Rattle.sst_blocks.specs.declared.opened.Opened.{Opened}
 use Rattle.sst_blocks.specs.Handle.{Handle}
-use Rattle.lsm_block_indexes.specs.Dealt.{DealsEnding, ended_at_error}
-use Rattle.lsm_block_indexes.specs.Left.{with_index_loads}
+use Rattle.lsm_iters.specs.block_index.Dealt.{DealsEnding, ended_at_error}
+use Rattle.lsm_iters.specs.block_index.Left.{with_index_loads}
 use Rattle.lsm_iters.specs.Bounds.{lower_edge, upper_edge}
 use Rattle.lsm_iters.specs.Lending.{RangeLends}
 use Rattle.lsm_iters.specs.Lift.{lift, lift_told}
@@ -27,14 +27,14 @@ use Rattle.lsm_iters.specs.Range.{Next, Range, RangeGives, back_next, data_loade
 use Rattle.lsm_iters.specs.Range.{index_to_come, left_in, opened_in, range_left, to_come}
 use Rattle.lsm_iters.specs.Rows.{Bounded, rows}
 use Rattle.lsm_iters.proofs.Cuts.{all_within}
-use Rattle.lsm_iters.proofs.Ends.{if_false}
+use Rattle.lsm_iters.proofs.RangeEnds.{if_false}
 use Rattle.lsm_iters.proofs.LentLaws.{lending_deals}
 use Rattle.lsm_iters.proofs.RangeLaws.{range_deals}
 use Rattle.lsm_readers.specs.BlockIndexes.{table_index}
 use Rattle.lsm_readers.specs.Ranges.{DealsAll, DealsWithin, IsRangeOf, LoadsAtMost, blocks_within}
 use Rattle.lsm_readers.specs.Ranges.{bounded, index_within, range_told}
 use Rattle.lsm_readers.specs.Stored.{StoresList}
-use Rattle.lsm_points.specs.Table.{IsOpen, OpenTable}
+use Rattle.lsm_readers.specs.point.Table.{IsOpen, OpenTable}
 use Rattle.lsm_readers.proofs.StoredParts.{stored_blocks, stored_rows}
 
 abbrev R : Type 0

@@ -5,8 +5,8 @@ use Rattle.std.proofs.Common.{inl, inr}
 use Rattle.std.specs.Prelude.{sum_by, Option, Some, None, Ok, Err, Result}
 use Rattle.std.specs.List.{AllZip}
 use Rattle.std.proofs.lemmas.List.Sums.{sum_by-cons}
-use Rattle.sst_sections.specs.declared.section.SectionName.{SectionName}
-use Rattle.sst_sections.specs.declared.section.SectionName.TheVariants as section
+use Rattle.sst_blocks.specs.declared.section.SectionName.{SectionName}
+use Rattle.sst_blocks.specs.declared.section.SectionName.TheVariants as section
 use Rattle.sst_entries.specs.Entry.{Entry}
 use Rattle.sst_entries.specs.Strict.{last_of}
 use Rattle.sst_blocks.specs.declared.block_type.BlockType.TheVariants.{Data}
@@ -14,14 +14,14 @@ use Rattle.sst_blocks.specs.Block.{Loaded, entries_of, load_told}
 use Rattle.sst_blocks.specs.Handle.{Handle}
 use Rattle.sst_blocks.specs.Handles.{end_of}
 use Rattle.sst_blocks.specs.Place.{Place, place_of}
-use Rattle.lsm_formats.specs.Chunks.{joined}
-use Rattle.lsm_formats.specs.Index.{last_entry}
-use Rattle.lsm_formats.specs.Parts.{joined_parts}
+use Rattle.sst_blocks.specs.table.Chunks.{joined}
+use Rattle.sst_blocks.specs.table.Index.{last_entry}
+use Rattle.sst_blocks.specs.table.Parts.{joined_parts}
 use Rattle.lsm_readers.specs.declared.verify.Counts.{Counts}
 use Rattle.lsm_readers.specs.Findings.{BlockComes, ComesBehindParts, ComesWithin, IsFirstFinding}
 use Rattle.lsm_readers.specs.Findings.{PartComes, Reads, ReadsBlocks, in_block, in_index, in_part}
-use Rattle.lsm_points.specs.IndexKinds.{handles_told}
-use Rattle.lsm_points.specs.Parts.{Parts}
+use Rattle.lsm_readers.specs.point.IndexKinds.{handles_told}
+use Rattle.lsm_readers.specs.point.Parts.{Parts}
 use Rattle.lsm_readers.specs.Stored.{AreLaid, IndexHas, NamesChunk, NamesPart}
 use Rattle.lsm_readers.specs.declared.verify.Finding.{Finding}
 use Rattle.lsm_readers.specs.Verify.{◌>>=◌, Unread, block_found, block_spent, blocks_found}

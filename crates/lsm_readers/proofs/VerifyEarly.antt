@@ -7,10 +7,10 @@ use Rattle.std.specs.Prelude.{slice_index, slice_range}
 use Rattle.std.specs.List.{slice_get}
 use Rattle.std.specs.Option.{option_map, option_or}
 use Rattle.std.specs.Result.{IsErrAnd}
-use Rattle.sst_sections.specs.Fnv.{fnv1a}
-use Rattle.sst_sections.specs.declared.section.SectionName.{SectionName}
-use Rattle.sst_sections.specs.declared.section.SectionName.TheVariants.{Filter as FilterSection}
-use Rattle.sst_sections.specs.declared.section.SectionName.TheVariants.{Index as IndexSection}
+use Rattle.sst_blocks.specs.Fnv.{fnv1a}
+use Rattle.sst_blocks.specs.declared.section.SectionName.{SectionName}
+use Rattle.sst_blocks.specs.declared.section.SectionName.TheVariants.{Filter as FilterSection}
+use Rattle.sst_blocks.specs.declared.section.SectionName.TheVariants.{Index as IndexSection}
 use Rattle.sst_entries.specs.declared.error.Error.{Error}
 use Rattle.sst_entries.specs.declared.error.Error.TheVariants.{ChecksumMismatch, InvalidBlock}
 use Rattle.sst_entries.specs.declared.error.Error.TheVariants.{InvalidHeader, InvalidTag}
@@ -29,7 +29,7 @@ use Rattle.lsm_readers.specs.declared.verify.Finding.{Finding}
 use Rattle.lsm_readers.specs.declared.verify.VerifyError.{VerifyError}
 use Rattle.lsm_readers.specs.declared.verify.VerifyError.TheVariants.{Found, OutOfMemory}
 use Rattle.lsm_readers.specs.Verify.{FindsFirst, early_at, early_filters, early_from}
-use Rattle.lsm_points.specs.Parts.{Parts}
+use Rattle.lsm_readers.specs.point.Parts.{Parts}
 use Rattle.lsm_readers.specs.Verify.{Finds, Misses, Unread, finding, is_found, load_refusal}
 use Rattle.lsm_readers.specs.Verification.{StepsCalmly, chunk_early, found_or, in_index}
 use Rattle.lsm_readers.specs.Verification.{step_early}

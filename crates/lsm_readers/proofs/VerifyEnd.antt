@@ -4,7 +4,7 @@ use Rattle.std.proofs.Common.{◌∙◌, arith}
 use Rattle.std.specs.Prelude.{Option, Some, None, unwrap_or, Result, Ok, Err}
 use Rattle.std.specs.Option.{option_map}
 use Rattle.std.specs.List.{AllByRecursion}
-use Rattle.sst_sections.specs.declared.section.SectionName.TheVariants.{Filter as FilterSection}
+use Rattle.sst_blocks.specs.declared.section.SectionName.TheVariants.{Filter as FilterSection}
 use Rattle.sst_entries.specs.declared.error.Error.{Error}
 use Rattle.sst_entries.specs.Entry.{Entry}
 use Rattle.sst_entries.specs.Strict.{last_of}
@@ -12,12 +12,12 @@ use Rattle.sst_blocks.specs.declared.block_type.BlockType.TheVariants.{Data, Fil
 use Rattle.sst_blocks.specs.Block.{Loaded, load_at_told, load_told}
 use Rattle.sst_blocks.specs.Handle.{Handle}
 use Rattle.sst_blocks.specs.Place.{Place, place_of}
-use Rattle.lsm_formats.specs.Facts.{lowest_seqno}
-use Rattle.lsm_formats.specs.Index.{last_entry}
-use Rattle.lsm_ranges.specs.KeyRange.{Interval, interval}
+use Rattle.sst_blocks.specs.table.Facts.{lowest_seqno}
+use Rattle.sst_blocks.specs.table.Index.{last_entry}
+use Rattle.lsm_sorted.specs.version.KeyRange.{Interval, interval}
 use Rattle.lsm_readers.specs.declared.verify.Counts.{Counts}
 use Rattle.lsm_readers.specs.OfList.{ends_of}
-use Rattle.lsm_points.specs.Parts.{Parts}
+use Rattle.lsm_readers.specs.point.Parts.{Parts}
 use Rattle.lsm_readers.specs.Stored.{FiltersLoad, HasNoBlock, LoadsAs}
 use Rattle.lsm_readers.specs.Verify.{counts_found, filter_found, filters_by}
 use Rattle.lsm_readers.specs.Verify.{located, passed, range_found, tops_found}

@@ -6,12 +6,12 @@ use Rattle.std.specs.List.{AllByRecursion}
 use Rattle.std.proofs.lemmas.List.Sums.{sum_by-cons}
 use Rattle.sst_entries.specs.Entry.{Entry}
 use Rattle.sst_entries.specs.Strict.{IsStrictAfter, last_of, may_follow}
-use Rattle.lsm_formats.specs.Facts.{count_after, highest_seqno, is_reclaimable, is_tombstone}
-use Rattle.lsm_formats.specs.Facts.{is_weak, lowest_seqno, one_if, starts_key}
-use Rattle.lsm_formats.specs.Filters.{keys_after}
+use Rattle.sst_blocks.specs.table.Facts.{count_after, highest_seqno, is_reclaimable, is_tombstone}
+use Rattle.sst_blocks.specs.table.Facts.{is_weak, lowest_seqno, one_if, starts_key}
+use Rattle.sst_blocks.specs.table.Filters.{keys_after}
 use Rattle.lsm_readers.specs.declared.verify.Counts.{Counts}
 use Rattle.lsm_readers.specs.Findings.{IsFirst, Reads, StartsAt}
-use Rattle.lsm_points.specs.Parts.{Parts}
+use Rattle.lsm_readers.specs.point.Parts.{Parts}
 use Rattle.lsm_readers.specs.Stored.{Admits}
 use Rattle.lsm_readers.specs.Verify.{Unread, admitted, asked_found, entries_found, entry_found}
 use Rattle.lsm_readers.specs.Verify.{entry_spent, entry_tested, key_found}

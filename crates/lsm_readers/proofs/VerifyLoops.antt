@@ -9,8 +9,8 @@ use Rattle.std.specs.Result.{IsErrAnd}
 use Rattle.std.proofs.lemmas.List.{drop_all, drop_more}
 use Rattle.std.proofs.lemmas.Option.{get_or_from_slice_get, slice_get_within}
 use Rattle.std.proofs.lemmas.Result.{err_from_is_err_and}
-use Rattle.sst_sections.specs.declared.section.SectionName.{SectionName}
-use Rattle.sst_sections.specs.declared.section.SectionName.TheVariants.{Index as IndexSection}
+use Rattle.sst_blocks.specs.declared.section.SectionName.{SectionName}
+use Rattle.sst_blocks.specs.declared.section.SectionName.TheVariants.{Index as IndexSection}
 use Rattle.sst_entries.specs.declared.error.Error.{Error}
 use Rattle.sst_entries.specs.Error.{Fails, is_memory}
 use Rattle.lsm_readers.specs.declared.verify.Finding.{Finding}
@@ -21,7 +21,7 @@ use Rattle.sst_entries.specs.Strict.{last_of}
 use Rattle.sst_blocks.specs.Handle.{Handle}
 use Rattle.sst_blocks.specs.Handles.{end_of}
 use Rattle.sst_blocks.specs.Place.{Place, place_of}
-use Rattle.lsm_points.specs.Parts.{Parts}
+use Rattle.lsm_readers.specs.point.Parts.{Parts}
 use Rattle.lsm_readers.specs.Verify.{◌>>=◌, Finds, Unread, Misses, block_found, load_refusal}
 use Rattle.lsm_readers.specs.Verify.{blocks_found, end_named, entries_found, entry_found}
 use Rattle.lsm_readers.specs.Verify.{filter_found, finding, last_named, located, part_found}

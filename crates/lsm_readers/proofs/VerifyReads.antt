@@ -4,7 +4,7 @@ use Rattle.std.proofs.Common.{sym, ap, ◌∙◌, arith}
 use Rattle.std.specs.Prelude.{Some, None, Result, Ok}
 use Rattle.std.specs.List.{slice_get}
 use Rattle.std.specs.Option.{option_map}
-use Rattle.sst_sections.specs.declared.section.SectionName.TheVariants as section
+use Rattle.sst_blocks.specs.declared.section.SectionName.TheVariants as section
 use Rattle.sst_entries.specs.Entry.{Entry}
 use Rattle.sst_blocks.specs.declared.block_type.BlockType.TheVariants.{Data}
 use Rattle.sst_blocks.specs.Handle.{Handle}
@@ -13,7 +13,7 @@ use Rattle.lsm_readers.specs.declared.verify.Counts.{Counts}
 use Rattle.lsm_readers.specs.declared.verify.Finding.{Finding}
 use Rattle.lsm_readers.specs.declared.verify.VerifyError.{VerifyError}
 use Rattle.lsm_readers.specs.declared.verify.VerifyError.TheVariants.{Found}
-use Rattle.lsm_points.specs.Parts.{Parts}
+use Rattle.lsm_readers.specs.point.Parts.{Parts}
 use Rattle.lsm_readers.specs.Verify.{◌>>=◌, Misses, Unread, block_found, chunk_found}
 use Rattle.lsm_readers.specs.Verify.{contents_found, counted_found, early_at, handles_found}
 use Rattle.lsm_readers.specs.Verify.{is_found, top_named}

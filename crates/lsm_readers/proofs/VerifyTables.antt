@@ -4,32 +4,32 @@ use Rattle.std.proofs.Common.{◌≡◌, ℕ, ◌-◌, ◌^◌, ◌≤◌, List,
 use Rattle.std.proofs.Common.{subst, ◌∙◌, inl, inr, arith}
 use Rattle.std.specs.Prelude.{Option, Some, None, Result, Ok, Err, IfErr, IfOk}
 use Rattle.std.specs.List.{AllByRecursion, AllZip}
-use Rattle.sst_sections.specs.Sections.{body_of, trailer_fault}
+use Rattle.sst_blocks.specs.Sections.{body_of, trailer_fault}
 use Rattle.sst_entries.specs.declared.error.Error.{Error}
 use Rattle.sst_entries.specs.Entry.{Entry}
 use Rattle.sst_entries.specs.Error.{unless}
 use Rattle.sst_entries.specs.Strict.{last_of}
 use Rattle.sst_blocks.specs.Handle.{Handle}
-use Rattle.lsm_formats.specs.Chunks.{joined}
-use Rattle.lsm_formats.specs.Facts.{count_after, highest_seqno, lowest_seqno}
-use Rattle.lsm_formats.specs.Filters.{keys_of}
-use Rattle.lsm_ranges.specs.KeyRange.{Interval}
-use Rattle.lsm_points.specs.declared.regions.ParsedRegions.{ParsedRegions}
+use Rattle.sst_blocks.specs.table.Chunks.{joined}
+use Rattle.sst_blocks.specs.table.Facts.{count_after, highest_seqno, lowest_seqno}
+use Rattle.sst_blocks.specs.table.Filters.{keys_of}
+use Rattle.lsm_sorted.specs.version.KeyRange.{Interval}
+use Rattle.lsm_readers.specs.declared.regions.ParsedRegions.{ParsedRegions}
 use Rattle.lsm_readers.specs.declared.verify.Finding.{Finding}
 use Rattle.lsm_readers.specs.declared.verify.Verified.{Verified}
 use Rattle.lsm_readers.specs.declared.verify.VerifyError.{VerifyError}
 use Rattle.lsm_readers.specs.declared.verify.VerifyError.TheVariants.{Found, OutOfMemory}
 use Rattle.lsm_readers.specs.Findings.{IsFirstFinding, Reads, ReadsBlocks, StartsAt, at_end}
 use Rattle.lsm_readers.specs.Findings.{in_filter}
-use Rattle.lsm_points.specs.Meta.{Facts, meta_told}
+use Rattle.lsm_readers.specs.point.Meta.{Facts, meta_told}
 use Rattle.lsm_readers.specs.OfList.{ends_of}
-use Rattle.lsm_points.specs.Parts.{Parts, places_told, tops_told}
+use Rattle.lsm_readers.specs.point.Parts.{Parts, places_told, tops_told}
 use Rattle.lsm_readers.specs.Stored.{Admits, AreLaid, BearsOut, FilterHas, FiltersLoad}
 use Rattle.lsm_readers.specs.Stored.{IndexHas, NamesChunk, StoresList}
-use Rattle.lsm_points.specs.Table.{IsOpen, OpenTable}
+use Rattle.lsm_readers.specs.point.Table.{IsOpen, OpenTable}
 use Rattle.lsm_readers.specs.Verify.{◌>>=◌, Finds, Unread, all_found, filters_found, index_found}
 use Rattle.lsm_readers.specs.Verify.{end_found, range_found, table_found, unread_of, verified_of}
-use Rattle.lsm_points.proofs.Recovered.{PinnedSteps, Steps, ok_same, pinned_steps, recovered_steps}
+use Rattle.lsm_readers.proofs.Recovered.{PinnedSteps, Steps, ok_same, pinned_steps, recovered_steps}
 use Rattle.lsm_readers.proofs.VerifyBlocks.{IsPart, index_err, index_go, index_ok}
 use Rattle.lsm_readers.proofs.VerifyEnd.{NothingLeft, counts_go, counts_ok, filters_go, filters_ok}
 use Rattle.lsm_readers.proofs.VerifyEnd.{lowest_within, range_go, range_ok}

@@ -5,7 +5,7 @@ use Rattle.std.specs.List.{AllByRecursion, flat_map}
 use Rattle.std.proofs.lemmas.List.{map-append}
 use Rattle.sst_entries.proofs.Lists.{all_behind}
 use Rattle.sst_blocks.specs.Handles.{from_first, up_to_first}
-use Rattle.lsm_formats.specs.Parts.{joined_parts}
+use Rattle.sst_blocks.specs.table.Parts.{joined_parts}
 
 -- ---- one step of each cut
 

@@ -3,13 +3,13 @@ use Rattle.std.specs.Prelude.{◌≡◌, ℕ, List, Option}
 use Rattle.sst_entries.specs.Entry.{Entry}
 use Rattle.sst_entries.specs.Stream.{ok_results}
 use Rattle.sst_blocks.specs.Handles.{window}
-use Rattle.sst_sections.specs.Sections.{body_of}
-use Rattle.lsm_formats.specs.Index.{handles}
-use Rattle.lsm_formats.specs.Table.{IsTable}
-use Rattle.lsm_block_indexes.specs.Index.{Index}
-use Rattle.lsm_points.specs.IndexKinds.{index_over}
+use Rattle.sst_blocks.specs.Sections.{body_of}
+use Rattle.sst_blocks.specs.table.Index.{handles}
+use Rattle.sst_blocks.specs.table.Table.{IsTable}
+use Rattle.lsm_iters.specs.block_index.Index.{Index}
+use Rattle.lsm_readers.specs.point.IndexKinds.{index_over}
 use Rattle.lsm_readers.specs.Stored.{StoresList}
-use Rattle.lsm_points.specs.Table.{OpenTable}
+use Rattle.lsm_readers.specs.point.Table.{OpenTable}
 
 -- the index of the kind that opening the table chose
 abbrev pub table_index : OpenTable → Index

@@ -2,20 +2,20 @@
 use Rattle.std.specs.Prelude.{◌≡◌, ℕ, ◌+◌, ◌-◌, ◌^◌, ◌<◌, List, [], ◌∷◌, ◌++◌, length, count_by}
 use Rattle.std.specs.Prelude.{max, min, sum_by, Option, Some, None, Ok, Err}
 use Rattle.std.specs.List.{AllByRecursion, AllZip}
-use Rattle.sst_sections.specs.declared.section.SectionName.TheVariants as section
+use Rattle.sst_blocks.specs.declared.section.SectionName.TheVariants as section
 use Rattle.sst_entries.specs.Entry.{Entry}
 use Rattle.sst_entries.specs.Strict.{IsStrictAfter, last_of}
 use Rattle.sst_blocks.specs.Handle.{Handle}
 use Rattle.sst_blocks.specs.Place.{Place, place_of}
-use Rattle.lsm_formats.specs.Chunks.{joined}
-use Rattle.lsm_formats.specs.Facts.{count_after, highest_seqno, is_reclaimable, is_tombstone}
-use Rattle.lsm_formats.specs.Facts.{is_weak, lowest_seqno}
-use Rattle.lsm_formats.specs.Filters.{keys_after}
-use Rattle.lsm_formats.specs.Parts.{joined_parts}
+use Rattle.sst_blocks.specs.table.Chunks.{joined}
+use Rattle.sst_blocks.specs.table.Facts.{count_after, highest_seqno, is_reclaimable, is_tombstone}
+use Rattle.sst_blocks.specs.table.Facts.{is_weak, lowest_seqno}
+use Rattle.sst_blocks.specs.table.Filters.{keys_after}
+use Rattle.sst_blocks.specs.table.Parts.{joined_parts}
 use Rattle.lsm_readers.specs.declared.verify.Counts.{Counts}
 use Rattle.lsm_readers.specs.declared.verify.Finding.{Finding}
-use Rattle.lsm_points.specs.IndexKinds.{handles_told}
-use Rattle.lsm_points.specs.Parts.{Parts}
+use Rattle.lsm_readers.specs.point.IndexKinds.{handles_told}
+use Rattle.lsm_readers.specs.point.Parts.{Parts}
 use Rattle.lsm_readers.specs.Stored.{Admits, AreLaid, IndexHas, NamesChunk, NamesPart}
 use Rattle.lsm_readers.specs.Verify.{◌>>=◌, Unread, block_found, end_found, filters_found}
 use Rattle.lsm_readers.specs.Verify.{handles_found, top_named, unread_of}

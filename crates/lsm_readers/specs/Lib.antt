@@ -1,3 +1,4 @@
+pub mod point
 pub mod OfList
 pub mod Stored
 pub mod BlockIndexes
@@ -9,13 +10,3 @@ pub mod Verify
 pub mod Findings
 pub mod Handles
 pub mod Verification
-pub use Rattle.lsm_points.specs.Read
-pub use Rattle.lsm_points.specs.Regions
-pub use Rattle.lsm_points.specs.Meta
-pub use Rattle.lsm_points.specs.IndexKinds
-pub use Rattle.lsm_points.specs.Parts
-pub use Rattle.lsm_points.specs.Table
-pub use Rattle.lsm_points.specs.Answer
-pub use Rattle.lsm_points.specs.Many
-pub use Rattle.lsm_points.specs.Batch
-pub use Rattle.lsm_points.specs.Keeping

@@ -1,38 +1,38 @@
 -- What a table of a list is recovered to.
 use Rattle.std.specs.Prelude.{◌≡◌, ℕ, ◌+◌, ◌-◌, ◌^◌, ◌==◌, nat_lt, Bool, List, [], ◌∷◌, ◌++◌}
 use Rattle.std.specs.Prelude.{length, Option, Some, None, unwrap_or, Result, Ok, Err, if◌then◌else◌}
-use Rattle.sst_sections.specs.declared.section.SectionName.{SectionName}
-use Rattle.sst_sections.specs.declared.section.SectionName.TheVariants.{Index, Tli, Filter}
-use Rattle.sst_sections.specs.declared.section.SectionName.TheVariants.{FilterTli, Meta}
-use Rattle.sst_sections.specs.declared.version.TableVersion.{TableVersion}
-use Rattle.sst_sections.specs.Sections.{slot_index}
+use Rattle.sst_blocks.specs.declared.section.SectionName.{SectionName}
+use Rattle.sst_blocks.specs.declared.section.SectionName.TheVariants.{Index, Tli, Filter}
+use Rattle.sst_blocks.specs.declared.section.SectionName.TheVariants.{FilterTli, Meta}
+use Rattle.sst_blocks.specs.declared.version.TableVersion.{TableVersion}
+use Rattle.sst_blocks.specs.Sections.{slot_index}
 use Rattle.sst_entries.specs.declared.error.Error.{Error}
 use Rattle.sst_entries.specs.declared.error.Error.TheVariants.{GlobalSeqNoTooLarge}
 use Rattle.sst_entries.specs.Entry.{Entry}
 use Rattle.sst_entries.specs.Stream.{first}
 use Rattle.sst_blocks.specs.Handle.{Handle}
 use Rattle.sst_blocks.specs.Place.{Place}
-use Rattle.sst_filters.specs.Filter.{BloomFilter}
-use Rattle.lsm_ranges.specs.KeyRange.{Interval, interval}
-use Rattle.lsm_formats.specs.Content.{Content}
-use Rattle.lsm_formats.specs.Facts.{facts, highest_seqno}
-use Rattle.lsm_formats.specs.File.{closing_sections, filter_part, front_sections, index_part}
-use Rattle.lsm_formats.specs.Filters.{filter_partitions}
-use Rattle.lsm_formats.specs.Index.{handles, data_section}
-use Rattle.lsm_formats.specs.Layout.{Sections, bytes_in}
-use Rattle.lsm_formats.specs.Partitions.{tops_from}
-use Rattle.lsm_formats.specs.declared.options.FilterKind.{FilterKind}
-use Rattle.lsm_formats.specs.declared.options.FilterKind.TheVariants.{Full as FullFilter}
-use Rattle.lsm_formats.specs.declared.options.FilterKind.TheVariants.{
+use Rattle.sst_blocks.specs.filter.Filter.{BloomFilter}
+use Rattle.lsm_sorted.specs.version.KeyRange.{Interval, interval}
+use Rattle.sst_blocks.specs.table.Content.{Content}
+use Rattle.sst_blocks.specs.table.Facts.{facts, highest_seqno}
+use Rattle.sst_blocks.specs.table.File.{closing_sections, filter_part, front_sections, index_part}
+use Rattle.sst_blocks.specs.table.Filters.{filter_partitions}
+use Rattle.sst_blocks.specs.table.Index.{handles, data_section}
+use Rattle.sst_blocks.specs.table.Layout.{Sections, bytes_in}
+use Rattle.sst_blocks.specs.table.Partitions.{tops_from}
+use Rattle.sst_blocks.specs.declared.table.options.FilterKind.{FilterKind}
+use Rattle.sst_blocks.specs.declared.table.options.FilterKind.TheVariants.{Full as FullFilter}
+use Rattle.sst_blocks.specs.declared.table.options.FilterKind.TheVariants.{
   Partitioned as PartitionedFilter,
 }
-use Rattle.lsm_formats.specs.declared.options.Options.{Options}
-use Rattle.lsm_formats.specs.declared.label.Label.{Label}
-use Rattle.lsm_formats.specs.Table.{IsTable}
-use Rattle.lsm_points.specs.declared.regions.ParsedRegions.{ParsedRegions}
-use Rattle.lsm_points.specs.IndexKinds.{index_said}
-use Rattle.lsm_points.specs.Meta.{facts_said}
-use Rattle.lsm_points.specs.Parts.{Parts, Pinned}
+use Rattle.sst_blocks.specs.declared.table.options.Options.{Options}
+use Rattle.sst_blocks.specs.declared.table.label.Label.{Label}
+use Rattle.sst_blocks.specs.table.Table.{IsTable}
+use Rattle.lsm_readers.specs.declared.regions.ParsedRegions.{ParsedRegions}
+use Rattle.lsm_readers.specs.point.IndexKinds.{index_said}
+use Rattle.lsm_readers.specs.point.Meta.{facts_said}
+use Rattle.lsm_readers.specs.point.Parts.{Parts, Pinned}
 
 -- the first and the last key of a list
 abbrev pub ends_of : List Entry → Interval

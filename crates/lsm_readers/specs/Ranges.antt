@@ -2,7 +2,7 @@
 use Rattle.std.specs.Prelude.{◌≡◌, ℕ, ◌≤◌, Bool, true, false, List, [], length, Option, None}
 use Rattle.std.specs.Prelude.{Result}
 use Rattle.std.specs.declared.ops.Bound.{Bound}
-use Rattle.sst_sections.specs.Sections.{body_of}
+use Rattle.sst_blocks.specs.Sections.{body_of}
 use Rattle.sst_entries.specs.declared.error.Error.{Error}
 use Rattle.sst_entries.specs.declared.error.Error.TheVariants.{OutOfMemory}
 use Rattle.sst_entries.specs.declared.stream.Direction.{Direction}
@@ -12,14 +12,14 @@ use Rattle.sst_entries.specs.Stream.{Deals, Runs, answer_stops, ok_results}
 use Rattle.sst_blocks.specs.declared.opened.Opened.{Opened}
 use Rattle.sst_blocks.specs.Handles.{window}
 use Rattle.sst_blocks.specs.Opened.{none_opened}
-use Rattle.lsm_block_indexes.specs.Left.{IsBetween}
+use Rattle.lsm_iters.specs.block_index.Left.{IsBetween}
 use Rattle.lsm_iters.specs.Bounds.{lower_edge, upper_edge}
 use Rattle.lsm_iters.specs.Lift.{lift}
 use Rattle.lsm_iters.specs.Range.{Range, left_in, opened_in}
 use Rattle.lsm_iters.specs.Rows.{Bounded, rows}
 use Rattle.lsm_readers.specs.BlockIndexes.{table_index}
 use Rattle.lsm_readers.specs.Stored.{StoresList}
-use Rattle.lsm_points.specs.Table.{OpenTable}
+use Rattle.lsm_readers.specs.point.Table.{OpenTable}
 
 -- a table's bytes before the trailer, its global number, and two bounds
 abbrev pub bounded : OpenTable → Bound (List ℕ) → Bound (List ℕ) → Bounded

@@ -15,7 +15,7 @@ use Rattle.sst_entries.specs.Stream.{Answers, Deals, ok_results, front_of, nowhe
 pub use Rattle.sst_entries.specs.Stream.{up_to_error}
 pub use Rattle.lsm_iters.specs.Lift.{lifted_told}
 use Rattle.lsm_iters.specs.Lift.{lift}
-use Rattle.lsm_points.specs.Read.{◌>>=◌}
+use Rattle.lsm_readers.specs.point.Read.{◌>>=◌}
 
 -- a result, and what comes behind a value
 abbrev pub then_blocks : Result Loaded Error → (Loaded → List (Result Loaded Error))

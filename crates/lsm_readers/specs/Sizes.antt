@@ -7,9 +7,9 @@ use Rattle.sst_blocks.specs.Handle.{Handle}
 use Rattle.sst_blocks.specs.Handles.{window}
 use Rattle.lsm_iters.specs.Bounds.{lower_edge, upper_edge}
 use Rattle.lsm_readers.specs.BlockIndexes.{table_index}
-use Rattle.lsm_points.specs.Read.{◌>>=◌}
+use Rattle.lsm_readers.specs.point.Read.{◌>>=◌}
 use Rattle.lsm_readers.specs.Stored.{StoresList}
-use Rattle.lsm_points.specs.Table.{OpenTable}
+use Rattle.lsm_readers.specs.point.Table.{OpenTable}
 
 -- the sizes of the blocks that some handles name, together
 abbrev pub size_of : List Handle → ℕ

@@ -2,30 +2,30 @@
 use Rattle.std.specs.Prelude.{◌≡◌, ℕ, ◌+◌, ◌-◌, ◌^◌, ◌<◌, nat_lt, true, List, [], ◌∷◌, length}
 use Rattle.std.specs.Prelude.{count_by, sum_by, Option, Some, None, Result, Ok, Err, if◌then◌else◌}
 use Rattle.std.specs.List.{AllByRecursion, AllZip}
-use Rattle.sst_sections.specs.Sections.{body_of, trailer_fault}
+use Rattle.sst_blocks.specs.Sections.{body_of, trailer_fault}
 use Rattle.sst_entries.specs.declared.error.Error.{Error}
 use Rattle.sst_entries.specs.declared.error.Error.TheVariants.{GlobalSeqNoTooLarge}
 use Rattle.sst_entries.specs.Entry.{Entry}
 use Rattle.sst_entries.specs.Strict.{IsStrict}
-use Rattle.sst_filters.specs.KeyHash.{hash_of}
+use Rattle.sst_blocks.specs.filter.KeyHash.{hash_of}
 use Rattle.sst_blocks.specs.declared.block_type.BlockType.{BlockType}
 use Rattle.sst_blocks.specs.declared.block_type.BlockType.TheVariants.{Data, Filter}
 use Rattle.sst_blocks.specs.Block.{Loaded, entries_of, load_at_told, load_told}
 use Rattle.sst_blocks.specs.Handle.{Handle}
 use Rattle.sst_blocks.specs.Place.{Place, place_of}
-use Rattle.lsm_formats.specs.Chunks.{joined}
-use Rattle.lsm_formats.specs.Facts.{count_after, highest_seqno, is_reclaimable, is_tombstone}
-use Rattle.lsm_formats.specs.Facts.{is_weak, lowest_seqno}
-use Rattle.lsm_formats.specs.Filters.{keys_of}
-use Rattle.lsm_formats.specs.Index.{last_entry}
-use Rattle.lsm_formats.specs.Partitions.{last_end}
-use Rattle.lsm_formats.specs.Parts.{joined_parts}
-use Rattle.lsm_points.specs.declared.regions.ParsedRegions.{ParsedRegions}
-use Rattle.lsm_points.specs.Answer.{filter_admits}
-use Rattle.lsm_points.specs.IndexKinds.{handles_told}
-use Rattle.lsm_points.specs.Meta.{Facts, meta_told}
+use Rattle.sst_blocks.specs.table.Chunks.{joined}
+use Rattle.sst_blocks.specs.table.Facts.{count_after, highest_seqno, is_reclaimable, is_tombstone}
+use Rattle.sst_blocks.specs.table.Facts.{is_weak, lowest_seqno}
+use Rattle.sst_blocks.specs.table.Filters.{keys_of}
+use Rattle.sst_blocks.specs.table.Index.{last_entry}
+use Rattle.sst_blocks.specs.table.Partitions.{last_end}
+use Rattle.sst_blocks.specs.table.Parts.{joined_parts}
+use Rattle.lsm_readers.specs.declared.regions.ParsedRegions.{ParsedRegions}
+use Rattle.lsm_readers.specs.point.Answer.{filter_admits}
+use Rattle.lsm_readers.specs.point.IndexKinds.{handles_told}
+use Rattle.lsm_readers.specs.point.Meta.{Facts, meta_told}
 use Rattle.lsm_readers.specs.OfList.{ends_of}
-use Rattle.lsm_points.specs.Parts.{places_told, tops_told}
+use Rattle.lsm_readers.specs.point.Parts.{places_told, tops_told}
 
 -- ---- data blocks
 

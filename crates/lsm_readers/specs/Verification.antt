@@ -4,11 +4,11 @@ use Rattle.std.specs.Prelude.{◌≡◌, ℕ, ◌+◌, ◌-◌, List, [], ◌∷
 use Rattle.std.specs.Prelude.{Result, Ok, Err}
 use Rattle.sst_blocks.specs.declared.block_type.BlockType.TheVariants.{Data, Filter, Index}
 use Rattle.sst_blocks.specs.Block.{position_fault}
-use Rattle.lsm_formats.specs.declared.item_name.ItemName.TheVariants as item
+use Rattle.sst_blocks.specs.declared.table.item_name.ItemName.TheVariants as item
 use Rattle.sst_entries.specs.declared.error.Error.{Error}
 use Rattle.sst_entries.specs.Entry.{Entry}
-use Rattle.sst_sections.specs.Sections.{body_of}
-use Rattle.sst_sections.specs.declared.section.SectionName.TheVariants as section
+use Rattle.sst_blocks.specs.Sections.{body_of}
+use Rattle.sst_blocks.specs.declared.section.SectionName.TheVariants as section
 use Rattle.sst_blocks.specs.Handle.{Handle}
 use Rattle.sst_blocks.specs.Place.{Place, place_of}
 use Rattle.lsm_readers.specs.declared.verify.Counts.{Counts}
@@ -16,8 +16,8 @@ use Rattle.lsm_readers.specs.declared.verify.Finding.{Finding}
 use Rattle.lsm_readers.specs.declared.verify.Verified.{Verified}
 use Rattle.lsm_readers.specs.declared.verify.steps.Stage.{Stage}
 use Rattle.lsm_readers.specs.declared.verify.steps.Stage.TheVariants as stage
-use Rattle.lsm_points.specs.Parts.{Parts}
-use Rattle.lsm_points.specs.Table.{OpenTable}
+use Rattle.lsm_readers.specs.point.Parts.{Parts}
+use Rattle.lsm_readers.specs.point.Table.{OpenTable}
 use Rattle.lsm_readers.specs.Verify.{◌>>=◌, Unread, block_found, blocks_found, counted_found}
 use Rattle.lsm_readers.specs.Verify.{counts_found}
 use Rattle.lsm_readers.specs.Verify.{early_at, end_found, filter_found, filter_places}

@@ -1,11 +1,26 @@
-//! One sorted table: opening its bytes, point reads, scans and ranges.
+//! One sorted table: opening its bytes, point reads, one and many together, scans, ranges and
+//! verification.
 #![tactic(auto)]
 
+mod batch;
+mod inner;
+mod keeping;
+mod many;
+mod meta;
+mod order;
+mod pinned;
+mod point;
+mod regions;
 mod scanner;
 mod table;
 mod verify;
 
-pub use lsm_points::{Inner, ParsedMeta, ParsedRegions, PinnedBlockIndex, Query, point_in};
+pub use inner::{Inner, PinnedBlocks};
+pub use many::{Query, many_in};
+pub use meta::{ParsedMeta, load_item};
+pub use pinned::{PinnedBlockIndex, load_handles};
+pub use point::{place_in, point_in};
+pub use regions::ParsedRegions;
 pub use scanner::Scanner;
 pub use table::{Table, TableInner, Verification, get_many};
 pub use verify::{Fault, Finding, Verified, VerifyError};

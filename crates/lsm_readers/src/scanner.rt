@@ -43,8 +43,8 @@ pub struct Scanner<A: Allocator = Global> {
 impl<A: Allocator> Model for Scanner<A> {
     ghost use Rattle.std.specs.Prelude.{◌+◌, ◌<◌, ◌^◌, MatchOption};
     ghost use Rattle.std.specs.Option.{option_map};
-    ghost use Rattle.sst_sections.specs.Sections.{body_of};
-    ghost use Rattle.lsm_points.specs.Answer.{lifted};
+    ghost use Rattle.sst_blocks.specs.Sections.{body_of};
+    ghost use Rattle.lsm_readers.specs.point.Answer.{lifted};
     ghost use Rattle.lsm_readers.specs.Scan.{Scan};
 
     ghost Value = { Scan };

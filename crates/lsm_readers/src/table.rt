@@ -34,16 +34,16 @@ mod range;
 mod verification;
 mod verify;
 
-use crate::{Inner, ParsedMeta, ParsedRegions, PinnedBlockIndex, Scanner, point_in};
-use lsm_block_indexes::BlockIndexImpl;
-use lsm_formats::{TableId, TreeId};
-use lsm_iters::beside;
-use lsm_points::{PinnedBlocks, load_handles};
-use lsm_ranges::{KeyRange, Ranged};
+use crate::{
+    Inner, ParsedMeta, ParsedRegions, PinnedBlockIndex, PinnedBlocks, Scanner, load_handles,
+    point_in,
+};
+use lsm_iters::{BlockIndexImpl, beside};
+use lsm_sorted::{KeyRange, Ranged};
 pub use queries::get_many;
 use sst_blocks::{
     BlockHandle, BlockSource, BlockType, Builder, Checksum, Counted, Error, FilterBlock,
-    IndexBlock, InternalValue, Lending, Opened, SeqNo, Slice,
+    IndexBlock, InternalValue, Lending, Opened, SeqNo, Slice, TableId, TreeId,
 };
 use std::alloc::{AllocError, Allocator, Global};
 use std::fmt;
@@ -65,7 +65,7 @@ pub struct Table<A: Allocator = Global> {
 
 impl<A: Allocator> Model for Table<A> {
     ghost use Rattle.std.specs.Arc.{arc_value};
-    ghost use Rattle.lsm_points.specs.Table.{OpenTable, IsOpen, table_of};
+    ghost use Rattle.lsm_readers.specs.point.Table.{OpenTable, IsOpen, table_of};
 
     ghost Value = { OpenTable };
 
@@ -87,7 +87,7 @@ impl<A: Allocator + Clone> Clone for Table<A> {
 
 impl<A: Allocator> Deref for Table<A> {
     ghost use Rattle.std.specs.Prelude.{◌≡◌};
-    ghost use Rattle.lsm_points.specs.Table.{table_of};
+    ghost use Rattle.lsm_readers.specs.point.Table.{table_of};
 
     type Target = Inner<A>;
 
@@ -102,7 +102,7 @@ impl<A: Allocator> Deref for Table<A> {
 impl<A: Allocator> Ranged for Table<A> {
     ghost use Rattle.std.proofs.Common.{ap};
     ghost use Rattle.std.specs.Prelude.{List, ℕ};
-    ghost use Rattle.lsm_points.specs.Parts.{key_range_told};
+    ghost use Rattle.lsm_readers.specs.point.Parts.{key_range_told};
 
     type Alloc = A;
 

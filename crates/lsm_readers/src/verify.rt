@@ -1,10 +1,10 @@
 //! Reading a whole table once, to see whether its bytes store a list.
 ghost use Rattle.std.specs.Prelude.{◌≡◌, ◌≢◌, IfErr, IfOk};
-ghost use Rattle.sst_sections.specs.Fnv.{fnv1a};
-ghost use Rattle.sst_sections.specs.Sections.{body_of};
-ghost use Rattle.lsm_points.specs.Table.{parts_of};
+ghost use Rattle.sst_blocks.specs.Fnv.{fnv1a};
+ghost use Rattle.sst_blocks.specs.Sections.{body_of};
+ghost use Rattle.lsm_readers.specs.point.Table.{parts_of};
 ghost use Rattle.sst_blocks.specs.declared.block_type.BlockType.TheVariants.{Index};
-ghost use Rattle.sst_sections.specs.declared.section.SectionName.TheVariants.{Tli};
+ghost use Rattle.sst_blocks.specs.declared.section.SectionName.TheVariants.{Tli};
 ghost use Rattle.lsm_readers.specs.Verify.{Finds, FindsFirst, all_found, early_at, finding};
 ghost use Rattle.lsm_readers.specs.Verify.{load_refusal, other_checksum, table_early};
 ghost use Rattle.lsm_readers.specs.Verify.{table_found, unread_of};
@@ -19,8 +19,7 @@ mod steps;
 use crate::Inner;
 use blocks::read_index;
 use end::{test_filters, test_left};
-use lsm_formats::ItemName;
-use sst_blocks::{BlockSource, Checksum, Error, InternalValue, SectionName, SeqNo, hash};
+use sst_blocks::{BlockSource, Checksum, Error, InternalValue, ItemName, SectionName, SeqNo, hash};
 use std::alloc::{Allocator, Global};
 use std::marker::Model;
 pub(crate) use steps::{Stage, step_stage};

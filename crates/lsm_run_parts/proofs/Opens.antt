@@ -10,14 +10,14 @@ use Rattle.sst_entries.specs.declared.error.Error.TheVariants.{OutOfMemory}
 use Rattle.sst_entries.specs.declared.stream.Direction.{Direction}
 use Rattle.sst_entries.specs.declared.stream.Direction.TheVariants.{Front, Back}
 use Rattle.sst_entries.specs.Stream.{back_of}
-use Rattle.lsm_walks.specs.Ends.{taken_at}
-use Rattle.lsm_walks.specs.Parts.{LoadGives}
-use Rattle.lsm_walks.proofs.AtEnds.{map_none, map_taken, none_at, not_memory}
-use Rattle.lsm_walks.proofs.Instances.{sum_taken}
+use Rattle.lsm_iters.specs.walk.Ends.{taken_at}
+use Rattle.lsm_iters.specs.walk.Parts.{LoadGives}
+use Rattle.lsm_iters.proofs.AtEnds.{map_none, map_taken, none_at, not_memory}
+use Rattle.lsm_iters.proofs.Instances.{sum_taken}
 use Rattle.lsm_iters.specs.Range.{Range, range_left, range_loads, range_remains}
-use Rattle.lsm_iters.proofs.Ends.{if_false}
+use Rattle.lsm_iters.proofs.RangeEnds.{if_false}
 use Rattle.lsm_readers.specs.Ranges.{IsRangeOf}
-use Rattle.lsm_readers.specs.Table.{OpenTable}
+use Rattle.lsm_readers.specs.point.Table.{OpenTable}
 use Rattle.lsm_readers.proofs.TableRanges.{come, index_come, left_is}
 use Rattle.lsm_run_parts.specs.RunParts.{Part, RunSpan, is_edge, part_loads, part_told, span_part_at}
 use Rattle.lsm_run_parts.specs.RunParts.{span_parts_between, span_parts_from}

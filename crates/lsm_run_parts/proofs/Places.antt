@@ -5,8 +5,8 @@ use Rattle.std.proofs.lemmas.Option.{slice_get_read, slice_get-get_or}
 use Rattle.std.specs.Prelude.{Some}
 use Rattle.std.specs.List.{slice_get}
 use Rattle.sst_entries.specs.Stream.{front_of, back_of}
-use Rattle.lsm_walks.proofs.AtEnds.{back_push}
-use Rattle.lsm_readers.specs.Table.{OpenTable}
+use Rattle.lsm_iters.proofs.AtEnds.{back_push}
+use Rattle.lsm_readers.specs.point.Table.{OpenTable}
 use Rattle.lsm_run_parts.specs.RunParts.{RunSpan, span_part_at, span_parts_from}
 
 module _ {X : Type 0} where

@@ -5,12 +5,12 @@ use Rattle.std.specs.declared.ops.Bound.{Bound}
 use Rattle.std.specs.declared.ops.Bound.TheVariants.{Unbounded}
 use Rattle.sst_entries.specs.declared.error.Error.{Error}
 use Rattle.sst_entries.specs.Entry.{Entry}
-use Rattle.lsm_ranges.specs.KeyRange.{Interval}
+use Rattle.lsm_sorted.specs.version.KeyRange.{Interval}
 use Rattle.lsm_iters.specs.Bounds.{lower_edge, upper_edge}
 use Rattle.lsm_readers.specs.BlockIndexes.{table_index}
-use Rattle.lsm_readers.specs.Parts.{key_range_told}
+use Rattle.lsm_readers.specs.point.Parts.{key_range_told}
 use Rattle.lsm_readers.specs.Ranges.{index_within, range_told}
-use Rattle.lsm_readers.specs.Table.{OpenTable}
+use Rattle.lsm_readers.specs.point.Table.{OpenTable}
 
 -- a table, and the bounds within which it is read
 pub record Part : Type 0 where

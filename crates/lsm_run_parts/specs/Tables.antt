@@ -6,7 +6,7 @@ use Rattle.sst_entries.specs.declared.error.Error.{Error}
 use Rattle.sst_entries.specs.declared.stream.Direction.{Direction}
 use Rattle.sst_entries.specs.declared.stream.Direction.TheVariants.{Front, Back}
 use Rattle.sst_entries.specs.Entry.{Entry}
-use Rattle.lsm_walks.specs.Parts.{Coming, Loading, loads_in}
+use Rattle.lsm_iters.specs.walk.Parts.{Coming, Loading, loads_in}
 use Rattle.lsm_run_parts.specs.RunParts.{Part, part_loads, part_told}
 
 -- the unopened tables, and the number of those opened

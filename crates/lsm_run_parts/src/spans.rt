@@ -3,8 +3,8 @@ ghost use Rattle.std.specs.Prelude.{◌≡◌, ◌+◌, ◌<◌, ◌≤◌, ◌=
 ghost use Rattle.lsm_run_parts.specs.Words as spec;
 
 use crate::bounds::edge;
-use lsm_ranges::Run;
 use lsm_readers::Table;
+use lsm_sorted::Run;
 use sst_blocks::UserKey;
 use sst_entries::Direction;
 use std::alloc::Allocator;

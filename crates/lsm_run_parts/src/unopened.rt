@@ -4,10 +4,9 @@ ghost use Rattle.lsm_run_parts.specs.Words as spec;
 
 use crate::bounds::share;
 use crate::spans::{is_end, place_at_end, place_behind};
-use lsm_iters::Iter;
-use lsm_ranges::Run;
+use lsm_iters::{Iter, Parts};
 use lsm_readers::Table;
-use lsm_walks::Parts;
+use lsm_sorted::Run;
 use sst_blocks::{Error, UserKey};
 use sst_entries::Direction;
 use std::alloc::Allocator;

@@ -20,9 +20,9 @@ use Rattle.sst_entries.proofs.Lists.{all_append}
 use Rattle.sst_entries.proofs.StreamLemmas.{can_after_back, can_by, can_front, can_now}
 use Rattle.sst_entries.proofs.StreamLemmas.{can_now_back}
 use Rattle.sst_entries.proofs.StreamLemmas.{deals_back, deals_by, deals_front}
-use Rattle.lsm_formats.specs.Chunks.{joined}
-use Rattle.lsm_merge.specs.Ends.{R}
-use Rattle.lsm_merge.specs.Union.{Ascends}
+use Rattle.sst_blocks.specs.table.Chunks.{joined}
+use Rattle.lsm_sorted.specs.merge.Ends.{R}
+use Rattle.lsm_sorted.specs.merge.Union.{Ascends}
 use Rattle.lsm_sorted.specs.Below.{GivesBelow, below_of}
 use Rattle.lsm_sorted.specs.declared.below.Below.{Below}
 use Rattle.lsm_sorted.proofs.BelowLemmas.{MayBoth, MayFront, can_below}

@@ -10,14 +10,14 @@ use Rattle.sst_entries.specs.Entry.{Entry}
 use Rattle.sst_entries.specs.Point.{point}
 use Rattle.sst_entries.proofs.Booleans.{and_parts}
 use Rattle.sst_entries.proofs.Lists.{all_more}
-use Rattle.lsm_formats.specs.Chunks.{joined}
-use Rattle.lsm_formats.specs.Facts.{highest_seqno}
+use Rattle.sst_blocks.specs.table.Chunks.{joined}
+use Rattle.sst_blocks.specs.table.Facts.{highest_seqno}
 use Rattle.lsm_iters.specs.Lift.{lift}
-use Rattle.lsm_ranges.specs.KeyRange.{has_key, key_le}
-use Rattle.lsm_ranges.specs.Run.{are_in_order, table_of_key}
-use Rattle.lsm_ranges.proofs.RunLemmas.{parts}
-use Rattle.lsm_readers.specs.Read.{◌>>=◌}
-use Rattle.lsm_readers.specs.Table.{OpenTable}
+use Rattle.lsm_sorted.specs.version.KeyRange.{has_key, key_le}
+use Rattle.lsm_sorted.specs.version.Run.{are_in_order, table_of_key}
+use Rattle.lsm_sorted.proofs.RunLemmas.{parts}
+use Rattle.lsm_readers.specs.point.Read.{◌>>=◌}
+use Rattle.lsm_readers.specs.point.Table.{OpenTable}
 use Rattle.lsm_readers.proofs.StoredParts.{bears_out}
 use Rattle.lsm_runs.specs.RunLists.{HoldLists, HoldsList, RunsHoldLists}
 use Rattle.lsm_run_parts.specs.RunParts.{range_of, ranges_of}

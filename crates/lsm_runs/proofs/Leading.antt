@@ -12,9 +12,9 @@ use Rattle.sst_entries.proofs.Booleans.{and_parts}
 use Rattle.sst_entries.proofs.KeyLemmas.{same_is}
 use Rattle.sst_entries.proofs.Lists.{all_more}
 use Rattle.sst_entries.proofs.OrderLemmas.{less_of}
-use Rattle.lsm_merge.specs.Union.{AtMost, Ascends, insert_sorted, item_cmp, sort_entries}
-use Rattle.lsm_merge.proofs.MergedLemmas.{at_most_chain, item_total}
-use Rattle.lsm_merge.proofs.UnionLemmas.{ascends_in_order}
+use Rattle.lsm_sorted.specs.merge.Union.{AtMost, Ascends, insert_sorted, item_cmp, sort_entries}
+use Rattle.lsm_sorted.proofs.MergedLemmas.{at_most_chain, item_total}
+use Rattle.lsm_sorted.proofs.UnionLemmas.{ascends_in_order}
 use Rattle.lsm_sorted.specs.Leading.{leading_of}
 use Rattle.lsm_runs.proofs.Rising.{at_most_of}
 use Rattle.lsm_sorted.proofs.EntryKeyLemmas.{lt_reverse}

@@ -7,7 +7,7 @@ use Rattle.std.specs.declared.cmp.Ordering.TheVariants.{Less, Equal, Greater}
 use Rattle.sst_entries.specs.Entry.{Entry}
 use Rattle.sst_entries.specs.Kind.{tag_of}
 use Rattle.sst_entries.specs.Lending.{entry_cmp}
-use Rattle.lsm_merge.specs.Union.{item_cmp}
+use Rattle.lsm_sorted.specs.merge.Union.{item_cmp}
 
 then_assoc : (a b c : Ordering)
     → ordering_then (ordering_then a b) c ≡ ordering_then a (ordering_then b c)

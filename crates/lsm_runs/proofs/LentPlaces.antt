@@ -13,13 +13,13 @@ use Rattle.sst_entries.specs.Entry.{Entry}
 use Rattle.sst_entries.specs.Error.{is_memory}
 use Rattle.sst_entries.specs.Stream.{Deals, NoneStops, Runs, answer_stops, deal, nowhere}
 use Rattle.sst_entries.proofs.Refusals.{memory_is}
-use Rattle.lsm_block_indexes.specs.Dealt.{DealsEnding, ended_at_error}
-use Rattle.lsm_merge.specs.Ends.{R}
-use Rattle.lsm_merge.specs.InPlace.{merge_of, up_to_error}
-use Rattle.lsm_merge.specs.Union.{Ascends, entries_among}
-use Rattle.lsm_readers.specs.Table.{OpenTable}
+use Rattle.lsm_iters.specs.block_index.Dealt.{DealsEnding, ended_at_error}
+use Rattle.lsm_sorted.specs.merge.Ends.{R}
+use Rattle.lsm_sorted.specs.merge.InPlace.{merge_of, up_to_error}
+use Rattle.lsm_sorted.specs.merge.Union.{Ascends, entries_among}
+use Rattle.lsm_readers.specs.point.Table.{OpenTable}
 use Rattle.lsm_sorted.specs.Below.{below_of, below_told, numbered_below}
-use Rattle.lsm_lending.specs.LentNewest.{newest_results}
+use Rattle.lsm_sorted.specs.lending.LentNewest.{newest_results}
 use Rattle.lsm_sorted.specs.declared.below.Below.{Below}
 use Rattle.lsm_sorted.proofs.BelowLemmas.{deals_in_front}
 use Rattle.lsm_sorted.specs.LentBelow.{LendsBelow, MayLendBelow}

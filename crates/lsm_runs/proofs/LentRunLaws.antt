@@ -1,7 +1,7 @@
 -- What a reader of a run that lends deals.
 use Rattle.sst_entries.specs.Stream.{back_of, front_of, nowhere}
-use Rattle.lsm_block_indexes.specs.Dealt.{DealsEnding}
-use Rattle.lsm_block_indexes.proofs.Dealing.{deals_ending}
+use Rattle.lsm_iters.specs.block_index.Dealt.{DealsEnding}
+use Rattle.lsm_iters.proofs.Dealing.{deals_ending}
 use Rattle.lsm_runs.specs.LentRun.{RunLends}
 use Rattle.lsm_runs.specs.RunRange.{IsRunEnded, RunGives, RunRange, back_tables, front_tables}
 use Rattle.lsm_runs.specs.RunRange.{run_left}

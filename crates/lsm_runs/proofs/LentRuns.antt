@@ -7,11 +7,11 @@ use Rattle.sst_entries.specs.declared.stream.Direction.TheVariants.{Front}
 use Rattle.sst_entries.specs.Entry.{Entry}
 use Rattle.sst_entries.specs.Lending.{came}
 use Rattle.sst_entries.specs.Stream.{first}
-use Rattle.lsm_walks.specs.declared.walk.Walk.{Walk}
-use Rattle.lsm_walks.specs.Ends.{IsOver, remains_in}
-use Rattle.lsm_walks.specs.Parts.{LoadGives}
-use Rattle.lsm_walks.specs.Walks.{WalkTakes}
-use Rattle.lsm_walks.proofs.Reaching.{Going, Reached, entered, fault, item, kept, rest, starts}
+use Rattle.lsm_iters.specs.declared.walk.Walk.{Walk}
+use Rattle.lsm_iters.specs.walk.Ends.{IsOver, remains_in}
+use Rattle.lsm_iters.specs.walk.Parts.{LoadGives}
+use Rattle.lsm_iters.specs.walk.Walks.{WalkTakes}
+use Rattle.lsm_iters.proofs.Reaching.{Going, Reached, entered, fault, item, kept, rest, starts}
 use Rattle.lsm_iters.specs.Lending.{RangeLends}
 use Rattle.lsm_iters.specs.Lift.{lifted_told}
 use Rattle.lsm_iters.specs.Range.{LendsOn, Range, range_remains}

@@ -8,14 +8,14 @@ use Rattle.sst_entries.specs.Entry.{Entry}
 use Rattle.sst_entries.specs.Stream.{Deals, Runs, answer_stops, front_of, nowhere, ok_results}
 use Rattle.std.specs.Prelude.{nat_lt}
 use Rattle.sst_entries.proofs.FrontLemmas.{deals_in_front as deals_front}
-use Rattle.lsm_formats.specs.Chunks.{joined}
-use Rattle.lsm_merge.specs.Ends.{R}
-use Rattle.lsm_merge.specs.InPlace.{merge_of}
-use Rattle.lsm_merge.specs.MergeLaws.{DealSorted, DealsInPlace, DealsMerged}
-use Rattle.lsm_merge.specs.Union.{all_entries, newest, sort_entries, union_of}
-use Rattle.lsm_merge.proofs.UnionLemmas.{ascends_in_order}
+use Rattle.sst_blocks.specs.table.Chunks.{joined}
+use Rattle.lsm_sorted.specs.merge.Ends.{R}
+use Rattle.lsm_sorted.specs.merge.InPlace.{merge_of}
+use Rattle.lsm_sorted.specs.merge.MergeLaws.{DealSorted, DealsInPlace, DealsMerged}
+use Rattle.lsm_sorted.specs.merge.Union.{all_entries, newest, sort_entries, union_of}
+use Rattle.lsm_sorted.proofs.UnionLemmas.{ascends_in_order}
 use Rattle.lsm_sorted.specs.Below.{below_of, numbered_below}
-use Rattle.lsm_lending.specs.LentNewest.{DealsNewestEntries, DealsNewestResults}
+use Rattle.lsm_sorted.specs.lending.LentNewest.{DealsNewestEntries, DealsNewestResults}
 use Rattle.lsm_sorted.specs.declared.below.Below.{Below}
 use Rattle.lsm_sorted.proofs.BelowLemmas.{below_entries, deals_in_front}
 use Rattle.lsm_sorted.specs.LentBelow.{LendsBelow, MayLendBelow}

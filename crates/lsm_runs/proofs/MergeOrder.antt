@@ -6,11 +6,11 @@ use Rattle.std.specs.List.{AllByRecursion}
 use Rattle.std.specs.Ordering.{is_gt}
 use Rattle.sst_entries.specs.Entry.{Entry}
 use Rattle.sst_entries.proofs.Lists.{all_append, all_more}
-use Rattle.lsm_merge.specs.Ends.{R}
-use Rattle.lsm_merge.specs.InPlace.{Placed, all_placed, is_after, merge_of, places_of}
-use Rattle.lsm_merge.specs.InPlace.{put_in_place, sort_places, up_to_error}
-use Rattle.lsm_merge.specs.Union.{Ascends, AtMost, entries_among, item_cmp}
-use Rattle.lsm_merge.proofs.MergedLemmas.{above_at_most, at_most_chain}
+use Rattle.lsm_sorted.specs.merge.Ends.{R}
+use Rattle.lsm_sorted.specs.merge.InPlace.{Placed, all_placed, is_after, merge_of, places_of}
+use Rattle.lsm_sorted.specs.merge.InPlace.{put_in_place, sort_places, up_to_error}
+use Rattle.lsm_sorted.specs.merge.Union.{Ascends, AtMost, entries_among, item_cmp}
+use Rattle.lsm_sorted.proofs.MergedLemmas.{above_at_most, at_most_chain}
 
 -- ---- places in order
 

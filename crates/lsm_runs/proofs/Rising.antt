@@ -13,15 +13,15 @@ use Rattle.sst_entries.specs.Kind.{tag_of}
 use Rattle.sst_entries.proofs.Booleans.{and_parts}
 use Rattle.sst_entries.proofs.Lists.{all_more}
 use Rattle.sst_entries.proofs.OrderLemmas.{less_of}
-use Rattle.lsm_formats.specs.Chunks.{joined}
+use Rattle.sst_blocks.specs.table.Chunks.{joined}
 use Rattle.lsm_iters.specs.Lift.{lift}
-use Rattle.lsm_merge.specs.Union.{AtMost, Ascends}
-use Rattle.lsm_merge.proofs.Pairs.{Precedes, Strict, as_pairs, nat_is_less, tied}
-use Rattle.lsm_ranges.specs.KeyRange.{Interval, key_le}
-use Rattle.lsm_ranges.specs.Run.{are_in_order}
-use Rattle.lsm_ranges.proofs.IntervalLemmas.{le_then_lt, lt_then_le}
-use Rattle.lsm_ranges.proofs.RunLemmas.{parts}
-use Rattle.lsm_readers.specs.Table.{OpenTable}
+use Rattle.lsm_sorted.specs.merge.Union.{AtMost, Ascends}
+use Rattle.lsm_sorted.proofs.Pairs.{Precedes, Strict, as_pairs, nat_is_less, tied}
+use Rattle.lsm_sorted.specs.version.KeyRange.{Interval, key_le}
+use Rattle.lsm_sorted.specs.version.Run.{are_in_order}
+use Rattle.lsm_sorted.proofs.IntervalLemmas.{le_then_lt, lt_then_le}
+use Rattle.lsm_sorted.proofs.RunLemmas.{parts}
+use Rattle.lsm_readers.specs.point.Table.{OpenTable}
 use Rattle.lsm_runs.specs.RunLists.{HoldLists, HoldsList}
 use Rattle.lsm_run_parts.specs.RunParts.{range_of, ranges_of}
 use Rattle.lsm_runs.proofs.RunWithin.{Keys, held_keys}

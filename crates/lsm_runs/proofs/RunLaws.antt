@@ -7,8 +7,8 @@ use Rattle.std.specs.Prelude.{Option, Some, None, Result, Ok, Err, IfOk}
 use Rattle.sst_entries.specs.declared.stream.Direction.{Direction}
 use Rattle.sst_entries.specs.declared.stream.Direction.TheVariants.{Front, Back}
 use Rattle.sst_entries.specs.Stream.{Runs, front_of, back_of}
-use Rattle.lsm_block_indexes.specs.Dealt.{DealsEnding}
-use Rattle.lsm_block_indexes.proofs.Dealing.{Ending, deals_ending}
+use Rattle.lsm_iters.specs.block_index.Dealt.{DealsEnding}
+use Rattle.lsm_iters.proofs.Dealing.{Ending, deals_ending}
 use Rattle.lsm_runs.specs.RunRange.{IsRunEnded, OpensAtMost, RunGives, RunRange, back_tables}
 use Rattle.lsm_runs.specs.RunRange.{front_tables, run_left, run_size}
 use Rattle.lsm_runs.proofs.RunSteps.{End, R}

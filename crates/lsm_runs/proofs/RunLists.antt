@@ -6,11 +6,11 @@ use Rattle.std.specs.declared.ops.Bound.{Bound}
 use Rattle.sst_entries.specs.Entry.{Entry}
 use Rattle.sst_entries.specs.Point.{within}
 use Rattle.sst_entries.specs.Stream.{back_of, front_of, ok_results}
-use Rattle.lsm_block_indexes.specs.Dealt.{DealsEnding}
-use Rattle.lsm_formats.specs.Chunks.{joined}
+use Rattle.lsm_iters.specs.block_index.Dealt.{DealsEnding}
+use Rattle.sst_blocks.specs.table.Chunks.{joined}
 use Rattle.lsm_iters.specs.Range.{Range}
-use Rattle.lsm_ranges.specs.Run.{ArePlacesOf, are_in_order, overlap_indexes}
-use Rattle.lsm_readers.specs.Table.{OpenTable}
+use Rattle.lsm_sorted.specs.version.Run.{ArePlacesOf, are_in_order, overlap_indexes}
+use Rattle.lsm_readers.specs.point.Table.{OpenTable}
 use Rattle.lsm_runs.specs.RunLists.{DealsList, HoldLists, span_list}
 use Rattle.lsm_run_parts.specs.RunParts.{RunSpan, span_parts_from, ranges_of, span_of, span_parts}
 use Rattle.lsm_runs.specs.RunRange.{IsRunOf, OpensAtMost, RunGives, RunRange, back_tables}

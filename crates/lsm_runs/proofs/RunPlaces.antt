@@ -16,14 +16,14 @@ use Rattle.sst_blocks.specs.declared.opened.Opened.{Opened}
 use Rattle.sst_blocks.specs.Asked.{told_map}
 use Rattle.sst_blocks.specs.EntryPlace.{IsPlacedIn, entry_placed, placed_in}
 use Rattle.sst_blocks.specs.Opened.{none_opened}
-use Rattle.lsm_ranges.specs.KeyRange.{Interval, key_le}
-use Rattle.lsm_ranges.specs.Run.{are_in_order, ends_before, first_and_last, how_many}
-use Rattle.lsm_ranges.specs.Run.{overlap_indexes, starts_within, table_of_key}
-use Rattle.lsm_ranges.proofs.RunLemmas.{falls-starts_within, first_and_last-some, key_found}
-use Rattle.lsm_ranges.proofs.RunLemmas.{key_none, key_past, none_count, rest_in_order}
-use Rattle.lsm_points.proofs.ReadViews.{does_by, gives_by, gives_seen}
-use Rattle.lsm_readers.specs.Read.{DoesRead, Opens, Read}
-use Rattle.lsm_readers.specs.Table.{OpenTable}
+use Rattle.lsm_sorted.specs.version.KeyRange.{Interval, key_le}
+use Rattle.lsm_sorted.specs.version.Run.{are_in_order, ends_before, first_and_last, how_many}
+use Rattle.lsm_sorted.specs.version.Run.{overlap_indexes, starts_within, table_of_key}
+use Rattle.lsm_sorted.proofs.RunLemmas.{falls-starts_within, first_and_last-some, key_found}
+use Rattle.lsm_sorted.proofs.RunLemmas.{key_none, key_past, none_count, rest_in_order}
+use Rattle.lsm_readers.proofs.ReadViews.{does_by, gives_by, gives_seen}
+use Rattle.lsm_readers.specs.point.Read.{DoesRead, Opens, Read}
+use Rattle.lsm_readers.specs.point.Table.{OpenTable}
 use Rattle.lsm_readers.proofs.LentReads.{placed_there}
 use Rattle.lsm_runs.specs.RunPlaces.{IsThere, place_in, placed_in_run, placed_in_runs}
 use Rattle.lsm_runs.specs.declared.lent_gets.RunPlace.{RunPlace}

@@ -12,15 +12,15 @@ use Rattle.sst_entries.specs.Point.{is_hit, point}
 use Rattle.sst_entries.specs.Stream.{ok_results}
 use Rattle.sst_entries.proofs.Booleans.{and_parts, apart, is_false}
 use Rattle.sst_entries.proofs.KeyLemmas.{lt_other, same_is}
-use Rattle.lsm_formats.specs.Chunks.{joined}
-use Rattle.lsm_merge.specs.Union.{all_entries, sort_entries}
-use Rattle.lsm_ranges.specs.KeyRange.{Interval, has_key, key_le}
-use Rattle.lsm_ranges.specs.Run.{IsInOrder, are_in_order, table_of_key}
-use Rattle.lsm_ranges.proofs.IntervalLemmas.{le_then_lt, lt_then_le}
-use Rattle.lsm_ranges.proofs.RunLemmas.{parts}
-use Rattle.lsm_readers.specs.Answer.{table_answer}
-use Rattle.lsm_readers.specs.Read.{◌>>=◌}
-use Rattle.lsm_readers.specs.Table.{OpenTable}
+use Rattle.sst_blocks.specs.table.Chunks.{joined}
+use Rattle.lsm_sorted.specs.merge.Union.{all_entries, sort_entries}
+use Rattle.lsm_sorted.specs.version.KeyRange.{Interval, has_key, key_le}
+use Rattle.lsm_sorted.specs.version.Run.{IsInOrder, are_in_order, table_of_key}
+use Rattle.lsm_sorted.proofs.IntervalLemmas.{le_then_lt, lt_then_le}
+use Rattle.lsm_sorted.proofs.RunLemmas.{parts}
+use Rattle.lsm_readers.specs.point.Answer.{table_answer}
+use Rattle.lsm_readers.specs.point.Read.{◌>>=◌}
+use Rattle.lsm_readers.specs.point.Table.{OpenTable}
 use Rattle.lsm_readers.proofs.StoredParts.{stored_answers}
 use Rattle.lsm_runs.specs.RunLists.{HoldLists, HoldsList, RunsHoldLists}
 use Rattle.lsm_run_parts.specs.RunParts.{range_of, ranges_of}

@@ -13,14 +13,14 @@ use Rattle.sst_blocks.specs.declared.opened.Opened.{Opened}
 use Rattle.sst_blocks.specs.Handle.{Handle}
 use Rattle.sst_blocks.specs.Opened.{none_opened, one_more, with_load}
 use Rattle.sst_blocks.specs.Place.{Place}
-use Rattle.lsm_ranges.specs.Run.{IsInOrder}
-use Rattle.lsm_readers.specs.Answer.{LoadsFew, most_filter_loads}
-use Rattle.lsm_readers.specs.Parts.{Parts}
-use Rattle.lsm_readers.specs.Read.{DoesRead, Read, opened_by}
-use Rattle.lsm_readers.specs.Table.{OpenTable}
+use Rattle.lsm_sorted.specs.version.Run.{IsInOrder}
+use Rattle.lsm_readers.specs.point.Answer.{LoadsFew, most_filter_loads}
+use Rattle.lsm_readers.specs.point.Parts.{Parts}
+use Rattle.lsm_readers.specs.point.Read.{DoesRead, Read, opened_by}
+use Rattle.lsm_readers.specs.point.Table.{OpenTable}
 use Rattle.lsm_readers.specs.Words.{BloomFilter}
-use Rattle.lsm_points.proofs.IndexKinds.{index_one}
-use Rattle.lsm_points.proofs.ReadLaws.{does_known, then_fails, then_goes}
+use Rattle.lsm_readers.proofs.IndexKinds.{index_one}
+use Rattle.lsm_readers.proofs.ReadLaws.{does_known, then_fails, then_goes}
 use Rattle.lsm_run_parts.specs.RunParts.{range_of}
 use Rattle.lsm_runs.specs.SeveralRuns.{LoadsEach, loads_together, run_read}
 use Rattle.lsm_sorted.specs.Leading.{leading_of}

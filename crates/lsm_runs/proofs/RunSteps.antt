@@ -8,12 +8,12 @@ use Rattle.sst_entries.specs.declared.error.Error.{Error}
 use Rattle.sst_entries.specs.declared.stream.Direction.{Direction}
 use Rattle.sst_entries.specs.declared.stream.Direction.TheVariants.{Front, Back}
 use Rattle.sst_entries.specs.Entry.{Entry}
-use Rattle.lsm_walks.specs.declared.walk.Walk.{Walk}
-use Rattle.lsm_walks.specs.Ends.{IsOver, taken_at}
-use Rattle.lsm_walks.specs.Parts.{Loading, Loads, all_results, loads_in, needed, none_behind}
-use Rattle.lsm_walks.specs.Walks.{Ended, WalkGives, WalkTakes, needed_at, walk_left}
-use Rattle.lsm_walks.proofs.AtEnds.{map_seen, no_items, shortens}
-use Rattle.lsm_walks.proofs.Instances.{loads_one, positive}
+use Rattle.lsm_iters.specs.declared.walk.Walk.{Walk}
+use Rattle.lsm_iters.specs.walk.Ends.{IsOver, taken_at}
+use Rattle.lsm_iters.specs.walk.Parts.{Loading, Loads, all_results, loads_in, needed, none_behind}
+use Rattle.lsm_iters.specs.walk.Walks.{Ended, WalkGives, WalkTakes, needed_at, walk_left}
+use Rattle.lsm_iters.proofs.AtEnds.{map_seen, no_items, shortens}
+use Rattle.lsm_iters.proofs.Instances.{loads_one, positive}
 use Rattle.std.specs.Option.{option_map}
 use Rattle.lsm_iters.specs.Range.{LendsOn, Range, range_remains}
 use Rattle.lsm_iters.specs.Steps.{without_lent}

@@ -15,20 +15,20 @@ use Rattle.sst_entries.specs.Point.{is_from, is_to, within}
 use Rattle.sst_entries.specs.Stream.{ok_results}
 use Rattle.sst_entries.proofs.Booleans.{and_both, and_parts, is_false, not_is, not_not, or_right}
 use Rattle.sst_entries.proofs.Booleans.{or_left}
-use Rattle.lsm_formats.specs.Chunks.{joined}
+use Rattle.sst_blocks.specs.table.Chunks.{joined}
 use Rattle.lsm_iters.specs.Lift.{lift}
-use Rattle.lsm_ranges.specs.KeyRange.{Interval, has_key, key_le}
-use Rattle.lsm_ranges.specs.Run.{are_in_order, ends_before, first_and_last, how_many}
-use Rattle.lsm_ranges.specs.Run.{overlap_indexes, starts_within}
-use Rattle.lsm_ranges.proofs.IntervalLemmas.{lt_to_le, lower_up, none_within, upper_down}
-use Rattle.lsm_ranges.proofs.RunLemmas.{falls-ends_before, falls-starts_within, first_and_last-none}
-use Rattle.lsm_ranges.proofs.RunLemmas.{first_and_last-some, none_count, parts}
+use Rattle.lsm_sorted.specs.version.KeyRange.{Interval, has_key, key_le}
+use Rattle.lsm_sorted.specs.version.Run.{are_in_order, ends_before, first_and_last, how_many}
+use Rattle.lsm_sorted.specs.version.Run.{overlap_indexes, starts_within}
+use Rattle.lsm_sorted.proofs.IntervalLemmas.{lt_to_le, lower_up, none_within, upper_down}
+use Rattle.lsm_sorted.proofs.RunLemmas.{falls-ends_before, falls-starts_within, first_and_last-none}
+use Rattle.lsm_sorted.proofs.RunLemmas.{first_and_last-some, none_count, parts}
 use Rattle.lsm_readers.specs.OfList.{ends_of}
 use Rattle.lsm_readers.specs.Ranges.{range_told}
-use Rattle.lsm_readers.specs.Table.{OpenTable}
+use Rattle.lsm_readers.specs.point.Table.{OpenTable}
 use Rattle.lsm_readers.proofs.Ends.{keys_within, nothing_within}
 use Rattle.lsm_readers.proofs.StoredParts.{bears_out, stored_rows}
-use Rattle.lsm_points.proofs.Recovered.{range_is}
+use Rattle.lsm_readers.proofs.Recovered.{range_is}
 use Rattle.lsm_runs.specs.RunLists.{HoldLists, HoldsList}
 use Rattle.lsm_run_parts.specs.RunParts.{Part, RunSpan, is_edge, span_part_at, part_told}
 use Rattle.lsm_run_parts.specs.RunParts.{span_parts_from, range_of, ranges_of, span_of, span_parts}

@@ -6,7 +6,7 @@ use Rattle.std.specs.Prelude.{Bool, Option, Some, None, Result, Ok, Err, IfErr, 
 use Rattle.std.specs.Prelude.{true}
 use Rattle.std.specs.List.{AllByRecursion, flat_map, slice_get}
 use Rattle.std.specs.Result.{IsErrAnd}
-use Rattle.sst_sections.specs.Sections.{body_of}
+use Rattle.sst_blocks.specs.Sections.{body_of}
 use Rattle.sst_entries.specs.declared.error.Error.{Error}
 use Rattle.sst_entries.specs.declared.error.Error.TheVariants.{OutOfMemory}
 use Rattle.sst_entries.specs.Entry.{Entry}
@@ -15,15 +15,15 @@ use Rattle.sst_entries.specs.Error.{Faults, FaultsFirst, is_memory}
 use Rattle.sst_entries.specs.Stream.{but_first, first, front_of, nowhere, ok_results}
 use Rattle.sst_blocks.specs.declared.block_type.BlockType.TheVariants.{Data}
 use Rattle.sst_blocks.specs.Block.{load_at_told}
-use Rattle.lsm_block_indexes.specs.Dealt.{DealsEnding}
-use Rattle.lsm_block_indexes.proofs.Dealing.{Ending, deals_ending}
-use Rattle.lsm_formats.specs.Chunks.{joined}
-use Rattle.lsm_walks.proofs.AtEnds.{first_split}
+use Rattle.lsm_iters.specs.block_index.Dealt.{DealsEnding}
+use Rattle.lsm_iters.proofs.Dealing.{Ending, deals_ending}
+use Rattle.sst_blocks.specs.table.Chunks.{joined}
+use Rattle.lsm_iters.proofs.AtEnds.{first_split}
 use Rattle.lsm_iters.specs.Lift.{lifted}
-use Rattle.lsm_iters.proofs.Ends.{front_split}
+use Rattle.lsm_iters.proofs.RangeEnds.{front_split}
 use Rattle.lsm_readers.specs.Scan.{IsNewScan, Scan, ScansNext, fault_of, scan_left, scan_size}
 use Rattle.lsm_readers.specs.Scan.{up_to_error}
-use Rattle.lsm_readers.specs.Table.{OpenTable}
+use Rattle.lsm_readers.specs.point.Table.{OpenTable}
 use Rattle.lsm_readers.proofs.StoredParts.{stored_scan}
 use Rattle.lsm_readers.proofs.Scans.{ended_left, fault_left, scan_falls}
 use Rattle.lsm_readers.proofs.TableRanges.{deals_values}

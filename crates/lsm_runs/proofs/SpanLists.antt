@@ -9,8 +9,8 @@ use Rattle.std.proofs.lemmas.List.{map-append}
 use Rattle.sst_entries.specs.Entry.{Entry}
 use Rattle.sst_entries.specs.Point.{within}
 use Rattle.sst_entries.specs.Stream.{ok_results}
-use Rattle.lsm_formats.specs.Chunks.{joined}
-use Rattle.lsm_readers.specs.Table.{OpenTable}
+use Rattle.sst_blocks.specs.table.Chunks.{joined}
+use Rattle.lsm_readers.specs.point.Table.{OpenTable}
 use Rattle.lsm_runs.specs.RunLists.{HoldLists, HoldsList, list_at, lists_at}
 use Rattle.lsm_run_parts.specs.RunParts.{Part, RunSpan, is_edge, span_part_at, part_told}
 use Rattle.lsm_run_parts.specs.RunParts.{span_parts_from}

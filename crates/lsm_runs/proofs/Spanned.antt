@@ -6,8 +6,8 @@ use Rattle.std.specs.List.{AllByRecursion, AllZip, flat_map}
 use Rattle.std.specs.declared.ops.Bound.{Bound}
 use Rattle.std.proofs.lemmas.List.{map-append, take_all, take_more}
 use Rattle.std.proofs.lemmas.List.Concat.{flat_map-append}
-use Rattle.lsm_ranges.specs.Run.{IsInOrder, overlap_indexes}
-use Rattle.lsm_readers.specs.Table.{OpenTable}
+use Rattle.lsm_sorted.specs.version.Run.{IsInOrder, overlap_indexes}
+use Rattle.lsm_readers.specs.point.Table.{OpenTable}
 use Rattle.lsm_run_parts.specs.RunParts.{RunSpan, range_of, ranges_of, span_of}
 use Rattle.lsm_runs.specs.RunRange.{IsRunOf, RunRange}
 use Rattle.lsm_runs.specs.SpansRead.{span_at, spans_within}

@@ -15,12 +15,12 @@ use Rattle.sst_entries.specs.Entry.{Entry}
 use Rattle.sst_entries.specs.Point.{is_from, is_to, within}
 use Rattle.sst_entries.specs.Stream.{Deals, answer_stops, ok_results}
 use Rattle.sst_entries.proofs.Lists.{all_append}
-use Rattle.lsm_formats.specs.Chunks.{joined}
-use Rattle.lsm_merge.specs.Ends.{R}
-use Rattle.lsm_merge.specs.MergeLaws.{DealSorted}
-use Rattle.lsm_merge.specs.Union.{Ascends, all_entries, entries_among, newest, sort_entries}
-use Rattle.lsm_ranges.specs.Run.{IsInOrder}
-use Rattle.lsm_readers.specs.Table.{OpenTable}
+use Rattle.sst_blocks.specs.table.Chunks.{joined}
+use Rattle.lsm_sorted.specs.merge.Ends.{R}
+use Rattle.lsm_sorted.specs.merge.MergeLaws.{DealSorted}
+use Rattle.lsm_sorted.specs.merge.Union.{Ascends, all_entries, entries_among, newest, sort_entries}
+use Rattle.lsm_sorted.specs.version.Run.{IsInOrder}
+use Rattle.lsm_readers.specs.point.Table.{OpenTable}
 use Rattle.lsm_sorted.specs.NewestLaws.{DealsNewest}
 use Rattle.lsm_runs.specs.RunLists.{DealTogether, DealsList, HoldLists, RunsHoldLists}
 use Rattle.lsm_run_parts.specs.RunParts.{range_of}

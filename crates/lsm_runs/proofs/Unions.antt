@@ -10,11 +10,11 @@ use Rattle.std.proofs.lemmas.List.Elements.{filter-append}
 use Rattle.sst_entries.specs.Entry.{Entry}
 use Rattle.sst_entries.specs.Point.{is_from, is_to, within}
 use Rattle.sst_entries.specs.Stream.{ok_results}
-use Rattle.lsm_formats.specs.Chunks.{joined}
-use Rattle.lsm_merge.specs.Union.{AtMost, Ascends, all_entries, all_errors, entries_among}
-use Rattle.lsm_merge.specs.Union.{errors_among, insert_sorted, item_cmp, sort_entries}
-use Rattle.lsm_merge.proofs.MergedLemmas.{at_most_chain, insert_least}
-use Rattle.lsm_merge.proofs.UnionLemmas.{ascends_in_order}
+use Rattle.sst_blocks.specs.table.Chunks.{joined}
+use Rattle.lsm_sorted.specs.merge.Union.{AtMost, Ascends, all_entries, all_errors, entries_among}
+use Rattle.lsm_sorted.specs.merge.Union.{errors_among, insert_sorted, item_cmp, sort_entries}
+use Rattle.lsm_sorted.proofs.MergedLemmas.{at_most_chain, insert_least}
+use Rattle.lsm_sorted.proofs.UnionLemmas.{ascends_in_order}
 use Rattle.sst_entries.proofs.Lists.{all_more}
 use Rattle.lsm_sorted.proofs.NewestLemmas.{filter_keeps}
 

@@ -4,12 +4,12 @@ use Rattle.std.specs.declared.ops.Bound.{Bound}
 use Rattle.sst_entries.specs.declared.error.Error.{Error}
 use Rattle.sst_entries.specs.declared.error.Error.TheVariants.{OutOfMemory}
 use Rattle.sst_entries.specs.Stream.{Deals, answer_stops, nowhere, ok_results}
-use Rattle.lsm_merge.specs.Ends.{R}
-use Rattle.lsm_merge.specs.InPlace.{merge_of, up_to_error}
-use Rattle.lsm_merge.specs.MergeLaws.{DealSorted}
-use Rattle.lsm_merge.specs.Union.{all_errors, newest, union_of}
-use Rattle.lsm_readers.specs.Table.{OpenTable}
-use Rattle.lsm_lending.specs.LentNewest.{newest_results}
+use Rattle.lsm_sorted.specs.merge.Ends.{R}
+use Rattle.lsm_sorted.specs.merge.InPlace.{merge_of, up_to_error}
+use Rattle.lsm_sorted.specs.merge.MergeLaws.{DealSorted}
+use Rattle.lsm_sorted.specs.merge.Union.{all_errors, newest, union_of}
+use Rattle.lsm_readers.specs.point.Table.{OpenTable}
+use Rattle.lsm_sorted.specs.lending.LentNewest.{newest_results}
 use Rattle.lsm_run_parts.specs.RunParts.{RunSpan, span_parts}
 use Rattle.lsm_run_parts.specs.Tables.{run_parts_told}
 use Rattle.lsm_runs.specs.SpansRead.{spans_within}

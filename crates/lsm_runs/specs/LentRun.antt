@@ -4,9 +4,9 @@ use Rattle.sst_entries.specs.declared.error.Error.{Error}
 use Rattle.sst_entries.specs.declared.stream.Direction.TheVariants.{Front}
 use Rattle.sst_entries.specs.Entry.{Entry}
 use Rattle.sst_entries.specs.Stream.{front_of}
-use Rattle.lsm_walks.specs.declared.walk.Walk.{Walk}
-use Rattle.lsm_walks.specs.Ends.{StepGives, remains_in}
-use Rattle.lsm_walks.specs.Parts.{LoadGives}
+use Rattle.lsm_iters.specs.declared.walk.Walk.{Walk}
+use Rattle.lsm_iters.specs.walk.Ends.{StepGives, remains_in}
+use Rattle.lsm_iters.specs.walk.Parts.{LoadGives}
 use Rattle.lsm_iters.specs.Lift.{lifted_told}
 use Rattle.lsm_iters.specs.Range.{Range, range_remains}
 use Rattle.lsm_run_parts.specs.Tables.{KeepsTables, Unopened, coming_tables, none_unopened}

@@ -7,4 +7,5 @@ pub mod LentRun
 pub mod LentNewestRuns
 pub mod RunPlaces
 pub mod Words
+pub mod compaction
 pub use Rattle.lsm_run_parts.specs.RunParts

@@ -8,12 +8,12 @@ use Rattle.sst_entries.specs.declared.error.Error.TheVariants.{OutOfMemory}
 use Rattle.sst_entries.specs.Entry.{Entry}
 use Rattle.sst_entries.specs.Point.{within}
 use Rattle.sst_entries.specs.Stream.{Deals, answer_stops, ok_results}
-use Rattle.lsm_formats.specs.Chunks.{joined}
+use Rattle.sst_blocks.specs.table.Chunks.{joined}
 use Rattle.lsm_iters.specs.Lift.{lift}
-use Rattle.lsm_merge.specs.Union.{Ascends}
-use Rattle.lsm_ranges.specs.Run.{IsInOrder}
+use Rattle.lsm_sorted.specs.merge.Union.{Ascends}
+use Rattle.lsm_sorted.specs.version.Run.{IsInOrder}
 use Rattle.lsm_readers.specs.Stored.{StoresList}
-use Rattle.lsm_readers.specs.Table.{IsOpen, OpenTable}
+use Rattle.lsm_readers.specs.point.Table.{IsOpen, OpenTable}
 use Rattle.lsm_run_parts.specs.RunParts.{RunSpan, is_edge, range_of}
 
 -- an opened table whose bytes store a list, which it yields with the global seqno applied

@@ -4,7 +4,7 @@ use Rattle.std.specs.Option.{option_and_then}
 use Rattle.sst_entries.specs.Entry.{Entry}
 use Rattle.sst_blocks.specs.declared.entry_place.EntryPlace.{EntryPlace}
 use Rattle.sst_blocks.specs.EntryPlace.{placed_in}
-use Rattle.lsm_readers.specs.Table.{OpenTable}
+use Rattle.lsm_readers.specs.point.Table.{OpenTable}
 use Rattle.lsm_runs.specs.declared.lent_gets.RunPlace.{RunPlace}
 
 -- the entry of a run at this position; none if the tables are too few, or the bytes too short

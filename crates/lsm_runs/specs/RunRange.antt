@@ -7,11 +7,11 @@ use Rattle.sst_entries.specs.declared.stream.Direction.TheVariants.{Front, Back}
 use Rattle.sst_entries.specs.Entry.{Entry}
 use Rattle.sst_entries.specs.Error.{is_memory}
 use Rattle.sst_entries.specs.Stream.{Lowers, Runs, answer_stops}
-use Rattle.lsm_walks.specs.Ends.{remains_in}
-use Rattle.lsm_walks.specs.Parts.{none_behind}
-use Rattle.lsm_walks.specs.declared.walk.Walk.{Walk}
+use Rattle.lsm_iters.specs.walk.Ends.{remains_in}
+use Rattle.lsm_iters.specs.walk.Parts.{none_behind}
+use Rattle.lsm_iters.specs.declared.walk.Walk.{Walk}
 use Rattle.lsm_iters.specs.Range.{LendsOn, Range, range_remains}
-use Rattle.lsm_readers.specs.Table.{OpenTable}
+use Rattle.lsm_readers.specs.point.Table.{OpenTable}
 use Rattle.lsm_run_parts.specs.RunParts.{Part, RunSpan, part_told, span_parts}
 use Rattle.lsm_run_parts.specs.Tables.{Unopened, parts_loads, run_parts_told}
 

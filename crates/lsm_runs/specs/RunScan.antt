@@ -3,7 +3,7 @@ use Rattle.std.specs.Prelude.{◌≡◌, ℕ, suc, ◌+◌, ◌-◌, ◌≤◌, 
 use Rattle.std.specs.Prelude.{max, take, Option, Some, None, Result, Ok, Err, MatchOption}
 use Rattle.std.specs.Prelude.{MatchResult}
 use Rattle.std.specs.List.{flat_map}
-use Rattle.sst_sections.specs.Sections.{body_of}
+use Rattle.sst_blocks.specs.Sections.{body_of}
 use Rattle.sst_blocks.specs.declared.block_type.BlockType.TheVariants.{Data}
 use Rattle.sst_blocks.specs.Block.{load_at_told, position_fault}
 use Rattle.sst_entries.specs.declared.error.Error.{Error}
@@ -12,7 +12,7 @@ use Rattle.sst_entries.specs.Error.{is_memory}
 use Rattle.sst_entries.specs.Stream.{Lowers, first}
 use Rattle.lsm_readers.specs.Scan.{IsNewScan, Scan, fault_of, scan_left, scan_size, scan_told}
 use Rattle.lsm_readers.specs.Scan.{up_to_error}
-use Rattle.lsm_readers.specs.Table.{OpenTable}
+use Rattle.lsm_readers.specs.point.Table.{OpenTable}
 
 -- the results of a scan of a table, and a bound on the calls that yield something
 abbrev pub table_scan : OpenTable → List (Result Entry Error)

@@ -5,12 +5,12 @@ use Rattle.sst_entries.specs.declared.error.Error.{Error}
 use Rattle.sst_entries.specs.Entry.{Entry}
 use Rattle.sst_entries.specs.Stream.{ok_results}
 use Rattle.sst_blocks.specs.declared.opened.Opened.{Opened}
-use Rattle.lsm_formats.specs.Chunks.{joined}
-use Rattle.lsm_merge.specs.Union.{union_of}
-use Rattle.lsm_ranges.specs.Run.{table_of_key}
-use Rattle.lsm_readers.specs.Answer.{table_answer}
-use Rattle.lsm_readers.specs.Read.{Read, known, read_then}
-use Rattle.lsm_readers.specs.Table.{OpenTable}
+use Rattle.sst_blocks.specs.table.Chunks.{joined}
+use Rattle.lsm_sorted.specs.merge.Union.{union_of}
+use Rattle.lsm_sorted.specs.version.Run.{table_of_key}
+use Rattle.lsm_readers.specs.point.Answer.{table_answer}
+use Rattle.lsm_readers.specs.point.Read.{Read, known, read_then}
+use Rattle.lsm_readers.specs.point.Table.{OpenTable}
 use Rattle.lsm_sorted.specs.Leading.{leading_of}
 use Rattle.lsm_run_parts.specs.RunParts.{range_of}
 

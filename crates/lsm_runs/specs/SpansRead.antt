@@ -7,10 +7,10 @@ use Rattle.either.specs.declared.Either.TheVariants.{Left, Right}
 use Rattle.sst_entries.specs.declared.error.Error.{Error}
 use Rattle.sst_entries.specs.Entry.{Entry}
 use Rattle.sst_entries.specs.Stream.{back_of, front_of}
-use Rattle.lsm_block_indexes.specs.Dealt.{DealsEnding}
-use Rattle.lsm_merge.specs.declared.merge.Merger.{Merger}
-use Rattle.lsm_ranges.specs.Run.{overlap_indexes}
-use Rattle.lsm_readers.specs.Table.{OpenTable}
+use Rattle.lsm_iters.specs.block_index.Dealt.{DealsEnding}
+use Rattle.lsm_sorted.specs.declared.merge.Merger.{Merger}
+use Rattle.lsm_sorted.specs.version.Run.{overlap_indexes}
+use Rattle.lsm_readers.specs.point.Table.{OpenTable}
 use Rattle.lsm_sorted.specs.Below.{below_of}
 use Rattle.lsm_sorted.specs.NewestLaws.{AnswersNewest, IsNewestOf}
 use Rattle.lsm_sorted.specs.declared.below.Below.{Below}

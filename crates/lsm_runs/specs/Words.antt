@@ -6,20 +6,20 @@ pub use Rattle.sst_entries.specs.Lending.{came, entry_of_ref}
 pub use Rattle.sst_entries.specs.Point.{point, within}
 pub use Rattle.sst_entries.specs.Stream.{CanDeal, Lowers, back_of, first, front_of, nowhere}
 pub use Rattle.sst_blocks.specs.Opened.{none_opened}
-pub use Rattle.lsm_block_indexes.specs.Dealt.{DealsEnding}
-pub use Rattle.lsm_formats.specs.Chunks.{joined}
-pub use Rattle.lsm_formats.specs.Facts.{highest_seqno}
-pub use Rattle.lsm_formats.specs.Options.{default_options}
-pub use Rattle.lsm_merge.specs.InPlace.{merge_of}
-pub use Rattle.lsm_merge.specs.Union.{Ascends, entries_among, item_cmp, newest}
-pub use Rattle.lsm_ranges.specs.Run.{ArePlacesOf, IsInOrder, overlap_indexes, table_of_key}
-pub use Rattle.lsm_readers.specs.Answer.{lift}
-pub use Rattle.lsm_readers.specs.Read.{DoesRead, Opens}
-pub use Rattle.lsm_readers.specs.Table.{OpenTable}
-pub use Rattle.lsm_walks.specs.Ends.{taken_at}
+pub use Rattle.lsm_iters.specs.block_index.Dealt.{DealsEnding}
+pub use Rattle.sst_blocks.specs.table.Chunks.{joined}
+pub use Rattle.sst_blocks.specs.table.Facts.{highest_seqno}
+pub use Rattle.sst_blocks.specs.table.Options.{default_options}
+pub use Rattle.lsm_sorted.specs.merge.InPlace.{merge_of}
+pub use Rattle.lsm_sorted.specs.merge.Union.{Ascends, entries_among, item_cmp, newest}
+pub use Rattle.lsm_sorted.specs.version.Run.{ArePlacesOf, IsInOrder, overlap_indexes, table_of_key}
+pub use Rattle.lsm_readers.specs.point.Answer.{lift}
+pub use Rattle.lsm_readers.specs.point.Read.{DoesRead, Opens}
+pub use Rattle.lsm_readers.specs.point.Table.{OpenTable}
+pub use Rattle.lsm_iters.specs.walk.Ends.{taken_at}
 pub use Rattle.lsm_sorted.specs.Below.{DealsBelow, below_of, below_told, numbered_below}
 pub use Rattle.lsm_sorted.specs.Leading.{leading_of}
-pub use Rattle.lsm_lending.specs.LentNewest.{newest_results}
+pub use Rattle.lsm_sorted.specs.lending.LentNewest.{newest_results}
 pub use Rattle.lsm_sorted.specs.NewestLaws.{AnswersNewest, CanAskNewest, DealsNewest, IsNewestOf}
 pub use Rattle.lsm_run_parts.specs.RunParts.{ends_given, range_of, span_of}
 pub use Rattle.lsm_runs.specs.RunRange.{IsRunOf, OpensAtMost, RunGives, back_tables, front_tables}
@@ -46,9 +46,9 @@ pub use Rattle.std.specs.Option.{option_and_then, option_map}
 pub use Rattle.sst_entries.specs.declared.error.Error.{Error}
 pub use Rattle.sst_entries.specs.declared.error.Error.TheVariants.{OutOfMemory}
 pub use Rattle.sst_entries.specs.declared.stream.Direction.TheVariants.{Front}
-pub use Rattle.sst_filters.specs.KeyHash.{hash_of}
+pub use Rattle.sst_blocks.specs.filter.KeyHash.{hash_of}
 pub use Rattle.sst_blocks.specs.Asked.{told_map}
-pub use Rattle.lsm_walks.specs.Walks.{WalkTakes}
+pub use Rattle.lsm_iters.specs.walk.Walks.{WalkTakes}
 pub use Rattle.lsm_iters.specs.Range.{range_remains}
 pub use Rattle.lsm_iters.specs.Steps.{without_lent}
 pub use Rattle.lsm_run_parts.specs.Tables.{KeepsTables, coming_tables}

@@ -2,9 +2,8 @@
 ghost use Rattle.std.specs.Prelude.{◌≡◌, None, Some, IfOk, Result, is_some};
 ghost use Rattle.lsm_runs.specs.Words as spec;
 
-use lsm_iters::Iter;
+use lsm_iters::{Iter, Parts, Walk};
 use lsm_run_parts::Unopened;
-use lsm_walks::{Parts, Walk};
 use sst_blocks::{EntryRef, Error, Lending};
 use sst_entries::Direction;
 use std::alloc::Allocator;

@@ -4,8 +4,8 @@ ghost use Rattle.std.specs.Prelude.{is_some, map, slice_get, true};
 ghost use Rattle.lsm_runs.specs.Words as spec;
 
 use crate::runs::together;
-use lsm_ranges::Run;
 use lsm_readers::Table;
+use lsm_sorted::Run;
 use sst_blocks::{EntryPlace, EntryRef, Error, Opened, SeqNo};
 use std::alloc::Allocator;
 use std::ops::Bound;

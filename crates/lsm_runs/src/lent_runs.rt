@@ -4,10 +4,8 @@ ghost use Rattle.lsm_runs.specs.Words as spec;
 
 use crate::RunReader;
 use crate::runs::readers_within;
-use lsm_lending::{LendingMerger, LendingNewest};
-use lsm_ranges::Run;
 use lsm_readers::Table;
-use lsm_sorted::{Below, each_below};
+use lsm_sorted::{Below, LendingMerger, LendingNewest, Run, each_below};
 use sst_blocks::{Error, Lending, SeqNo, UserKey};
 use std::alloc::Allocator;
 use std::ops::Bound;

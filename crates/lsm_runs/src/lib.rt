@@ -1,6 +1,8 @@
-//! Reading runs of tables: one run from both ends or in one pass, and several runs as one.
+//! Runs of tables: one run read from both ends or in one pass, several runs read as one, and runs
+//! made of a list, of several runs that are compacted, and of tables that are packed.
 #![tactic(auto)]
 
+mod compaction;
 mod lending_reader;
 mod lent_gets;
 mod lent_runs;
@@ -9,6 +11,11 @@ mod run_scanner;
 mod runs;
 mod sources;
 
+pub use compaction::{
+    CompactionObserver, CompactionOutcome, CompactionProgress, NoObserver, OpenOptions,
+    compact_any_runs, compact_any_runs_with, compact_runs, compact_to_run, compact_to_run_with,
+    compaction_law, pack_runs, packing_law, write_run, write_run_with,
+};
 pub use lent_gets::{
     RunPlace, entry_in_runs, get_runs_ref, get_runs_ref_counted, place_in_runs,
     place_in_runs_counted,

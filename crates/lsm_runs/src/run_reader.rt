@@ -4,10 +4,10 @@ ghost use Rattle.std.specs.Prelude.{MatchOption, length, map};
 ghost use Rattle.lsm_runs.specs.Words as spec;
 
 use crate::lending_reader::{RunWalk, end, entry_in, step, unlend_in};
-use lsm_ranges::{Ranged, Run};
+use lsm_iters::{Ends, Walk};
 use lsm_readers::Table;
 use lsm_run_parts::{Unopened, ends_in, places_within};
-use lsm_walks::{Ends, Walk};
+use lsm_sorted::{Ranged, Run};
 use sst_blocks::{EntryRef, Error, IterItem, Lending, UserKey};
 use sst_entries::Direction;
 use std::alloc::{Allocator, Global};

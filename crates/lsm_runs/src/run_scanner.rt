@@ -3,9 +3,9 @@ ghost use Rattle.std.specs.Prelude.{◌≡◌, ◌<◌, Err, IfErr, IfOk, List, 
 ghost use Rattle.std.specs.Prelude.{is_some, slice_get};
 ghost use Rattle.lsm_runs.specs.Words as spec;
 
-use lsm_ranges::Run;
 use lsm_readers::{Scanner, Table};
 use lsm_run_parts::{ends_in, place_behind};
+use lsm_sorted::Run;
 use sst_blocks::{EntryRef, Error, IterItem, Lending};
 use std::alloc::{Allocator, Global};
 use std::marker::Model;

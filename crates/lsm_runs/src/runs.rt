@@ -4,12 +4,10 @@ ghost use Rattle.std.specs.Prelude.{None, Ok, Option, Some, length, map};
 ghost use Rattle.lsm_runs.specs.Words as spec;
 
 use crate::RunReader;
-use lsm_merge::Merger;
-use lsm_ranges::Run;
 use lsm_readers::Table;
 use lsm_run_parts::share;
 use lsm_sorted::{
-    Below, MvccStream, NewestOf, each_below, leading, newest_from_both_ends, newest_of,
+    Below, Merger, MvccStream, NewestOf, Run, each_below, leading, newest_from_both_ends, newest_of,
 };
 use sst_blocks::{Error, InternalValue, IterItem, Lending, Opened, SeqNo, UserKey};
 use std::alloc::Allocator;

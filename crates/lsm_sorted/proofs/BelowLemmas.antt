@@ -14,7 +14,7 @@ use Rattle.sst_entries.specs.Stream.{nowhere, ok_results}
 use Rattle.sst_entries.proofs.FrontLemmas.{can_in_front}
 use Rattle.sst_entries.proofs.StreamLemmas.{can_after_back, can_by, can_front, deals_back, deals_by}
 use Rattle.sst_entries.proofs.StreamLemmas.{deals_front}
-use Rattle.lsm_merge.specs.Ends.{R}
+use Rattle.lsm_sorted.specs.merge.Ends.{R}
 use Rattle.lsm_sorted.specs.declared.below.Below.{Below}
 use Rattle.lsm_sorted.specs.Below.{DealsBelow, GivesBelow, LetsGo, MayAsk, below_of, below_told}
 use Rattle.lsm_sorted.specs.Below.{numbered_below, passes}

@@ -7,9 +7,9 @@ use Rattle.sst_entries.specs.Key.{same_key}
 use Rattle.sst_entries.specs.declared.error.Error.{Error}
 use Rattle.sst_entries.specs.declared.stream.Direction.TheVariants.{Front}
 use Rattle.sst_entries.specs.Stream.{front_of, answer_stops, result_stops}
-use Rattle.lsm_merge.specs.declared.ends.Ends.{Ends}
+use Rattle.lsm_sorted.specs.declared.heap.ends.Ends.{Ends}
 use Rattle.lsm_sorted.specs.declared.ahead.Ahead.{Ahead}
-use Rattle.lsm_merge.specs.Ends.{R, Asked}
+use Rattle.lsm_sorted.specs.merge.Ends.{R, Asked}
 use Rattle.lsm_sorted.specs.Peeked.{content}
 use Rattle.lsm_sorted.specs.Ahead.{ahead_outlook}
 use Rattle.lsm_sorted.specs.Outlook.{IsStep, nothing_stops, IsSame}

@@ -8,7 +8,7 @@ use Rattle.sst_entries.specs.Entry.{Entry}
 use Rattle.sst_entries.specs.Kind.{tag_of}
 use Rattle.sst_entries.proofs.KeyLemmas.{KeyLe}
 use Rattle.sst_entries.proofs.OrderLemmas.{gt_first}
-use Rattle.lsm_merge.specs.Union.{AtMost}
+use Rattle.lsm_sorted.specs.merge.Union.{AtMost}
 
 pub lt_reverse : (o : Ordering) → is_lt (ordering_reverse o) ≡ is_gt o
 lt_reverse Less = refl

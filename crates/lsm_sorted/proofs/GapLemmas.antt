@@ -11,10 +11,10 @@ use Rattle.sst_entries.specs.declared.stream.Direction.TheVariants.{Front, Back}
 use Rattle.sst_entries.specs.Stream.{Runs, Deals, answer_stops, ok_results, deal, first, but_first}
 use Rattle.sst_entries.specs.Stream.{last, but_last, EndsAtError}
 use Rattle.sst_entries.proofs.StreamLemmas.{deals_front, deals_back, map_append, map_reverse}
-use Rattle.lsm_merge.specs.Ends.{R}
-use Rattle.lsm_merge.specs.Union.{all_errors, union_of}
-use Rattle.lsm_merge.specs.Merge.{Follows, DealsUntil}
-use Rattle.lsm_merge.specs.MergeLaws.{DealsBeforeErrors, DealsUntilError, every_error}
+use Rattle.lsm_sorted.specs.merge.Ends.{R}
+use Rattle.lsm_sorted.specs.merge.Union.{all_errors, union_of}
+use Rattle.lsm_sorted.specs.merge.Merge.{Follows, DealsUntil}
+use Rattle.lsm_sorted.specs.merge.MergeLaws.{DealsBeforeErrors, DealsUntilError, every_error}
 use Rattle.lsm_sorted.specs.Outlook.{StopsAtNone}
 use Rattle.lsm_sorted.specs.Gap.{IsUpToGap, MergesUpToGap}
 use Rattle.lsm_sorted.proofs.PeekedLemmas.{last_of, others_of}

@@ -4,13 +4,13 @@ use Rattle.std.specs.Prelude.{Option, Some, None, Result, Ok, Err}
 use Rattle.sst_entries.specs.Entry.{Entry}
 use Rattle.sst_entries.specs.Stream.{but_first, answer_stops, DealsFirst}
 use Rattle.sst_entries.specs.declared.error.Error.{Error}
-use Rattle.lsm_merge.specs.Ends.{R}
+use Rattle.lsm_sorted.specs.merge.Ends.{R}
 use Rattle.lsm_sorted.specs.declared.compaction.Rules.{Rules}
 use Rattle.lsm_sorted.specs.Compaction.{Verdict, told_by, reports_by, zeroed}
 use Rattle.lsm_sorted.specs.Compacting.{Turn, settled, turned, GetsAll, Turns, Calls, ended, failed}
 use Rattle.lsm_sorted.specs.Compacting.{answered, again}
 use Rattle.lsm_sorted.specs.CompactionState.{Filters, Settles}
-use Rattle.lsm_merge.proofs.EndsLemmas.{none_first}
+use Rattle.lsm_sorted.proofs.EndsLemmas.{none_first}
 use Rattle.lsm_sorted.proofs.MvccLemmas.{from_first}
 use Rattle.lsm_sorted.proofs.CallLemmas.{gets_append}
 

@@ -10,9 +10,9 @@ use Rattle.sst_entries.specs.declared.stream.Direction.TheVariants.{Front, Back}
 use Rattle.sst_entries.specs.Stream.{Runs, Steps, NoneStops, Deals, CanDeal, answer_stops, deal}
 use Rattle.sst_entries.specs.Stream.{first, but_first, last, but_last, nowhere}
 use Rattle.sst_entries.proofs.StreamLemmas.{head_eq, tail_eq}
-use Rattle.lsm_merge.specs.declared.ends.Ends.{Ends}
-use Rattle.lsm_merge.specs.Ends.{R, Goes, GoesIf}
-use Rattle.lsm_merge.proofs.EndsLemmas.{none_first, goes_ready}
+use Rattle.lsm_sorted.specs.declared.heap.ends.Ends.{Ends}
+use Rattle.lsm_sorted.specs.merge.Ends.{R, Goes, GoesIf}
+use Rattle.lsm_sorted.proofs.EndsLemmas.{none_first, goes_ready}
 use Rattle.lsm_sorted.specs.Outlook.{Outlook, list_of, MayGive, results_in, with_rest, is_over}
 use Rattle.lsm_sorted.specs.Outlook.{StopsAtNone, before_any}
 use Rattle.lsm_sorted.specs.Hears.{GaveEach, Gave, Hears, Heard}

@@ -7,8 +7,8 @@ use Rattle.sst_entries.specs.declared.error.Error.{Error}
 use Rattle.sst_entries.specs.declared.stream.Direction.{Direction}
 use Rattle.sst_entries.specs.declared.stream.Direction.TheVariants.{Front, Back}
 use Rattle.sst_entries.specs.Stream.{NoneStops, answer_stops}
-use Rattle.lsm_merge.specs.declared.ends.Ends.{Ends}
-use Rattle.lsm_merge.specs.Ends.{R, AskedIf, Asked}
+use Rattle.lsm_sorted.specs.declared.heap.ends.Ends.{Ends}
+use Rattle.lsm_sorted.specs.merge.Ends.{R, AskedIf, Asked}
 use Rattle.lsm_sorted.specs.Outlook.{Outlook, list_of, MayGive, results_in, with_rest, is_over}
 use Rattle.lsm_sorted.specs.Outlook.{StopsAtNone}
 use Rattle.lsm_sorted.specs.Hears.{GaveEach, Gave, Hears}

@@ -9,7 +9,7 @@ use Rattle.sst_entries.specs.Stream.{first, ok_results}
 use Rattle.lsm_sorted.specs.declared.compaction.Rules.{Rules}
 use Rattle.lsm_sorted.specs.Compaction.{goes, zeroed, kept, unfiltered}
 use Rattle.lsm_sorted.specs.ReadLaw.{StaysStrict}
-use Rattle.lsm_merge.proofs.Pairs.{Precedes, Strict, as_pairs, from_pairs}
+use Rattle.lsm_sorted.proofs.Pairs.{Precedes, Strict, as_pairs, from_pairs}
 use Rattle.sst_entries.proofs.KeyLemmas.{KeyLe, same_itself, le_itself}
 use Rattle.sst_entries.proofs.OrderLemmas.{lt_trans}
 use Rattle.lsm_sorted.proofs.NewestLemmas.{KeysUp}

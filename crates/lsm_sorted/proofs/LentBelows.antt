@@ -6,7 +6,7 @@ use Rattle.sst_entries.specs.declared.error.Error.{Error}
 use Rattle.sst_entries.specs.Entry.{Entry}
 use Rattle.sst_entries.specs.Stream.{CanDeal, Lowers, nowhere}
 use Rattle.sst_entries.proofs.StreamLemmas.{can_by, can_front}
-use Rattle.lsm_merge.specs.Ends.{R}
+use Rattle.lsm_sorted.specs.merge.Ends.{R}
 use Rattle.lsm_sorted.specs.Below.{LetsGo, below_of, passes}
 use Rattle.lsm_sorted.specs.declared.below.Below.{Below}
 use Rattle.lsm_sorted.proofs.BelowLemmas.{more_gone}

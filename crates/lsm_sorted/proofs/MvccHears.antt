@@ -6,7 +6,7 @@ use Rattle.sst_entries.specs.declared.error.Error.{Error}
 use Rattle.sst_entries.specs.declared.stream.Direction.TheVariants.{Front, Back}
 use Rattle.sst_entries.specs.Key.{same_key, key_lt}
 use Rattle.sst_entries.specs.Stream.{front_of, back_of}
-use Rattle.lsm_merge.specs.Ends.{R}
+use Rattle.lsm_sorted.specs.merge.Ends.{R}
 use Rattle.lsm_sorted.specs.Newest.{front_step, back_step}
 use Rattle.lsm_sorted.specs.Outlook.{Outlook, IsStep}
 use Rattle.lsm_sorted.specs.Hears.{Hears}

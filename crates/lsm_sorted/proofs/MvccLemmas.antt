@@ -7,11 +7,11 @@ use Rattle.sst_entries.specs.Entry.{Entry}
 use Rattle.sst_entries.specs.declared.error.Error.{Error}
 use Rattle.sst_entries.specs.Stream.{first, but_first, front_of, back_of}
 use Rattle.sst_entries.specs.Key.{same_key, key_lt}
-use Rattle.lsm_merge.specs.Ends.{R}
+use Rattle.lsm_sorted.specs.merge.Ends.{R}
 use Rattle.lsm_sorted.specs.Outlook.{IsStep}
 use Rattle.lsm_sorted.specs.Newest.{after_key, settle, front_step, climb, step_in_reverse}
 use Rattle.lsm_sorted.specs.Newest.{back_step}
-use Rattle.lsm_merge.proofs.EndsLemmas.{none_first}
+use Rattle.lsm_sorted.proofs.EndsLemmas.{none_first}
 
 pub from_first : {A : Type 0} (xs : List A) (r : A) → Some r ≡ first xs → xs ≡ r ∷ but_first xs
 from_first [] r e = cc

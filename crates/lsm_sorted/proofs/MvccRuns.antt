@@ -8,10 +8,10 @@ use Rattle.sst_entries.specs.declared.stream.Direction.TheVariants.{Front, Back}
 use Rattle.sst_entries.specs.Stream.{Runs, CanDeal, ok_results}
 use Rattle.sst_entries.specs.Stream.{deal, first, but_first, last, but_last, nowhere}
 use Rattle.sst_entries.proofs.StreamLemmas.{can_by}
-use Rattle.lsm_merge.specs.Ends.{R, Goes}
-use Rattle.lsm_merge.specs.declared.ends.Ends.{Ends}
-use Rattle.lsm_merge.specs.Union.{newest}
-use Rattle.lsm_merge.proofs.EndsLemmas.{goes_in_front}
+use Rattle.lsm_sorted.specs.merge.Ends.{R, Goes}
+use Rattle.lsm_sorted.specs.declared.heap.ends.Ends.{Ends}
+use Rattle.lsm_sorted.specs.merge.Union.{newest}
+use Rattle.lsm_sorted.proofs.EndsLemmas.{goes_in_front}
 use Rattle.lsm_sorted.specs.declared.peeked.Peeked.{Peeked}
 use Rattle.lsm_sorted.specs.Peeked.{content, peeked_outlook}
 use Rattle.lsm_sorted.specs.declared.mvcc_stream.MvccStream.{MvccStream}

@@ -6,13 +6,13 @@ use Rattle.std.specs.List.{AllByRecursion}
 use Rattle.std.proofs.lemmas.List.{reverse-reverse, reverse-append, append-nil}
 use Rattle.sst_entries.specs.Entry.{Entry}
 use Rattle.sst_entries.specs.Stream.{first, but_first, last, but_last, ok_results}
-use Rattle.lsm_merge.specs.Ends.{R}
+use Rattle.lsm_sorted.specs.merge.Ends.{R}
 use Rattle.lsm_sorted.specs.Newest.{after_key, settle, front_step, climb, step_in_reverse}
 use Rattle.lsm_sorted.specs.Newest.{back_step}
 use Rattle.sst_entries.specs.Key.{same_key, key_lt}
 use Rattle.sst_entries.proofs.KeyLemmas.{KeyLe, same_is, lt_other, le_other, le_same, lt_le, le_lt}
 use Rattle.lsm_sorted.proofs.EntryKeyLemmas.{key_le}
-use Rattle.lsm_merge.specs.Union.{AtMost, Ascends, newest}
+use Rattle.lsm_sorted.specs.merge.Union.{AtMost, Ascends, newest}
 use Rattle.sst_entries.proofs.Lists.{all_more, all_append}
 use Rattle.sst_entries.proofs.StreamLemmas.{map_reverse}
 

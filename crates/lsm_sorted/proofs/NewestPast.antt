@@ -4,10 +4,10 @@ use Rattle.std.specs.Prelude.{Option}
 use Rattle.sst_entries.specs.Stream.{nowhere}
 use Rattle.sst_entries.specs.declared.stream.Direction.{Direction}
 use Rattle.sst_entries.specs.declared.stream.Direction.TheVariants.{Front, Back}
-use Rattle.lsm_merge.specs.Ends.{R}
-use Rattle.lsm_merge.specs.declared.merge.Merger.{Merger}
-use Rattle.lsm_merge.specs.Asks.{IsMergerOf}
-use Rattle.lsm_merge.specs.MergeLaws.{ErrorsComeLate, RunsAt, MeetsErrorsLate}
+use Rattle.lsm_sorted.specs.merge.Ends.{R}
+use Rattle.lsm_sorted.specs.declared.merge.Merger.{Merger}
+use Rattle.lsm_sorted.specs.merge.Asks.{IsMergerOf}
+use Rattle.lsm_sorted.specs.merge.MergeLaws.{ErrorsComeLate, RunsAt, MeetsErrorsLate}
 use Rattle.lsm_sorted.specs.declared.mvcc_stream.MvccStream.{MvccStream}
 use Rattle.lsm_sorted.specs.Gap.{MergesUpToGap}
 use Rattle.lsm_sorted.specs.Outlook.{Outlook, before_any}

@@ -2,7 +2,7 @@
 use Rattle.std.proofs.Common.{◌≡◌, refl, ◌∙◌, ap, false, List}
 use Rattle.std.specs.Prelude.{Option, Some, None, Ok, Err}
 use Rattle.sst_entries.specs.Stream.{first, but_first, front_of, answer_stops, DealsFirst}
-use Rattle.lsm_merge.specs.Ends.{R}
+use Rattle.lsm_sorted.specs.merge.Ends.{R}
 use Rattle.lsm_sorted.specs.Outlook.{IsStep, nothing_stops, IsSame}
 
 pub never_stops : (r : Option R) → answer_stops nothing_stops r ≡ false

@@ -19,14 +19,14 @@ use Rattle.sst_entries.specs.Stream.{first}
 use Rattle.sst_entries.specs.declared.value_type.ValueType.{ValueType}
 use Rattle.sst_entries.specs.declared.value_type.ValueType.TheVariants.{Value, Tombstone}
 use Rattle.sst_entries.specs.declared.value_type.ValueType.TheVariants.{WeakTombstone, Indirection}
-use Rattle.lsm_merge.specs.Union.{Ascends, AtMost, SameBag}
+use Rattle.lsm_sorted.specs.merge.Union.{Ascends, AtMost, SameBag}
 use Rattle.sst_entries.specs.Point.{is_hit, point}
 use Rattle.lsm_sorted.specs.Point.{shown}
 use Rattle.lsm_sorted.specs.declared.compaction.Rules.{Rules}
 use Rattle.lsm_sorted.specs.Compaction.{goes, zeroed, kept, unfiltered}
 use Rattle.lsm_sorted.specs.ReadLaw.{Distinct, AllNewer, IsMerged, PartLaw}
 use Rattle.lsm_sorted.proofs.Hits.{first_hit}
-use Rattle.lsm_merge.proofs.Pairs.{Precedes, Strict, as_pairs}
+use Rattle.lsm_sorted.proofs.Pairs.{Precedes, Strict, as_pairs}
 use Rattle.sst_entries.proofs.KeyLemmas.{same_is, same_itself, le_itself, hit_key}
 use Rattle.sst_entries.proofs.OrderLemmas.{gt_first}
 use Rattle.lsm_sorted.proofs.OutsLemmas.{AllOf}

@@ -4,9 +4,9 @@ use Rattle.std.proofs.Common.{ap, subst, append_assoc}
 use Rattle.std.proofs.lemmas.List.{append-nil, reverse-append, reverse-reverse}
 use Rattle.sst_entries.specs.declared.stream.Direction.TheVariants.{Front, Back}
 use Rattle.sst_entries.specs.Stream.{first, but_first, last, but_last, front_of, back_of}
-use Rattle.lsm_merge.specs.declared.ends.Ends.{Ends}
+use Rattle.lsm_sorted.specs.declared.heap.ends.Ends.{Ends}
 use Rattle.lsm_sorted.specs.declared.peeked.Peeked.{Peeked}
-use Rattle.lsm_merge.specs.Ends.{R, Asked}
+use Rattle.lsm_sorted.specs.merge.Ends.{R, Asked}
 use Rattle.lsm_sorted.specs.Outlook.{IsStep}
 use Rattle.lsm_sorted.specs.Hears.{Hears}
 use Rattle.lsm_sorted.specs.Peeked.{content, peeked_outlook}

@@ -12,8 +12,8 @@ use Rattle.sst_entries.specs.Stream.{first, ok_results}
 use Rattle.sst_entries.specs.declared.value_type.ValueType.{ValueType}
 use Rattle.sst_entries.specs.declared.value_type.ValueType.TheVariants.{Value, Tombstone}
 use Rattle.sst_entries.specs.declared.value_type.ValueType.TheVariants.{WeakTombstone, Indirection}
-use Rattle.lsm_merge.specs.Ends.{R}
-use Rattle.lsm_merge.specs.Union.{entries_among}
+use Rattle.lsm_sorted.specs.merge.Ends.{R}
+use Rattle.lsm_sorted.specs.merge.Union.{entries_among}
 use Rattle.sst_entries.specs.Point.{is_hit, point}
 use Rattle.lsm_sorted.specs.Point.{shown}
 use Rattle.lsm_sorted.specs.declared.compaction.Rules.{Rules}

@@ -6,14 +6,14 @@ use Rattle.sst_entries.specs.Entry.{Entry}
 use Rattle.sst_entries.specs.Key.{same_key}
 use Rattle.sst_entries.specs.Stream.{first, but_first, result_stops, DealsFirst}
 use Rattle.sst_entries.specs.declared.error.Error.{Error}
-use Rattle.lsm_merge.specs.Ends.{R}
+use Rattle.lsm_sorted.specs.merge.Ends.{R}
 use Rattle.lsm_sorted.specs.Newest.{after_key}
 use Rattle.lsm_sorted.specs.declared.compaction.Rules.{Rules}
 use Rattle.lsm_sorted.specs.Compaction.{goes, zeroed}
 use Rattle.lsm_sorted.specs.Compacting.{of_key, Turn, head_answer, close, settled, GetsAll}
 use Rattle.lsm_sorted.specs.CompactionState.{refusal, error_first, past_error, DrainsKey, answer_of}
 use Rattle.lsm_sorted.specs.CompactionState.{Settles}
-use Rattle.lsm_merge.proofs.EndsLemmas.{none_first}
+use Rattle.lsm_sorted.proofs.EndsLemmas.{none_first}
 use Rattle.lsm_sorted.proofs.MvccLemmas.{from_first}
 
 module _ {T C : Type 0} (stops : Error → Bool) (Has : T → List R → Type 0)

@@ -11,8 +11,8 @@ use Rattle.sst_entries.specs.Stream.{but_first, ok_results}
 use Rattle.sst_entries.specs.declared.error.Error.{Error}
 use Rattle.lsm_sorted.specs.declared.compaction.stream.CompactionStream.{CompactionStream}
 use Rattle.sst_entries.proofs.StreamLemmas.{deals_by, can_by, tail_eq}
-use Rattle.lsm_merge.specs.Union.{entries_among}
-use Rattle.lsm_merge.specs.Ends.{R}
+use Rattle.lsm_sorted.specs.merge.Union.{entries_among}
+use Rattle.lsm_sorted.specs.merge.Ends.{R}
 use Rattle.lsm_sorted.specs.declared.compaction.Rules.{Rules}
 use Rattle.lsm_sorted.specs.Compaction.{Verdict, keep, replace, drop, Judged, JudgedItem, items}
 use Rattle.lsm_sorted.specs.Compaction.{told_by, told, is_cut, heads, expired, zeroed, head_given}

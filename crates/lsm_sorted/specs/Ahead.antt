@@ -4,7 +4,7 @@ use Rattle.std.specs.Iterator.{Count}
 use Rattle.sst_entries.specs.declared.error.Error.{Error}
 use Rattle.sst_entries.specs.Stream.{nowhere}
 use Rattle.lsm_sorted.specs.declared.ahead.Ahead.{Ahead}
-use Rattle.lsm_merge.specs.Ends.{R, Left, ends_size}
+use Rattle.lsm_sorted.specs.merge.Ends.{R, Left, ends_size}
 use Rattle.lsm_sorted.specs.Outlook.{Outlook}
 use Rattle.lsm_sorted.specs.Peeked.{content, content_count}
 

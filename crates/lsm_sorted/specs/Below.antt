@@ -6,7 +6,7 @@ use Rattle.std.specs.Iterator.{Count, IsFinite, Yields}
 use Rattle.sst_entries.specs.declared.error.Error.{Error}
 use Rattle.sst_entries.specs.Entry.{Entry}
 use Rattle.sst_entries.specs.Stream.{CanDeal, Deals, answer_stops}
-use Rattle.lsm_merge.specs.Ends.{R}
+use Rattle.lsm_sorted.specs.merge.Ends.{R}
 use Rattle.lsm_sorted.specs.declared.below.Below.{Below}
 
 -- the entries numbered below a bound

@@ -9,7 +9,7 @@ use Rattle.sst_entries.specs.declared.stream.Direction.TheVariants.{Front}
 use Rattle.sst_entries.specs.Stream.{Deals, answer_stops, result_stops, nowhere, ok_results}
 use Rattle.lsm_sorted.specs.declared.ahead.Ahead.{Ahead}
 use Rattle.lsm_sorted.specs.declared.compaction.stream.CompactionStream.{CompactionStream}
-use Rattle.lsm_merge.specs.Ends.{R, Goes}
+use Rattle.lsm_sorted.specs.merge.Ends.{R, Goes}
 use Rattle.lsm_sorted.specs.Newest.{after_key}
 use Rattle.lsm_sorted.specs.Outlook.{Outlook, before_any, nothing_stops, IsSame}
 use Rattle.lsm_sorted.specs.Hears.{Hears, Heard}

@@ -7,9 +7,9 @@ use Rattle.sst_entries.specs.declared.error.Error.{Error}
 use Rattle.sst_entries.specs.declared.stream.Direction.{Direction}
 use Rattle.sst_entries.specs.Entry.{Entry}
 use Rattle.sst_entries.specs.Stream.{Runs, ok_results, deal}
-use Rattle.lsm_merge.specs.Ends.{R}
-use Rattle.lsm_merge.specs.Union.{all_errors, union_of}
-use Rattle.lsm_merge.specs.MergeLaws.{DealSorted}
+use Rattle.lsm_sorted.specs.merge.Ends.{R}
+use Rattle.lsm_sorted.specs.merge.Union.{all_errors, union_of}
+use Rattle.lsm_sorted.specs.merge.MergeLaws.{DealSorted}
 use Rattle.lsm_sorted.specs.declared.compaction.Rules.{Rules}
 use Rattle.lsm_sorted.specs.Compaction.{outs, as_they_are}
 use Rattle.lsm_sorted.specs.Outlook.{StopsAtNone}

@@ -2,7 +2,7 @@
 use Rattle.std.specs.Prelude.{Option, Some, None, if◌then◌else◌}
 use Rattle.std.specs.Ordering.{is_lt}
 use Rattle.sst_entries.specs.Entry.{Entry}
-use Rattle.lsm_merge.specs.Union.{item_cmp}
+use Rattle.lsm_sorted.specs.merge.Union.{item_cmp}
 
 -- of two entries that may be there the one that stands before the other, or the first
 abbrev pub leading_of : Option Entry → Option Entry → Option Entry

@@ -3,7 +3,7 @@ use Rattle.std.specs.Prelude.{ℕ, Bool, true, nat_lt, Option, Some, None, if◌
 use Rattle.std.specs.Iterator.{at_most}
 use Rattle.sst_entries.specs.Entry.{Entry}
 use Rattle.sst_entries.specs.Stream.{nowhere}
-use Rattle.lsm_merge.specs.Ends.{R}
+use Rattle.lsm_sorted.specs.merge.Ends.{R}
 use Rattle.lsm_sorted.specs.Below.{GivesBelow, MayAsk}
 use Rattle.lsm_sorted.specs.declared.below.Below.{Below}
 

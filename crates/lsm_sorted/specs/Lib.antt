@@ -1,3 +1,5 @@
+pub mod version
+pub mod merge
 pub mod Below
 pub mod LentBelow
 pub mod Outlook
@@ -16,13 +18,4 @@ pub mod Ahead
 pub mod CompactionState
 pub mod ReadLaw
 pub mod Words
-pub use Rattle.lsm_ranges.specs.KeyRange
-pub use Rattle.lsm_ranges.specs.Run
-pub use Rattle.lsm_ranges.specs.Packing
-pub use Rattle.lsm_merge.specs.Bag
-pub use Rattle.lsm_merge.specs.Tournament
-pub use Rattle.lsm_merge.specs.IntervalHeap
-pub use Rattle.lsm_merge.specs.Ends
-pub use Rattle.lsm_merge.specs.Union
-pub use Rattle.lsm_merge.specs.Merge
-pub use Rattle.lsm_merge.specs.MergeLaws
+pub mod lending

@@ -6,8 +6,8 @@ use Rattle.sst_entries.specs.declared.stream.Direction.{Direction}
 use Rattle.sst_entries.specs.Entry.{Entry}
 use Rattle.sst_entries.specs.Stream.{Runs, NoneStops, Deals, CanDeal, answer_stops, ok_results}
 use Rattle.std.specs.Iterator.{IsFinite}
-use Rattle.lsm_merge.specs.Ends.{R, Goes}
-use Rattle.lsm_merge.specs.Union.{Ascends, newest}
+use Rattle.lsm_sorted.specs.merge.Ends.{R, Goes}
+use Rattle.lsm_sorted.specs.merge.Union.{Ascends, newest}
 use Rattle.lsm_sorted.specs.declared.mvcc_stream.MvccStream.{MvccStream}
 use Rattle.lsm_sorted.specs.Newest.{newest_answers}
 use Rattle.lsm_sorted.specs.Outlook.{Outlook, IsStep}

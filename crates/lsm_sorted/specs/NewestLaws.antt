@@ -5,12 +5,13 @@ use Rattle.sst_entries.specs.Stream.{Runs, Deals, CanDeal, answer_stops, ok_resu
 use Rattle.sst_entries.specs.declared.error.Error.{Error}
 use Rattle.sst_entries.specs.declared.stream.Direction.{Direction}
 use Rattle.sst_entries.specs.declared.stream.Direction.TheVariants.{Front, Back}
-use Rattle.lsm_merge.specs.declared.merge.Merger.{Merger}
+use Rattle.lsm_sorted.specs.declared.merge.Merger.{Merger}
 use Rattle.lsm_sorted.specs.declared.mvcc_stream.MvccStream.{MvccStream}
-use Rattle.lsm_merge.specs.Ends.{R}
-use Rattle.lsm_merge.specs.Union.{all_errors, union_of, newest}
-use Rattle.lsm_merge.specs.Asks.{IsMergerOf}
-use Rattle.lsm_merge.specs.MergeLaws.{DealSorted, DealsUntilError, MeetsErrorsLate, every_error}
+use Rattle.lsm_sorted.specs.merge.Ends.{R}
+use Rattle.lsm_sorted.specs.merge.Union.{all_errors, union_of, newest}
+use Rattle.lsm_sorted.specs.merge.Asks.{IsMergerOf}
+use Rattle.lsm_sorted.specs.merge.MergeLaws.{DealSorted, DealsUntilError, MeetsErrorsLate}
+use Rattle.lsm_sorted.specs.merge.MergeLaws.{every_error}
 use Rattle.lsm_sorted.specs.Gap.{IsUpToGap}
 use Rattle.lsm_sorted.specs.Mvcc.{mvcc_outlook}
 use Rattle.lsm_sorted.specs.Newest.{newest_answers}

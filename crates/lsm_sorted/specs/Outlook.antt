@@ -5,8 +5,8 @@ use Rattle.std.specs.Prelude.{None}
 use Rattle.sst_entries.specs.declared.stream.Direction.{Direction}
 use Rattle.sst_entries.specs.declared.stream.Direction.TheVariants.{Front, Back}
 use Rattle.sst_entries.specs.declared.error.Error.{Error}
-use Rattle.lsm_merge.specs.declared.ends.Ends.{Ends}
-use Rattle.lsm_merge.specs.Ends.{R, new_ends}
+use Rattle.lsm_sorted.specs.declared.heap.ends.Ends.{Ends}
+use Rattle.lsm_sorted.specs.merge.Ends.{R, new_ends}
 
 -- a source, and what stands before it and behind it
 pub record Outlook (S : Type 0) : Type 0 where

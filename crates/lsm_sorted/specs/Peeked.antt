@@ -2,7 +2,7 @@
 use Rattle.std.specs.Prelude.{ℕ, ◌+◌, List, [], ◌∷◌, Option, Some, None}
 use Rattle.std.specs.Iterator.{Count}
 use Rattle.lsm_sorted.specs.declared.peeked.Peeked.{Peeked}
-use Rattle.lsm_merge.specs.Ends.{R, ends_size}
+use Rattle.lsm_sorted.specs.merge.Ends.{R, ends_size}
 use Rattle.lsm_sorted.specs.Outlook.{Outlook}
 
 -- what a place holds

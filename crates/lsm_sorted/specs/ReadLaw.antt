@@ -5,7 +5,7 @@ use Rattle.sst_entries.specs.Entry.{Entry}
 use Rattle.sst_entries.specs.Key.{same_key}
 use Rattle.sst_entries.specs.Strict.{IsStrict}
 use Rattle.sst_entries.specs.Kind.{is_weak_kind}
-use Rattle.lsm_merge.specs.Union.{Ascends, SameBag}
+use Rattle.lsm_sorted.specs.merge.Union.{Ascends, SameBag}
 use Rattle.lsm_sorted.specs.Point.{seen}
 use Rattle.lsm_sorted.specs.declared.compaction.Rules.{Rules}
 use Rattle.lsm_sorted.specs.Compaction.{kept, unfiltered}

@@ -3,7 +3,7 @@
 pub use Rattle.sst_entries.specs.Entry.{Entry}
 pub use Rattle.sst_entries.specs.Key.{same_key}
 pub use Rattle.sst_entries.specs.Stream.{CanDeal, Deals, answer_stops, nowhere}
-pub use Rattle.lsm_merge.specs.Ends.{R}
+pub use Rattle.lsm_sorted.specs.merge.Ends.{R}
 pub use Rattle.lsm_sorted.specs.Ahead.{HoldsAhead}
 pub use Rattle.lsm_sorted.specs.Outlook.{before_any}
 pub use Rattle.lsm_sorted.specs.Hears.{Hears}

@@ -1,14 +1,14 @@
 //! An iterator that is taken from the front alone, with a place for one entry before it.
 ghost use Rattle.sst_entries.specs.declared.error.Error.{Error};
 ghost use Rattle.std.specs.Prelude.{Bool, ◌≡◌, ℕ, ◌+◌, ◌<◌, List, ◌∷◌, false};
-ghost use Rattle.lsm_merge.specs.Ends.{R, Goes};
+ghost use Rattle.lsm_sorted.specs.merge.Ends.{R, Goes};
 ghost use Rattle.sst_entries.specs.declared.stream.Direction.TheVariants.{Front};
 ghost use Rattle.sst_entries.specs.Stream.{DealsFirst, Lowers, nowhere, front_of};
 ghost use Rattle.lsm_sorted.specs.Outlook.{IsStep};
 ghost use Rattle.lsm_sorted.specs.Hears.{Hears};
 ghost use Rattle.lsm_sorted.specs.Ahead.{HoldsAhead, ahead_size, ahead_outlook};
 
-use lsm_merge::Ends;
+use crate::Ends;
 use sst_entries::{InternalValue, IterItem};
 use std::alloc::Allocator;
 

@@ -1,6 +1,7 @@
 //! Compaction: older versions and tombstones that no reader needs are left out.
 use sst_entries::SeqNo;
 
+pub mod lending;
 pub mod stream;
 
 /// How runs are compacted.

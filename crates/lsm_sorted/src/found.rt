@@ -1,7 +1,7 @@
 //! The first of entries that were found.
 ghost use Rattle.std.specs.Prelude.{◌≡◌};
 ghost use Rattle.std.specs.Ordering.{is_lt};
-ghost use Rattle.lsm_merge.specs.Union.{item_cmp};
+ghost use Rattle.lsm_sorted.specs.merge.Union.{item_cmp};
 ghost use Rattle.lsm_sorted.specs.Leading.{leading_of};
 
 use sst_entries::InternalValue;

@@ -1,10 +1,10 @@
 //! What mergers deal whose sources have errors.
 ghost use Rattle.std.specs.Prelude.{List};
 ghost use Rattle.sst_entries.specs.Stream.{nowhere, EndsAtError};
-ghost use Rattle.lsm_merge.specs.MergeLaws.{DealsBeforeErrors, DealsUntilError};
+ghost use Rattle.lsm_sorted.specs.merge.MergeLaws.{DealsBeforeErrors, DealsUntilError};
 ghost use Rattle.lsm_sorted.specs.Gap.{MergesUpToGap};
 
-use lsm_merge::Merger;
+use crate::Merger;
 use sst_entries::IterItem;
 use std::alloc::Allocator;
 

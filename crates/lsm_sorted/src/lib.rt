@@ -1,7 +1,6 @@
-//! Merging, newest versions and compaction, and with `lsm_ranges` key ranges and runs of tables:
-//! what works on sorted entries, whatever table they come from. What lends them instead of giving
-//! them stands in `lsm_lending`. It passes on what `lsm_ranges` exports, and of `lsm_merge` what
-//! gives entries and the queues that users name.
+//! What works on sorted entries, whatever table they come from: key ranges, runs of tables and
+//! packing; merging, newest versions and compaction, of sources that give entries and of sources
+//! that lend them.
 #![tactic(auto)]
 
 mod ahead;
@@ -10,14 +9,24 @@ pub mod compaction;
 mod found;
 mod gap;
 mod give_up;
+mod heap;
+mod key_range;
+mod lending_merger;
+mod lending_newest;
+mod merge;
 mod mvcc_stream;
 mod newest;
 mod peeked;
+mod version;
 
 pub use below::{Below, each_below};
 pub use found::leading;
 pub use gap::up_to_gap;
-pub use lsm_merge::{IntervalHeap, Merger, Tournament, from_both_ends};
-pub use lsm_ranges::{Indexed, KeyRange, Ranged, Run, optimize_runs, overlap_chain};
+pub use heap::{Ends, IntervalHeap, LazyTournament, Tournament, compare_refs};
+pub use key_range::KeyRange;
+pub use lending_merger::LendingMerger;
+pub use lending_newest::LendingNewest;
+pub use merge::{Merger, from_both_ends};
 pub use mvcc_stream::MvccStream;
 pub use newest::{NewestOf, newest_from_both_ends, newest_of};
+pub use version::{Indexed, Packed, Placed, Ranged, Run, optimize_runs, overlap_chain, pack_each};

@@ -7,7 +7,7 @@ ghost use Rattle.lsm_sorted.specs.NewestLaws.{DealsNewest, DealsNewestUntilError
 ghost use Rattle.lsm_sorted.specs.NewestLaws.{IsNewestOf, IsOverMerged, CanAskNewest};
 
 use crate::mvcc_stream::MvccStream;
-use lsm_merge::{Merger, from_both_ends};
+use crate::{Merger, from_both_ends};
 use sst_entries::{Error, IterItem};
 use std::alloc::Allocator;
 

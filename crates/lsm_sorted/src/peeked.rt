@@ -1,14 +1,14 @@
 //! An iterator with a place for one entry before it and one behind it.
 ghost use Rattle.std.specs.Prelude.{◌≡◌, ℕ, ◌+◌, ◌<◌, ◌∷◌, ◌++◌, [], false};
 ghost use Rattle.std.specs.Iterator.{IsFinite};
-ghost use Rattle.lsm_merge.specs.Ends.{R, Goes, ends_size};
+ghost use Rattle.lsm_sorted.specs.merge.Ends.{R, Goes, ends_size};
 ghost use Rattle.sst_entries.specs.declared.stream.Direction.TheVariants.{Front, Back};
 ghost use Rattle.sst_entries.specs.Stream.{Lowers, nowhere, front_of, back_of};
 ghost use Rattle.lsm_sorted.specs.Outlook.{IsStep};
 ghost use Rattle.lsm_sorted.specs.Hears.{Hears};
 ghost use Rattle.lsm_sorted.specs.Peeked.{peeked_size, peeked_outlook};
 
-use lsm_merge::Ends;
+use crate::Ends;
 use sst_entries::{InternalValue, IterItem};
 use std::alloc::Allocator;
 

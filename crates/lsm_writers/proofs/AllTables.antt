@@ -12,11 +12,11 @@ use Rattle.sst_entries.specs.Key.{key_lt, same_key}
 use Rattle.sst_entries.specs.Strict.{IsStrict, IsStrictAfter, is_before, last_of, may_follow}
 use Rattle.sst_entries.proofs.Booleans.{not_is}
 use Rattle.sst_entries.proofs.Strictness.{strict_back}
-use Rattle.lsm_formats.specs.Chunks.{is_full, joined}
-use Rattle.lsm_formats.specs.Facts.{starts_key}
-use Rattle.lsm_formats.specs.Failed.{failed_fault}
-use Rattle.lsm_formats.specs.Index.{last_entry}
-use Rattle.lsm_formats.proofs.KeyLaws.{key_above}
+use Rattle.sst_blocks.specs.table.Chunks.{is_full, joined}
+use Rattle.sst_blocks.specs.table.Facts.{starts_key}
+use Rattle.sst_blocks.specs.table.Failed.{failed_fault}
+use Rattle.sst_blocks.specs.table.Index.{last_entry}
+use Rattle.sst_blocks.proofs.KeyLaws.{key_above}
 use Rattle.lsm_writers.specs.declared.writer.FinishedTable.{FinishedTable}
 use Rattle.lsm_writers.specs.Cut.{rest_chunk}
 use Rattle.lsm_writers.specs.Tables.{AddsTable, AreCuts, AreFinished, AreInKeyOrder, AreTables}

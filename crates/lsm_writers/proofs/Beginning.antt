@@ -5,12 +5,12 @@ use Rattle.std.specs.Prelude.{None}
 use Rattle.std.specs.List.{AllByRecursion}
 use Rattle.sst_entries.specs.Entry.{Entry}
 use Rattle.sst_entries.specs.Strict.{IsStrictAfter, last_of}
-use Rattle.lsm_formats.specs.Chunks.{joined}
-use Rattle.lsm_formats.specs.Facts.{count_after, lowest_seqno, highest_seqno}
-use Rattle.lsm_formats.specs.Filters.{keys_after}
-use Rattle.lsm_formats.specs.Fits.{LabelFits}
-use Rattle.lsm_formats.specs.declared.label.Label.{Label}
-use Rattle.lsm_formats.specs.declared.options.Options.{Options}
+use Rattle.sst_blocks.specs.table.Chunks.{joined}
+use Rattle.sst_blocks.specs.table.Facts.{count_after, lowest_seqno, highest_seqno}
+use Rattle.sst_blocks.specs.table.Filters.{keys_after}
+use Rattle.sst_blocks.specs.table.Fits.{LabelFits}
+use Rattle.sst_blocks.specs.declared.table.label.Label.{Label}
+use Rattle.sst_blocks.specs.declared.table.options.Options.{Options}
 use Rattle.lsm_writers.specs.declared.writer.meta.Metadata.{Metadata}
 use Rattle.lsm_writers.specs.Counts.{no_counts}
 use Rattle.lsm_writers.specs.Cut.{Cut}

@@ -10,9 +10,9 @@ use Rattle.std.proofs.lemmas.List.{append-nil, drop-append-le, drop-take, drop_a
 use Rattle.std.proofs.lemmas.List.{take_at}
 use Rattle.std.proofs.lemmas.List.Concat.{flat_map-append}
 use Rattle.std.proofs.lemmas.List.Sums.{sum_by-cons}
-use Rattle.sst_sections.specs.declared.version.TableVersion.TheVariants.{V4}
-use Rattle.sst_sections.specs.Number.{le4}
-use Rattle.sst_sections.proofs.Numbers.{wide4}
+use Rattle.sst_blocks.specs.declared.version.TableVersion.TheVariants.{V4}
+use Rattle.sst_blocks.specs.Number.{le4}
+use Rattle.sst_blocks.proofs.Numbers.{wide4}
 use Rattle.sst_entries.specs.declared.error.Error.{Error}
 use Rattle.sst_entries.specs.declared.error.Error.TheVariants.{BlockTooLarge}
 use Rattle.sst_entries.specs.Entry.{Entry, entry}

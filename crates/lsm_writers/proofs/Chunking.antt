@@ -8,8 +8,8 @@ use Rattle.std.proofs.lemmas.List.Concat.{flat_map-append}
 use Rattle.std.proofs.lemmas.Bool.{eq-eqb, ne_eqb, or_from}
 use Rattle.sst_entries.specs.Entry.{Entry}
 use Rattle.sst_entries.proofs.Booleans.{or_right, or_left}
-use Rattle.lsm_formats.specs.Chunks.{joined, is_full, is_spilled, ends_after, IsChunk, Ends}
-use Rattle.lsm_formats.specs.Chunks.{AreChunksFrom, AreChunks}
+use Rattle.sst_blocks.specs.table.Chunks.{joined, is_full, is_spilled, ends_after, IsChunk, Ends}
+use Rattle.sst_blocks.specs.table.Chunks.{AreChunksFrom, AreChunks}
 use Rattle.lsm_writers.specs.Cut.{rest_chunk}
 use Rattle.lsm_writers.specs.Held.{IsShortest}
 use Rattle.lsm_writers.specs.Writing.{early_ends}

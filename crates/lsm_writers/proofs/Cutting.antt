@@ -8,33 +8,33 @@ use Rattle.std.proofs.lemmas.List.{take_at, drop_at, append-nil}
 use Rattle.std.proofs.lemmas.List.Concat.{flat_map-append}
 use Rattle.std.proofs.lemmas.List.Sums.{sum_by-append, sum_by-cons}
 use Rattle.std.specs.Option.{option_map}
-use Rattle.sst_sections.specs.declared.version.TableVersion.TheVariants.{V4}
+use Rattle.sst_blocks.specs.declared.version.TableVersion.TheVariants.{V4}
 use Rattle.sst_blocks.specs.declared.block_type.BlockType.TheVariants.{Data as DataKind}
-use Rattle.sst_sections.specs.declared.section.SectionName.TheVariants.{Data}
+use Rattle.sst_blocks.specs.declared.section.SectionName.TheVariants.{Data}
 use Rattle.sst_blocks.specs.Block.{block_bytes, header, data_len}
 use Rattle.sst_entries.specs.declared.value_type.ValueType.TheVariants.{Value}
 use Rattle.sst_entries.specs.Entry.{Entry, entry}
-use Rattle.sst_sections.specs.Fnv.{fnv1a}
+use Rattle.sst_blocks.specs.Fnv.{fnv1a}
 use Rattle.sst_blocks.specs.Bounds.{data_block_bound_of, entry_bound}
 use Rattle.sst_blocks.specs.Handle.{Handle}
 use Rattle.sst_blocks.specs.Handles.{AreStrictHandles}
 use Rattle.sst_blocks.specs.Place.{Place}
-use Rattle.lsm_section_writers.specs.Kept.{handle_with}
-use Rattle.sst_sections.specs.Number.{le4, le8, num4}
+use Rattle.lsm_writers.specs.section.Kept.{handle_with}
+use Rattle.sst_blocks.specs.Number.{le4, le8, num4}
 use Rattle.sst_blocks.specs.Payload.{payload}
 use Rattle.sst_blocks.specs.Reading.{entries_in}
-use Rattle.sst_sections.specs.Sections.{Written}
+use Rattle.sst_blocks.specs.Sections.{Written}
 use Rattle.sst_entries.specs.Strict.{IsStrictAfter, IsStrict, last_of}
-use Rattle.sst_sections.proofs.Numbers.{wide4, wide8}
-use Rattle.lsm_formats.specs.Chunks.{joined}
+use Rattle.sst_blocks.proofs.Numbers.{wide4, wide8}
+use Rattle.sst_blocks.specs.table.Chunks.{joined}
 use Rattle.lsm_writers.specs.declared.writer.meta.Metadata.{Metadata}
 use Rattle.lsm_writers.specs.Cut.{chunks_in, IsReadable, AreCut, with_cut, rest_chunk}
-use Rattle.lsm_formats.specs.Facts.{last_key}
-use Rattle.lsm_formats.specs.Fits.{BlockFits}
-use Rattle.lsm_formats.specs.Index.{data_block, data_section, handles, handles_from, handle_of}
-use Rattle.lsm_formats.specs.Index.{block_size, last_entry}
+use Rattle.sst_blocks.specs.table.Facts.{last_key}
+use Rattle.sst_blocks.specs.table.Fits.{BlockFits}
+use Rattle.sst_blocks.specs.table.Index.{data_block, data_section, handles, handles_from, handle_of}
+use Rattle.sst_blocks.specs.table.Index.{block_size, last_entry}
 use Rattle.sst_entries.proofs.Lists.{all_append, all_more}
-use Rattle.lsm_formats.proofs.FactLaws.{length-handles}
+use Rattle.sst_blocks.proofs.FactLaws.{length-handles}
 use Rattle.lsm_writers.proofs.Orders.{last_of-append, last_of_cons, HasSome, handles_strict}
 
 -- what a header says of the length

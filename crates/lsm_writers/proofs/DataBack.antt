@@ -5,10 +5,10 @@ use Rattle.std.proofs.Common.{length-append}
 use Rattle.std.specs.Prelude.{Some, None, unwrap_or, slice_index, ◌==◌}
 use Rattle.std.specs.List.{AllByRecursion, flat_map}
 use Rattle.std.proofs.lemmas.List.{take_at, drop_at}
-use Rattle.sst_sections.specs.declared.version.TableVersion.TheVariants.{V4}
-use Rattle.sst_sections.specs.Sections.{trailer}
-use Rattle.sst_sections.specs.Number.{le4}
-use Rattle.sst_sections.proofs.Numbers.{wide4}
+use Rattle.sst_blocks.specs.declared.version.TableVersion.TheVariants.{V4}
+use Rattle.sst_blocks.specs.Sections.{trailer}
+use Rattle.sst_blocks.specs.Number.{le4}
+use Rattle.sst_blocks.proofs.Numbers.{wide4}
 use Rattle.sst_blocks.specs.Block.{data_len}
 use Rattle.sst_blocks.specs.Handle.{Handle}
 use Rattle.sst_blocks.specs.Payload.{payload, spelled}
@@ -19,15 +19,15 @@ use Rattle.sst_entries.specs.Entry.{Entry}
 use Rattle.sst_entries.specs.Strict.{IsStrict}
 use Rattle.sst_entries.proofs.Lists.{all_front, all_behind}
 use Rattle.sst_entries.proofs.Strictness.{strict_alone, strict_front, strict_back}
-use Rattle.lsm_formats.specs.Chunks.{joined}
-use Rattle.lsm_formats.specs.File.{index_part, filter_part, closing_sections, sections_of}
-use Rattle.lsm_formats.specs.Fits.{BlockFits, EntryFits}
-use Rattle.lsm_formats.specs.Index.{data_block, data_section}
-use Rattle.lsm_formats.specs.Kinds.{index_sections}
-use Rattle.lsm_formats.specs.Layout.{Sections, bytes_in, laid}
-use Rattle.lsm_formats.specs.declared.options.IndexKind.{IndexKind}
-use Rattle.lsm_formats.specs.declared.options.IndexKind.TheVariants.{Full as FullIndex}
-use Rattle.lsm_formats.specs.declared.options.IndexKind.TheVariants.{
+use Rattle.sst_blocks.specs.table.Chunks.{joined}
+use Rattle.sst_blocks.specs.table.File.{index_part, filter_part, closing_sections, sections_of}
+use Rattle.sst_blocks.specs.table.Fits.{BlockFits, EntryFits}
+use Rattle.sst_blocks.specs.table.Index.{data_block, data_section}
+use Rattle.sst_blocks.specs.table.Kinds.{index_sections}
+use Rattle.sst_blocks.specs.table.Layout.{Sections, bytes_in, laid}
+use Rattle.sst_blocks.specs.declared.table.options.IndexKind.{IndexKind}
+use Rattle.sst_blocks.specs.declared.table.options.IndexKind.TheVariants.{Full as FullIndex}
+use Rattle.sst_blocks.specs.declared.table.options.IndexKind.TheVariants.{
   Partitioned as PartitionedIndex,
 }
 use Rattle.lsm_writers.specs.Tables.{leading_chunks, list_in}

@@ -2,43 +2,44 @@
 use Rattle.std.proofs.Common.{◌≡◌, refl, sym, ◌∙◌, ap, subst, ℕ, ◌≤◌, Bool, true, false, cond, List}
 use Rattle.std.proofs.Common.{[], ◌∷◌, ◌++◌, length, append_assoc, arith, IsTrue}
 use Rattle.std.proofs.lemmas.List.{append-nil}
-use Rattle.sst_sections.specs.Sections.{Written}
-use Rattle.sst_sections.specs.declared.version.TableVersion.TheVariants.{V4}
+use Rattle.sst_blocks.specs.Sections.{Written}
+use Rattle.sst_blocks.specs.declared.version.TableVersion.TheVariants.{V4}
 use Rattle.std.specs.Prelude.{Option, Some, None, nat_lt, ◌&&◌, Result, Ok, Err, IfOk, OnOk}
 use Rattle.sst_entries.specs.Error.{Faults}
 use Rattle.sst_entries.specs.declared.error.Error.{Error}
 use Rattle.sst_entries.specs.Entry.{Entry}
 use Rattle.sst_entries.specs.Strict.{IsStrict, last_of}
-use Rattle.sst_filters.specs.declared.policy.BloomConstructionPolicy.{BloomConstructionPolicy}
-use Rattle.sst_filters.specs.Policy.{tenths_of}
-use Rattle.lsm_formats.specs.Facts.{starts_key}
-use Rattle.lsm_formats.specs.Failed.{failed_fault}
+use Rattle.sst_blocks.specs.declared.filter.policy.BloomConstructionPolicy.{BloomConstructionPolicy}
+use Rattle.sst_blocks.specs.filter.Policy.{tenths_of}
+use Rattle.sst_blocks.specs.table.Facts.{starts_key}
+use Rattle.sst_blocks.specs.table.Failed.{failed_fault}
 use Rattle.std.specs.Option.{option_or}
-use Rattle.lsm_formats.specs.Filters.{filtered_keys, keys_after}
-use Rattle.lsm_formats.specs.Kinds.{filter_count, filter_parts, filter_sections, filter_with_size}
-use Rattle.lsm_formats.specs.Layout.{Sections, appended}
-use Rattle.lsm_formats.specs.Parts.{parts_after}
-use Rattle.lsm_formats.specs.declared.options.FilterKind.{FilterKind}
-use Rattle.lsm_formats.specs.declared.options.FilterKind.TheVariants.{Full as FullFilter}
-use Rattle.lsm_formats.specs.declared.options.FilterKind.TheVariants.{
+use Rattle.sst_blocks.specs.table.Filters.{filtered_keys, keys_after}
+use Rattle.sst_blocks.specs.table.Kinds.{filter_count, filter_parts, filter_sections}
+use Rattle.sst_blocks.specs.table.Kinds.{filter_with_size}
+use Rattle.sst_blocks.specs.table.Layout.{Sections, appended}
+use Rattle.sst_blocks.specs.table.Parts.{parts_after}
+use Rattle.sst_blocks.specs.declared.table.options.FilterKind.{FilterKind}
+use Rattle.sst_blocks.specs.declared.table.options.FilterKind.TheVariants.{Full as FullFilter}
+use Rattle.sst_blocks.specs.declared.table.options.FilterKind.TheVariants.{
   Partitioned as PartitionedFilter,
 }
-use Rattle.lsm_section_writers.specs.FilterEither.{HoldsBy, failed_by, kind_by, policy_by}
-use Rattle.lsm_section_writers.specs.Given.{GivenKeys, given_by, no_keys as no_given, with_key}
-use Rattle.lsm_section_writers.specs.Rising.{AreRising, Rises}
-use Rattle.lsm_section_writers.proofs.SameOptions.{fault_same, given_all, given_more, writes_same}
-use Rattle.lsm_section_writers.specs.Cutting.{closed_after, waiting_after}
-use Rattle.lsm_section_writers.specs.Held.{CutParts, Hashes, HoldsHashes, HoldsParts}
-use Rattle.lsm_section_writers.specs.FilterRefusing.{filter_fault, given_fault, register_fault}
-use Rattle.lsm_section_writers.specs.Writing.{WritesFilter, WritesParts}
-use Rattle.lsm_section_writers.specs.declared.filter_either.FilterWriterImpl.{FilterWriterImpl}
-use Rattle.lsm_section_writers.specs.declared.filter_either.FilterWriterImpl.TheVariants.{
+use Rattle.lsm_writers.specs.section.FilterEither.{HoldsBy, failed_by, kind_by, policy_by}
+use Rattle.lsm_writers.specs.section.Given.{GivenKeys, given_by, no_keys as no_given, with_key}
+use Rattle.lsm_writers.specs.section.Rising.{AreRising, Rises}
+use Rattle.lsm_writers.proofs.SameOptions.{fault_same, given_all, given_more, writes_same}
+use Rattle.lsm_writers.specs.section.Cutting.{closed_after, waiting_after}
+use Rattle.lsm_writers.specs.section.Held.{CutParts, Hashes, HoldsHashes, HoldsParts}
+use Rattle.lsm_writers.specs.section.FilterRefusing.{filter_fault, given_fault, register_fault}
+use Rattle.lsm_writers.specs.section.Writing.{WritesFilter, WritesParts}
+use Rattle.lsm_writers.specs.declared.section.filter_either.FilterWriterImpl.{FilterWriterImpl}
+use Rattle.lsm_writers.specs.declared.section.filter_either.FilterWriterImpl.TheVariants.{
   Full as FullWriter,
 }
-use Rattle.lsm_section_writers.specs.declared.filter_either.FilterWriterImpl.TheVariants.{
+use Rattle.lsm_writers.specs.declared.section.filter_either.FilterWriterImpl.TheVariants.{
   Partitioned as PartitionedWriter,
 }
-use Rattle.lsm_formats.specs.Chunks.{joined}
+use Rattle.sst_blocks.specs.table.Chunks.{joined}
 use Rattle.lsm_writers.specs.Counts.{tally_of}
 use Rattle.lsm_writers.specs.Cut.{rest_chunk}
 use Rattle.lsm_writers.specs.declared.writer.meta.Tally.{Tally}

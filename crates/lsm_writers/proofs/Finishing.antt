@@ -5,57 +5,59 @@ use Rattle.std.specs.Prelude.{Option, Some, None, unwrap_or, if◌then◌else◌
 use Rattle.std.specs.List.{AllByRecursion}
 use Rattle.std.proofs.lemmas.List.{append-nil, nil_from_length}
 use Rattle.std.proofs.lemmas.List.Sums.{sum_by-cons}
-use Rattle.sst_sections.specs.declared.version.TableVersion.TheVariants.{V4}
+use Rattle.sst_blocks.specs.declared.version.TableVersion.TheVariants.{V4}
 use Rattle.sst_blocks.specs.Encoding.{entries_fault}
 use Rattle.sst_entries.specs.declared.error.Error.{Error}
 use Rattle.sst_entries.specs.declared.error.Error.TheVariants.{WriterFailed}
 use Rattle.sst_entries.specs.Entry.{Entry}
-use Rattle.sst_sections.specs.Fnv.{fnv1a}
+use Rattle.sst_blocks.specs.Fnv.{fnv1a}
 use Rattle.sst_entries.specs.Strict.{IsStrict, last_of}
 use Rattle.lsm_writers.specs.declared.writer.meta.Metadata.{Metadata}
-use Rattle.lsm_formats.specs.Chunks.{joined, entry_size, entries_size, is_full, AreChunks}
+use Rattle.sst_blocks.specs.table.Chunks.{joined, entry_size, entries_size, is_full, AreChunks}
 use Rattle.lsm_writers.specs.Counts.{metadata_of, counted_facts, counted_items, HasShortKeys}
 use Rattle.lsm_writers.specs.Cut.{rest_chunk}
-use Rattle.lsm_formats.specs.Facts.{ListFacts, first_key, last_key}
-use Rattle.lsm_formats.proofs.KindLemmas.{index_parts_are, filter_parts_are}
-use Rattle.lsm_formats.specs.Content.{Content}
-use Rattle.lsm_formats.specs.File.{IsContent, counted_blocks, file, filter_part, front_sections}
-use Rattle.lsm_formats.specs.File.{index_part, meta_section, version_section}
-use Rattle.lsm_formats.specs.Filters.{AreFiltersFor, filtered_keys}
-use Rattle.lsm_formats.specs.Kinds.{AreFilterParts, filter_count, filter_sections, index_parts}
-use Rattle.lsm_formats.specs.Kinds.{index_sections}
-use Rattle.lsm_formats.specs.Layout.{Sections, bytes_in, laid, appended}
-use Rattle.lsm_formats.specs.Parts.{parts_after}
-use Rattle.lsm_formats.specs.declared.options.FilterKind.{FilterKind}
-use Rattle.lsm_section_writers.specs.declared.filter_either.FilterWriterImpl.{FilterWriterImpl}
+use Rattle.sst_blocks.specs.table.Facts.{ListFacts, first_key, last_key}
+use Rattle.sst_blocks.proofs.KindLemmas.{index_parts_are, filter_parts_are}
+use Rattle.sst_blocks.specs.table.Content.{Content}
+use Rattle.sst_blocks.specs.table.File.{IsContent, counted_blocks, file, filter_part}
+use Rattle.sst_blocks.specs.table.File.{front_sections}
+use Rattle.sst_blocks.specs.table.File.{index_part, meta_section, version_section}
+use Rattle.sst_blocks.specs.table.Filters.{AreFiltersFor, filtered_keys}
+use Rattle.sst_blocks.specs.table.Kinds.{AreFilterParts, filter_count, filter_sections, index_parts}
+use Rattle.sst_blocks.specs.table.Kinds.{index_sections}
+use Rattle.sst_blocks.specs.table.Layout.{Sections, bytes_in, laid, appended}
+use Rattle.sst_blocks.specs.table.Parts.{parts_after}
+use Rattle.sst_blocks.specs.declared.table.options.FilterKind.{FilterKind}
+use Rattle.lsm_writers.specs.declared.section.filter_either.FilterWriterImpl.{FilterWriterImpl}
 use Rattle.lsm_writers.specs.Filtering.{IsFiltered, MayHaveKeys}
-use Rattle.lsm_formats.specs.declared.options.IndexKind.{IndexKind}
-use Rattle.lsm_formats.specs.declared.options.IndexKind.TheVariants.{Full as FullIndex}
-use Rattle.lsm_formats.specs.declared.options.IndexKind.TheVariants.{
+use Rattle.sst_blocks.specs.declared.table.options.IndexKind.{IndexKind}
+use Rattle.sst_blocks.specs.declared.table.options.IndexKind.TheVariants.{Full as FullIndex}
+use Rattle.sst_blocks.specs.declared.table.options.IndexKind.TheVariants.{
   Partitioned as PartitionedIndex,
 }
-use Rattle.lsm_section_writers.specs.IndexRefusing.{index_fault, parts_fault}
-use Rattle.lsm_section_writers.specs.FilterRefusing.{filter_fault}
-use Rattle.lsm_section_writers.specs.Writing.{WritesFilter}
-use Rattle.sst_filters.specs.Filter.{BloomFilter}
-use Rattle.sst_filters.specs.declared.policy.BloomConstructionPolicy.{BloomConstructionPolicy}
-use Rattle.sst_sections.specs.Sections.{Written, finished}
-use Rattle.sst_sections.specs.declared.section.SectionName.TheVariants.{Data}
+use Rattle.lsm_writers.specs.section.IndexRefusing.{index_fault, parts_fault}
+use Rattle.lsm_writers.specs.section.FilterRefusing.{filter_fault}
+use Rattle.lsm_writers.specs.section.Writing.{WritesFilter}
+use Rattle.sst_blocks.specs.filter.Filter.{BloomFilter}
+use Rattle.sst_blocks.specs.declared.filter.policy.BloomConstructionPolicy.{BloomConstructionPolicy}
+use Rattle.sst_blocks.specs.Sections.{Written, finished}
+use Rattle.sst_blocks.specs.declared.section.SectionName.TheVariants.{Data}
 use Rattle.lsm_writers.proofs.Laying.{laid_more}
-use Rattle.lsm_formats.specs.Fits.{BlockFits, EntryFits, LabelFits, SectionFits}
-use Rattle.lsm_section_writers.specs.declared.index_either.IndexWriterImpl.{IndexWriterImpl}
-use Rattle.lsm_section_writers.specs.IndexEither.{registered_by}
-use Rattle.lsm_section_writers.specs.Registered.{Registered}
+use Rattle.sst_blocks.specs.table.Fits.{BlockFits, EntryFits, LabelFits, SectionFits}
+use Rattle.lsm_writers.specs.declared.section.index_either.IndexWriterImpl.{IndexWriterImpl}
+use Rattle.lsm_writers.specs.section.IndexEither.{registered_by}
+use Rattle.lsm_writers.specs.section.Registered.{Registered}
 use Rattle.lsm_writers.specs.Held.{AreTableParts, IsShortest, IsHeld}
 use Rattle.sst_blocks.specs.Handle.{Handle}
-use Rattle.lsm_formats.specs.Index.{data_section, handles, last_entry}
-use Rattle.lsm_formats.specs.MetaBlock.{BlockCounts, meta_entries, meta_entry, meta_items, name_of}
-use Rattle.lsm_formats.specs.declared.item_name.ItemName.{ItemName}
-use Rattle.lsm_formats.specs.declared.item_name.ItemName.TheVariants as item
-use Rattle.lsm_formats.proofs.MetaItems.{IsShort, items_each, items_few, items_strict}
-use Rattle.lsm_formats.specs.declared.options.Options.{Options}
-use Rattle.lsm_formats.specs.declared.label.Label.{Label}
-use Rattle.lsm_formats.specs.Failed.{failed_fault}
+use Rattle.sst_blocks.specs.table.Index.{data_section, handles, last_entry}
+use Rattle.sst_blocks.specs.table.MetaBlock.{BlockCounts, meta_entries, meta_entry, meta_items}
+use Rattle.sst_blocks.specs.table.MetaBlock.{name_of}
+use Rattle.sst_blocks.specs.declared.table.item_name.ItemName.{ItemName}
+use Rattle.sst_blocks.specs.declared.table.item_name.ItemName.TheVariants as item
+use Rattle.sst_blocks.proofs.MetaItems.{IsShort, items_each, items_few, items_strict}
+use Rattle.sst_blocks.specs.declared.table.options.Options.{Options}
+use Rattle.sst_blocks.specs.declared.table.label.Label.{Label}
+use Rattle.sst_blocks.specs.table.Failed.{failed_fault}
 use Rattle.lsm_writers.specs.Writing.{Writing, written, spilled, blocks_of, content_of}
 use Rattle.lsm_writers.specs.Writing.{keys_of_parts, spills_of, cut_writing, sections_fault}
 use Rattle.lsm_writers.specs.Writing.{finish_fault, IsFinished, WritesTable}

@@ -6,18 +6,18 @@ use Rattle.std.specs.Option.{option_or}
 use Rattle.std.proofs.lemmas.Bool.{le-ltb, lt-leb}
 use Rattle.std.proofs.lemmas.List.Concat.{flat_map-append}
 use Rattle.std.proofs.lemmas.List.Sums.{sum_by-append}
-use Rattle.sst_sections.specs.declared.version.TableVersion.TheVariants.{V4}
+use Rattle.sst_blocks.specs.declared.version.TableVersion.TheVariants.{V4}
 use Rattle.sst_blocks.specs.Bounds.{data_block_bound_of, entry_bound}
 use Rattle.sst_entries.specs.declared.error.Error.{Error}
 use Rattle.sst_entries.specs.Entry.{Entry}
-use Rattle.lsm_formats.specs.Chunks.{is_full, joined}
-use Rattle.lsm_formats.specs.Filters.{filtered_keys}
-use Rattle.lsm_formats.specs.Fits.{EntryFits}
-use Rattle.lsm_formats.specs.Index.{handles}
-use Rattle.lsm_formats.specs.Parts.{parts_by}
-use Rattle.lsm_section_writers.specs.Cutting.{waiting_after}
-use Rattle.lsm_section_writers.specs.FilterRefusing.{filter_fault}
-use Rattle.lsm_section_writers.specs.IndexRefusing.{index_fault}
+use Rattle.sst_blocks.specs.table.Chunks.{is_full, joined}
+use Rattle.sst_blocks.specs.table.Filters.{filtered_keys}
+use Rattle.sst_blocks.specs.table.Fits.{EntryFits}
+use Rattle.sst_blocks.specs.table.Index.{handles}
+use Rattle.sst_blocks.specs.table.Parts.{parts_by}
+use Rattle.lsm_writers.specs.section.Cutting.{waiting_after}
+use Rattle.lsm_writers.specs.section.FilterRefusing.{filter_fault}
+use Rattle.lsm_writers.specs.section.IndexRefusing.{index_fault}
 use Rattle.lsm_writers.specs.declared.writer.FinishedTable.{FinishedTable}
 use Rattle.lsm_writers.specs.Cut.{rest_chunk}
 use Rattle.lsm_writers.specs.Tables.{FitsBehind, GoesOn, HasRoomFor, filling, gained_all, ids_fault}

@@ -3,16 +3,16 @@ use Rattle.std.proofs.Common.{◌≡◌, refl, sym, ◌∙◌, ap, subst, ℕ, B
 use Rattle.std.proofs.Common.{◌++◌, arith, length-append, cond}
 use Rattle.std.specs.Prelude.{Option, None}
 use Rattle.sst_entries.specs.Entry.{Entry}
-use Rattle.sst_filters.specs.declared.policy.BloomConstructionPolicy.{BloomConstructionPolicy}
-use Rattle.lsm_formats.specs.declared.label.Label.{Label}
-use Rattle.lsm_formats.specs.declared.options.FilterKind.{FilterKind}
-use Rattle.lsm_formats.specs.declared.options.Options.{Options}
-use Rattle.lsm_formats.specs.Chunks.{is_full, joined}
-use Rattle.lsm_section_writers.specs.declared.filter_either.FilterWriterImpl.{FilterWriterImpl}
+use Rattle.sst_blocks.specs.declared.filter.policy.BloomConstructionPolicy.{BloomConstructionPolicy}
+use Rattle.sst_blocks.specs.declared.table.label.Label.{Label}
+use Rattle.sst_blocks.specs.declared.table.options.FilterKind.{FilterKind}
+use Rattle.sst_blocks.specs.declared.table.options.Options.{Options}
+use Rattle.sst_blocks.specs.table.Chunks.{is_full, joined}
+use Rattle.lsm_writers.specs.declared.section.filter_either.FilterWriterImpl.{FilterWriterImpl}
 use Rattle.lsm_writers.specs.declared.writer.meta.Metadata.{Metadata}
 use Rattle.lsm_writers.specs.declared.writer.meta.Tally.{Tally}
 use Rattle.lsm_writers.specs.Counts.{added, HasRoom}
-use Rattle.lsm_formats.specs.Fits.{LabelFits}
+use Rattle.sst_blocks.specs.table.Fits.{LabelFits}
 use Rattle.lsm_writers.specs.Cut.{Cut, rest_chunk, with_cut}
 use Rattle.lsm_writers.specs.Filtering.{IsFiltered}
 use Rattle.lsm_writers.specs.Held.{CanGoOn, IsHeld, IsTaken}

@@ -4,12 +4,12 @@ use Rattle.std.proofs.Common.{map}
 use Rattle.std.specs.Prelude.{Option, Some, None, nat_lt, ◌&&◌, if◌then◌else◌}
 use Rattle.sst_entries.specs.Entry.{Entry}
 use Rattle.sst_entries.specs.Strict.{IsStrictAfter, IsStrict, last_of}
-use Rattle.sst_filters.specs.declared.policy.BloomConstructionPolicy.{BloomConstructionPolicy}
-use Rattle.sst_filters.specs.Policy.{tenths_of}
-use Rattle.lsm_formats.specs.Facts.{starts_key}
-use Rattle.lsm_formats.specs.Filters.{keys_after, keys_of, filtered_keys}
-use Rattle.lsm_formats.proofs.KeyLaws.{key_end, keys_strict}
-use Rattle.lsm_section_writers.specs.Rising.{AreRising}
+use Rattle.sst_blocks.specs.declared.filter.policy.BloomConstructionPolicy.{BloomConstructionPolicy}
+use Rattle.sst_blocks.specs.filter.Policy.{tenths_of}
+use Rattle.sst_blocks.specs.table.Facts.{starts_key}
+use Rattle.sst_blocks.specs.table.Filters.{keys_after, keys_of, filtered_keys}
+use Rattle.sst_blocks.proofs.KeyLaws.{key_end, keys_strict}
+use Rattle.lsm_writers.specs.section.Rising.{AreRising}
 use Rattle.lsm_writers.specs.Filtering.{registered_key}
 
 -- the key of an entry that starts it

@@ -2,8 +2,8 @@
 use Rattle.std.proofs.Common.{◌≡◌, refl, ◌∙◌, ap, ℕ, ◌+◌, List, [], ◌∷◌, ◌++◌, length}
 use Rattle.std.proofs.Common.{length-append, arith}
 use Rattle.std.proofs.lemmas.List.Concat.{flat_map-append}
-use Rattle.sst_sections.specs.declared.section.SectionName.{SectionName}
-use Rattle.lsm_formats.specs.Layout.{Sections, starts_from, bytes_in, laid, appended}
+use Rattle.sst_blocks.specs.declared.section.SectionName.{SectionName}
+use Rattle.sst_blocks.specs.table.Layout.{Sections, starts_from, bytes_in, laid, appended}
 
 starts_more : (at : ℕ) (ss ts : Sections) → starts_from at (ss ++ ts) ≡ starts_from at ss
     ++ starts_from (at + length (bytes_in ss)) ts

@@ -4,7 +4,7 @@ use Rattle.std.proofs.Common.{length, IsTrue, append_assoc, append-nil, List, []
 use Rattle.std.proofs.Common.{◌-◌, ◌^◌, lt-ltb, ltb-true}
 use Rattle.std.specs.Prelude.{Option, Some, None, Result, Ok, Err, IfOk, MatchOption, nat_lt}
 use Rattle.std.specs.List.{AllByRecursion, list_all}
-use Rattle.sst_sections.specs.declared.version.TableVersion.TheVariants.{V4}
+use Rattle.sst_blocks.specs.declared.version.TableVersion.TheVariants.{V4}
 use Rattle.sst_entries.specs.declared.value_type.ValueType.TheVariants.{Value}
 use Rattle.sst_entries.specs.Entry.{Entry, entry}
 use Rattle.sst_entries.specs.Strict.{last_of, IsStrictAfter}
@@ -13,12 +13,12 @@ use Rattle.sst_entries.proofs.Booleans.{and_both, and_parts}
 use Rattle.sst_entries.proofs.Lists.{all_behind}
 use Rattle.sst_entries.proofs.Strictness.{strict_back}
 use Rattle.lsm_writers.specs.declared.writer.FinishedTable.{FinishedTable}
-use Rattle.lsm_formats.specs.declared.label.Label.{Label}
-use Rattle.lsm_formats.specs.Options.{default_options}
-use Rattle.lsm_formats.specs.Table.{IsTable}
+use Rattle.sst_blocks.specs.declared.table.label.Label.{Label}
+use Rattle.sst_blocks.specs.table.Options.{default_options}
+use Rattle.sst_blocks.specs.table.Table.{IsTable}
 use Rattle.lsm_writers.specs.Writing.{early_ends, may_be_written, gained, spills_of, written}
 use Rattle.lsm_writers.specs.Writing.{IsFinished, IsTableOf, IsWritable, Writing}
-use Rattle.lsm_formats.specs.Chunks.{joined, is_full}
+use Rattle.sst_blocks.specs.table.Chunks.{joined, is_full}
 use Rattle.lsm_writers.proofs.Cutting.{joined_more}
 use Rattle.lsm_writers.proofs.Orders.{ends_follow}
 

@@ -3,16 +3,16 @@ use Rattle.std.proofs.Common.{◌≡◌, refl, sym, ◌∙◌, ap, subst, ℕ, �
 use Rattle.std.proofs.Common.{◌∷◌, ◌++◌, length, map, arith}
 use Rattle.std.specs.Prelude.{Option, Some, None, unwrap_or, nat_lt, ◌^◌}
 use Rattle.std.specs.List.{AllByRecursion}
-use Rattle.sst_sections.specs.declared.version.TableVersion.{TableVersion}
+use Rattle.sst_blocks.specs.declared.version.TableVersion.{TableVersion}
 use Rattle.sst_entries.specs.declared.value_type.ValueType.TheVariants.{Value}
 use Rattle.sst_entries.specs.Entry.{Entry, entry}
 use Rattle.sst_blocks.specs.Handles.{end_of, AreStrictHandles}
 use Rattle.sst_entries.proofs.OrderLemmas.{before_trans}
 use Rattle.sst_entries.proofs.Strictness.{strict_front, strict_back}
 use Rattle.sst_entries.specs.Strict.{is_before, may_follow, IsStrictAfter, IsStrict, last_of}
-use Rattle.lsm_formats.specs.Chunks.{joined}
+use Rattle.sst_blocks.specs.table.Chunks.{joined}
 use Rattle.lsm_writers.specs.Writing.{may_be_written}
-use Rattle.lsm_formats.specs.Index.{last_entry, block_size, handle_of, handles_from, handles}
+use Rattle.sst_blocks.specs.table.Index.{last_entry, block_size, handle_of, handles_from, handles}
 
 pub nothing_last : last_of None [] ≡ None
 unfolding last_of

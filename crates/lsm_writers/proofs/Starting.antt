@@ -2,29 +2,29 @@
 use Rattle.std.proofs.Common.{◌≡◌, sym, subst, ℕ, ◌+◌, List, [], ◌∷◌, length}
 use Rattle.std.specs.Prelude.{All}
 use Rattle.std.proofs.lemmas.List.Elements.{All-append, All-nil, All-cons}
-use Rattle.sst_sections.specs.declared.section.SectionName.{SectionName}
-use Rattle.sst_sections.specs.declared.section.SectionName.TheVariants.{Data, Index, Tli, Filter}
-use Rattle.sst_sections.specs.declared.section.SectionName.TheVariants.{FilterTli, TableVersion}
-use Rattle.sst_sections.specs.declared.version.TableVersion.TheVariants.{V4}
-use Rattle.sst_sections.specs.Sections.{Written, slot_index}
+use Rattle.sst_blocks.specs.declared.section.SectionName.{SectionName}
+use Rattle.sst_blocks.specs.declared.section.SectionName.TheVariants.{Data, Index, Tli, Filter}
+use Rattle.sst_blocks.specs.declared.section.SectionName.TheVariants.{FilterTli, TableVersion}
+use Rattle.sst_blocks.specs.declared.version.TableVersion.TheVariants.{V4}
+use Rattle.sst_blocks.specs.Sections.{Written, slot_index}
 use Rattle.sst_blocks.specs.Handle.{Handle}
-use Rattle.sst_filters.specs.Filter.{BloomFilter}
+use Rattle.sst_blocks.specs.filter.Filter.{BloomFilter}
 use Rattle.std.specs.List.{flat_map}
-use Rattle.lsm_formats.specs.Filters.{filter_block}
-use Rattle.lsm_formats.specs.Partitions.{handles_block}
-use Rattle.sst_filters.specs.declared.policy.BloomConstructionPolicy.{BloomConstructionPolicy}
-use Rattle.lsm_formats.specs.File.{HasNoMeta, HasNoVersion, version_section}
-use Rattle.lsm_formats.specs.Kinds.{index_sections, filter_parts, filter_sections}
-use Rattle.lsm_formats.specs.Layout.{appended, laid, starts_from}
-use Rattle.lsm_section_writers.specs.Writing.{WritesFilter}
-use Rattle.lsm_formats.specs.declared.options.FilterKind.{FilterKind}
-use Rattle.lsm_formats.specs.declared.options.FilterKind.TheVariants.{Full as FullFilter}
-use Rattle.lsm_formats.specs.declared.options.FilterKind.TheVariants.{
+use Rattle.sst_blocks.specs.table.Filters.{filter_block}
+use Rattle.sst_blocks.specs.table.Partitions.{handles_block}
+use Rattle.sst_blocks.specs.declared.filter.policy.BloomConstructionPolicy.{BloomConstructionPolicy}
+use Rattle.sst_blocks.specs.table.File.{HasNoMeta, HasNoVersion, version_section}
+use Rattle.sst_blocks.specs.table.Kinds.{index_sections, filter_parts, filter_sections}
+use Rattle.sst_blocks.specs.table.Layout.{appended, laid, starts_from}
+use Rattle.lsm_writers.specs.section.Writing.{WritesFilter}
+use Rattle.sst_blocks.specs.declared.table.options.FilterKind.{FilterKind}
+use Rattle.sst_blocks.specs.declared.table.options.FilterKind.TheVariants.{Full as FullFilter}
+use Rattle.sst_blocks.specs.declared.table.options.FilterKind.TheVariants.{
   Partitioned as PartitionedFilter,
 }
-use Rattle.lsm_formats.specs.declared.options.IndexKind.{IndexKind}
-use Rattle.lsm_formats.specs.declared.options.IndexKind.TheVariants.{Full as FullIndex}
-use Rattle.lsm_formats.specs.declared.options.IndexKind.TheVariants.{
+use Rattle.sst_blocks.specs.declared.table.options.IndexKind.{IndexKind}
+use Rattle.sst_blocks.specs.declared.table.options.IndexKind.TheVariants.{Full as FullIndex}
+use Rattle.sst_blocks.specs.declared.table.options.IndexKind.TheVariants.{
   Partitioned as PartitionedIndex,
 }
 

@@ -15,24 +15,24 @@ use Rattle.sst_blocks.specs.Bounds.{data_block_bound_of, entry_bound}
 use Rattle.sst_blocks.specs.Encoding.{IsShortEntry, is_long_key, length_fault, entries_fault}
 use Rattle.sst_blocks.specs.Encoding.{large_fault}
 use Rattle.sst_entries.specs.Entry.{Entry, entry}
-use Rattle.lsm_formats.specs.Chunks.{joined, entry_size, entries_size, is_full}
+use Rattle.sst_blocks.specs.table.Chunks.{joined, entry_size, entries_size, is_full}
 use Rattle.sst_entries.specs.Strict.{IsStrict, last_of}
 use Rattle.sst_entries.specs.declared.value_type.ValueType.TheVariants.{Value}
-use Rattle.sst_sections.specs.declared.version.TableVersion.TheVariants.{V4}
+use Rattle.sst_blocks.specs.declared.version.TableVersion.TheVariants.{V4}
 use Rattle.lsm_writers.specs.declared.writer.meta.Metadata.{Metadata}
 use Rattle.lsm_writers.specs.declared.writer.meta.Tally.{Tally}
 use Rattle.lsm_writers.specs.Counts.{metadata_of, brought, tally_of, added, with_entry, HasRoom}
 use Rattle.lsm_writers.specs.Cut.{Cut, rest_chunk, with_cut}
-use Rattle.lsm_formats.specs.Facts.{count_after, lowest_seqno, highest_seqno}
-use Rattle.lsm_formats.specs.Facts.{one_if, first_key}
-use Rattle.lsm_formats.specs.Fits.{EntryFits}
+use Rattle.sst_blocks.specs.table.Facts.{count_after, lowest_seqno, highest_seqno}
+use Rattle.sst_blocks.specs.table.Facts.{one_if, first_key}
+use Rattle.sst_blocks.specs.table.Fits.{EntryFits}
 use Rattle.lsm_writers.specs.Held.{IsUnfilled, IsHeld, IsShortest, IsTaken}
 use Rattle.lsm_writers.specs.Writing.{item_fault, may_be_written}
 use Rattle.lsm_writers.proofs.Cutting.{joined_more, rest_is}
 use Rattle.sst_entries.proofs.Lists.{all_append, all_behind}
 use Rattle.sst_entries.proofs.Booleans.{and_parts}
 use Rattle.sst_entries.proofs.Strictness.{strict_push}
-use Rattle.lsm_formats.proofs.FactLaws.{after_within}
+use Rattle.sst_blocks.proofs.FactLaws.{after_within}
 use Rattle.lsm_writers.proofs.Orders.{ends_follow, last_of-append}
 
 -- the bound of a block, by the number of its entries and their size

@@ -7,7 +7,7 @@ use Rattle.std.specs.List.{AllByRecursion}
 use Rattle.std.specs.Option.{option_or}
 use Rattle.std.proofs.lemmas.Bool.{eqb-false, eqb-true, le-leb, leb-true, lt-ltb}
 use Rattle.std.proofs.lemmas.List.Sums.{sum_by-append}
-use Rattle.sst_sections.specs.declared.version.TableVersion.TheVariants.{V4}
+use Rattle.sst_blocks.specs.declared.version.TableVersion.TheVariants.{V4}
 use Rattle.sst_blocks.specs.Bounds.{data_block_bound_of, entry_bound}
 use Rattle.sst_entries.specs.declared.error.Error.{Error}
 use Rattle.sst_entries.specs.Entry.{Entry}
@@ -15,14 +15,14 @@ use Rattle.sst_entries.specs.Key.{same_key}
 use Rattle.sst_entries.specs.Strict.{IsStrict, last_of}
 use Rattle.sst_entries.proofs.Booleans.{and_both, is_false, not_not}
 use Rattle.sst_entries.proofs.KeyLemmas.{same_is}
-use Rattle.lsm_formats.specs.declared.label.Label.{Label}
-use Rattle.lsm_formats.specs.declared.options.Options.{Options}
-use Rattle.lsm_formats.specs.Chunks.{is_full, joined}
-use Rattle.lsm_formats.specs.Facts.{starts_key}
-use Rattle.lsm_formats.specs.Fits.{EntryFits}
-use Rattle.lsm_formats.specs.Index.{data_section}
-use Rattle.lsm_formats.specs.Options.{label_of}
-use Rattle.lsm_formats.specs.Parts.{parts_after}
+use Rattle.sst_blocks.specs.declared.table.label.Label.{Label}
+use Rattle.sst_blocks.specs.declared.table.options.Options.{Options}
+use Rattle.sst_blocks.specs.table.Chunks.{is_full, joined}
+use Rattle.sst_blocks.specs.table.Facts.{starts_key}
+use Rattle.sst_blocks.specs.table.Fits.{EntryFits}
+use Rattle.sst_blocks.specs.table.Index.{data_section}
+use Rattle.sst_blocks.specs.table.Options.{label_of}
+use Rattle.sst_blocks.specs.table.Parts.{parts_after}
 use Rattle.lsm_writers.specs.Cut.{rest_chunk}
 use Rattle.lsm_writers.specs.Tables.{AreCuts, HasOneKey, HasTaken, IsCut, OneKeyLaw, TableFits}
 use Rattle.lsm_writers.specs.Tables.{TablesWriting, Takes, TakesLaw, apart, cut_len, drawn}

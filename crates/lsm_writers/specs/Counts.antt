@@ -2,21 +2,23 @@
 use Rattle.std.specs.Prelude.{ℕ, ◌+◌, ◌-◌, ◌<◌, ◌≤◌, ◌^◌, List, [], ◌++◌, length, min, max}
 use Rattle.std.specs.Prelude.{count_by, sum_by, Option, Some, None, unwrap_or}
 use Rattle.std.specs.Option.{option_or}
-use Rattle.sst_sections.specs.declared.version.TableVersion.{TableVersion}
-use Rattle.sst_sections.specs.declared.version.TableVersion.TheVariants.{V4}
-use Rattle.sst_sections.specs.Version.{longest_key}
+use Rattle.sst_blocks.specs.declared.version.TableVersion.{TableVersion}
+use Rattle.sst_blocks.specs.declared.version.TableVersion.TheVariants.{V4}
+use Rattle.sst_blocks.specs.Version.{longest_key}
 use Rattle.sst_entries.specs.Entry.{Entry}
 use Rattle.sst_blocks.specs.Payload.{payload}
 use Rattle.lsm_writers.specs.declared.writer.meta.Metadata.{Metadata}
 use Rattle.lsm_writers.specs.declared.writer.meta.Tally.{Tally}
-use Rattle.lsm_formats.specs.Chunks.{joined}
-use Rattle.lsm_formats.specs.Facts.{ListFacts, is_tombstone, is_weak, starts_key, is_reclaimable}
-use Rattle.lsm_formats.specs.Facts.{one_if, count_after, lowest_seqno, highest_seqno, first_key}
-use Rattle.lsm_formats.specs.Facts.{last_key}
-use Rattle.lsm_formats.specs.Index.{data_section}
-use Rattle.lsm_formats.specs.MetaBlock.{BlockCounts, meta_items}
-use Rattle.lsm_formats.specs.declared.options.Options.{Options}
-use Rattle.lsm_formats.specs.declared.label.Label.{Label}
+use Rattle.sst_blocks.specs.table.Chunks.{joined}
+use Rattle.sst_blocks.specs.table.Facts.{ListFacts, is_tombstone, is_weak, starts_key}
+use Rattle.sst_blocks.specs.table.Facts.{is_reclaimable}
+use Rattle.sst_blocks.specs.table.Facts.{one_if, count_after, lowest_seqno, highest_seqno}
+use Rattle.sst_blocks.specs.table.Facts.{first_key}
+use Rattle.sst_blocks.specs.table.Facts.{last_key}
+use Rattle.sst_blocks.specs.table.Index.{data_section}
+use Rattle.sst_blocks.specs.table.MetaBlock.{BlockCounts, meta_items}
+use Rattle.sst_blocks.specs.declared.table.options.Options.{Options}
+use Rattle.sst_blocks.specs.declared.table.label.Label.{Label}
 
 -- the counts of an empty list
 abbrev pub no_counts : {A : Type 0} → Metadata A

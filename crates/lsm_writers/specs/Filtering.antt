@@ -2,16 +2,16 @@
 use Rattle.std.specs.Prelude.{◌≡◌, ℕ, ◌≤◌, Bool, false, ◌&&◌, nat_lt, List, [], ◌∷◌, ◌++◌, Option}
 use Rattle.std.specs.Prelude.{Some, None, if◌then◌else◌}
 use Rattle.sst_entries.specs.Entry.{Entry}
-use Rattle.sst_filters.specs.declared.policy.BloomConstructionPolicy.{BloomConstructionPolicy}
-use Rattle.sst_filters.specs.Policy.{tenths_of}
-use Rattle.lsm_formats.specs.declared.options.FilterKind.{FilterKind}
-use Rattle.lsm_formats.specs.declared.options.Options.{Options}
-use Rattle.lsm_formats.specs.Filters.{filtered_keys}
-use Rattle.lsm_section_writers.specs.declared.filter_either.FilterWriterImpl.{FilterWriterImpl}
-use Rattle.lsm_section_writers.specs.FilterEither.{kind_by, policy_by, failed_by, HoldsBy}
-use Rattle.lsm_section_writers.specs.Given.{given_by}
-use Rattle.lsm_section_writers.specs.FilterRefusing.{partition_size}
-use Rattle.lsm_section_writers.specs.Rising.{AreRising}
+use Rattle.sst_blocks.specs.declared.filter.policy.BloomConstructionPolicy.{BloomConstructionPolicy}
+use Rattle.sst_blocks.specs.filter.Policy.{tenths_of}
+use Rattle.sst_blocks.specs.declared.table.options.FilterKind.{FilterKind}
+use Rattle.sst_blocks.specs.declared.table.options.Options.{Options}
+use Rattle.sst_blocks.specs.table.Filters.{filtered_keys}
+use Rattle.lsm_writers.specs.declared.section.filter_either.FilterWriterImpl.{FilterWriterImpl}
+use Rattle.lsm_writers.specs.section.FilterEither.{kind_by, policy_by, failed_by, HoldsBy}
+use Rattle.lsm_writers.specs.section.Given.{given_by}
+use Rattle.lsm_writers.specs.section.FilterRefusing.{partition_size}
+use Rattle.lsm_writers.specs.section.Rising.{AreRising}
 
 -- the keys that an entry registers: its key if it is the first of its key and the policy is active
 abbrev pub registered_key : BloomConstructionPolicy → Bool → List ℕ → List (List ℕ)

@@ -2,22 +2,22 @@
 use Rattle.std.specs.Prelude.{◌≡◌, ℕ, ◌+◌, ◌*◌, ◌<◌, ◌^◌, Bool, true, false, List, [], ◌∷◌, ◌++◌}
 use Rattle.std.specs.Prelude.{length, take, Option}
 use Rattle.std.specs.List.{AllByRecursion}
-use Rattle.sst_sections.specs.declared.version.TableVersion.TheVariants.{V4}
+use Rattle.sst_blocks.specs.declared.version.TableVersion.TheVariants.{V4}
 use Rattle.sst_blocks.specs.Bounds.{empty_len, entry_head_len}
 use Rattle.sst_entries.specs.Entry.{Entry}
 use Rattle.sst_entries.specs.Strict.{IsStrict}
-use Rattle.sst_sections.specs.declared.section.SectionName.TheVariants.{Data}
-use Rattle.sst_sections.specs.Sections.{Written}
+use Rattle.sst_blocks.specs.declared.section.SectionName.TheVariants.{Data}
+use Rattle.sst_blocks.specs.Sections.{Written}
 use Rattle.lsm_writers.specs.declared.writer.meta.Metadata.{Metadata}
-use Rattle.lsm_formats.specs.Chunks.{joined, entries_size, is_full}
-use Rattle.lsm_formats.specs.Filters.{filtered_keys}
-use Rattle.lsm_formats.specs.Fits.{BlockFits, EntryFits}
-use Rattle.lsm_formats.specs.Index.{data_section, handles}
-use Rattle.lsm_formats.specs.Layout.{laid}
-use Rattle.lsm_formats.specs.declared.options.Options.{Options}
-use Rattle.lsm_section_writers.specs.declared.index_either.IndexWriterImpl.{IndexWriterImpl}
-use Rattle.lsm_section_writers.specs.IndexEither.{registered_by}
-use Rattle.lsm_section_writers.specs.declared.filter_either.FilterWriterImpl.{FilterWriterImpl}
+use Rattle.sst_blocks.specs.table.Chunks.{joined, entries_size, is_full}
+use Rattle.sst_blocks.specs.table.Filters.{filtered_keys}
+use Rattle.sst_blocks.specs.table.Fits.{BlockFits, EntryFits}
+use Rattle.sst_blocks.specs.table.Index.{data_section, handles}
+use Rattle.sst_blocks.specs.table.Layout.{laid}
+use Rattle.sst_blocks.specs.declared.table.options.Options.{Options}
+use Rattle.lsm_writers.specs.declared.section.index_either.IndexWriterImpl.{IndexWriterImpl}
+use Rattle.lsm_writers.specs.section.IndexEither.{registered_by}
+use Rattle.lsm_writers.specs.declared.section.filter_either.FilterWriterImpl.{FilterWriterImpl}
 use Rattle.lsm_writers.specs.Counts.{HasShortKeys, metadata_of}
 use Rattle.lsm_writers.specs.Cut.{Cut, with_cut}
 use Rattle.lsm_writers.specs.Filtering.{MayHaveKeys}

@@ -1,3 +1,4 @@
+pub mod section
 pub mod Buffered
 pub mod Counts
 pub mod Cut

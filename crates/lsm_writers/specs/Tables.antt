@@ -10,23 +10,23 @@ use Rattle.sst_entries.specs.declared.error.Error.TheVariants.{TableIdsSpent, Wr
 use Rattle.sst_entries.specs.Entry.{Entry}
 use Rattle.sst_entries.specs.Key.{key_lt}
 use Rattle.sst_entries.specs.Strict.{IsStrict, last_of}
-use Rattle.sst_sections.specs.declared.version.TableVersion.TheVariants.{V4}
+use Rattle.sst_blocks.specs.declared.version.TableVersion.TheVariants.{V4}
 use Rattle.sst_blocks.specs.declared.block_type.BlockType.TheVariants.{Data}
 use Rattle.sst_blocks.specs.Block.{data_len, header_len, kind_tag}
 use Rattle.sst_blocks.specs.Bounds.{data_block_bound_of}
 use Rattle.sst_blocks.specs.Reading.{entries_in}
-use Rattle.lsm_formats.specs.declared.label.Label.{Label}
-use Rattle.lsm_formats.specs.declared.options.Options.{Options}
-use Rattle.lsm_formats.specs.Chunks.{joined, is_full}
-use Rattle.lsm_formats.specs.Facts.{starts_key}
-use Rattle.lsm_formats.specs.Filters.{filtered_keys}
-use Rattle.lsm_formats.specs.Fits.{EntryFits}
-use Rattle.lsm_formats.specs.Index.{data_section, handles, last_entry}
-use Rattle.lsm_formats.specs.Options.{default_options, label_of}
-use Rattle.lsm_formats.specs.Parts.{parts_by}
-use Rattle.lsm_section_writers.specs.Cutting.{waiting_by}
-use Rattle.lsm_section_writers.specs.FilterRefusing.{filter_fault}
-use Rattle.lsm_section_writers.specs.IndexRefusing.{index_fault}
+use Rattle.sst_blocks.specs.declared.table.label.Label.{Label}
+use Rattle.sst_blocks.specs.declared.table.options.Options.{Options}
+use Rattle.sst_blocks.specs.table.Chunks.{joined, is_full}
+use Rattle.sst_blocks.specs.table.Facts.{starts_key}
+use Rattle.sst_blocks.specs.table.Filters.{filtered_keys}
+use Rattle.sst_blocks.specs.table.Fits.{EntryFits}
+use Rattle.sst_blocks.specs.table.Index.{data_section, handles, last_entry}
+use Rattle.sst_blocks.specs.table.Options.{default_options, label_of}
+use Rattle.sst_blocks.specs.table.Parts.{parts_by}
+use Rattle.lsm_writers.specs.section.Cutting.{waiting_by}
+use Rattle.lsm_writers.specs.section.FilterRefusing.{filter_fault}
+use Rattle.lsm_writers.specs.section.IndexRefusing.{index_fault}
 use Rattle.lsm_writers.specs.declared.writer.FinishedTable.{FinishedTable}
 use Rattle.lsm_writers.specs.Cut.{rest_chunk}
 use Rattle.lsm_writers.specs.Writing.{IsFinished, IsFresh, IsTableWith, IsWritable, Writing}

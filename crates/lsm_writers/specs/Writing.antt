@@ -3,7 +3,7 @@ use Rattle.std.specs.Prelude.{◌≡◌, ℕ, ◌+◌, ◌-◌, ◌^◌, ◌<◌
 use Rattle.std.specs.Prelude.{List, [], ◌∷◌, ◌++◌, length, Option, Some, None, if◌then◌else◌}
 use Rattle.std.specs.List.{AllByRecursion}
 use Rattle.std.specs.Option.{option_or}
-use Rattle.sst_sections.specs.declared.version.TableVersion.TheVariants.{V4}
+use Rattle.sst_blocks.specs.declared.version.TableVersion.TheVariants.{V4}
 use Rattle.sst_entries.specs.declared.value_type.ValueType.TheVariants.{Value}
 use Rattle.sst_entries.specs.declared.error.Error.{Error}
 use Rattle.sst_entries.specs.declared.error.Error.TheVariants.{KeyTooLong, ValueTooLong}
@@ -12,27 +12,27 @@ use Rattle.sst_blocks.specs.Bounds.{data_block_bound_of}
 use Rattle.sst_blocks.specs.Encoding.{is_long_key, large_fault}
 use Rattle.sst_entries.specs.Entry.{Entry, entry}
 use Rattle.sst_entries.specs.Strict.{IsStrict, may_follow, last_of}
-use Rattle.lsm_formats.specs.Chunks.{joined, is_full}
+use Rattle.sst_blocks.specs.table.Chunks.{joined, is_full}
 use Rattle.lsm_writers.specs.Cut.{rest_chunk}
-use Rattle.lsm_formats.specs.Index.{handles}
-use Rattle.sst_sections.specs.Fnv.{fnv1a}
-use Rattle.sst_filters.specs.Filter.{BloomFilter}
-use Rattle.lsm_formats.specs.Content.{Content}
-use Rattle.lsm_formats.specs.File.{IsFile, file, index_part, filter_part}
-use Rattle.lsm_formats.specs.Filters.{AreFiltersFor, filtered_keys}
-use Rattle.lsm_formats.specs.Fits.{BlockFits, Fits, SectionFits}
-use Rattle.lsm_formats.specs.Kinds.{filter_parts, index_parts}
-use Rattle.lsm_formats.specs.Table.{IsTable}
-use Rattle.lsm_section_writers.specs.FilterRefusing.{filter_fault}
-use Rattle.lsm_section_writers.specs.IndexRefusing.{index_fault}
-use Rattle.lsm_formats.specs.declared.options.IndexKind.{IndexKind}
-use Rattle.lsm_formats.specs.declared.options.IndexKind.TheVariants.{Full as FullIndex}
-use Rattle.lsm_formats.specs.declared.options.IndexKind.TheVariants.{
+use Rattle.sst_blocks.specs.table.Index.{handles}
+use Rattle.sst_blocks.specs.Fnv.{fnv1a}
+use Rattle.sst_blocks.specs.filter.Filter.{BloomFilter}
+use Rattle.sst_blocks.specs.table.Content.{Content}
+use Rattle.sst_blocks.specs.table.File.{IsFile, file, index_part, filter_part}
+use Rattle.sst_blocks.specs.table.Filters.{AreFiltersFor, filtered_keys}
+use Rattle.sst_blocks.specs.table.Fits.{BlockFits, Fits, SectionFits}
+use Rattle.sst_blocks.specs.table.Kinds.{filter_parts, index_parts}
+use Rattle.sst_blocks.specs.table.Table.{IsTable}
+use Rattle.lsm_writers.specs.section.FilterRefusing.{filter_fault}
+use Rattle.lsm_writers.specs.section.IndexRefusing.{index_fault}
+use Rattle.sst_blocks.specs.declared.table.options.IndexKind.{IndexKind}
+use Rattle.sst_blocks.specs.declared.table.options.IndexKind.TheVariants.{Full as FullIndex}
+use Rattle.sst_blocks.specs.declared.table.options.IndexKind.TheVariants.{
   Partitioned as PartitionedIndex,
 }
-use Rattle.lsm_formats.specs.declared.options.Options.{Options}
-use Rattle.lsm_formats.specs.declared.label.Label.{Label}
-use Rattle.lsm_formats.specs.Options.{default_options}
+use Rattle.sst_blocks.specs.declared.table.options.Options.{Options}
+use Rattle.sst_blocks.specs.declared.table.label.Label.{Label}
+use Rattle.sst_blocks.specs.table.Options.{default_options}
 
 -- a writer: its table info, options, cut chunks and pending entries, and whether a call failed
 pub record Writing : Type 0 where

@@ -3,20 +3,21 @@
 
 mod list;
 mod multi_writer;
+mod section;
 mod table_ids;
 mod writer;
 
 pub use list::{is_writable, write_list};
-pub use lsm_formats::{
-    FilterKind, GlobalTableId, IndexKind, Label, Options, TableId, Timestamp, TreeId,
-};
-pub use lsm_section_writers::{
+pub use multi_writer::{MultiWriter, tables_law};
+pub use section::{
     BlockIndexWriter, FilterWriter, FilterWriterImpl, FullFilterWriter, FullIndexWriter,
     IndexWriterImpl, KeyBuffer, PartitionedFilterWriter, PartitionedIndexWriter,
     options_set_before_keys, registered_keys_are_admitted, small_partitions_fit,
 };
-pub use multi_writer::{MultiWriter, tables_law};
-pub use sst_filters::BloomConstructionPolicy;
+pub use sst_blocks::{
+    BloomConstructionPolicy, FilterKind, GlobalTableId, IndexKind, Label, Options, TableId,
+    Timestamp, TreeId,
+};
 pub use table_ids::TableIds;
 pub use writer::meta::Metadata;
 pub use writer::{FinishedTable, Writer};

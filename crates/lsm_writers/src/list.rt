@@ -3,7 +3,7 @@ ghost use Rattle.std.specs.Prelude.{◌≡◌, ◌↔◌, ◌-◌, ◌^◌, [], 
 ghost use Rattle.std.specs.List.{list_all};
 ghost use Rattle.sst_entries.specs.Entry.{Entry};
 ghost use Rattle.sst_entries.specs.Error.{Faults};
-ghost use Rattle.lsm_formats.specs.Options.{label_of};
+ghost use Rattle.sst_blocks.specs.table.Options.{label_of};
 ghost use Rattle.lsm_writers.specs.Writing.{IsTableOf, IsWritable, list_fault};
 
 use crate::{FinishedTable, TableId, Timestamp, Writer};

@@ -3,10 +3,10 @@ ghost use Rattle.std.specs.Prelude.{◌≡◌, ◌↔◌, ◌<◌, ◌≤◌, �
 ghost use Rattle.std.specs.Prelude.{IfErr, IfOk, IsTrue, OnErr, OnOk, Some, None};
 ghost use Rattle.sst_entries.specs.Lending.{entry_of_ref};
 ghost use Rattle.sst_entries.specs.declared.error.Error.TheVariants.{OutOfMemory};
-ghost use Rattle.lsm_formats.specs.declared.options.FilterKind.TheVariants.{
+ghost use Rattle.sst_blocks.specs.declared.table.options.FilterKind.TheVariants.{
   Partitioned as PartitionedFilter,
 };
-ghost use Rattle.lsm_formats.specs.declared.options.IndexKind.TheVariants.{
+ghost use Rattle.sst_blocks.specs.declared.table.options.IndexKind.TheVariants.{
   Partitioned as PartitionedIndex,
 };
 ghost use Rattle.lsm_writers.specs.Words.{Faults, FaultsFirst, IsStrict, failed_fault};
@@ -24,10 +24,11 @@ ghost use Rattle.lsm_writers.specs.Tables.{CutLaw, IsStanding, OneCutLaw, OneKey
 ghost use Rattle.lsm_writers.specs.Tables.{took, took_fault, turn_fault, with_options};
 
 use crate::{FinishedTable, TableIds, Timestamp, Writer};
-use lsm_formats::{FilterKind, IndexKind, Options};
-use sst_blocks::{CompressionType, Error, InternalKey, InternalValue, SeqNo};
+use sst_blocks::{
+    BloomConstructionPolicy, CompressionType, Error, FilterKind, IndexKind, InternalKey,
+    InternalValue, Options, SeqNo,
+};
 use sst_entries::EntryRef;
-use sst_filters::BloomConstructionPolicy;
 use std::alloc::{Allocator, Global};
 use std::marker::Model;
 use std::mem;

@@ -21,11 +21,11 @@ ghost use Rattle.std.specs.Option.{option_map};
 ghost use Rattle.sst_blocks.specs.Encoding.{IsShortEntry};
 ghost use Rattle.sst_entries.specs.Lending.{entry_of_ref};
 ghost use Rattle.sst_entries.specs.declared.error.Error.TheVariants.{OutOfMemory};
-ghost use Rattle.sst_sections.specs.declared.version.TableVersion.TheVariants.{V4};
-ghost use Rattle.lsm_formats.specs.declared.options.FilterKind.TheVariants.{
+ghost use Rattle.sst_blocks.specs.declared.version.TableVersion.TheVariants.{V4};
+ghost use Rattle.sst_blocks.specs.declared.table.options.FilterKind.TheVariants.{
   Partitioned as PartitionedFilter,
 };
-ghost use Rattle.lsm_formats.specs.declared.options.IndexKind.TheVariants.{
+ghost use Rattle.sst_blocks.specs.declared.table.options.IndexKind.TheVariants.{
   Partitioned as PartitionedIndex,
 };
 
@@ -35,20 +35,18 @@ mod filter;
 pub mod meta;
 mod meta_block;
 
-use crate::{TableId, Timestamp};
+use crate::{BlockIndexWriter, FilterWriterImpl, IndexWriterImpl, TableId, Timestamp};
 use block_buffer::BlockBuffer;
 use data_blocks::DataBlocks;
 use filter::{finish_filter, register_key};
-use lsm_formats::{FilterKind, IndexKind, Label, Options};
-use lsm_section_writers::{BlockIndexWriter, FilterWriterImpl, IndexWriterImpl};
 use meta::{Metadata, Tally, starts_key};
 use meta_block::{BlockCounts, write_meta};
 use sst_blocks::{
-    Checksum, CompressionType, EMPTY_LEN, ENTRY_HEAD_LEN, Error, InternalKey, InternalValue,
-    SectionName, SectionWriter, SeqNo, Slice, TableVersion,
+    BloomConstructionPolicy, Checksum, CompressionType, EMPTY_LEN, ENTRY_HEAD_LEN, Error,
+    FilterKind, IndexKind, InternalKey, InternalValue, Label, Options, SectionName, SectionWriter,
+    SeqNo, Slice, TableVersion,
 };
 use sst_entries::{EntryRef, compare_versions};
-use sst_filters::BloomConstructionPolicy;
 use std::alloc::{Allocator, Global};
 use std::fmt;
 use std::marker::Model;
@@ -73,9 +71,9 @@ pub struct Writer<A: Allocator = Global> {
 
 impl<A: Allocator> Model for Writer<A> {
     ghost use Rattle.lsm_writers.specs.Writing.{Writing};
-    ghost use Rattle.lsm_formats.specs.Fits.{LabelFits};
+    ghost use Rattle.sst_blocks.specs.table.Fits.{LabelFits};
     ghost use Rattle.std.specs.Prelude.{◌++◌};
-    ghost use Rattle.lsm_formats.specs.Chunks.{joined};
+    ghost use Rattle.sst_blocks.specs.table.Chunks.{joined};
     ghost use Rattle.lsm_writers.specs.Filtering.{IsFiltered};
     ghost use Rattle.lsm_writers.specs.Held.{IsHeld, CanGoOn};
 

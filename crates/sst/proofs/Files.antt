@@ -8,7 +8,7 @@ use Rattle.std.specs.Io.KnownBytes.{Keeps}
 use Rattle.std.specs.List.{AllByRecursion}
 use Rattle.std.proofs.KnownBytes.{Appends-trans}
 use Rattle.std.proofs.lemmas.List.{drop_more, take_more}
-use Rattle.logpurple.specs.Words.{Error, Gives, OpenTable, is_memory, recovered_told}
+use Rattle.lsm_tables.specs.Words.{Error, Gives, OpenTable, is_memory, recovered_told}
 use Rattle.tool_show.specs.Faults.{unloaded_count, unopened_faults}
 use Rattle.tool_show.specs.Lines.{AreJoined, IsUnloadedLine, PrintsText}
 use Rattle.sst.specs.Verified.{AreNone, ChecksBytes, ChecksEach, ChecksName, DoesVerify}

@@ -6,7 +6,7 @@ use Rattle.std.proofs.Common.{take, true}
 use Rattle.std.specs.Prelude.{IfErr, OnOk, Option, Result, Ok, Err, Some, map}
 use Rattle.std.specs.Global.{Global}
 use Rattle.std.proofs.lemmas.List.{get_or_default, take-append-drop, take_all, take_more}
-use Rattle.logpurple.specs.Words.{OpenTable}
+use Rattle.lsm_tables.specs.Words.{OpenTable}
 use Rattle.tool_files.specs.Opened.{AreOpenedFrom, HasContent, IsToldByBytes}
 use Rattle.tool_files.proofs.Opened.{opened_more}
 use Rattle.tool_files.proofs.Steps.{list_at}

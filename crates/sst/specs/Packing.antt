@@ -2,9 +2,9 @@
 use Rattle.std.specs.Prelude.{◌≡◌, ⊤, ℕ, List, Option, length, true}
 use Rattle.std.specs.Global.{Global}
 use Rattle.std.specs.Io.KnownBytes.{Appends}
-use Rattle.lsm_ranges.specs.Packed.{IsPackedOf}
-use Rattle.lsm_ranges.specs.declared.packed.Packed.{Packed}
-use Rattle.logpurple.specs.Words.{OpenTable, range_of}
+use Rattle.lsm_sorted.specs.version.Packed.{IsPackedOf}
+use Rattle.lsm_sorted.specs.declared.version.packed.Packed.{Packed}
+use Rattle.lsm_tables.specs.Words.{OpenTable, range_of}
 use Rattle.tool_files.specs.Opened.{AreOpenedFrom}
 use Rattle.tool_options.specs.declared.tasks.PackTask.{PackTask}
 use Rattle.tool_make.specs.Packed.{RefusesToPack}

@@ -5,10 +5,10 @@ use Rattle.std.specs.Prelude.{Ok, Some, false, is_some, length, map, true}
 use Rattle.std.specs.Option.{option_map, option_map_or}
 use Rattle.std.specs.List.{AllByRecursion}
 use Rattle.std.specs.Global.{Global}
-use Rattle.lsm_ranges.specs.Run.{IsInOrder}
-use Rattle.lsm_runs.specs.RunParts.{range_of}
+use Rattle.lsm_sorted.specs.version.Run.{IsInOrder}
+use Rattle.lsm_run_parts.specs.RunParts.{range_of}
 use Rattle.lsm_runs.specs.SeveralRuns.{runs_told}
-use Rattle.logpurple.specs.Words.{Entry, Error, OpenTable}
+use Rattle.lsm_tables.specs.Words.{Entry, Error, OpenTable}
 use Rattle.tool_files.specs.Files.{path_text}
 use Rattle.tool_files.specs.Opened.{AreOpenedFrom, HasContent, IsToldByBytes, StopsOpening}
 use Rattle.tool_files.specs.Opened.{TellsRefused}

@@ -5,7 +5,7 @@ use Rattle.std.specs.Prelude.{Bool, None, codes, false, min, true}
 use Rattle.std.specs.Fmt.{decimal}
 use Rattle.std.specs.Io.KnownBytes.{Keeps}
 use Rattle.std.specs.List.{AllByRecursion}
-use Rattle.logpurple.specs.Words.{Error, Gives, OpenTable, is_memory, number_of, recovered_told}
+use Rattle.lsm_tables.specs.Words.{Error, Gives, OpenTable, is_memory, number_of, recovered_told}
 use Rattle.tool_files.specs.Opened.{IsToldByBytes}
 use Rattle.tool_show.specs.Checked.{ChecksFile}
 use Rattle.tool_show.specs.Faults.{fault_count, unloaded_count, unopened_faults}

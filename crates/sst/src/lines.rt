@@ -2,11 +2,11 @@
 ghost use Rattle.std.specs.Prelude.{◌≡◌, ◌++◌, OnOk, codes};
 ghost use Rattle.std.specs.Fmt.{decimal};
 ghost use Rattle.std.specs.Io.KnownBytes.{Appends};
-ghost use Rattle.logpurple.specs.Words.{is_memory};
+ghost use Rattle.lsm_tables.specs.Words.{is_memory};
 ghost use Rattle.tool_show.specs.Lines.{PrintsText};
 ghost use Rattle.sst.specs.Verified.{IsLineAbout, IsRefusedLine};
 
-use logpurple::block::Error;
+use lsm_tables::block::Error;
 use std::fmt::InlineText;
 use std::io::{self, Write};
 use tool_files::FileFault;

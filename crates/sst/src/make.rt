@@ -6,8 +6,8 @@ ghost use Rattle.sst.specs.Packing.{DoesPack, RefusesPack};
 
 use crate::System;
 use crate::failure::Failure;
-use logpurple::compaction::Rules;
-use logpurple::table::{BloomConstructionPolicy, IndexKind, Timestamp};
+use lsm_tables::compaction::Rules;
+use lsm_tables::table::{BloomConstructionPolicy, IndexKind, Timestamp};
 use std::alloc::Global;
 use std::io::{Read, Write};
 use std::rt::{Clock, Files};

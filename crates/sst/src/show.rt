@@ -2,7 +2,7 @@
 ghost use Rattle.std.specs.Prelude.{◌≡◌, ◌+◌, ◌-◌, ◌^◌, ℕ, IfErr, IfOk, List, OnOk, Option};
 ghost use Rattle.std.specs.Prelude.{false, min, true};
 ghost use Rattle.std.specs.Option.{option_map};
-ghost use Rattle.logpurple.specs.Words.{OpenTable, is_memory};
+ghost use Rattle.lsm_tables.specs.Words.{OpenTable, is_memory};
 ghost use Rattle.tool_show.specs.Faults.{fault_count, unloaded_count};
 ghost use Rattle.tool_show.specs.Files.{IsSoundTable};
 ghost use Rattle.tool_files.specs.Files.{is_memory_fault};
@@ -23,7 +23,7 @@ use crate::bar::{Bar, Work, behind};
 use crate::failure::{Failure, KeyWord};
 use crate::lines::{is_memory, print_unopened_line, print_unread_line};
 use crate::make::format_of;
-use logpurple::block::{Error, Slice};
+use lsm_tables::block::{Error, Slice};
 use std::alloc::Global;
 use std::io::Write;
 use std::rt::{Clock, Files};

@@ -9,7 +9,7 @@ use Rattle.std.proofs.lemmas.Bool.{cases_lt}
 use Rattle.std.proofs.lemmas.List.{length-drop, length-take, map-id}
 use Rattle.std.proofs.lemmas.Option.{none-some, same_Some, slice_get-get_or}
 use Rattle.bytes.proofs.Ranges.{slice_range-slice_range}
-use Rattle.sst_sections.specs.declared.version.TableVersion.{TableVersion}
+use Rattle.sst_blocks.specs.declared.version.TableVersion.{TableVersion}
 use Rattle.sst_blocks.specs.declared.block_type.BlockType.{BlockType}
 use Rattle.sst_entries.specs.declared.error.Error.{Error}
 use Rattle.sst_entries.specs.declared.error.Error.TheVariants.{InvalidBlock}
@@ -18,9 +18,9 @@ use Rattle.sst_entries.specs.Entry.{Entry, entry}
 use Rattle.sst_entries.specs.Point.{point, read_place}
 use Rattle.sst_entries.specs.Span.{front_length}
 use Rattle.sst_entries.specs.Strict.{IsStrict, IsStrictAfter, is_before}
-use Rattle.sst_sections.specs.Fnv.{fnv1a}
-use Rattle.sst_sections.specs.Sections.{body_of}
-use Rattle.sst_sections.specs.Version.{key_width}
+use Rattle.sst_blocks.specs.Fnv.{fnv1a}
+use Rattle.sst_blocks.specs.Sections.{body_of}
+use Rattle.sst_blocks.specs.Version.{key_width}
 use Rattle.sst_blocks.specs.declared.block_type.BlockType.TheVariants.{Data, Index}
 use Rattle.sst_blocks.specs.Asked.{IsSure, place_for, point_of, told_map}
 use Rattle.sst_blocks.specs.Block.{Loaded, checked_payload, in_grammar, loaded}

@@ -6,18 +6,18 @@ use Rattle.std.specs.Prelude.{None, Some, Ok, is_some, nat_le}
 use Rattle.std.proofs.lemmas.List.{take_at, drop_at, append-nil}
 use Rattle.std.proofs.lemmas.Bool.{eq-eqb}
 use Rattle.std.proofs.lemmas.Bool.Decides.{nat_tests}
-use Rattle.sst_sections.specs.declared.version.TableVersion.{TableVersion}
-use Rattle.sst_sections.specs.declared.version.TableVersion.TheVariants.{V3, V4}
+use Rattle.sst_blocks.specs.declared.version.TableVersion.{TableVersion}
+use Rattle.sst_blocks.specs.declared.version.TableVersion.TheVariants.{V3, V4}
 use Rattle.sst_blocks.specs.declared.block_type.BlockType.{BlockType}
 use Rattle.sst_blocks.specs.declared.block_type.BlockType.TheVariants.{Data, Index, Filter, Meta}
-use Rattle.sst_sections.specs.Fnv.{fnv1a, fnv_basis}
-use Rattle.sst_sections.specs.Number.{le4, le8, num4, num8}
+use Rattle.sst_blocks.specs.Fnv.{fnv1a, fnv_basis}
+use Rattle.sst_blocks.specs.Number.{le4, le8, num4, num8}
 use Rattle.sst_blocks.specs.Block.{header, block_bytes, header_fault, data_len, uncompressed_len}
 use Rattle.sst_blocks.specs.Block.{stored_checksum, version_in, in_grammar, checked_payload}
 use Rattle.sst_blocks.specs.Block.{load_told, load_at_told, entries_of, handles_of, loaded}
 use Rattle.sst_blocks.specs.Block.{LoadsBack, is_filter}
 use Rattle.sst_blocks.specs.Handle.{Handle}
-use Rattle.sst_filters.specs.Filter.{BloomFilter, filter_in, IsBuilt, payload_of}
+use Rattle.sst_blocks.specs.filter.Filter.{BloomFilter, filter_in, IsBuilt, payload_of}
 use Rattle.sst_blocks.specs.Handles.{handles_payload, AreStrictHandles, AreSpellableHandles}
 use Rattle.sst_blocks.specs.Payload.{payload, AreSpellable}
 use Rattle.sst_blocks.specs.Reading.{entries_in}
@@ -26,8 +26,8 @@ use Rattle.sst_entries.specs.Entry.{Entry}
 use Rattle.sst_entries.specs.Strict.{IsStrict}
 use Rattle.sst_blocks.proofs.Entries.{entries_read}
 use Rattle.sst_blocks.proofs.HandleLaws.{handles_read}
-use Rattle.sst_sections.proofs.Numbers.{wide4, wide8}
-use Rattle.sst_sections.proofs.FnvLemmas.{fnv_from-fits}
+use Rattle.sst_blocks.proofs.Numbers.{wide4, wide8}
+use Rattle.sst_blocks.proofs.FnvLemmas.{fnv_from-fits}
 use Rattle.sst_blocks.proofs.LoadLemmas.{load_checked, load_at_checked}
 
 -- hashes are numbers of eight bytes

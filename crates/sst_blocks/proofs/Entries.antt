@@ -10,13 +10,13 @@ use Rattle.std.proofs.lemmas.List.{take_at, drop_at, drop-drop, take-append-drop
 use Rattle.std.proofs.lemmas.List.{length-take, length-drop, drop_more, map-id, take_rest}
 use Rattle.std.proofs.lemmas.Option.{option_and_then_some, some_pair_parts, slice_get_within}
 use Rattle.std.proofs.lemmas.Option.{get_or_from_slice_get}
-use Rattle.sst_sections.specs.declared.version.TableVersion.{TableVersion}
+use Rattle.sst_blocks.specs.declared.version.TableVersion.{TableVersion}
 use Rattle.sst_entries.specs.declared.value_type.ValueType.{ValueType}
 use Rattle.sst_entries.specs.declared.value_type.ValueType.TheVariants.{Value, Tombstone}
 use Rattle.sst_entries.specs.declared.value_type.ValueType.TheVariants.{WeakTombstone, Indirection}
 use Rattle.sst_entries.specs.Entry.{Entry, entry}
 use Rattle.sst_entries.specs.Kind.{tag_of, kind_of}
-use Rattle.sst_sections.specs.Number.{le4, le8, num4, num8}
+use Rattle.sst_blocks.specs.Number.{le4, le8, num4, num8}
 use Rattle.sst_blocks.specs.Payload.{entry_head, spelled, payload, IsSpellable, AreSpellable}
 use Rattle.sst_blocks.specs.Format.{Advances, IsFormat, items_in}
 use Rattle.sst_blocks.specs.Reading.{parts_at, entry_at, entries_in, key_and_number}
@@ -24,8 +24,8 @@ pub use Rattle.sst_blocks.specs.Reading.{entry_format}
 use Rattle.sst_blocks.specs.Starts.{starts_of, EntriesAt}
 use Rattle.sst_entries.specs.Strict.{IsStrict, IsStrictAfter}
 use Rattle.sst_entries.proofs.Bytes.{IsBytes, IsBytes-drop}
-use Rattle.sst_sections.specs.Version.{key_width, key_limit, key_len_bytes, key_len_at}
-use Rattle.sst_sections.proofs.Numbers.{wide4, wide8, key_wide}
+use Rattle.sst_blocks.specs.Version.{key_width, key_limit, key_len_bytes, key_len_at}
+use Rattle.sst_blocks.proofs.Numbers.{wide4, wide8, key_wide}
 use Rattle.sst_blocks.proofs.Items.{Here, guard_some, items_in_take, items_in_again, items_strict}
 use Rattle.sst_blocks.proofs.Items.{item_holds, length-starts}
 

@@ -12,11 +12,11 @@ use Rattle.std.proofs.lemmas.List.{drop_more, drop_all, length-append, take-take
 use Rattle.std.proofs.lemmas.List.Sums.{sum_by-cons}
 use Rattle.sst_entries.specs.declared.error.Error.{Error}
 use Rattle.sst_entries.specs.declared.error.Error.TheVariants.{BlockTooLarge}
-use Rattle.sst_sections.specs.Number.{le4}
+use Rattle.sst_blocks.specs.Number.{le4}
 use Rattle.sst_blocks.specs.Bounds.{bound_of}
 use Rattle.sst_blocks.specs.Encoding.{first_fault, items_fault, large_fault}
 use Rattle.sst_blocks.specs.Payload.{items_payload}
-use Rattle.sst_sections.proofs.Numbers.{wide4}
+use Rattle.sst_blocks.proofs.Numbers.{wide4}
 
 lt-leb : (a b : ℕ) → a < b → leb b a ≡ false
 lt-leb a b lt = grind arith

@@ -9,19 +9,19 @@ use Rattle.std.specs.Option.{option_map}
 use Rattle.std.proofs.lemmas.List.{take_at, drop_at, take-append-drop, length-append, length-take}
 use Rattle.std.proofs.lemmas.List.{length-drop, drop-drop, take_rest}
 use Rattle.std.proofs.lemmas.Option.{some_pair_parts, slice_get_within, get_or_from_slice_get}
-use Rattle.sst_sections.specs.declared.version.TableVersion.{TableVersion}
+use Rattle.sst_blocks.specs.declared.version.TableVersion.{TableVersion}
 use Rattle.sst_blocks.specs.Handle.{Handle}
 use Rattle.sst_blocks.specs.Handles.{handle_head, handle_spelled, handles_payload, handle_at}
 use Rattle.sst_blocks.specs.Handles.{handle_format, handles_in, IsSpellableHandle}
 use Rattle.sst_blocks.specs.Handles.{AreSpellableHandles, AreStrictHandles, end_of}
-use Rattle.sst_sections.specs.Number.{le4, le8, num4, num8}
+use Rattle.sst_blocks.specs.Number.{le4, le8, num4, num8}
 use Rattle.sst_blocks.specs.Reading.{key_and_number}
 use Rattle.sst_blocks.specs.Starts.{starts_of, HandlesAt}
-use Rattle.sst_sections.specs.Version.{key_width, key_limit, key_len_bytes, key_len_at}
+use Rattle.sst_blocks.specs.Version.{key_width, key_limit, key_len_bytes, key_len_at}
 use Rattle.sst_blocks.specs.Format.{Advances, IsFormat, items_in}
 use Rattle.sst_blocks.proofs.Items.{items_in_take, items_in_again, guard_some, Here, length-starts}
 use Rattle.sst_blocks.proofs.Items.{item_holds, items_strict}
-use Rattle.sst_sections.proofs.Numbers.{wide4, wide8, key_wide}
+use Rattle.sst_blocks.proofs.Numbers.{wide4, wide8, key_wide}
 use Rattle.sst_entries.proofs.Bytes.{IsBytes, IsBytes-drop}
 
 -- the parts of a handle one after another, and then other bytes

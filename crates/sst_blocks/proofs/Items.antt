@@ -14,12 +14,12 @@ use Rattle.std.proofs.lemmas.Option.{none-some, same_Some, cond_some, option_and
 use Rattle.std.proofs.lemmas.Option.{slice_get-get_or, get_or_from_slice_get}
 use Rattle.std.proofs.Math.Nat.{mul-suc}
 use Rattle.sst_entries.specs.Entry.{Entry}
-use Rattle.sst_sections.specs.Number.{le4, num4}
+use Rattle.sst_blocks.specs.Number.{le4, num4}
 use Rattle.sst_blocks.specs.Format.{Advances, Format, IsFormat, in_order, items_at, items_in}
 use Rattle.sst_blocks.specs.Format.{items_of}
 use Rattle.sst_blocks.specs.Starts.{starts_of, ItemsAt, SpellsAt}
 use Rattle.sst_entries.specs.Strict.{may_follow, IsStrictAfter, is_strict_after, last_of}
-use Rattle.sst_sections.proofs.Numbers.{wide4}
+use Rattle.sst_blocks.proofs.Numbers.{wide4}
 use Rattle.sst_entries.proofs.Strictness.{strict_from_test, test_from_strict, test_push, test_fails}
 use Rattle.sst_entries.proofs.Strictness.{last_push}
 use Rattle.sst_entries.proofs.Bytes.{IsBytes, IsBytes-drop}

@@ -1,3 +1,8 @@
+pub mod Numbers
+pub mod FnvLemmas
+pub mod TrailerLemmas
+pub mod SectionLaws
+pub mod Probes
 pub mod Items
 pub mod Searches
 pub mod Entries
@@ -18,3 +23,11 @@ pub mod MarkLemmas
 pub mod Asked
 pub mod EntryPlaces
 pub mod Cursors
+pub mod BlockLengths
+pub mod FactLaws
+pub mod FilterLaws
+pub mod KeyLaws
+pub mod KindLemmas
+pub mod MetaItems
+pub mod OneCut
+pub mod PartLaws

@@ -11,10 +11,10 @@ use Rattle.sst_blocks.specs.Starts.{HoldsEntries}
 use Rattle.sst_entries.specs.declared.error.Error.{Error}
 use Rattle.sst_entries.specs.declared.error.Error.TheVariants.{Truncated, InvalidHeader}
 use Rattle.sst_entries.specs.declared.error.Error.TheVariants.{ChecksumMismatch}
-use Rattle.sst_sections.specs.declared.version.TableVersion.{TableVersion}
+use Rattle.sst_blocks.specs.declared.version.TableVersion.{TableVersion}
 use Rattle.sst_entries.specs.Error.{Gives, unless}
 use Rattle.std.specs.Option.{option_or}
-use Rattle.sst_sections.specs.Fnv.{fnv1a}
+use Rattle.sst_blocks.specs.Fnv.{fnv1a}
 use Rattle.sst_blocks.specs.Block.{Loaded, grammar_fault, in_grammar, checksum_fault, loaded}
 use Rattle.sst_blocks.specs.Block.{header_fault, data_len, uncompressed_len, stored_checksum}
 use Rattle.sst_blocks.specs.Block.{version_in, checked_payload, load_told, load_at_told}

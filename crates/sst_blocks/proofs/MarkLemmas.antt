@@ -6,14 +6,14 @@ use Rattle.std.proofs.Common.{sym, ap, ◌∙◌, arith}
 use Rattle.std.specs.List.{All}
 use Rattle.std.proofs.lemmas.List.{length-take}
 use Rattle.bytes.proofs.Ranges.{slice_range_front}
-use Rattle.sst_sections.specs.declared.version.TableVersion.{TableVersion}
+use Rattle.sst_blocks.specs.declared.version.TableVersion.{TableVersion}
 use Rattle.sst_blocks.specs.declared.block_type.BlockType.{BlockType}
 use Rattle.sst_blocks.specs.declared.block_type.BlockType.TheVariants.{Data, Index, Filter, Meta}
 use Rattle.sst_blocks.specs.Block.{data_len, header_fault, in_grammar, kind_tag, stored_checksum}
 use Rattle.sst_blocks.specs.Block.{version_in}
 use Rattle.sst_blocks.specs.Marks.{HasItems, HasSum, IsHeaded, IsSaid, Says, head_before}
-use Rattle.sst_sections.specs.Fnv.{fnv1a}
-use Rattle.sst_sections.specs.Sections.{body_of}
+use Rattle.sst_blocks.specs.Fnv.{fnv1a}
+use Rattle.sst_blocks.specs.Sections.{body_of}
 
 pub marked : (bytes : List ℕ) (v : ℕ) → Says bytes v → (words : List ℕ) (i : ℕ)
     → ((j : ℕ) → Says bytes (slice_index words j)) → (j : ℕ)

@@ -3,13 +3,13 @@ use Rattle.std.proofs.Common.{◌≡◌, ℕ, ◌+◌, ◌*◌, ◌≤◌, Bool,
 use Rattle.std.proofs.Common.{◌∙◌, arith}
 use Rattle.std.specs.Prelude.{Err, is_some}
 use Rattle.std.proofs.lemmas.Bool.{le-leb, leb-true}
-use Rattle.sst_sections.specs.declared.version.TableVersion.{TableVersion}
+use Rattle.sst_blocks.specs.declared.version.TableVersion.{TableVersion}
 use Rattle.sst_blocks.specs.declared.block_type.BlockType.{BlockType}
 use Rattle.sst_blocks.specs.declared.block_type.BlockType.TheVariants.{Data, Index, Filter, Meta}
 use Rattle.sst_entries.specs.declared.error.Error.TheVariants.{InvalidBlock}
-use Rattle.sst_sections.specs.Fnv.{fnv1a}
-use Rattle.sst_sections.specs.Number.{num4}
-use Rattle.sst_sections.specs.Version.{key_width}
+use Rattle.sst_blocks.specs.Fnv.{fnv1a}
+use Rattle.sst_blocks.specs.Number.{num4}
+use Rattle.sst_blocks.specs.Version.{key_width}
 use Rattle.sst_blocks.specs.Block.{checked_payload, has_room, has_room_for, in_grammar}
 use Rattle.sst_blocks.specs.Handles.{handle_format, handles_in}
 use Rattle.sst_blocks.specs.Reading.{entries_in, entry_format}

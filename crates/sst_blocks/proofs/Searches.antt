@@ -9,7 +9,7 @@ use Rattle.std.proofs.lemmas.List.Folds.{find-append}
 use Rattle.sst_entries.specs.Entry.{Entry}
 use Rattle.sst_entries.specs.Strict.{may_follow}
 use Rattle.sst_entries.proofs.Bytes.{IsBytes}
-use Rattle.sst_sections.specs.Number.{num4}
+use Rattle.sst_blocks.specs.Number.{num4}
 use Rattle.sst_blocks.specs.Format.{Advances, Format, IsFormat, items_at, items_in}
 use Rattle.sst_blocks.proofs.Items.{Walk, items_read, option_map_some, walk_all, walk_begins}
 use Rattle.sst_blocks.proofs.Items.{walk_on, walk_over}

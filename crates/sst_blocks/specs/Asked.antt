@@ -9,7 +9,7 @@ use Rattle.sst_entries.specs.Point.{point}
 use Rattle.sst_blocks.specs.Block.{Loaded, entries_of, handles_of, load_told}
 use Rattle.sst_blocks.specs.Handles.{reaches}
 use Rattle.sst_blocks.specs.Place.{Place, place_of}
-use Rattle.sst_filters.specs.Filter.{admits, filter_in}
+use Rattle.sst_blocks.specs.filter.Filter.{admits, filter_in}
 
 -- a function of what is told, where no fault is
 abbrev pub told_map : {X Y : Type 0} → (X → Y) → Result X Error → Result Y Error

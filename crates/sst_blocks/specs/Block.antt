@@ -5,8 +5,8 @@ use Rattle.std.specs.Prelude.{List, [], ◌∷◌, ◌++◌, length, take, drop,
 use Rattle.std.specs.Prelude.{Option, Some, None, is_some, is_none, unwrap_or, Result, Ok, Err}
 use Rattle.std.specs.Prelude.{if◌then◌else◌}
 use Rattle.std.specs.Option.{option_or}
-use Rattle.sst_sections.specs.declared.version.TableVersion.{TableVersion}
-use Rattle.sst_sections.specs.declared.version.TableVersion.TheVariants.{V4}
+use Rattle.sst_blocks.specs.declared.version.TableVersion.{TableVersion}
+use Rattle.sst_blocks.specs.declared.version.TableVersion.TheVariants.{V4}
 use Rattle.sst_blocks.specs.declared.block_type.BlockType.{BlockType}
 use Rattle.sst_blocks.specs.declared.block_type.BlockType.TheVariants.{Data, Index, Filter, Meta}
 use Rattle.sst_entries.specs.declared.error.Error.{Error}
@@ -16,12 +16,12 @@ use Rattle.sst_entries.specs.declared.error.Error.TheVariants.{UnsupportedCompre
 use Rattle.sst_entries.specs.declared.error.TagName.TheVariants.{BlockType as BlockTypeTag}
 use Rattle.sst_entries.specs.Entry.{Entry}
 use Rattle.sst_entries.specs.Error.{unless}
-use Rattle.sst_sections.specs.Fnv.{fnv1a}
+use Rattle.sst_blocks.specs.Fnv.{fnv1a}
 use Rattle.sst_blocks.specs.Handle.{Handle}
 use Rattle.sst_blocks.specs.Handles.{handles_in}
-use Rattle.sst_sections.specs.Number.{le4, le8, num4, num8}
+use Rattle.sst_blocks.specs.Number.{le4, le8, num4, num8}
 use Rattle.sst_blocks.specs.Reading.{entries_in}
-use Rattle.sst_sections.specs.Version.{key_width, mark, version_of}
+use Rattle.sst_blocks.specs.Version.{key_width, mark, version_of}
 
 abbrev pub kind_tag : BlockType → ℕ
 kind_tag Data = 0

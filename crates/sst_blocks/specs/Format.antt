@@ -5,7 +5,7 @@ use Rattle.std.specs.Prelude.{unwrap_or, if◌then◌else◌}
 use Rattle.std.specs.Option.{option_map}
 use Rattle.sst_entries.specs.Entry.{Entry}
 use Rattle.sst_entries.specs.Strict.{is_strict_after}
-use Rattle.sst_sections.specs.Number.{num4}
+use Rattle.sst_blocks.specs.Number.{num4}
 
 -- how an item is spelled and read, and the entry whose place in the order it has
 pub record Format (X : Type 0) : Type 0 where

@@ -2,15 +2,15 @@
 -- what a handle reaches.
 use Rattle.std.specs.Prelude.{ℕ, ◌+◌, ◌<◌, ◌^◌, List, [], ◌∷◌, ◌++◌, length, take, drop, Bool, ◌&&◌}
 use Rattle.std.specs.Prelude.{◌||◌, nat_lt, Option, Some, None, if◌then◌else◌}
-use Rattle.sst_sections.specs.declared.version.TableVersion.{TableVersion}
+use Rattle.sst_blocks.specs.declared.version.TableVersion.{TableVersion}
 use Rattle.sst_entries.specs.declared.value_type.ValueType.TheVariants.{Value}
 use Rattle.sst_entries.specs.Entry.{Entry, entry}
 use Rattle.sst_blocks.specs.Handle.{Handle}
 use Rattle.sst_blocks.specs.Format.{Format, items_in}
 use Rattle.sst_blocks.specs.Payload.{AreFit, items_payload}
 use Rattle.sst_entries.specs.Key.{same_key, key_lt}
-use Rattle.sst_sections.specs.Number.{le4, le8, num4, num8}
-use Rattle.sst_sections.specs.Version.{key_width, key_len_bytes, key_len_at, key_limit}
+use Rattle.sst_blocks.specs.Number.{le4, le8, num4, num8}
+use Rattle.sst_blocks.specs.Version.{key_width, key_len_bytes, key_len_at, key_limit}
 use Rattle.sst_entries.specs.Strict.{IsStrict}
 use Rattle.std.specs.Prelude.{map}
 

@@ -1,3 +1,8 @@
+pub mod Number
+pub mod Version
+pub mod Fnv
+pub mod Sections
+pub mod filter
 pub mod Payload
 pub mod Format
 pub mod Reading
@@ -17,9 +22,4 @@ pub mod Placed
 pub mod EntryPlace
 pub mod Cursor
 pub mod Asked
-pub use Rattle.sst_sections.specs.Number
-pub use Rattle.sst_sections.specs.Version
-pub use Rattle.sst_sections.specs.Fnv
-pub use Rattle.sst_sections.specs.Sections
-pub use Rattle.sst_filters.specs.Filter
-pub use Rattle.sst_filters.specs.Policy
+pub mod table

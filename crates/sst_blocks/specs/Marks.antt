@@ -2,11 +2,11 @@
 -- remember them.
 use Rattle.std.specs.Prelude.{◌≡◌, ◌≤◌, ℕ, ◌+◌, ◌-◌, ◌*◌, true, List, length, slice_index}
 use Rattle.std.specs.Prelude.{slice_range}
-use Rattle.sst_sections.specs.declared.version.TableVersion.{TableVersion}
+use Rattle.sst_blocks.specs.declared.version.TableVersion.{TableVersion}
 use Rattle.sst_blocks.specs.declared.block_type.BlockType.{BlockType}
 use Rattle.sst_blocks.specs.Block.{data_len, header_len, in_grammar, kind_tag, stored_checksum}
 use Rattle.sst_blocks.specs.Block.{version_in}
-use Rattle.sst_sections.specs.Fnv.{fnv1a}
+use Rattle.sst_blocks.specs.Fnv.{fnv1a}
 
 -- the header before a payload
 abbrev pub head_before : List ℕ → ℕ → List ℕ

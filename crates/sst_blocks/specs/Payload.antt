@@ -1,11 +1,11 @@
 -- The payload of a block: the one spelling of a list of items, and of a list of entries.
 use Rattle.std.specs.Prelude.{ℕ, ◌<◌, ◌^◌, List, [], ◌∷◌, ◌++◌, length}
 use Rattle.std.specs.List.{flat_map, AllByRecursion}
-use Rattle.sst_sections.specs.declared.version.TableVersion.{TableVersion}
+use Rattle.sst_blocks.specs.declared.version.TableVersion.{TableVersion}
 use Rattle.sst_entries.specs.Entry.{Entry}
 use Rattle.sst_entries.specs.Kind.{tag_of}
-use Rattle.sst_sections.specs.Number.{le4, le8}
-use Rattle.sst_sections.specs.Version.{key_len_bytes, key_limit}
+use Rattle.sst_blocks.specs.Number.{le4, le8}
+use Rattle.sst_blocks.specs.Version.{key_len_bytes, key_limit}
 
 -- the count, and then the items in order
 abbrev pub items_payload : {X : Type 0} → (X → List ℕ) → List X → List ℕ

@@ -8,7 +8,7 @@ use Rattle.sst_blocks.specs.declared.source.reads.Sound.{Sound}
 use Rattle.sst_blocks.specs.Block.{checked_payload, checksum_fault, has_room, in_grammar, load_told}
 use Rattle.sst_blocks.specs.Block.{place_fault, room_fault}
 use Rattle.sst_blocks.specs.Marks.{IsHeaded}
-use Rattle.sst_sections.specs.Fnv.{fnv1a}
+use Rattle.sst_blocks.specs.Fnv.{fnv1a}
 
 -- the payload lies within the bytes before the trailer, and what is told of its block is told of it
 pub record IsPlaced (body : List ℕ) (offset size : ℕ) (kind : BlockType) (p : Placed) : Type 0 where

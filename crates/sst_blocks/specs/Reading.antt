@@ -1,12 +1,12 @@
 -- What the payload of a data or meta block spells.
 use Rattle.std.specs.Prelude.{ℕ, ◌+◌, List, length, take, drop, slice_index, Option, Some, None}
 use Rattle.std.specs.Prelude.{option_and_then, nat_lt, if◌then◌else◌}
-use Rattle.sst_sections.specs.declared.version.TableVersion.{TableVersion}
+use Rattle.sst_blocks.specs.declared.version.TableVersion.{TableVersion}
 use Rattle.sst_entries.specs.declared.value_type.ValueType.{ValueType}
 use Rattle.sst_entries.specs.Entry.{Entry, entry}
 use Rattle.sst_entries.specs.Kind.{kind_of}
-use Rattle.sst_sections.specs.Number.{num4, num8}
-use Rattle.sst_sections.specs.Version.{key_width, key_len_at}
+use Rattle.sst_blocks.specs.Number.{num4, num8}
+use Rattle.sst_blocks.specs.Version.{key_width, key_len_at}
 use Rattle.sst_blocks.specs.Format.{Format, items_in}
 use Rattle.sst_blocks.specs.Payload.{spelled}
 

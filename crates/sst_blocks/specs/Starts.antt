@@ -1,6 +1,6 @@
 -- Where the entries and the handles of a payload begin.
 use Rattle.std.specs.Prelude.{◌≡◌, ℕ, ◌+◌, ◌<◌, ◌^◌, List, [], ◌∷◌, length, Option, Some}
-use Rattle.sst_sections.specs.declared.version.TableVersion.{TableVersion}
+use Rattle.sst_blocks.specs.declared.version.TableVersion.{TableVersion}
 use Rattle.sst_blocks.specs.declared.block_type.BlockType.{BlockType}
 use Rattle.sst_blocks.specs.declared.block_type.BlockType.TheVariants.{Data, Index, Filter, Meta}
 use Rattle.sst_blocks.specs.Block.{is_filter}

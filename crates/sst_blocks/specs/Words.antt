@@ -25,5 +25,6 @@ pub use Rattle.sst_blocks.specs.Reading.{entries_in, key_and_number}
 pub use Rattle.sst_blocks.specs.Seeking.{whole_span}
 pub use Rattle.sst_blocks.specs.SeenHandle.{handle_of_ref}
 pub use Rattle.sst_blocks.specs.Starts.{EntriesAt, HoldsEntries, IsBlock}
-pub use Rattle.sst_filters.specs.Filter.{BloomFilter, IsBuilt, IsFilterOf, admits, filter_in, is_in}
-pub use Rattle.sst_filters.specs.Filter.{payload_of}
+pub use Rattle.sst_blocks.specs.filter.Filter.{BloomFilter, IsBuilt, IsFilterOf, admits, filter_in}
+pub use Rattle.sst_blocks.specs.filter.Filter.{is_in}
+pub use Rattle.sst_blocks.specs.filter.Filter.{payload_of}

@@ -11,8 +11,8 @@ ghost use Rattle.sst_blocks.specs.Words.{payload};
 ghost use Rattle.sst_blocks.specs.Words.{payload_of, unless};
 ghost use Rattle.sst_blocks.specs.declared.block_type.BlockType.{BlockType};
 ghost use Rattle.sst_blocks.specs.declared.block_type.BlockType.TheVariants.{Filter, Index};
-ghost use Rattle.sst_sections.specs.declared.version.TableVersion.{TableVersion};
-ghost use Rattle.sst_sections.specs.declared.version.TableVersion.TheVariants.{V4};
+ghost use Rattle.sst_blocks.specs.declared.version.TableVersion.{TableVersion};
+ghost use Rattle.sst_blocks.specs.declared.version.TableVersion.TheVariants.{V4};
 ghost use Rattle.sst_entries.specs.declared.error.Error.TheVariants.{OutOfMemory};
 
 mod header;

@@ -11,12 +11,12 @@ ghost use Rattle.sst_blocks.specs.Words.{answer_stops, cursor_of, data_block_bou
 ghost use Rattle.sst_blocks.specs.Words.{entries_fault};
 ghost use Rattle.sst_blocks.specs.Words.{entries_in, entries_of, entry_of_ref, front_length};
 ghost use Rattle.sst_blocks.specs.Words.{has_room_for, header_len, is_memory};
-ghost use Rattle.sst_sections.specs.Version.{key_width};
+ghost use Rattle.sst_blocks.specs.Version.{key_width};
 ghost use Rattle.sst_blocks.specs.Words.{key_and_number, key_lt, ok_results, payload, point};
 ghost use Rattle.sst_blocks.specs.Words.{whole_span};
 ghost use Rattle.sst_entries.specs.declared.error.Error.{Error};
 ghost use Rattle.sst_entries.specs.declared.error.Error.TheVariants.{OutOfMemory, InvalidBlock};
-ghost use Rattle.sst_sections.specs.declared.version.TableVersion.TheVariants.{V4};
+ghost use Rattle.sst_blocks.specs.declared.version.TableVersion.TheVariants.{V4};
 
 mod cursor;
 mod encode;

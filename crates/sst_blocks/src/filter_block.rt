@@ -4,8 +4,7 @@ ghost use Rattle.sst_blocks.specs.Words.{IsFilterOf, admits, filter_in, is_filte
 ghost use Rattle.sst_blocks.specs.Words.{payload_of};
 ghost use Rattle.sst_blocks.specs.declared.block_type.BlockType.TheVariants.{Filter};
 
-use crate::{Block, Slice};
-use sst_filters::contains_hash;
+use crate::{Block, Slice, contains_hash};
 use std::alloc::{AllocError, Allocator, Global};
 use std::marker::Model;
 
@@ -19,7 +18,7 @@ pub struct FilterBlock<A: Allocator = Global> {
 
 impl<A: Allocator> Model for FilterBlock<A> {
     ghost use Rattle.std.specs.Prelude.{◌≡◌, ◌<◌, ◌^◌, true, length};
-    ghost use Rattle.sst_filters.specs.Filter.{BloomFilter, filter_in};
+    ghost use Rattle.sst_blocks.specs.filter.Filter.{BloomFilter, filter_in};
     ghost use Rattle.sst_blocks.specs.Block.{is_filter};
 
     ghost Value = { BloomFilter };

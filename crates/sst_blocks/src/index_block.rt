@@ -13,7 +13,7 @@ ghost use Rattle.sst_blocks.specs.Words.{reaches, handle_of_ref, answer_stops, w
 ghost use Rattle.sst_entries.specs.declared.error.Error.{Error};
 ghost use Rattle.sst_blocks.specs.declared.block_type.BlockType.TheVariants.{Index};
 ghost use Rattle.sst_entries.specs.declared.error.Error.TheVariants.{OutOfMemory};
-ghost use Rattle.sst_sections.specs.declared.version.TableVersion.TheVariants.{V4};
+ghost use Rattle.sst_blocks.specs.declared.version.TableVersion.TheVariants.{V4};
 
 mod encode;
 mod find;

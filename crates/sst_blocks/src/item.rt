@@ -11,7 +11,7 @@ ghost use Rattle.sst_entries.specs.declared.error.Error.TheVariants.{OutOfMemory
 
 use crate::Error;
 use crate::block::{EMPTY_LEN, Header};
-use sst_sections::number::put_u32;
+use crate::number::put_u32;
 use std::alloc::Allocator;
 
 /// An entry or a handle, as a block holds it.

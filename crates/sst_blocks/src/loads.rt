@@ -152,7 +152,7 @@ impl<'a, A: Allocator + Clone> Counted<'a, A> {
 }
 
 impl<A: Allocator + Clone> LoadBlocks for Counted<'_, A> {
-    ghost use Rattle.sst_sections.specs.Sections.{body_of};
+    ghost use Rattle.sst_blocks.specs.Sections.{body_of};
 
     type Alloc = A;
 

@@ -9,10 +9,10 @@ ghost use Rattle.sst_entries.specs.declared.error.Error.TheVariants.{InvalidBloc
 mod find;
 mod places;
 
+use crate::number::u32_at;
 use crate::{Error, SeqNo, TableVersion};
 pub(crate) use find::find_item;
 pub(crate) use places::{front_len, item_at, key_at};
-use sst_sections::number::u32_at;
 use std::alloc::Allocator;
 
 /// An entry or a handle whose parts lie in borrowed bytes.
@@ -23,7 +23,7 @@ pub(crate) trait ItemRef<'a>: Copy {
     ghost use Rattle.sst_blocks.specs.Reading.{key_and_number};
     ghost use Rattle.sst_entries.specs.Point.{read_place};
     ghost use Rattle.sst_entries.specs.Strict.{is_before, may_follow};
-    ghost use Rattle.sst_sections.specs.declared.version.TableVersion.{TableVersion};
+    ghost use Rattle.sst_blocks.specs.declared.version.TableVersion.{TableVersion};
 
     // What it stands for.
     ghost Told: { Type 0 };

@@ -8,13 +8,13 @@ ghost use Rattle.sst_blocks.specs.Block.{Loaded, checked_payload, checksum_fault
 ghost use Rattle.sst_blocks.specs.Block.{header_len, in_grammar, room_fault, version_in};
 ghost use Rattle.sst_blocks.specs.Block.{load_told, load_at_told, place_fault, position_fault};
 ghost use Rattle.sst_blocks.specs.Marks.{HasItems, HasSum, IsHeaded, IsSaid};
-ghost use Rattle.sst_sections.specs.Fnv.{fnv1a};
+ghost use Rattle.sst_blocks.specs.Fnv.{fnv1a};
 ghost use Rattle.std.specs.Arc.{arc_value};
 ghost use Rattle.sst_entries.specs.Error.{Gives, Refuses, FaultsFirst};
 ghost use Rattle.std.specs.Option.{option_or};
 ghost use Rattle.sst_blocks.specs.Opened.{with_load};
 ghost use Rattle.sst_blocks.specs.Placed.{IsPlaced};
-ghost use Rattle.sst_sections.specs.Sections.{body_of, section_in, section_names, trailer_fault};
+ghost use Rattle.sst_blocks.specs.Sections.{body_of, section_in, section_names, trailer_fault};
 ghost use Rattle.sst_blocks.specs.declared.opened.Opened.{Opened};
 
 mod reads;
@@ -22,9 +22,9 @@ mod reads;
 use crate::block::{Header, has_room};
 use crate::marks::{Marks, SPAN};
 use crate::{
-    Block, BlockHandle, BlockType, Error, Opened, Slice, Toc, has_hash, hash_four, have_hashes,
+    Block, BlockHandle, BlockType, Error, Opened, Slice, TRAILER_LEN, Toc, has_hash, hash_four,
+    have_hashes,
 };
-use sst_sections::TRAILER_LEN;
 use std::alloc::{AllocError, Allocator, Global};
 use std::marker::Model;
 use std::sync::Arc;
@@ -49,7 +49,7 @@ pub struct BlockSource<A: Allocator = Global> {
 
 impl<A: Allocator> Model for BlockSource<A> {
     ghost use Rattle.std.specs.Prelude.{◌≡◌, List, ℕ, None};
-    ghost use Rattle.sst_sections.specs.Sections.{trailer_fault};
+    ghost use Rattle.sst_blocks.specs.Sections.{trailer_fault};
     ghost use Rattle.std.specs.Prelude.{MatchOption};
     ghost use Rattle.std.specs.Arc.{arc_value};
 

@@ -2,10 +2,10 @@
 use Rattle.std.proofs.Common.{◌≡◌, subst, List}
 use Rattle.std.specs.Prelude.{IfOk, Result, Ok, Err}
 use Rattle.sst_entries.specs.declared.error.Error.{Error}
-use Rattle.lsm_ranges.specs.KeyRange.{Interval}
-use Rattle.lsm_ranges.specs.Packing.{AreTablesWellFormed}
-use Rattle.lsm_ranges.specs.Packed.{IsPackedOf}
-use Rattle.lsm_ranges.specs.declared.packed.Packed.{Packed}
+use Rattle.lsm_sorted.specs.version.KeyRange.{Interval}
+use Rattle.lsm_sorted.specs.version.Packing.{AreTablesWellFormed}
+use Rattle.lsm_sorted.specs.version.Packed.{IsPackedOf}
+use Rattle.lsm_sorted.specs.declared.version.packed.Packed.{Packed}
 
 -- all tables are packed
 pub packed_all : {T A : Type 0} (range : T → Interval) (r : Result (Packed T A) Error)

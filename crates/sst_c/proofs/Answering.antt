@@ -29,7 +29,7 @@ use Rattle.sst_entries.specs.declared.error.Error.TheVariants.{Source}
 use Rattle.sst_entries.specs.Error.{Fails, Gives, is_memory, number_of}
 use Rattle.sst_entries.specs.Error.{FaultsFirst, Refuses}
 use Rattle.std.specs.Prelude.{IsOk}
-use Rattle.lsm_formats.specs.Failed.{failed_fault}
+use Rattle.sst_blocks.specs.table.Failed.{failed_fault}
 use Rattle.lsm_writers.specs.Writing.{Writing, finish_fault, written}
 use Rattle.sst_c.specs.Codes.{TellsCode, TellsFirst, result_code, fault_code}
 use Rattle.sst_c.specs.Writing.{FaultAnswered, FaultTold, FinishTold}

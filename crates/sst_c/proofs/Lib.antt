@@ -1,3 +1,4 @@
+pub mod LooseValues
 pub mod Values
 pub mod Answering
 pub mod Verifying

@@ -5,8 +5,8 @@ use Rattle.std.proofs.lemmas.List.{drop_more, map_more, set-append_right, length
 use Rattle.sst_entries.specs.Entry.{Entry}
 use Rattle.sst_entries.specs.Error.{Fails, Gives, number_of}
 use Rattle.sst_entries.specs.declared.error.Error.{Error}
-use Rattle.lsm_readers.specs.Many.{answers_to}
-use Rattle.lsm_readers.specs.Read.{◌>>=◌}
+use Rattle.lsm_readers.specs.point.Many.{answers_to}
+use Rattle.lsm_readers.specs.point.Read.{◌>>=◌}
 use Rattle.sst_c.specs.Copies.{laid_over}
 use Rattle.sst_c.specs.Many.{AnswersMany, many_kept, queries_for}
 use Rattle.std.specs.Prelude.{IsSomeAnd}

@@ -6,8 +6,8 @@ use Rattle.sst_entries.specs.Entry.{Entry}
 use Rattle.sst_entries.specs.Error.{Gives}
 use Rattle.sst_entries.specs.Point.{point}
 use Rattle.sst_entries.specs.declared.error.Error.{Error}
-use Rattle.lsm_readers.specs.Many.{answers_to}
-use Rattle.lsm_points.specs.declared.many.Query.{Query}
+use Rattle.lsm_readers.specs.point.Many.{answers_to}
+use Rattle.lsm_readers.specs.declared.many.Query.{Query}
 use Rattle.sst_c.specs.Many.{queries_for, query_at}
 use Rattle.sst_c.proofs.ManyAnswers.{as_many, cut_length}
 

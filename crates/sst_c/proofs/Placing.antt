@@ -8,7 +8,7 @@ use Rattle.sst_entries.specs.declared.error.Error.{Error}
 use Rattle.sst_blocks.specs.EntryPlace.{IsPlacedIn, entry_placed}
 use Rattle.sst_blocks.specs.declared.entry_place.EntryPlace.{EntryPlace}
 use Rattle.lsm_readers.proofs.LentReads.{placed_there}
-use Rattle.lsm_readers.specs.Table.{OpenTable}
+use Rattle.lsm_readers.specs.point.Table.{OpenTable}
 use Rattle.lsm_runs.specs.RunPlaces.{placed_in_run, placed_in_runs}
 use Rattle.lsm_runs.specs.declared.lent_gets.RunPlace.{RunPlace}
 use Rattle.sst_c.proofs.Answering.{answers}

@@ -1,11 +1,11 @@
 -- Runs in order. Assumes `Logic`.
 use Rattle.std.proofs.Common.{◌≡◌, List, [], ◌∷◌, ◌++◌, Bool, true, sym, ap, subst}
 use Rattle.std.specs.Prelude.{◌&&◌}
-use Rattle.lsm_ranges.specs.KeyRange.{is_well_formed}
-use Rattle.lsm_ranges.specs.Packing.{AreInOrder, ArePacked}
-use Rattle.lsm_ranges.specs.Run.{IsInOrder}
-use Rattle.lsm_readers.specs.Table.{OpenTable}
-use Rattle.lsm_runs.specs.RunParts.{range_of}
+use Rattle.lsm_sorted.specs.version.KeyRange.{is_well_formed}
+use Rattle.lsm_sorted.specs.version.Packing.{AreInOrder, ArePacked}
+use Rattle.lsm_sorted.specs.version.Run.{IsInOrder}
+use Rattle.lsm_readers.specs.point.Table.{OpenTable}
+use Rattle.lsm_run_parts.specs.RunParts.{range_of}
 
 one_order : (t : OpenTable) → is_well_formed (range_of t) ≡ true → IsInOrder range_of (t ∷ [])
 one_order t formed = ap (λ (b : Bool). b && true && true) formed

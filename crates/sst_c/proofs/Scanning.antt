@@ -6,7 +6,7 @@ use Rattle.sst_entries.specs.Entry.{Entry}
 use Rattle.sst_entries.specs.Stream.{Deals, answer_stops, nowhere, ok_results}
 use Rattle.sst_entries.specs.declared.error.Error.{Error}
 use Rattle.sst_entries.specs.declared.error.Error.TheVariants.{OutOfMemory}
-use Rattle.lsm_readers.specs.Answer.{lift}
+use Rattle.lsm_readers.specs.point.Answer.{lift}
 use Rattle.lsm_readers.specs.Scan.{IsEndedScan, LendsList, Scan, ScansLent, ScansList, ScansNext}
 use Rattle.lsm_readers.proofs.Scans.{ended_left}
 use Rattle.sst_c.specs.Codes.{result_code}

@@ -5,9 +5,9 @@ use Rattle.std.specs.Prelude.{IfOk, map}
 use Rattle.std.proofs.lemmas.List.{map-append, take_more}
 use Rattle.std.proofs.lemmas.List.Concat.{flat_map-append}
 use Rattle.sst_entries.specs.declared.error.Error.{Error}
-use Rattle.lsm_ranges.specs.Packing.{AreInOrder, tables_in}
-use Rattle.lsm_readers.specs.Table.{OpenTable}
-use Rattle.lsm_runs.specs.RunParts.{range_of}
+use Rattle.lsm_sorted.specs.version.Packing.{AreInOrder, tables_in}
+use Rattle.lsm_readers.specs.point.Table.{OpenTable}
+use Rattle.lsm_run_parts.specs.RunParts.{range_of}
 use Rattle.sst_c.specs.Packed.{ArePackedOf}
 
 pub shared_more : {X Y : Type 0} (f : X → Y) (shared : List X) (x : X) (y : Y)

@@ -18,7 +18,7 @@ use Rattle.std.specs.declared.option.Option.{Option}
 use Rattle.std.specs.contracts.alloc.Global as heap
 use Rattle.std.proofs.alloc.Global.TheLaws as heap_laws
 use Rattle.std.specs.contracts.impls.GlobalAllocator.TheImpl.{ghosts}
-use Rattle.loose_boxes.proofs.Values.{both, both_tt}
+use Rattle.sst_c.proofs.LooseValues.{both, both_tt}
 use Rattle.sst_c.specs.Owned.{owned}
 use Rattle.sst_c.specs.contracts.boxed.Boxed as handle
 use Rattle.sst_c.specs.contracts.held.Held as held

@@ -9,7 +9,7 @@ use Rattle.lsm_readers.specs.Words.{Entry, StoresList}
 use Rattle.lsm_readers.specs.declared.verify.VerifyError.{VerifyError}
 use Rattle.sst_c.specs.Verify.{TellsCounts, TellsFinding, TellsWrong, VerifyAnswers}
 use Rattle.sst_c.specs.Verify.{finding_told, no_finding, verified_told, verify_code, verify_told}
-use Rattle.lsm_readers.specs.Table.{OpenTable}
+use Rattle.lsm_readers.specs.point.Table.{OpenTable}
 use Rattle.lsm_readers.specs.declared.verify.VerifyError.TheVariants.{Found, OutOfMemory}
 use Rattle.sst_c.specs.declared.held.Held.{Held}
 use Rattle.sst_c.specs.declared.held.What.{What}

@@ -9,21 +9,21 @@ use Rattle.sst_entries.specs.Error.{Faults, is_memory, number_of}
 use Rattle.sst_entries.specs.Stream.{ok_results}
 use Rattle.sst_entries.specs.declared.error.Error.{Error}
 use Rattle.sst_entries.specs.declared.error.Error.TheVariants.{OutOfMemory}
-use Rattle.lsm_merge.specs.Ends.{R}
-use Rattle.lsm_merge.specs.InPlace.{merge_of}
-use Rattle.lsm_merge.specs.Union.{Ascends, entries_among}
-use Rattle.lsm_lending.specs.LentCompaction.{lent_outs}
+use Rattle.lsm_sorted.specs.merge.Ends.{R}
+use Rattle.lsm_sorted.specs.merge.InPlace.{merge_of}
+use Rattle.lsm_sorted.specs.merge.Union.{Ascends, entries_among}
+use Rattle.lsm_sorted.specs.lending.LentCompaction.{lent_outs}
 use Rattle.lsm_sorted.specs.declared.compaction.Rules.{Rules}
 use Rattle.lsm_writers.specs.Tables.{TablesWriting, new_tables, with_options}
-use Rattle.lsm_readers.specs.Table.{OpenTable}
-use Rattle.lsm_compactions.specs.Words.{AreCompactable, AreTablesBy, BeginsWith, CameInOrder}
-use Rattle.lsm_compactions.specs.Words.{CameOf, FitsBy, GoesThrough, HasMade, HaveEntries}
-use Rattle.lsm_compactions.specs.Words.{RefusesOf, RunsHoldLists, kept_in, scans_of}
-use Rattle.lsm_compactions.specs.Words.{writes_fault}
-use Rattle.lsm_compactions.specs.declared.any_runs.CompactionOutcome.{CompactionOutcome}
-use Rattle.lsm_compactions.specs.declared.any_runs.CompactionOutcome.TheVariants.{Tables}
-use Rattle.lsm_compactions.specs.declared.any_runs.CompactionOutcome.TheVariants.{OutOfOrder}
-use Rattle.lsm_compactions.specs.declared.any_runs.CompactionOutcome.TheVariants.{Stopped}
+use Rattle.lsm_readers.specs.point.Table.{OpenTable}
+use Rattle.lsm_runs.specs.compaction.Words.{AreCompactable, AreTablesBy, BeginsWith, CameInOrder}
+use Rattle.lsm_runs.specs.compaction.Words.{CameOf, FitsBy, GoesThrough, HasMade, HaveEntries}
+use Rattle.lsm_runs.specs.compaction.Words.{RefusesOf, RunsHoldLists, kept_in, scans_of}
+use Rattle.lsm_runs.specs.compaction.Words.{writes_fault}
+use Rattle.lsm_runs.specs.declared.compaction.any_runs.CompactionOutcome.{CompactionOutcome}
+use Rattle.lsm_runs.specs.declared.compaction.any_runs.CompactionOutcome.TheVariants.{Tables}
+use Rattle.lsm_runs.specs.declared.compaction.any_runs.CompactionOutcome.TheVariants.{OutOfOrder}
+use Rattle.lsm_runs.specs.declared.compaction.any_runs.CompactionOutcome.TheVariants.{Stopped}
 use Rattle.sst_c.specs.Options.{options_told}
 use Rattle.sst_c.specs.Told.{found_by}
 use Rattle.sst_c.specs.What.{HoldsFiles}

@@ -1,5 +1,5 @@
 -- What C is told of what a table says of itself.
-use Rattle.lsm_readers.specs.Table.{OpenTable}
+use Rattle.lsm_readers.specs.point.Table.{OpenTable}
 use Rattle.sst_c.specs.declared.facts.TableFacts.{TableFacts}
 
 abbrev pub table_facts : OpenTable → TableFacts

@@ -6,7 +6,7 @@ use Rattle.std.specs.Global.{Global}
 use Rattle.sst_entries.specs.Entry.{Entry}
 use Rattle.sst_entries.specs.Error.{number_of}
 use Rattle.sst_entries.specs.declared.error.Error.{Error}
-use Rattle.lsm_points.specs.declared.many.Query.{Query}
+use Rattle.lsm_readers.specs.declared.many.Query.{Query}
 use Rattle.sst_c.specs.Copies.{copy_code, laid_over, lend_code}
 use Rattle.sst_c.specs.Told.{entry_facts}
 use Rattle.sst_c.specs.What.{many_in}

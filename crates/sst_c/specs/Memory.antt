@@ -1,8 +1,8 @@
 -- What C is told of how much memory a table holds.
 use Rattle.std.specs.Prelude.{◌≡◌, ◌+◌, ◌*◌, ◌/◌, ◌⊎◌, length}
-use Rattle.lsm_readers.specs.IndexKinds.{index_len}
-use Rattle.lsm_readers.specs.Parts.{filter_len}
-use Rattle.lsm_readers.specs.Table.{OpenTable}
+use Rattle.lsm_readers.specs.point.IndexKinds.{index_len}
+use Rattle.lsm_readers.specs.point.Parts.{filter_len}
+use Rattle.lsm_readers.specs.point.Table.{OpenTable}
 use Rattle.sst_c.specs.declared.memory.TableMemory.{TableMemory}
 
 -- the length of the table's file, and of the index and the filter that stay loaded; and the marks

@@ -3,11 +3,11 @@ use Rattle.std.specs.Prelude.{Option, Result}
 use Rattle.std.specs.Global.{Global}
 use Rattle.sst_entries.specs.Entry.{Entry}
 use Rattle.sst_entries.specs.declared.error.Error.{Error}
-use Rattle.lsm_lending.specs.Lent.{lent_first}
-use Rattle.lsm_lending.specs.LentNewest.{lent_newest}
-use Rattle.lsm_lending.specs.declared.lending_merger.LendingMerger.{LendingMerger}
-use Rattle.lsm_lending.specs.declared.lending_newest.LendingNewest.{LendingNewest}
-use Rattle.lsm_merge.specs.declared.merge.Merger.{Merger}
+use Rattle.lsm_sorted.specs.lending.Lent.{lent_first}
+use Rattle.lsm_sorted.specs.lending.LentNewest.{lent_newest}
+use Rattle.lsm_sorted.specs.declared.lending_merger.LendingMerger.{LendingMerger}
+use Rattle.lsm_sorted.specs.declared.lending_newest.LendingNewest.{LendingNewest}
+use Rattle.lsm_sorted.specs.declared.merge.Merger.{Merger}
 use Rattle.lsm_runs.specs.RunRange.{RunRange, lent_of_reader}
 use Rattle.lsm_sorted.specs.LentBelow.{lent_below}
 use Rattle.lsm_sorted.specs.declared.below.Below.{Below}

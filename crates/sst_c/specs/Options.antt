@@ -1,18 +1,18 @@
 -- What C says that a table is written with.
 use Rattle.std.specs.Prelude.{ℕ, ◌==◌, ◌&&◌, Bool, nat_le, nat_lt, if◌then◌else◌}
-use Rattle.sst_filters.specs.declared.policy.BloomConstructionPolicy.TheVariants.{BitsPerKey}
-use Rattle.lsm_formats.specs.declared.options.FilterKind.{FilterKind}
-use Rattle.lsm_formats.specs.declared.options.FilterKind.TheVariants.{Full as FullFilter}
-use Rattle.lsm_formats.specs.declared.options.FilterKind.TheVariants.{
+use Rattle.sst_blocks.specs.declared.filter.policy.BloomConstructionPolicy.TheVariants.{BitsPerKey}
+use Rattle.sst_blocks.specs.declared.table.options.FilterKind.{FilterKind}
+use Rattle.sst_blocks.specs.declared.table.options.FilterKind.TheVariants.{Full as FullFilter}
+use Rattle.sst_blocks.specs.declared.table.options.FilterKind.TheVariants.{
   Partitioned as PartitionedFilter,
 }
-use Rattle.lsm_formats.specs.declared.options.IndexKind.{IndexKind}
-use Rattle.lsm_formats.specs.declared.options.IndexKind.TheVariants.{Full as FullIndex}
-use Rattle.lsm_formats.specs.declared.options.IndexKind.TheVariants.{
+use Rattle.sst_blocks.specs.declared.table.options.IndexKind.{IndexKind}
+use Rattle.sst_blocks.specs.declared.table.options.IndexKind.TheVariants.{Full as FullIndex}
+use Rattle.sst_blocks.specs.declared.table.options.IndexKind.TheVariants.{
   Partitioned as PartitionedIndex,
 }
-use Rattle.lsm_formats.specs.Options.{label_of}
-use Rattle.lsm_formats.specs.declared.options.Options.{Options}
+use Rattle.sst_blocks.specs.table.Options.{label_of}
+use Rattle.sst_blocks.specs.declared.table.options.Options.{Options}
 use Rattle.lsm_writers.specs.Writing.{Writing, fresh_writing}
 use Rattle.sst_c.specs.declared.options.TableOptions.{TableOptions}
 

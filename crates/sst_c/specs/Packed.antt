@@ -1,14 +1,15 @@
 -- Tables that are packed in as few runs as there can be.
 use Rattle.std.specs.Prelude.{◌<◌, List, filter, length}
 use Rattle.sst_entries.specs.Entry.{Entry}
-use Rattle.lsm_ranges.specs.Packing.{ArePacked, ArePlaced, IsLeastSize, SameHolders, SameTables}
-use Rattle.lsm_ranges.specs.Packing.{tables_in}
-use Rattle.lsm_readers.specs.Table.{OpenTable}
+use Rattle.lsm_sorted.specs.version.Packing.{ArePacked, ArePlaced, IsLeastSize, SameHolders}
+use Rattle.lsm_sorted.specs.version.Packing.{SameTables}
+use Rattle.lsm_sorted.specs.version.Packing.{tables_in}
+use Rattle.lsm_readers.specs.point.Table.{OpenTable}
 use Rattle.lsm_runs.specs.RunLists.{RunsHoldLists}
-use Rattle.lsm_runs.specs.RunParts.{range_of}
+use Rattle.lsm_run_parts.specs.RunParts.{range_of}
 use Rattle.lsm_runs.specs.SeveralRuns.{union_in}
-use Rattle.lsm_compactions.specs.Compacted.{AreCompactable}
-use Rattle.lsm_compactions.specs.Packed.{HoldUnion, has_table}
+use Rattle.lsm_runs.specs.compaction.Compacted.{AreCompactable}
+use Rattle.lsm_runs.specs.compaction.Packed.{HoldUnion, has_table}
 
 -- runs are those of others, packed
 pub record ArePackedOf (runs packed : List (List OpenTable)) : Type 0 where

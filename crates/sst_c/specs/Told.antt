@@ -8,7 +8,7 @@ use Rattle.sst_entries.specs.Kind.{tag_of}
 use Rattle.sst_entries.specs.declared.error.Error.{Error}
 use Rattle.sst_blocks.specs.EntryPlace.{placed_in}
 use Rattle.sst_blocks.specs.declared.entry_place.EntryPlace.{EntryPlace}
-use Rattle.lsm_readers.specs.Table.{OpenTable}
+use Rattle.lsm_readers.specs.point.Table.{OpenTable}
 use Rattle.lsm_runs.specs.RunPlaces.{placed_in_runs}
 use Rattle.lsm_runs.specs.declared.lent_gets.RunPlace.{RunPlace}
 use Rattle.sst_c.specs.Newest.{newest_lent}

@@ -1,7 +1,7 @@
 -- What C is told of a verification.
 use Rattle.std.specs.Prelude.{◌≡◌, ℕ, ◌+◌, ◌⊎◌, List, length, Option, Some, Result, Ok, Err}
 use Rattle.sst_entries.specs.Error.{number_of}
-use Rattle.sst_sections.specs.Sections.{slot_index}
+use Rattle.sst_blocks.specs.Sections.{slot_index}
 use Rattle.lsm_readers.specs.Words.{Entry, StoresList}
 use Rattle.lsm_readers.specs.declared.verify.Fault.{Fault}
 use Rattle.lsm_readers.specs.declared.verify.Fault.TheVariants.{Unloaded, Hollow, Misplaced}

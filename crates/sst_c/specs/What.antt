@@ -8,10 +8,10 @@ use Rattle.sst_entries.specs.Entry.{Entry}
 use Rattle.sst_entries.specs.declared.error.Error.{Error}
 use Rattle.lsm_iters.specs.Range.{Range, RangeGives, back_next, front_next}
 use Rattle.lsm_iters.specs.Words.{back_of, front_of}
-use Rattle.lsm_readers.specs.Parts.{recovered_told}
+use Rattle.lsm_readers.specs.point.Parts.{recovered_told}
 use Rattle.lsm_readers.specs.Ranges.{DealsWithin}
 use Rattle.lsm_readers.specs.Scan.{Scan}
-use Rattle.lsm_readers.specs.Table.{OpenTable}
+use Rattle.lsm_readers.specs.point.Table.{OpenTable}
 use Rattle.lsm_readers.specs.Verification.{Verifying}
 use Rattle.lsm_writers.specs.declared.writer.FinishedTable.{FinishedTable}
 use Rattle.lsm_writers.specs.Writing.{Writing}
@@ -24,8 +24,8 @@ use Rattle.sst_c.specs.declared.held.What.TheVariants.{Answers as AnswersOf, Sca
 use Rattle.sst_c.specs.declared.held.What.TheVariants.{RunsScan as RunsScanOf}
 use Rattle.sst_c.specs.declared.held.What.TheVariants.{Packing as PackingOf}
 use Rattle.sst_c.specs.declared.held.What.TheVariants.{Verification as VerificationOf}
-use Rattle.lsm_ranges.specs.declared.packed.Packed.{Packed}
-use Rattle.lsm_ranges.specs.declared.packed.Placed.{Placed}
+use Rattle.lsm_sorted.specs.declared.version.packed.Packed.{Packed}
+use Rattle.lsm_sorted.specs.declared.version.packed.Placed.{Placed}
 use Rattle.sst_c.specs.Newest.{LentNewestAt, NewestAt}
 use Rattle.sst_c.specs.Steps.{StepsAs}
 use Rattle.sst_c.specs.Told.{found_by}

@@ -13,15 +13,15 @@ pub use Rattle.sst_entries.specs.Stream.{CanDeal, nowhere, ok_results}
 pub use Rattle.sst_entries.specs.declared.error.Error.{Error as ErrorValue}
 pub use Rattle.sst_entries.specs.declared.error.Error.TheVariants.{OutOfMemory}
 pub use Rattle.sst_entries.specs.declared.value_type.ValueType.{ValueType as Kind}
-pub use Rattle.sst_sections.specs.Sections.{body_of}
-pub use Rattle.lsm_ranges.specs.KeyRange.{is_well_formed}
-pub use Rattle.lsm_ranges.specs.Packed.{IsPackedOf}
-pub use Rattle.lsm_ranges.specs.Packing.{AreInOrder, tables_in}
-pub use Rattle.lsm_ranges.specs.declared.packed.Placed.{Placed as PlacedTable}
-pub use Rattle.lsm_merge.specs.InPlace.{merge_of}
-pub use Rattle.lsm_merge.specs.Union.{Ascends, entries_among, newest}
+pub use Rattle.sst_blocks.specs.Sections.{body_of}
+pub use Rattle.lsm_sorted.specs.version.KeyRange.{is_well_formed}
+pub use Rattle.lsm_sorted.specs.version.Packed.{IsPackedOf}
+pub use Rattle.lsm_sorted.specs.version.Packing.{AreInOrder, tables_in}
+pub use Rattle.lsm_sorted.specs.declared.version.packed.Placed.{Placed as PlacedTable}
+pub use Rattle.lsm_sorted.specs.merge.InPlace.{merge_of}
+pub use Rattle.lsm_sorted.specs.merge.Union.{Ascends, entries_among, newest}
 pub use Rattle.lsm_sorted.specs.Below.{below_told, numbered_below}
-pub use Rattle.lsm_lending.specs.LentNewest.{newest_results}
+pub use Rattle.lsm_sorted.specs.lending.LentNewest.{newest_results}
 pub use Rattle.lsm_writers.specs.Filtering.{IsSmallFilter}
 pub use Rattle.lsm_writers.specs.Tables.{IsFreshRun}
 pub use Rattle.lsm_writers.specs.Writing.{IsSmallIndex, Writing as WritingValue, may_be_written}
@@ -29,10 +29,10 @@ pub use Rattle.lsm_writers.specs.Writing.{written}
 pub use Rattle.lsm_writers.specs.declared.writer.FinishedTable.{FinishedTable as Finished}
 pub use Rattle.lsm_iters.specs.Lift.{lift}
 pub use Rattle.lsm_iters.specs.Range.{Range as RangeValue}
-pub use Rattle.lsm_points.specs.Answer.{table_answer}
-pub use Rattle.lsm_points.specs.Many.{many_told}
-pub use Rattle.lsm_points.specs.Parts.{early_fault, recovered_told}
-pub use Rattle.lsm_points.specs.Table.{OpenTable}
+pub use Rattle.lsm_readers.specs.point.Answer.{table_answer}
+pub use Rattle.lsm_readers.specs.point.Many.{many_told}
+pub use Rattle.lsm_readers.specs.point.Parts.{early_fault, recovered_told}
+pub use Rattle.lsm_readers.specs.point.Table.{OpenTable}
 pub use Rattle.lsm_readers.specs.Findings.{IsFirstFinding}
 pub use Rattle.lsm_readers.specs.Ranges.{IsRangeOf}
 pub use Rattle.lsm_readers.specs.Scan.{IsEndedScan, Scan, ScansLent}
@@ -47,8 +47,8 @@ pub use Rattle.lsm_runs.specs.RunScan.{early_scan_fault, scan_fault, table_scan}
 pub use Rattle.lsm_runs.specs.SeveralRuns.{runs_read, runs_told, union_in}
 pub use Rattle.lsm_runs.specs.SpansRead.{IsOverSpansBelow}
 pub use Rattle.lsm_runs.specs.Words.{range_of}
-pub use Rattle.lsm_compactions.specs.AnyRuns.{GoesThrough}
-pub use Rattle.lsm_compactions.specs.Compacted.{rules_by}
+pub use Rattle.lsm_runs.specs.compaction.AnyRuns.{GoesThrough}
+pub use Rattle.lsm_runs.specs.compaction.Compacted.{rules_by}
 pub use Rattle.sst_c.specs.Adds.{Adds, AddsMany, row, rows_in, size_of}
 pub use Rattle.sst_c.specs.Codes.{TellsCode, TellsFirst, result_code}
 pub use Rattle.sst_c.specs.Compact.{IsCompactionOf, IsToldOf, compactor_told}

@@ -8,7 +8,7 @@ use Rattle.sst_entries.specs.Kind.{kind_of}
 use Rattle.sst_entries.specs.declared.error.Error.{Error}
 use Rattle.sst_entries.specs.declared.value_type.ValueType.{ValueType}
 use Rattle.lsm_writers.specs.declared.writer.FinishedTable.{FinishedTable}
-use Rattle.lsm_formats.specs.Failed.{failed_fault}
+use Rattle.sst_blocks.specs.table.Failed.{failed_fault}
 use Rattle.lsm_writers.specs.Writing.{IsFinished, Writing, finish_fault, gained, write_fault}
 use Rattle.lsm_writers.specs.Writing.{written}
 use Rattle.sst_c.specs.Codes.{TellsFirst, fault_code}

@@ -2,8 +2,8 @@
 ghost use Rattle.std.specs.Prelude.{◌≡◌, IsSome, Option, Some, None};
 ghost use Rattle.sst_c.specs.Words as spec;
 
+use crate::Loose;
 use crate::held::Held;
-use loose_boxes::Loose;
 use std::alloc::{Allocator, Global};
 use std::marker::Model;
 use std::ptr::null_mut;

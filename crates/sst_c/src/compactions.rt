@@ -8,7 +8,7 @@ use crate::handle::Handle;
 use crate::held::{Files, Held, What};
 use crate::options::{TableOptions, are_usable, writer_options};
 use crate::run_list::RunList;
-use lsm_compactions::{CompactionOutcome, compact_any_runs};
+use lsm_runs::{CompactionOutcome, compact_any_runs};
 use lsm_sorted::compaction::Rules;
 use lsm_writers::{FinishedTable, MultiWriter, TableIds, Timestamp};
 use sst_blocks::Error;

@@ -3,9 +3,9 @@ ghost use Rattle.std.specs.Prelude.{◌≡◌, ◌≢◌, ◌⊎◌, is_some, na
 ghost use Rattle.std.specs.Prelude.{Some, None};
 ghost use Rattle.sst_c.specs.Words as spec;
 
+use crate::Loose;
 use crate::boxed::{Boxed, discard, hold, no_box, release};
 use crate::held::{Held, What, box_of};
-use loose_boxes::Loose;
 use std::alloc::Global;
 use std::mem;
 

@@ -3,8 +3,8 @@ ghost use Rattle.std.specs.Prelude.{◌≡◌, ◌++◌, IfErr, IfOk, OnOk, map}
 ghost use Rattle.sst_c.specs.Words as spec;
 
 use crate::run_list::RunList;
-use lsm_ranges::{Packed, Run, pack_each};
 use lsm_readers::Table;
+use lsm_sorted::{Packed, Run, pack_each};
 use sst_blocks::Error;
 use std::alloc::Global;
 use std::sync::Arc;

@@ -3,10 +3,9 @@ ghost use Rattle.std.specs.Prelude.{◌≡◌, ◌≢◌, ◌∷◌, ◌⊎◌, 
 ghost use Rattle.sst_c.specs.Words as spec;
 
 use crate::codes::NO_MEMORY;
-use lsm_compactions::pack_runs;
-use lsm_ranges::Run;
 use lsm_readers::Table;
-use lsm_runs::{RunPlace, entry_in_runs};
+use lsm_runs::{RunPlace, entry_in_runs, pack_runs};
+use lsm_sorted::Run;
 use sst_blocks::{EntryRef, Error};
 use std::alloc::Global;
 use std::marker::Model;
@@ -22,9 +21,9 @@ pub struct RunList {
 impl Model for RunList {
     ghost use Rattle.std.specs.Prelude.{List, map};
     ghost use Rattle.std.specs.Arc.{arc_value};
-    ghost use Rattle.lsm_ranges.specs.Packing.{AreInOrder};
-    ghost use Rattle.lsm_readers.specs.Table.{OpenTable};
-    ghost use Rattle.lsm_runs.specs.RunParts.{range_of};
+    ghost use Rattle.lsm_sorted.specs.version.Packing.{AreInOrder};
+    ghost use Rattle.lsm_readers.specs.point.Table.{OpenTable};
+    ghost use Rattle.lsm_run_parts.specs.RunParts.{range_of};
 
     ghost Value = { List (List OpenTable) };
 

@@ -8,9 +8,9 @@ use crate::entries::{EntryTold, tell};
 use crate::handle::Handle;
 use crate::held::{FoundEntry, Held, What};
 use crate::run_list::RunList;
-use lsm_ranges::Ranged;
 use lsm_readers::Table;
 use lsm_runs::{RunPlace, place_in_runs};
+use lsm_sorted::Ranged;
 use sst_blocks::{Error, SeqNo};
 use std::alloc::Global;
 

@@ -10,23 +10,24 @@ use Rattle.sst_entries.specs.declared.error.Error.TheVariants.{OutOfMemory}
 use Rattle.sst_entries.specs.Entry.{Entry}
 use Rattle.sst_entries.specs.Error.{is_memory}
 use Rattle.sst_entries.proofs.Refusals.{memory_is}
-use Rattle.lsm_formats.specs.Chunks.{joined}
-use Rattle.lsm_formats.specs.declared.label.Label.{Label}
-use Rattle.lsm_readers.specs.Table.{OpenTable}
+use Rattle.sst_blocks.specs.table.Chunks.{joined}
+use Rattle.sst_blocks.specs.declared.table.label.Label.{Label}
+use Rattle.lsm_readers.specs.point.Table.{OpenTable}
 use Rattle.lsm_sorted.specs.Compaction.{kept, unfiltered}
 use Rattle.lsm_writers.specs.Writing.{IsWritable}
-use Rattle.lsm_compactions.specs.Chain.{AreCutOf, IsRunOfList, ids_behind, run_label, tables_fault}
-use Rattle.lsm_compactions.specs.Compacted.{AreCompactable, HaveEntries, kept_in, rules_by}
+use Rattle.lsm_runs.specs.compaction.Chain.{AreCutOf, IsRunOfList, ids_behind, run_label}
+use Rattle.lsm_runs.specs.compaction.Chain.{tables_fault}
+use Rattle.lsm_runs.specs.compaction.Compacted.{AreCompactable, HaveEntries, kept_in, rules_by}
 use Rattle.lsm_runs.specs.RunLists.{HoldLists, RunsHoldLists}
 use Rattle.lsm_runs.specs.SeveralRuns.{union_in}
-use Rattle.lsm_compactions.proofs.Compactable.{run_entries}
+use Rattle.lsm_runs.proofs.Compactable.{run_entries}
 use Rattle.lsm_runs.proofs.OneList.{one_way}
 use Rattle.sst_script.specs.declared.stop.Failure.{Failure}
 use Rattle.sst_script.specs.declared.stop.Failure.TheVariants.{Refused}
 use Rattle.sst_script.specs.Runs.{HasRuns, Run, repeats, run_tables, union}
 use Rattle.sst_script.specs.Script.{FailsToCompact, CompactsRuns, CompactsTo, kept_by, kept_fault}
 use Rattle.sst_script.specs.Script.{store, target_size}
-use Rattle.lsm_compactions.proofs.CompactedBack.{lift_zero}
+use Rattle.lsm_runs.proofs.CompactedBack.{lift_zero}
 use Rattle.sst_script.proofs.PendingLemmas.{nothing_pending}
 use Rattle.sst_script.proofs.RunLemmas.{held, lists_of, union_same}
 use Rattle.sst_script.proofs.UnionLemmas.{union_more}

@@ -16,7 +16,7 @@ use Rattle.sst_entries.specs.Kind.{tag_of}
 use Rattle.sst_entries.specs.Point.{is_hit, point}
 use Rattle.sst_entries.proofs.KeyLemmas.{same_is}
 use Rattle.sst_entries.proofs.OrderLemmas.{gt_first}
-use Rattle.lsm_merge.specs.Union.{AtMost, Ascends}
+use Rattle.lsm_sorted.specs.merge.Union.{AtMost, Ascends}
 use Rattle.sst_script.specs.Runs.{has_entry}
 
 -- whether an entry that may be there has a number

@@ -8,15 +8,16 @@ use Rattle.sst_entries.specs.declared.value_type.ValueType.TheVariants.{Value}
 use Rattle.sst_entries.specs.Entry.{Entry, entry}
 use Rattle.sst_entries.specs.Error.{Faults}
 use Rattle.sst_entries.specs.Strict.{last_of, may_follow, IsStrictAfter}
-use Rattle.lsm_formats.specs.Facts.{highest_seqno}
+use Rattle.sst_blocks.specs.table.Facts.{highest_seqno}
 use Rattle.lsm_writers.specs.Writing.{may_be_written, IsWritable}
-use Rattle.lsm_readers.specs.Table.{OpenTable}
-use Rattle.lsm_compactions.specs.Chain.{AreCutOf, IsRunOfList, chain_fault, run_label, tables_fault}
-use Rattle.lsm_compactions.specs.Written.{number_fault}
+use Rattle.lsm_readers.specs.point.Table.{OpenTable}
+use Rattle.lsm_runs.specs.compaction.Chain.{AreCutOf, IsRunOfList, chain_fault, run_label}
+use Rattle.lsm_runs.specs.compaction.Chain.{tables_fault}
+use Rattle.lsm_runs.specs.compaction.Written.{number_fault}
 use Rattle.sst_entries.proofs.Booleans.{and_parts}
 use Rattle.sst_entries.proofs.Lists.{all_append}
 use Rattle.sst_entries.proofs.Strictness.{strict_push}
-use Rattle.lsm_compactions.proofs.CompactedBack.{small_numbers}
+use Rattle.lsm_runs.proofs.CompactedBack.{small_numbers}
 
 pub nothing_pending : IsWritable []
 unfolding IsStrictAfter

@@ -10,13 +10,13 @@ use Rattle.sst_entries.specs.Error.{Fails, Gives}
 use Rattle.sst_entries.specs.Point.{point, within}
 use Rattle.sst_entries.specs.Stream.{nowhere, ok_results}
 use Rattle.sst_entries.proofs.FrontLemmas.{deals_in_front}
-use Rattle.lsm_formats.specs.Chunks.{joined}
-use Rattle.lsm_merge.specs.Union.{all_entries, newest, union_of}
-use Rattle.lsm_merge.proofs.UnionLemmas.{ascends_in_order}
-use Rattle.lsm_readers.specs.Table.{OpenTable}
+use Rattle.sst_blocks.specs.table.Chunks.{joined}
+use Rattle.lsm_sorted.specs.merge.Union.{all_entries, newest, union_of}
+use Rattle.lsm_sorted.proofs.UnionLemmas.{ascends_in_order}
+use Rattle.lsm_readers.specs.point.Table.{OpenTable}
 use Rattle.lsm_runs.specs.RunLists.{DealsList, RunsHoldLists}
 use Rattle.lsm_runs.specs.SeveralRuns.{union_in}
-use Rattle.lsm_compactions.proofs.CompactedBack.{lift_zero}
+use Rattle.lsm_runs.proofs.CompactedBack.{lift_zero}
 use Rattle.sst_script.specs.Runs.{Run, has_entry, repeats, run_tables, union}
 use Rattle.sst_script.proofs.EntryLemmas.{has_entry_found, has_number}
 

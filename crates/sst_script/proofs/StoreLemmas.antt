@@ -4,8 +4,9 @@ use Rattle.std.proofs.Common.{List, [], ◌∷◌, length}
 use Rattle.std.specs.Prelude.{Option, None, Ok}
 use Rattle.sst_entries.specs.Entry.{Entry}
 use Rattle.sst_entries.specs.Error.{Gives}
-use Rattle.lsm_readers.specs.Table.{OpenTable}
-use Rattle.lsm_compactions.specs.Chain.{AreCutOf, IsRunOfList, ids_behind, run_label, tables_fault}
+use Rattle.lsm_readers.specs.point.Table.{OpenTable}
+use Rattle.lsm_runs.specs.compaction.Chain.{AreCutOf, IsRunOfList, ids_behind, run_label}
+use Rattle.lsm_runs.specs.compaction.Chain.{tables_fault}
 use Rattle.sst_script.specs.declared.command.Command.{Command}
 use Rattle.sst_script.specs.declared.command.Command.TheVariants.{Compact, Pack, Table}
 use Rattle.sst_script.specs.declared.print.Answer.TheVariants.{Runs, Tables}

@@ -17,11 +17,11 @@ use Rattle.sst_entries.proofs.Booleans.{and_both}
 use Rattle.sst_entries.proofs.KeyLemmas.{same_itself}
 use Rattle.sst_entries.proofs.Lists.{all_more}
 use Rattle.sst_entries.proofs.OrderLemmas.{before_trans, less_of, number_total, tie_same}
-use Rattle.lsm_merge.specs.Union.{all_entries, insert_sorted, item_cmp, sort_entries}
-use Rattle.lsm_merge.proofs.MergedLemmas.{Above, above_at_most, all_inserted, all_sorted_in}
-use Rattle.lsm_merge.proofs.MergedLemmas.{item_total}
-use Rattle.lsm_merge.proofs.Pairs.{AllBefore, pairs_of, strict_from}
-use Rattle.lsm_merge.proofs.UnionLemmas.{then_less}
+use Rattle.lsm_sorted.specs.merge.Union.{all_entries, insert_sorted, item_cmp, sort_entries}
+use Rattle.lsm_sorted.proofs.MergedLemmas.{Above, above_at_most, all_inserted, all_sorted_in}
+use Rattle.lsm_sorted.proofs.MergedLemmas.{item_total}
+use Rattle.lsm_sorted.proofs.Pairs.{AllBefore, pairs_of, strict_from}
+use Rattle.lsm_sorted.proofs.UnionLemmas.{then_less}
 use Rattle.lsm_runs.proofs.Unions.{entries_of}
 use Rattle.lsm_writers.specs.Writing.{IsWritable}
 use Rattle.sst_script.specs.Runs.{Run, has_entry, repeats, union}

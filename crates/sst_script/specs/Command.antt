@@ -9,7 +9,7 @@ use Rattle.sst_entries.specs.declared.value_type.ValueType.{ValueType}
 use Rattle.sst_script.specs.declared.command.Command.{Command}
 use Rattle.std.specs.declared.ops.Bound.{Bound}
 use Rattle.std.specs.declared.ops.Bound.TheVariants.{Included, Excluded, Unbounded}
-use Rattle.lsm_ranges.specs.KeyRange.{key_bound}
+use Rattle.lsm_sorted.specs.version.KeyRange.{key_bound}
 use Rattle.sst_script.specs.declared.command.Command.TheVariants.{Entry, Table, Get, Range}
 use Rattle.sst_script.specs.declared.command.Command.TheVariants.{Compact, Pack}
 use Rattle.sst_script.specs.Text.{letter_of, IsNumber}

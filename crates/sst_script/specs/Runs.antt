@@ -4,9 +4,9 @@ use Rattle.std.specs.List.{list_any}
 use Rattle.sst_entries.specs.Entry.{Entry}
 use Rattle.sst_entries.specs.Key.{same_key}
 use Rattle.sst_entries.specs.Stream.{ok_results}
-use Rattle.lsm_merge.specs.Union.{union_of}
-use Rattle.lsm_readers.specs.Table.{OpenTable}
-use Rattle.lsm_compactions.specs.Chain.{IsRunOfList}
+use Rattle.lsm_sorted.specs.merge.Union.{union_of}
+use Rattle.lsm_readers.specs.point.Table.{OpenTable}
+use Rattle.lsm_runs.specs.compaction.Chain.{IsRunOfList}
 
 -- a run: a list, and the tables that were written of it and opened without a global seqno
 pub record Run : Type 0 where

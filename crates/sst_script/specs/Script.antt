@@ -6,13 +6,13 @@ use Rattle.sst_entries.specs.declared.error.Error.{Error}
 use Rattle.sst_entries.specs.declared.error.Error.TheVariants.{OutOfMemory}
 use Rattle.sst_entries.specs.Entry.{Entry, entry}
 use Rattle.sst_entries.specs.Point.{point, within}
-use Rattle.lsm_merge.specs.Union.{newest}
-use Rattle.lsm_ranges.specs.KeyRange.{key_bound}
-use Rattle.lsm_ranges.specs.Packing.{ArePacked, IsLeastSize, SameHolders, SameTables}
+use Rattle.lsm_sorted.specs.merge.Union.{newest}
+use Rattle.lsm_sorted.specs.version.KeyRange.{key_bound}
+use Rattle.lsm_sorted.specs.version.Packing.{ArePacked, IsLeastSize, SameHolders, SameTables}
 use Rattle.lsm_sorted.specs.Compaction.{kept, unfiltered}
-use Rattle.lsm_compactions.specs.Chain.{AreCutOf, ids_behind, run_label, tables_fault}
-use Rattle.lsm_compactions.specs.Compacted.{rules_by}
-use Rattle.lsm_runs.specs.RunParts.{range_of}
+use Rattle.lsm_runs.specs.compaction.Chain.{AreCutOf, ids_behind, run_label, tables_fault}
+use Rattle.lsm_runs.specs.compaction.Compacted.{rules_by}
+use Rattle.lsm_run_parts.specs.RunParts.{range_of}
 use Rattle.lsm_writers.specs.Writing.{may_be_written}
 use Rattle.sst_script.specs.declared.command.Command.{Command}
 use Rattle.sst_script.specs.declared.command.Command.TheVariants.{Entry as Add, Table, Get, Range}

@@ -3,8 +3,8 @@ pub use Rattle.sst_entries.specs.Entry.{Entry, entry}
 pub use Rattle.sst_entries.specs.Error.{Faults, Gives}
 pub use Rattle.sst_entries.specs.Point.{point, within}
 pub use Rattle.sst_entries.specs.Stream.{nowhere}
-pub use Rattle.lsm_merge.specs.Union.{newest}
-pub use Rattle.lsm_ranges.specs.KeyRange.{key_bound}
+pub use Rattle.lsm_sorted.specs.merge.Union.{newest}
+pub use Rattle.lsm_sorted.specs.version.KeyRange.{key_bound}
 pub use Rattle.lsm_writers.specs.Writing.{IsWritable, may_be_written}
 pub use Rattle.lsm_runs.specs.RunLists.{DealsList}
 pub use Rattle.std.specs.Arc.{arc_value}
@@ -19,9 +19,9 @@ pub use Rattle.std.specs.Vec.{vec_items}
 pub use Rattle.std.specs.declared.ops.Bound.{Bound}
 pub use Rattle.sst_entries.specs.declared.error.Error.TheVariants.{OutOfMemory}
 pub use Rattle.sst_entries.specs.declared.value_type.ValueType.{ValueType}
-pub use Rattle.lsm_compactions.specs.Chain.{AreCutOf, IsRunOfList, ids_behind, run_label}
-pub use Rattle.lsm_compactions.specs.Chain.{tables_fault}
-pub use Rattle.lsm_compactions.specs.Compacted.{AreCompactable}
+pub use Rattle.lsm_runs.specs.compaction.Chain.{AreCutOf, IsRunOfList, ids_behind, run_label}
+pub use Rattle.lsm_runs.specs.compaction.Chain.{tables_fault}
+pub use Rattle.lsm_runs.specs.compaction.Compacted.{AreCompactable}
 pub use Rattle.sst_script.specs.Answer.{answer_lines, entry_line, entry_lines, none_line}
 pub use Rattle.sst_script.specs.Answer.{refusal_line}
 pub use Rattle.sst_script.specs.Answering.{LineEnds, PrintEnds, Reports, ScriptEnds, outcome_text}

@@ -4,12 +4,11 @@ ghost use Rattle.std.specs.Prelude.{OnErr, OnOk, MatchOption};
 ghost use Rattle.sst_script.specs.Words as spec;
 
 use crate::Failure;
-use lsm_compactions::write_run;
-use lsm_formats::Timestamp;
-use lsm_ranges::Run;
 use lsm_readers::Table;
+use lsm_runs::write_run;
+use lsm_sorted::Run;
 use lsm_writers::TableIds;
-use sst_blocks::{Error, InternalValue, SeqNo, Slice, ValueType};
+use sst_blocks::{Error, InternalValue, SeqNo, Slice, Timestamp, ValueType};
 use std::alloc::Allocator;
 use std::marker::Model;
 

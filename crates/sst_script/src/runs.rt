@@ -3,10 +3,9 @@ ghost use Rattle.std.specs.Prelude.{◌≡◌, ◌+◌, ◌-◌, ◌<◌, ◌^�
 ghost use Rattle.std.specs.Prelude.{◌∷◌, [], map};
 ghost use Rattle.sst_script.specs.Words as spec;
 
-use lsm_ranges::Run;
 use lsm_readers::Table;
 use lsm_runs::{get_runs, get_runs_ref, range_runs};
-use lsm_sorted::NewestOf;
+use lsm_sorted::{NewestOf, Run};
 use sst_blocks::{Error, InternalValue, IterItem, SeqNo, Slice, UserKey};
 use std::alloc::Allocator;
 use std::ops::Bound;

@@ -8,13 +8,12 @@ use crate::runs::{is_repeated, newest_answer, newest_entries, share, share_all, 
 use crate::{
     Answer, Command, Failure, Stop, parse_command, print_answer, print_refusal, print_stop,
 };
-use lsm_compactions::{compact_to_run, pack_runs};
-use lsm_formats::Timestamp;
-use lsm_ranges::Run;
 use lsm_readers::Table;
+use lsm_runs::{compact_to_run, pack_runs};
+use lsm_sorted::Run;
 use lsm_sorted::compaction::Rules;
 use lsm_writers::TableIds;
-use sst_blocks::SeqNo;
+use sst_blocks::{SeqNo, Timestamp};
 use std::alloc::{AllocError, Allocator};
 use std::io::{BufRead, BufReader, Read, Write};
 use std::sync::Arc;

@@ -4,35 +4,35 @@ use Rattle.std.proofs.Common.{List, [], ◌∷◌, ◌+◌, ◌-◌, arith, ◌+
 use Rattle.std.specs.List.{AllByRecursion}
 use Rattle.sst_entries.specs.Entry.{Entry, entry}
 use Rattle.sst_entries.specs.Strict.{IsStrict, IsStrictAfter, last_of}
-use Rattle.sst_sections.specs.Number.{le2, le4, le8}
-use Rattle.sst_sections.specs.declared.version.TableVersion.TheVariants.{V3}
-use Rattle.sst_filters.specs.declared.policy.BloomConstructionPolicy.TheVariants.{BitsPerKey}
+use Rattle.sst_blocks.specs.Number.{le2, le4, le8}
+use Rattle.sst_blocks.specs.declared.version.TableVersion.TheVariants.{V3}
+use Rattle.sst_blocks.specs.declared.filter.policy.BloomConstructionPolicy.TheVariants.{BitsPerKey}
 use Rattle.sst_blocks.specs.Handles.{handle_spelled, handles_payload}
 use Rattle.sst_blocks.specs.Handle.{Handle}
 use Rattle.sst_blocks.specs.Payload.{spelled, payload}
-use Rattle.lsm_formats.specs.Filters.{keys_after}
-use Rattle.lsm_formats.specs.Content.{Content}
-use Rattle.lsm_formats.specs.Chunks.{AreChunks, IsChunk}
-use Rattle.lsm_formats.specs.Parts.{ArePartsOf, IsPart}
-use Rattle.lsm_formats.specs.Partitions.{is_full_index}
+use Rattle.sst_blocks.specs.table.Filters.{keys_after}
+use Rattle.sst_blocks.specs.table.Content.{Content}
+use Rattle.sst_blocks.specs.table.Chunks.{AreChunks, IsChunk}
+use Rattle.sst_blocks.specs.table.Parts.{ArePartsOf, IsPart}
+use Rattle.sst_blocks.specs.table.Partitions.{is_full_index}
 use Rattle.sst_entries.specs.declared.value_type.ValueType.TheVariants.{Value}
-use Rattle.lsm_formats.specs.Index.{handles}
-use Rattle.lsm_formats.specs.File.{file, index_part}
-use Rattle.lsm_formats.specs.Fits.{Fits, EntryFits, BlockFits, SectionFits}
-use Rattle.lsm_formats.specs.Table.{IsTable}
-use Rattle.lsm_readers.specs.Answer.{lift, lifted}
-use Rattle.lsm_ranges.specs.Run.{IsInOrder}
-use Rattle.lsm_readers.specs.Table.{IsOpen, OpenTable}
+use Rattle.sst_blocks.specs.table.Index.{handles}
+use Rattle.sst_blocks.specs.table.File.{file, index_part}
+use Rattle.sst_blocks.specs.table.Fits.{Fits, EntryFits, BlockFits, SectionFits}
+use Rattle.sst_blocks.specs.table.Table.{IsTable}
+use Rattle.lsm_readers.specs.point.Answer.{lift, lifted}
+use Rattle.lsm_sorted.specs.version.Run.{IsInOrder}
+use Rattle.lsm_readers.specs.point.Table.{IsOpen, OpenTable}
 use Rattle.lsm_readers.proofs.FileStored.{open_stores}
 use Rattle.lsm_writers.specs.Writing.{IsWritable}
-use Rattle.lsm_compactions.specs.Compacted.{AreCompactable}
+use Rattle.lsm_runs.specs.compaction.Compacted.{AreCompactable}
 use Rattle.lsm_runs.specs.RunLists.{HoldLists, HoldsList}
-use Rattle.lsm_runs.specs.RunParts.{range_of}
+use Rattle.lsm_run_parts.specs.RunParts.{range_of}
 use Rattle.lsm_runs.specs.SeveralRuns.{union_in}
-use Rattle.lsm_formats.specs.Options.{label_of}
-use Rattle.lsm_formats.specs.declared.options.Options.{Options}
-use Rattle.lsm_formats.specs.declared.options.FilterKind.TheVariants.{Full as FullFilter}
-use Rattle.lsm_formats.specs.declared.options.IndexKind.TheVariants.{
+use Rattle.sst_blocks.specs.table.Options.{label_of}
+use Rattle.sst_blocks.specs.declared.table.options.Options.{Options}
+use Rattle.sst_blocks.specs.declared.table.options.FilterKind.TheVariants.{Full as FullFilter}
+use Rattle.sst_blocks.specs.declared.table.options.IndexKind.TheVariants.{
   Partitioned as PartitionedIndex,
 }
 use Rattle.test_reads.specs.Stored.{new_entries, stored_entries}

@@ -3,10 +3,10 @@ pub use Rattle.std.specs.Arc.{arc_value}
 pub use Rattle.std.specs.Iterator.{IsFinite}
 pub use Rattle.sst_entries.specs.Entry.{Entry}
 pub use Rattle.sst_entries.specs.Stream.{CanDeal, nowhere}
-pub use Rattle.lsm_ranges.specs.Run.{ArePlacesOf}
-pub use Rattle.lsm_formats.specs.Table.{IsTable}
+pub use Rattle.lsm_sorted.specs.version.Run.{ArePlacesOf}
+pub use Rattle.sst_blocks.specs.table.Table.{IsTable}
 pub use Rattle.lsm_writers.specs.Filtering.{IsSmallFilter}
 pub use Rattle.lsm_writers.specs.Writing.{IsSmallIndex}
 pub use Rattle.lsm_runs.specs.RunLists.{HoldsList}
-pub use Rattle.lsm_compactions.specs.Compacted.{AreCompactable}
+pub use Rattle.lsm_runs.specs.compaction.Compacted.{AreCompactable}
 pub use Rattle.test_reads.specs.Stored.{new_entries, stored_entries}

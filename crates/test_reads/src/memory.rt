@@ -4,8 +4,8 @@ use crate::runs::{compactions, lists as run_lists, part, walks};
 use crate::tables::{lists, points, queries, refusals};
 use sst_blocks::Error;
 use std::alloc::{Allocator, Global};
-use test_refusing::{Refusing, each_refused};
-use test_tables::runs::is_right;
+use test_support::samples::runs::is_right;
+use test_support::{Refusing, each_refused};
 
 // The work of a test, on a table or on a run. It is named by the index of a case, or by itself.
 enum Work {

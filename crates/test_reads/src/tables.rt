@@ -22,13 +22,13 @@ mod sizes;
 mod verified;
 mod walks;
 
-use logpurple::table::Table;
+use lsm_tables::table::Table;
 use lsm_writers::{BloomConstructionPolicy, FilterKind, IndexKind, Options, Timestamp, Writer};
 use sst_blocks::{Checksum, EntryRef, Error, InternalValue, SeqNo, Slice, ValueType};
 use std::alloc::Allocator;
-use test_tables::rows::{Row, fill, new_writer};
-use test_tables::stored::{filter_parts, one_entry, one_entry_filtered, two_levels};
-use test_tables::tables::overwritten;
+use test_support::samples::rows::{Row, fill, new_writer};
+use test_support::samples::stored::{filter_parts, one_entry, one_entry_filtered, two_levels};
+use test_support::samples::tables::overwritten;
 
 /// Three versions of `a` and one of `b`.
 pub(crate) const ROWS: &[Row<'static>] = &[

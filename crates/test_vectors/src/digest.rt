@@ -1,6 +1,6 @@
 //! Checksums of results.
+use sst_blocks::fnv::Fnv1a;
 use sst_blocks::{Error, InternalValue, IterItem, KeyedBlockHandle, Opened};
-use sst_sections::fnv::Fnv1a;
 use std::alloc::Allocator;
 
 /// The running FNV-1a hash of results. Each number counts as 8 little-endian bytes, and each byte

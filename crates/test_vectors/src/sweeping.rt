@@ -2,8 +2,7 @@
 use crate::digest::Digest;
 use crate::reading::{Pins, asked, changed, open, put_facts, put_read};
 use crate::walking::{BACKS, FRONTS, IN_TURN, put_walk};
-use lsm_block_indexes::{BlockIndex, BlockIndexImpl, BlockIndexIterImpl};
-use lsm_iters::Iter;
+use lsm_iters::{BlockIndex, BlockIndexImpl, BlockIndexIterImpl, Iter};
 use lsm_readers::{Query, Table, get_many, point_in};
 use sst_blocks::{BlockSource, Counted, Error, SeqNo, Slice};
 use std::alloc::Allocator;

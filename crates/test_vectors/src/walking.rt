@@ -1,7 +1,6 @@
 //! Iterations over entries and over the handles of the index, from both ends, and block by block.
 use crate::digest::Digest;
-use lsm_block_indexes::{BlockIndexIter, BlockIndexIterImpl};
-use lsm_iters::Iter;
+use lsm_iters::{BlockIndexIter, BlockIndexIterImpl, Iter};
 use lsm_readers::Scanner;
 use sst_blocks::{Error, Opened};
 use std::alloc::Allocator;

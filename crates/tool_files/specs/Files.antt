@@ -2,7 +2,7 @@
 use Rattle.std.specs.Prelude.{◌≡◌, ◌<◌, ℕ, List, ◌++◌, Option, Some, Bool, false}
 use Rattle.std.specs.Prelude.{IfSome, codes, length}
 use Rattle.std.specs.Fmt.{decimal}
-use Rattle.logpurple.specs.Words.{OutOfMemory, is_memory}
+use Rattle.lsm_tables.specs.Words.{OutOfMemory, is_memory}
 use Rattle.tool_files.specs.declared.file_error.FileFault.{FileFault}
 use Rattle.tool_files.specs.declared.file_error.FileFault.TheVariants.{CutShort, Folder, Io}
 use Rattle.tool_files.specs.declared.file_error.FileFault.TheVariants.{Refused}

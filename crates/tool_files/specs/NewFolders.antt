@@ -4,7 +4,7 @@ use Rattle.std.specs.Prelude.{IfSome, None, Option, codes, length, map, take, tr
 use Rattle.std.specs.List.{AllByRecursion}
 use Rattle.std.specs.Fmt.{decimal}
 use Rattle.std.specs.Path.{slash}
-use Rattle.logpurple.specs.Words.{OutOfMemory}
+use Rattle.lsm_tables.specs.Words.{OutOfMemory}
 use Rattle.tool_files.specs.declared.file_error.FileError.{FileError}
 use Rattle.tool_files.specs.declared.file_error.FileFault.{FileFault}
 use Rattle.tool_files.specs.declared.file_error.FileFault.TheVariants.{Io, NamesTaken, Refused}

@@ -1,7 +1,7 @@
 -- Tables that are opened.
 use denote.Ref.{Bor}
 use Rattle.std.specs.Prelude.{◌≡◌, ℕ, Bool, List, [], ◌∷◌, ◌++◌, Option, None, IfSome, Ok, Err}
-use Rattle.logpurple.specs.Words.{Gives, OpenTable, recovered_told}
+use Rattle.lsm_tables.specs.Words.{Gives, OpenTable, recovered_told}
 use Rattle.tool_files.specs.declared.file_error.FileError.{FileError}
 use Rattle.tool_files.specs.declared.file_error.FileFault.{FileFault}
 use Rattle.tool_files.specs.declared.file_error.FileFault.TheVariants.{Refused}

@@ -4,7 +4,7 @@ use Rattle.std.specs.Prelude.{◌≡◌, ◌<◌, ◌⊎◌, ℕ, List, ◌∷�
 use Rattle.std.specs.Fs.{IsDir, IsFile, file_type}
 use Rattle.std.specs.List.{AllByRecursion}
 use Rattle.std.specs.declared.fs.attrs.Metadata.{Metadata}
-use Rattle.logpurple.specs.Words.{OutOfMemory}
+use Rattle.lsm_tables.specs.Words.{OutOfMemory}
 use Rattle.tool_files.specs.declared.file_error.FileError.{FileError}
 use Rattle.tool_files.specs.declared.file_error.FileFault.{FileFault}
 use Rattle.tool_files.specs.declared.file_error.FileFault.TheVariants.{AfterOthers, Folder, Io}

@@ -3,7 +3,7 @@ ghost use Rattle.std.specs.Prelude.{◌≡◌};
 ghost use Rattle.tool_files.specs.Files.{is_memory_fault};
 
 use crate::FileName;
-use logpurple::block::Error;
+use lsm_tables::block::Error;
 use std::alloc::{AllocError, AllocFailed};
 use std::{fmt, io};
 
@@ -101,7 +101,7 @@ impl From<Error> for FileFault {
 
 impl From<AllocError> for FileFault {
     ghost use Rattle.std.specs.Prelude.{◌≡◌};
-    ghost use Rattle.logpurple.specs.Words.{OutOfMemory};
+    ghost use Rattle.lsm_tables.specs.Words.{OutOfMemory};
     ghost use Rattle.tool_files.specs.declared.file_error.FileFault.TheVariants.{Refused};
 
     ghost from_gives = { λ _ fault. fault ≡ Refused OutOfMemory };
@@ -113,7 +113,7 @@ impl From<AllocError> for FileFault {
 
 impl<T: Drop> From<AllocFailed<T>> for FileFault {
     ghost use Rattle.std.specs.Prelude.{◌≡◌};
-    ghost use Rattle.logpurple.specs.Words.{OutOfMemory};
+    ghost use Rattle.lsm_tables.specs.Words.{OutOfMemory};
     ghost use Rattle.tool_files.specs.declared.file_error.FileFault.TheVariants.{Refused};
 
     ghost from_gives = { λ _ fault. fault ≡ Refused OutOfMemory };

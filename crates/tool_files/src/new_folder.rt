@@ -17,7 +17,7 @@ ghost use Rattle.tool_files.specs.There.{SameButBehind, SameElsewhere};
 
 use crate::write::{NAMES, path_of};
 use crate::{FileError, FileFault, FileName, Place, check_free};
-use logpurple::table::FinishedTable;
+use lsm_tables::table::FinishedTable;
 use std::alloc::Allocator;
 use std::io;
 use std::io::ErrorKind;

@@ -3,7 +3,7 @@ ghost use Rattle.std.specs.Prelude.{◌≡◌, IfOk, map};
 ghost use Rattle.tool_files.specs.Numbered.{named_bytes, numbered_files, numbered_path};
 
 use crate::{FileName, NewFile};
-use logpurple::table::FinishedTable;
+use lsm_tables::table::FinishedTable;
 use std::alloc::{AllocError, Allocator};
 
 /// The files of tables, numbered from 1 on where their names have a number. Refused for want of

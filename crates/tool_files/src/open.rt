@@ -1,14 +1,14 @@
 //! Opening files as tables.
 ghost use Rattle.std.specs.Prelude.{◌≡◌, ◌++◌, ◌∷◌, [], Any, IfErr, IfOk, OnOk, length, true};
 ghost use Rattle.std.specs.List.{AllByRecursion};
-ghost use Rattle.logpurple.specs.Words.{Gives, OpenTable, recovered_told};
+ghost use Rattle.lsm_tables.specs.Words.{Gives, OpenTable, recovered_told};
 ghost use Rattle.tool_files.specs.Files.{is_memory_fault, path_text};
 ghost use Rattle.tool_files.specs.Opened.{AreOpenedFrom, HasContent, IsToldByBytes, StopsOpening};
 ghost use Rattle.tool_files.specs.Opened.{TellsRefused};
 
 use crate::{FileError, FileFault, FileName, Place, read_file};
-use logpurple::block::{Checksum, Error, Slice};
-use logpurple::table::Table;
+use lsm_tables::block::{Checksum, Error, Slice};
+use lsm_tables::table::Table;
 use std::alloc::Allocator;
 
 /// Opens a table's bytes, of which no checksum is known, its numbers as they are stored. With

@@ -14,7 +14,7 @@ ghost use Rattle.tool_files.specs.There.{SameElsewhere};
 
 use crate::FileFault;
 use crate::read::read_path;
-use logpurple::block::Slice;
+use lsm_tables::block::Slice;
 use std::alloc::Allocator;
 use std::fs::{Metadata, OpenFile, OpenOptions, Permissions};
 use std::io::{ErrorKind, Write};

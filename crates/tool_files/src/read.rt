@@ -7,7 +7,7 @@ ghost use Rattle.tool_files.specs.Files.{path_text};
 ghost use Rattle.tool_files.specs.declared.file_error.FileFault.TheVariants.{Folder};
 
 use crate::{FileError, FileFault, FileName, Place};
-use logpurple::block::Slice;
+use lsm_tables::block::Slice;
 use std::alloc::Allocator;
 use std::fs;
 use std::fs::{Metadata, OpenFile};

@@ -10,7 +10,7 @@ use Rattle.tool_files.specs.declared.file_error.FileFault.TheVariants.{NotSynced
 use Rattle.tool_files.specs.Files.{is_memory_fault}
 use Rattle.tool_files.specs.Placed.{IsOfSystem, TellsFound}
 use Rattle.tool_files.specs.Opened.{StopsOpening}
-use Rattle.logpurple.specs.Words.{OutOfMemory}
+use Rattle.lsm_tables.specs.Words.{OutOfMemory}
 use Rattle.tool_make.specs.declared.compact_error.CompactError.TheVariants as error
 use Rattle.tool_make.specs.Blamed.{BlamesNoneForMemory, blamed}
 use Rattle.tool_make.specs.Compacted.{IfOutOfOrder}

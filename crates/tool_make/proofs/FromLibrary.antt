@@ -9,16 +9,17 @@ use Rattle.sst_entries.specs.Entry.{Entry}
 use Rattle.sst_entries.specs.Error.{is_memory}
 use Rattle.sst_entries.specs.declared.error.Error.{Error}
 use Rattle.sst_entries.specs.declared.error.Error.TheVariants.{OutOfMemory}
-use Rattle.lsm_formats.specs.Facts.{highest_seqno}
+use Rattle.sst_blocks.specs.table.Facts.{highest_seqno}
 use Rattle.lsm_readers.specs.Stored.{StoresList}
-use Rattle.lsm_readers.specs.Table.{OpenTable}
+use Rattle.lsm_readers.specs.point.Table.{OpenTable}
 use Rattle.lsm_runs.specs.RunLists.{RunsHoldLists}
-use Rattle.lsm_compactions.specs.AnyRuns.{AreTablesBy}
-use Rattle.lsm_compactions.specs.Compacted.{AreCompactable, FitsBy, HaveEntries, kept_in}
-use Rattle.lsm_compactions.specs.OpenedBy.{run_with_fault}
-use Rattle.lsm_compactions.specs.declared.any_runs.CompactionOutcome.{CompactionOutcome}
-use Rattle.lsm_compactions.specs.declared.any_runs.CompactionOutcome.TheVariants.{OutOfOrder}
-use Rattle.lsm_compactions.specs.declared.any_runs.CompactionOutcome.TheVariants.{Stopped, Tables}
+use Rattle.lsm_runs.specs.compaction.AnyRuns.{AreTablesBy}
+use Rattle.lsm_runs.specs.compaction.Compacted.{AreCompactable, FitsBy, HaveEntries, kept_in}
+use Rattle.lsm_runs.specs.compaction.OpenedBy.{run_with_fault}
+use Rattle.lsm_runs.specs.declared.compaction.any_runs.CompactionOutcome.{CompactionOutcome}
+use Rattle.lsm_runs.specs.declared.compaction.any_runs.CompactionOutcome.TheVariants.{OutOfOrder}
+use Rattle.lsm_runs.specs.declared.compaction.any_runs.CompactionOutcome.TheVariants.{Stopped}
+use Rattle.lsm_runs.specs.declared.compaction.any_runs.CompactionOutcome.TheVariants.{Tables}
 use Rattle.tool_make.specs.declared.compact_error.CompactError.{CompactError}
 use Rattle.tool_make.specs.declared.compact_error.CompactError.TheVariants as error
 use Rattle.tool_make.specs.declared.compact_options.CompactOptions.{CompactOptions}

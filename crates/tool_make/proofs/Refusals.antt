@@ -9,13 +9,13 @@ use Rattle.sst_entries.specs.Entry.{Entry}
 use Rattle.sst_entries.specs.Error.{is_memory}
 use Rattle.sst_entries.specs.declared.error.Error.{Error}
 use Rattle.sst_entries.specs.declared.error.Error.TheVariants.{OutOfMemory}
-use Rattle.lsm_formats.specs.declared.label.Label.{Label}
-use Rattle.lsm_formats.specs.declared.options.Options.{Options}
-use Rattle.lsm_formats.specs.Chunks.{joined}
+use Rattle.sst_blocks.specs.declared.table.label.Label.{Label}
+use Rattle.sst_blocks.specs.declared.table.options.Options.{Options}
+use Rattle.sst_blocks.specs.table.Chunks.{joined}
 use Rattle.lsm_writers.specs.declared.writer.FinishedTable.{FinishedTable}
 use Rattle.lsm_writers.specs.Tables.{AreFinished, TablesWriting, all_written}
-use Rattle.lsm_compactions.proofs.WrittenBy.{nothing_yet}
-use Rattle.logpurple.proofs.Laws.{memory_is}
+use Rattle.lsm_runs.proofs.WrittenBy.{nothing_yet}
+use Rattle.lsm_tables.proofs.TableLaws.{memory_is}
 use Rattle.tool_lines.specs.declared.entry_line.Format.{Format}
 use Rattle.tool_files.specs.declared.file_error.FileError.{FileError}
 use Rattle.tool_make.specs.declared.make_error.LineFault.TheVariants as fault

@@ -6,7 +6,7 @@ use Rattle.std.specs.Prelude.{Err, is_ok, is_some}
 use Rattle.std.specs.List.{AllByRecursion}
 use Rattle.std.specs.Option.{option_map}
 use Rattle.std.proofs.lemmas.Bool.{cases_Bool}
-use Rattle.sst_sections.specs.Sections.{body_of}
+use Rattle.sst_blocks.specs.Sections.{body_of}
 use Rattle.sst_entries.specs.Entry.{Entry}
 use Rattle.sst_entries.specs.Error.{is_memory}
 use Rattle.sst_entries.specs.Lending.{came}
@@ -18,16 +18,16 @@ use Rattle.sst_entries.specs.Strict.{IsStrict, is_strict_after, may_follow}
 use Rattle.sst_entries.proofs.Refusals.{memory_is}
 use Rattle.sst_entries.proofs.StreamLemmas.{deals_front}
 use Rattle.sst_entries.proofs.Strictness.{test_from_strict}
-use Rattle.lsm_merge.specs.Ends.{R}
-use Rattle.lsm_merge.specs.Union.{entries_among, errors_among}
-use Rattle.lsm_merge.proofs.Pairs.{Precedes, Strict, as_pairs, from_pairs}
-use Rattle.lsm_readers.specs.Answer.{lift}
+use Rattle.lsm_sorted.specs.merge.Ends.{R}
+use Rattle.lsm_sorted.specs.merge.Union.{entries_among, errors_among}
+use Rattle.lsm_sorted.proofs.Pairs.{Precedes, Strict, as_pairs, from_pairs}
+use Rattle.lsm_readers.specs.point.Answer.{lift}
 use Rattle.lsm_readers.specs.Stored.{StoresList}
-use Rattle.lsm_readers.specs.Table.{OpenTable}
+use Rattle.lsm_readers.specs.point.Table.{OpenTable}
 use Rattle.lsm_readers.proofs.Scans.{fault_left}
 use Rattle.lsm_readers.proofs.VerifyEarly.{position_want}
 use Rattle.lsm_runs.specs.RunScan.{early_scan_fault, scan_fault, table_scan}
-use Rattle.lsm_compactions.specs.AnyRuns.{DealsResults}
+use Rattle.lsm_runs.specs.compaction.AnyRuns.{DealsResults}
 use Rattle.tool_make.specs.Scanned.{IsFirstRefusal, StoresNoEntries, StoresNone, come_in_order}
 
 -- ---- what a source gives

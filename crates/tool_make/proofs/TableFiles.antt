@@ -9,7 +9,7 @@ use Rattle.std.proofs.lemmas.List.{get_or-map, length-map}
 use Rattle.tool_files.specs.declared.file_error.FileError.{FileError}
 use Rattle.tool_make.specs.declared.make_error.MakeError.{MakeError}
 use Rattle.tool_make.specs.declared.make_error.MakeError.TheVariants.{File, Refused}
-use Rattle.logpurple.specs.Words.{OutOfMemory}
+use Rattle.lsm_tables.specs.Words.{OutOfMemory}
 use Rattle.tool_make.specs.Faults.{error_of_file}
 use Rattle.lsm_writers.specs.declared.writer.FinishedTable.{FinishedTable}
 use Rattle.tool_files.specs.declared.write.NewFile.{NewFile}

@@ -11,9 +11,9 @@ use Rattle.sst_entries.specs.Strict.{is_before}
 use Rattle.lsm_writers.specs.declared.writer.FinishedTable.{FinishedTable}
 use Rattle.lsm_writers.specs.Tables.{IsFreshRun, TablesWriting, all_written, took, took_fault}
 use Rattle.lsm_writers.specs.Writing.{may_be_written}
-use Rattle.lsm_compactions.specs.Compacted.{RunsOn}
-use Rattle.lsm_compactions.proofs.WrittenBy.{Since, all_finished, nothing_yet, since_more}
-use Rattle.lsm_compactions.proofs.WrittenBy.{since_now}
+use Rattle.lsm_runs.specs.compaction.Compacted.{RunsOn}
+use Rattle.lsm_runs.proofs.WrittenBy.{Since, all_finished, nothing_yet, since_more}
+use Rattle.lsm_runs.proofs.WrittenBy.{since_now}
 use Rattle.tool_lines.specs.declared.entry_line.Format.{Format}
 use Rattle.tool_make.proofs.Lines.{Goes, goes_empty, goes_end, goes_more, goes_none, stops}
 use Rattle.tool_make.specs.declared.make_error.MakeError.{MakeError}

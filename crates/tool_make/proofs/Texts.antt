@@ -6,7 +6,7 @@ use Rattle.std.specs.List.{flat_map}
 use Rattle.std.specs.Io.KnownBytes.{Appends}
 use Rattle.std.proofs.KnownBytes.{Appends-trans}
 use denote.Ref.{Bor}
-use Rattle.lsm_ranges.specs.declared.packed.Placed.{Placed}
+use Rattle.lsm_sorted.specs.declared.version.packed.Placed.{Placed}
 use Rattle.tool_make.specs.Printed.{chain_line, count_line, run_line, run_lines}
 
 -- the texts of one more

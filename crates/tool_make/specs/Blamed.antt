@@ -5,7 +5,7 @@ use Rattle.std.specs.List.{AllByRecursion, slice_get}
 use Rattle.sst_entries.specs.Error.{is_memory}
 use Rattle.sst_entries.specs.Stream.{first}
 use Rattle.sst_entries.specs.declared.error.Error.{Error}
-use Rattle.lsm_merge.specs.Union.{errors_among}
+use Rattle.lsm_sorted.specs.merge.Union.{errors_among}
 use Rattle.lsm_runs.specs.RunScan.{table_scan}
 use Rattle.tool_files.specs.Files.{is_memory_fault}
 use Rattle.tool_files.specs.declared.file_error.FileError.{FileError}
@@ -14,7 +14,7 @@ use Rattle.tool_make.specs.declared.compact_error.CompactError.{CompactError}
 use Rattle.tool_make.specs.declared.compact_error.CompactError.TheVariants as error
 use Rattle.tool_make.specs.Printed.{path_or_mark}
 use Rattle.tool_make.specs.Scanned.{AreSoUpTo, ReadsWhole, StoresNoEntries}
-use Rattle.logpurple.specs.Words.{OpenTable, OutOfMemory}
+use Rattle.lsm_tables.specs.Words.{OpenTable, OutOfMemory}
 
 -- what is wrong with a file, and no file where memory is wanted
 abbrev pub blamed : FileError → CompactError

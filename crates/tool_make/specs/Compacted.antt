@@ -6,14 +6,14 @@ use Rattle.lsm_writers.specs.declared.writer.FinishedTable.{FinishedTable}
 use Rattle.lsm_writers.specs.Tables.{TablesWriting, new_tables}
 use Rattle.sst_entries.specs.Error.{is_memory}
 use Rattle.sst_entries.specs.Stream.{ok_results}
-use Rattle.lsm_formats.specs.Facts.{highest_seqno}
-use Rattle.lsm_compactions.specs.AnyRuns.{LeavesOrder, WritesSome}
-use Rattle.lsm_compactions.specs.Compacted.{AreCompactable, AreWrittenBy, FitsBy}
-use Rattle.lsm_compactions.specs.OpenedBy.{AreOpenedBy, default_opening, run_with_fault}
-use Rattle.lsm_compactions.specs.declared.any_runs.CompactionOutcome.{CompactionOutcome}
-use Rattle.lsm_compactions.specs.declared.any_runs.CompactionOutcome.TheVariants.{Tables}
-use Rattle.logpurple.specs.Words.{Entry, Error, HaveEntries, OpenTable, OutOfMemory, RunsHoldLists}
-use Rattle.logpurple.specs.Words.{kept_in}
+use Rattle.sst_blocks.specs.table.Facts.{highest_seqno}
+use Rattle.lsm_runs.specs.compaction.AnyRuns.{LeavesOrder, WritesSome}
+use Rattle.lsm_runs.specs.compaction.Compacted.{AreCompactable, AreWrittenBy, FitsBy}
+use Rattle.lsm_runs.specs.compaction.OpenedBy.{AreOpenedBy, default_opening, run_with_fault}
+use Rattle.lsm_runs.specs.declared.compaction.any_runs.CompactionOutcome.{CompactionOutcome}
+use Rattle.lsm_runs.specs.declared.compaction.any_runs.CompactionOutcome.TheVariants.{Tables}
+use Rattle.lsm_tables.specs.Words.{Entry, Error, HaveEntries, OpenTable, OutOfMemory, RunsHoldLists}
+use Rattle.lsm_tables.specs.Words.{kept_in}
 use Rattle.tool_files.specs.Targets.{largest_table}
 use Rattle.tool_make.specs.declared.compact_error.CompactError.{CompactError}
 use Rattle.tool_make.specs.declared.compact_error.CompactError.TheVariants as error

@@ -5,7 +5,7 @@ use Rattle.lsm_writers.specs.declared.writer.FinishedTable.{FinishedTable}
 use Rattle.tool_files.specs.declared.file_error.FileError.{FileError}
 use Rattle.tool_files.specs.Opened.{AreOpenedFrom, StopsOpening}
 use Rattle.tool_files.specs.Steps.{Step}
-use Rattle.logpurple.specs.Words.{OpenTable}
+use Rattle.lsm_tables.specs.Words.{OpenTable}
 use Rattle.tool_make.specs.declared.compact_error.CompactError.{CompactError}
 use Rattle.tool_make.specs.declared.compact_options.CompactOptions.{CompactOptions}
 use Rattle.tool_files.specs.declared.file_error.FileFault.TheVariants.{Taken}

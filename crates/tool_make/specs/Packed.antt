@@ -2,9 +2,9 @@
 use denote.Ref.{Bor}
 use Rattle.std.specs.Prelude.{◌≡◌, ℕ, List, length, false, take, true, Option, Some}
 use Rattle.std.specs.List.{slice_get}
-use Rattle.lsm_ranges.specs.KeyRange.{Interval, is_well_formed}
-use Rattle.lsm_ranges.specs.Packing.{AreTablesWellFormed}
-use Rattle.logpurple.specs.Words.{OpenTable, OutOfMemory, range_of}
+use Rattle.lsm_sorted.specs.version.KeyRange.{Interval, is_well_formed}
+use Rattle.lsm_sorted.specs.version.Packing.{AreTablesWellFormed}
+use Rattle.lsm_tables.specs.Words.{OpenTable, OutOfMemory, range_of}
 use Rattle.tool_make.specs.declared.compact_error.CompactError.{CompactError}
 use Rattle.tool_make.specs.declared.compact_error.CompactError.TheVariants as error
 use Rattle.tool_files.specs.Files.{is_memory_fault}

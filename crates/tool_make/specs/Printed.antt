@@ -3,8 +3,8 @@ use denote.Ref.{Bor}
 use Rattle.std.specs.Prelude.{ℕ, suc, List, [], ◌∷◌, ◌++◌, codes, length, Option, None, Some}
 use Rattle.std.specs.List.{flat_map, slice_get}
 use Rattle.std.specs.Fmt.{decimal}
-use Rattle.lsm_ranges.specs.declared.packed.Packed.{Packed}
-use Rattle.lsm_ranges.specs.declared.packed.Placed.{Placed}
+use Rattle.lsm_sorted.specs.declared.version.packed.Packed.{Packed}
+use Rattle.lsm_sorted.specs.declared.version.packed.Placed.{Placed}
 
 -- a path, and a question mark where there is none
 abbrev pub path_or_mark : Option (Bor (List ℕ)) → List ℕ

@@ -7,13 +7,13 @@ use Rattle.sst_entries.specs.Error.{is_memory}
 use Rattle.sst_entries.specs.Stream.{first, up_to_error}
 use Rattle.sst_entries.specs.Strict.{is_strict_after}
 use Rattle.sst_entries.specs.declared.error.Error.{Error}
-use Rattle.lsm_merge.specs.Ends.{R}
-use Rattle.lsm_merge.specs.Union.{entries_among, errors_among}
+use Rattle.lsm_sorted.specs.merge.Ends.{R}
+use Rattle.lsm_sorted.specs.merge.Union.{entries_among, errors_among}
 use Rattle.lsm_runs.specs.RunScan.{early_scan_fault, table_scan}
 use Rattle.tool_make.specs.declared.compact_error.CompactError.{CompactError}
 use Rattle.tool_make.specs.declared.compact_error.CompactError.TheVariants as error
 use Rattle.tool_make.specs.Printed.{path_or_mark}
-use Rattle.logpurple.specs.Words.{Entry, OpenTable, StoresList}
+use Rattle.lsm_tables.specs.Words.{Entry, OpenTable, StoresList}
 
 -- the bytes of a table store no list that has an entry
 abbrev pub StoresNoEntries : OpenTable → Type 0

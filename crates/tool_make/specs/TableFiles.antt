@@ -11,7 +11,7 @@ use Rattle.tool_files.specs.declared.file_error.FileError.{FileError}
 use Rattle.tool_files.specs.declared.write.NewFile.{NewFile}
 use Rattle.tool_make.specs.declared.make_error.MakeError.{MakeError}
 use Rattle.tool_make.specs.declared.make_error.MakeError.TheVariants.{File, Refused}
-use Rattle.logpurple.specs.Words.{OutOfMemory}
+use Rattle.lsm_tables.specs.Words.{OutOfMemory}
 use Rattle.tool_make.specs.Faults.{error_of_file}
 
 -- the name of a table's file: the path where there is one table, and the number behind it where

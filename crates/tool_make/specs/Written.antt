@@ -4,14 +4,14 @@ use Rattle.std.specs.Prelude.{List, [], ◌∷◌, length}
 use Rattle.std.specs.Prelude.{Option, Some}
 use Rattle.sst_entries.specs.Entry.{Entry}
 use Rattle.sst_entries.specs.Strict.{IsStrict, is_before}
-use Rattle.lsm_formats.specs.declared.options.Options.{Options}
+use Rattle.sst_blocks.specs.declared.table.options.Options.{Options}
 use Rattle.lsm_writers.specs.declared.writer.FinishedTable.{FinishedTable}
 use Rattle.lsm_writers.specs.Tables.{AreFinished, AreInKeyOrder, AreTables, TablesWriting}
 use Rattle.lsm_writers.specs.Tables.{all_written, first_label, new_tables, tables_of}
 use Rattle.lsm_writers.specs.Tables.{with_options}
 use Rattle.lsm_writers.specs.Writing.{IsSmallIndex}
-use Rattle.lsm_compactions.specs.Compacted.{AreWrittenBy}
-use Rattle.logpurple.specs.Words.{default_options}
+use Rattle.lsm_runs.specs.compaction.Compacted.{AreWrittenBy}
+use Rattle.lsm_tables.specs.Words.{default_options}
 use Rattle.tool_files.specs.Targets.{largest_table}
 use Rattle.tool_lines.specs.declared.entry_line.Format.{Format}
 use Rattle.tool_make.specs.Entries.{HasEntries, LineSpells}

@@ -4,10 +4,10 @@ ghost use Rattle.std.specs.Prelude.{IsErrAnd, List, MatchOption, OnOk, Option, S
 ghost use Rattle.std.specs.Prelude.{length, map, true};
 ghost use Rattle.std.specs.Arc.{arc_value};
 ghost use Rattle.std.specs.List.{AllByRecursion};
-ghost use Rattle.lsm_compactions.specs.Compacted.{FitsBy};
-ghost use Rattle.logpurple.specs.Words.{AreCompactable, AreTablesBy, CameInOrder, Entry, Faults};
-ghost use Rattle.logpurple.specs.Words.{GoesThrough, HasMade, HaveEntries, OpenTable, OutOfMemory};
-ghost use Rattle.logpurple.specs.Words.{RunsHoldLists, highest_seqno, kept_in, run_with_fault};
+ghost use Rattle.lsm_runs.specs.compaction.Compacted.{FitsBy};
+ghost use Rattle.lsm_tables.specs.Words.{AreCompactable, AreTablesBy, CameInOrder, Entry, Faults};
+ghost use Rattle.lsm_tables.specs.Words.{GoesThrough, HasMade, HaveEntries, OpenTable, OutOfMemory};
+ghost use Rattle.lsm_tables.specs.Words.{RunsHoldLists, highest_seqno, kept_in, run_with_fault};
 ghost use Rattle.tool_make.specs.declared.compact_error.CompactError.TheVariants.{Refused};
 ghost use Rattle.tool_files.specs.declared.file_error.FileFault.TheVariants.{Taken};
 ghost use Rattle.tool_files.specs.Placed.{TellsFound};
@@ -20,16 +20,16 @@ ghost use Rattle.tool_make.specs.Filled.{TellsFolder};
 ghost use Rattle.tool_make.specs.NotCompacted.{AreOfFiles, CompactsFiles, RefusesFiles};
 ghost use Rattle.tool_make.specs.NotCompacted.{RefusesToCompact};
 ghost use Rattle.tool_make.specs.Scanned.{NamesOrder};
-ghost use Rattle.lsm_compactions.specs.declared.any_runs.CompactionOutcome.TheVariants.{Tables};
+ghost use Rattle.lsm_runs.specs.declared.compaction.any_runs.CompactionOutcome.TheVariants.{Tables};
 
 use crate::fill::{check_folder, write_tables};
 use crate::print::path_at;
 use crate::scanned::{has_order, refusal_of};
 use crate::{CompactError, CompactOptions};
-use logpurple::block::Error;
-use logpurple::compaction::{CompactionOutcome, compact_to_run_with};
-use logpurple::run::Run;
-use logpurple::table::{FinishedTable, OpenOptions, Table};
+use lsm_tables::block::Error;
+use lsm_tables::compaction::{CompactionOutcome, compact_to_run_with};
+use lsm_tables::run::Run;
+use lsm_tables::table::{FinishedTable, OpenOptions, Table};
 use std::alloc::Allocator;
 use std::sync::Arc;
 use tool_files::{Made, Place, open_tables};
@@ -269,7 +269,7 @@ fn open_and_compact<'a, P: Place, A: Allocator + Copy>(
 }
 
 /// Compacts files of tables, each a run of its own, as
-/// [`compact_any_runs`](logpurple::compaction::compact_any_runs), and writes the new tables into a folder that
+/// [`compact_any_runs`](lsm_tables::compaction::compact_any_runs), and writes the new tables into a folder that
 /// it makes: the files `1.sst`, `2.sst` and so on.
 ///
 /// Refused where anything has the folder's path, before any file is read; as [`open_tables`]; where

@@ -1,5 +1,5 @@
 //! Why files were not compacted or packed.
-use logpurple::block::Error;
+use lsm_tables::block::Error;
 use std::alloc::{AllocError, AllocFailed};
 use std::fmt;
 use tool_files::FileError;
@@ -98,7 +98,7 @@ impl<'a> From<Error> for CompactError<'a> {
 
 impl<'a> From<AllocError> for CompactError<'a> {
     ghost use Rattle.std.specs.Prelude.{◌≡◌};
-    ghost use Rattle.logpurple.specs.Words.{OutOfMemory};
+    ghost use Rattle.lsm_tables.specs.Words.{OutOfMemory};
     ghost use Rattle.tool_make.specs.declared.compact_error.CompactError.TheVariants.{Refused};
 
     ghost from_gives = { λ _ e. e ≡ Refused OutOfMemory };
@@ -110,7 +110,7 @@ impl<'a> From<AllocError> for CompactError<'a> {
 
 impl<'a, T: Drop> From<AllocFailed<T>> for CompactError<'a> {
     ghost use Rattle.std.specs.Prelude.{◌≡◌};
-    ghost use Rattle.logpurple.specs.Words.{OutOfMemory};
+    ghost use Rattle.lsm_tables.specs.Words.{OutOfMemory};
     ghost use Rattle.tool_make.specs.declared.compact_error.CompactError.TheVariants.{Refused};
 
     ghost from_gives = { λ _ e. e ≡ Refused OutOfMemory };

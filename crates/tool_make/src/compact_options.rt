@@ -1,11 +1,11 @@
 //! How files are compacted.
 ghost use Rattle.std.specs.Prelude.{◌≡◌, IfErr, IfOk};
-ghost use Rattle.logpurple.specs.Words.{OutOfMemory};
+ghost use Rattle.lsm_tables.specs.Words.{OutOfMemory};
 ghost use Rattle.tool_make.specs.Compacted.{compactor_by};
 
-use logpurple::block::Error;
-use logpurple::compaction::Rules;
-use logpurple::table::{MultiWriter, TableIds, Timestamp};
+use lsm_tables::block::Error;
+use lsm_tables::compaction::Rules;
+use lsm_tables::table::{MultiWriter, TableIds, Timestamp};
 use std::alloc::Allocator;
 use tool_files::largest_table;
 

@@ -16,8 +16,8 @@ ghost use Rattle.tool_make.specs.Taken.{TookAll};
 ghost use Rattle.tool_make.specs.Written.{TookLine};
 
 use crate::{LineFault, MakeError};
-use logpurple::block::{Error, InternalValue, SeqNo};
-use logpurple::table::MultiWriter;
+use lsm_tables::block::{Error, InternalValue, SeqNo};
+use lsm_tables::table::MultiWriter;
 use std::alloc::{AllocError, Allocator};
 use std::cmp::Ordering;
 use std::io;

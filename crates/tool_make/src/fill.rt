@@ -7,7 +7,7 @@ ghost use Rattle.tool_files.specs.declared.file_error.FileFault.TheVariants.{Tak
 ghost use Rattle.tool_files.specs.Placed.{TellsFound};
 
 use crate::CompactError;
-use logpurple::table::FinishedTable;
+use lsm_tables::table::FinishedTable;
 use std::alloc::Allocator;
 use tool_files::{FileError, FileFault, FileName, Place, check_free, place_folder};
 

@@ -1,5 +1,5 @@
 //! Why files were not made.
-use logpurple::block::Error;
+use lsm_tables::block::Error;
 use std::alloc::{AllocError, AllocFailed};
 use std::{fmt, io};
 use tool_files::FileError;
@@ -121,7 +121,7 @@ impl<'a> From<Error> for MakeError<'a> {
 
 impl<'a> From<AllocError> for MakeError<'a> {
     ghost use Rattle.std.specs.Prelude.{◌≡◌};
-    ghost use Rattle.logpurple.specs.Words.{OutOfMemory};
+    ghost use Rattle.lsm_tables.specs.Words.{OutOfMemory};
     ghost use Rattle.tool_make.specs.declared.make_error.MakeError.TheVariants.{Refused};
 
     ghost from_gives = { λ _ made. made ≡ Refused OutOfMemory };
@@ -133,7 +133,7 @@ impl<'a> From<AllocError> for MakeError<'a> {
 
 impl<'a, T: Drop> From<AllocFailed<T>> for MakeError<'a> {
     ghost use Rattle.std.specs.Prelude.{◌≡◌};
-    ghost use Rattle.logpurple.specs.Words.{OutOfMemory};
+    ghost use Rattle.lsm_tables.specs.Words.{OutOfMemory};
     ghost use Rattle.tool_make.specs.declared.make_error.MakeError.TheVariants.{Refused};
 
     ghost from_gives = { λ _ made. made ≡ Refused OutOfMemory };

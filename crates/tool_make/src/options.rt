@@ -6,7 +6,7 @@ ghost use Rattle.tool_make.specs.Refusing.{TellsSizes};
 ghost use Rattle.tool_make.specs.Written.{HasSmallSizes, options_of, writer_by};
 
 use crate::MakeError;
-use logpurple::table::{
+use lsm_tables::table::{
     BloomConstructionPolicy, IndexKind, MultiWriter, Options, TableIds, Timestamp,
 };
 use std::alloc::Allocator;

@@ -1,15 +1,15 @@
 //! Files that are packed in runs.
 ghost use Rattle.std.specs.Prelude.{◌≡◌, IfErr, IfOk, List, OnOk, length, true};
-ghost use Rattle.lsm_ranges.specs.Packed.{IsPackedOf};
-ghost use Rattle.lsm_ranges.specs.Packing.{AreTablesWellFormed};
-ghost use Rattle.logpurple.specs.Words.{OpenTable, range_of};
+ghost use Rattle.lsm_sorted.specs.version.Packed.{IsPackedOf};
+ghost use Rattle.lsm_sorted.specs.version.Packing.{AreTablesWellFormed};
+ghost use Rattle.lsm_tables.specs.Words.{OpenTable, range_of};
 ghost use Rattle.tool_files.specs.Opened.{AreOpenedFrom};
 ghost use Rattle.tool_make.specs.Packed.{NamesTurned, RefusesToPack};
 
 use crate::CompactError;
 use crate::print::path_at;
-use logpurple::run::{Packed, Ranged, pack_each};
-use logpurple::table::Table;
+use lsm_tables::run::{Packed, Ranged, pack_each};
+use lsm_tables::table::Table;
 use std::alloc::Allocator;
 use tool_files::{Place, open_tables};
 

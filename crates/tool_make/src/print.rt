@@ -6,7 +6,7 @@ ghost use Rattle.std.specs.Io.KnownBytes.{Appends};
 ghost use Rattle.tool_make.specs.Printed.{chain_line, count_line, name_at, packed_text};
 ghost use Rattle.tool_make.specs.Printed.{path_or_mark, run_line, run_lines};
 
-use logpurple::run::{Packed, Placed, Ranged, Run};
+use lsm_tables::run::{Packed, Placed, Ranged, Run};
 use std::alloc::Allocator;
 use std::io;
 use std::io::Write;

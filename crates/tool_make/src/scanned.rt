@@ -2,19 +2,19 @@
 ghost use Rattle.std.specs.Prelude.{◌≡◌, ◌<◌, IfErr, IfOk, IfSome, IsOk, List, OnOk, Some, false};
 ghost use Rattle.std.specs.Prelude.{length, true};
 ghost use Rattle.std.specs.Option.{option_map};
-ghost use Rattle.lsm_compactions.specs.AnyRuns.{DealsResults};
-ghost use Rattle.lsm_merge.specs.Ends.{R};
+ghost use Rattle.lsm_runs.specs.compaction.AnyRuns.{DealsResults};
+ghost use Rattle.lsm_sorted.specs.merge.Ends.{R};
 ghost use Rattle.lsm_readers.specs.Scan.{ScansLent};
 ghost use Rattle.lsm_runs.specs.RunScan.{early_scan_fault, table_scan};
 ghost use Rattle.sst_entries.specs.Lending.{entry_of_ref};
 ghost use Rattle.sst_entries.specs.Point.{read_place};
 ghost use Rattle.sst_entries.specs.Strict.{may_follow};
 ghost use Rattle.sst_entries.specs.declared.error.Error.{Error as Refusal};
-ghost use Rattle.logpurple.specs.Words.{Entry, OutOfMemory, StoresList, is_memory};
+ghost use Rattle.lsm_tables.specs.Words.{Entry, OutOfMemory, StoresList, is_memory};
 ghost use Rattle.tool_make.specs.Scanned.{IsFirstRefusal, come_in_order};
 
-use logpurple::block::{EntryRef, Error, Lending, SeqNo, compare_versions};
-use logpurple::table::{Scanner, Table};
+use lsm_tables::block::{EntryRef, Error, Lending, SeqNo, compare_versions};
+use lsm_tables::table::{Scanner, Table};
 use std::alloc::Allocator;
 
 // The first refusal among entries.

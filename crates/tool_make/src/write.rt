@@ -8,7 +8,7 @@ ghost use Rattle.tool_files.specs.Files.{path_text};
 ghost use Rattle.tool_files.specs.Numbered.{named_bytes, numbered_path};
 ghost use Rattle.tool_files.specs.Modes.{AreModesKept};
 ghost use Rattle.tool_files.specs.Placed.{ArePlaced, IfLeft};
-ghost use Rattle.logpurple.specs.Words.{OutOfMemory};
+ghost use Rattle.lsm_tables.specs.Words.{OutOfMemory};
 ghost use Rattle.tool_make.specs.declared.make_error.MakeError.TheVariants.{Refused, SizeTooLarge};
 ghost use Rattle.tool_make.specs.Entries.{HasEntries};
 ghost use Rattle.tool_make.specs.Faults.{StopsInOrder, StopsLines};
@@ -22,7 +22,7 @@ ghost use Rattle.tool_make.specs.Written.{AreOfLines, AreTablesOf, HasSmallSizes
 
 use crate::entries::{collect_lines, sort_rows, write_lines, write_rows};
 use crate::{MakeError, WriteOptions};
-use logpurple::table::{FinishedTable, MultiWriter};
+use lsm_tables::table::{FinishedTable, MultiWriter};
 use std::alloc::Allocator;
 use std::io::{BufRead, BufReader, Read};
 use tool_files::{

@@ -2,8 +2,8 @@
 use Rattle.std.proofs.Common.{◌≡◌, sym, ap, subst, ℕ, ◌-◌, ◌^◌, List, min}
 use Rattle.std.specs.Prelude.{Option, Result, Ok, Err, IfErr, OnOk}
 use Rattle.std.specs.Io.KnownBytes.{Appends}
-use Rattle.sst_sections.specs.Sections.{body_of}
-use Rattle.lsm_readers.specs.Table.{OpenTable}
+use Rattle.sst_blocks.specs.Sections.{body_of}
+use Rattle.lsm_readers.specs.point.Table.{OpenTable}
 use Rattle.lsm_readers.specs.Verification.{steps_of, verifying}
 use Rattle.lsm_readers.specs.Verify.{Misses, table_found}
 use Rattle.lsm_readers.specs.declared.verify.Finding.{Finding}

@@ -14,7 +14,7 @@ use Rattle.sst_entries.specs.Stream.{CanDeal, Deals, NoneStops, answer_stops, bu
 use Rattle.sst_entries.specs.Stream.{first, ok_results}
 use Rattle.sst_entries.proofs.StreamLemmas.{can_after_back, can_front, deals_back, deals_front}
 use Rattle.sst_entries.proofs.StreamLemmas.{map_reverse}
-use Rattle.lsm_block_indexes.specs.Dealt.{DealsEnding, ended_at_error}
+use Rattle.lsm_iters.specs.block_index.Dealt.{DealsEnding, ended_at_error}
 use Rattle.tool_lines.specs.declared.entry_line.Format.{Format}
 use Rattle.tool_show.specs.Failures.{BlamesNoFile, FailsAs, IfRefusal}
 use Rattle.tool_show.specs.declared.error.Failure.{Failure}

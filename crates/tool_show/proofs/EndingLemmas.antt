@@ -9,7 +9,7 @@ use Rattle.sst_entries.specs.declared.stream.Direction.TheVariants.{Front, Back}
 use Rattle.sst_entries.specs.Error.{is_memory}
 use Rattle.sst_entries.specs.Stream.{NoneStops, Runs, answer_stops, but_first, but_last, deal}
 use Rattle.sst_entries.specs.Stream.{first, last, ok_results, result_stops}
-use Rattle.lsm_block_indexes.specs.Dealt.{DealsEnding, ended_at_error}
+use Rattle.lsm_iters.specs.block_index.Dealt.{DealsEnding, ended_at_error}
 use Rattle.tool_show.specs.Printed.{before_error, dumped, first_error, in_turn}
 
 module _ {S X : Type 0} (front back : S → Option (Result X Error) → S → Type 0) where

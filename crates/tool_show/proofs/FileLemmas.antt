@@ -8,11 +8,11 @@ use Rattle.std.proofs.lemmas.List.{map-append, take_more}
 use Rattle.sst_entries.specs.Entry.{Entry}
 use Rattle.sst_entries.specs.Error.{Refuses, is_memory}
 use Rattle.sst_entries.specs.declared.error.Error.{Error}
-use Rattle.lsm_ranges.specs.KeyRange.{has_key}
-use Rattle.lsm_readers.specs.Answer.{table_answer}
+use Rattle.lsm_sorted.specs.version.KeyRange.{has_key}
+use Rattle.lsm_readers.specs.point.Answer.{table_answer}
 use Rattle.lsm_readers.specs.Stored.{StoresList}
-use Rattle.lsm_readers.specs.Table.{OpenTable}
-use Rattle.lsm_runs.specs.RunParts.{range_of}
+use Rattle.lsm_readers.specs.point.Table.{OpenTable}
+use Rattle.lsm_run_parts.specs.RunParts.{range_of}
 use Rattle.tool_show.specs.Failures.{BlamesFaulty, BlamesNoFile, FailsAs, IsRefusedAt}
 use Rattle.tool_show.specs.Failures.{IfNamed, IfRefusal, NamesFaulty, NamesNone, read_early}
 use Rattle.tool_show.specs.Failures.{read_refusal, refused_file}

@@ -4,9 +4,9 @@ use Rattle.std.proofs.Common.{◌∷◌}
 use Rattle.std.proofs.lemmas.Str.{IsUtf8-from_ascii}
 use Rattle.std.specs.Prelude.{nat_lt, if◌then◌else◌}
 use Rattle.std.specs.Str.{IsAscii, IsUtf8}
-use Rattle.lsm_formats.specs.MetaBlock.{name_of}
-use Rattle.lsm_formats.specs.declared.item_name.ItemName.{ItemName}
-use Rattle.lsm_formats.specs.declared.item_name.ItemName.TheVariants as item
+use Rattle.sst_blocks.specs.table.MetaBlock.{name_of}
+use Rattle.sst_blocks.specs.declared.table.item_name.ItemName.{ItemName}
+use Rattle.sst_blocks.specs.declared.table.item_name.ItemName.TheVariants as item
 
 -- each byte is one of text
 abbrev all_low : List ℕ → Bool

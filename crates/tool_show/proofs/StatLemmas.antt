@@ -8,7 +8,7 @@ use Rattle.std.specs.Io.KnownBytes.{Appends}
 use Rattle.std.proofs.KnownBytes.{Appends-nil, Appends-trans}
 use Rattle.std.specs.List.{filter_map, flat_map}
 use Rattle.std.specs.Prelude.{OnOk, codes, option_to_list}
-use Rattle.lsm_readers.specs.Table.{OpenTable}
+use Rattle.lsm_readers.specs.point.Table.{OpenTable}
 use Rattle.tool_show.specs.Lines.{PrintsText}
 use Rattle.tool_show.specs.Stats.{AreValuesOf, IsPartsObject, IsStatObject, IsStatText}
 use Rattle.tool_show.specs.Stats.{AreEvenParts, IsBlocksText, IsEvenPart, IsPartsText}
@@ -19,18 +19,18 @@ use Rattle.tool_show.specs.declared.facts.Shown.{Shown}
 use Rattle.tool_show.specs.declared.stats.Parts.{Parts}
 use Rattle.std.specs.Prelude.{Option, None, Some, Result, Ok, Err, IfErr, IfOk, false, map, nat_lt}
 use Rattle.std.specs.Prelude.{if◌then◌else◌}
-use Rattle.lsm_block_indexes.specs.Dealt.{DealsEnding}
-use Rattle.lsm_block_indexes.specs.Index.{Index}
-use Rattle.lsm_block_indexes.specs.Kinds.{BackGives, FrontGives, IsReader, left_of}
-use Rattle.lsm_block_indexes.specs.declared.kinds.BlockIndexIterImpl.{BlockIndexIterImpl}
+use Rattle.lsm_iters.specs.block_index.Dealt.{DealsEnding}
+use Rattle.lsm_iters.specs.block_index.Index.{Index}
+use Rattle.lsm_iters.specs.block_index.Kinds.{BackGives, FrontGives, IsReader, left_of}
+use Rattle.lsm_iters.specs.declared.block_index.kinds.BlockIndexIterImpl.{BlockIndexIterImpl}
 use Rattle.lsm_readers.specs.BlockIndexes.{table_index}
 use Rattle.sst_blocks.specs.Block.{Loaded, entries_of}
 use Rattle.sst_entries.specs.Entry.{Entry}
 use Rattle.sst_entries.specs.declared.error.Error.{Error}
 use Rattle.sst_entries.specs.declared.error.Error.TheVariants.{MetaKeyMissing}
-use Rattle.lsm_formats.specs.declared.item_name.ItemName.{ItemName}
-use Rattle.lsm_readers.specs.Meta.{item_told, value_told}
-use Rattle.lsm_readers.specs.Read.{◌>>=◌}
+use Rattle.sst_blocks.specs.declared.table.item_name.ItemName.{ItemName}
+use Rattle.lsm_readers.specs.point.Meta.{item_told, value_told}
+use Rattle.lsm_readers.specs.point.Read.{◌>>=◌}
 use Rattle.lsm_readers.specs.Scan.{fault_of}
 use Rattle.sst_blocks.specs.Handle.{Handle}
 use Rattle.tool_show.specs.Stats.{data_handles, is_missing, lies_at, low_first, part_line, part_lines}

@@ -3,7 +3,7 @@ use Rattle.std.proofs.Common.{◌≡◌, refl, sym, ◌∙◌, ap, subst, ℕ, �
 use Rattle.std.proofs.Common.{◌∷◌, ◌++◌, length, map, append_assoc, append-nil, arith, min}
 use Rattle.std.proofs.lemmas.List.{length-append, map-append}
 use Rattle.std.specs.Prelude.{Option, None, Some}
-use Rattle.lsm_readers.specs.Table.{OpenTable}
+use Rattle.lsm_readers.specs.point.Table.{OpenTable}
 use Rattle.lsm_readers.specs.Verification.{Verifying, bytes_read, steps_of}
 use Rattle.tool_show.specs.Checked.{AreTold, IsNextOf, Reaches, ReadsUpTo, progress_of}
 

@@ -5,11 +5,11 @@ use Rattle.std.specs.Prelude.{Bool, Err, None, Ok, OnOk, Option, Result, Some, c
 use Rattle.std.specs.Prelude.{count_by, if◌then◌else◌, map, min, option_to_list}
 use Rattle.sst_entries.specs.declared.error.Error.{Error}
 use Rattle.sst_entries.specs.Entry.{Entry}
-use Rattle.sst_sections.specs.Sections.{body_of, trailer_fault}
-use Rattle.lsm_formats.specs.MetaBlock.{name_of}
-use Rattle.lsm_formats.specs.declared.item_name.ItemName.{ItemName}
-use Rattle.lsm_readers.specs.Parts.{places_told}
-use Rattle.lsm_readers.specs.Table.{OpenTable}
+use Rattle.sst_blocks.specs.Sections.{body_of, trailer_fault}
+use Rattle.sst_blocks.specs.table.MetaBlock.{name_of}
+use Rattle.sst_blocks.specs.declared.table.item_name.ItemName.{ItemName}
+use Rattle.lsm_readers.specs.point.Parts.{places_told}
+use Rattle.lsm_readers.specs.point.Table.{OpenTable}
 use Rattle.lsm_readers.specs.declared.verify.Fault.TheVariants as fault
 use Rattle.lsm_readers.specs.declared.verify.Finding.{Finding}
 use Rattle.tool_show.specs.Checked.{IsFaultText, IsFirstLine, IsVerifyText, before_text}

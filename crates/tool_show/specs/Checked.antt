@@ -3,9 +3,9 @@ use Rattle.std.specs.Prelude.{◌≡◌, ◌-◌, ◌^◌, ℕ, List, [], ◌∷
 use Rattle.std.specs.Prelude.{Option, None, Some, Result, Ok, Err, IfErr}
 use Rattle.std.specs.Fmt.{decimal}
 use Rattle.std.specs.Io.KnownBytes.{Appends}
-use Rattle.sst_sections.specs.Sections.{body_of}
-use Rattle.lsm_formats.specs.MetaBlock.{name_of}
-use Rattle.lsm_readers.specs.Table.{OpenTable}
+use Rattle.sst_blocks.specs.Sections.{body_of}
+use Rattle.sst_blocks.specs.table.MetaBlock.{name_of}
+use Rattle.lsm_readers.specs.point.Table.{OpenTable}
 use Rattle.lsm_readers.specs.Verification.{ReadsNext, Verifying, bytes_read, next_found}
 use Rattle.lsm_readers.specs.Verification.{steps_of, verifying}
 use Rattle.lsm_readers.specs.Verify.{table_found}

@@ -3,12 +3,12 @@ use Rattle.std.specs.Prelude.{◌≡◌, ◌≢◌, ◌⊎◌, ℕ, List, [], �
 use Rattle.std.specs.Prelude.{find, is_some, if◌then◌else◌}
 use Rattle.sst_entries.specs.Error.{is_memory}
 use Rattle.sst_entries.specs.declared.error.Error.{Error}
-use Rattle.sst_sections.specs.Sections.{body_of}
-use Rattle.lsm_ranges.specs.KeyRange.{has_key}
-use Rattle.lsm_readers.specs.Answer.{table_answer}
+use Rattle.sst_blocks.specs.Sections.{body_of}
+use Rattle.lsm_sorted.specs.version.KeyRange.{has_key}
+use Rattle.lsm_readers.specs.point.Answer.{table_answer}
 use Rattle.lsm_readers.specs.Scan.{fault_of}
-use Rattle.lsm_readers.specs.Table.{OpenTable}
-use Rattle.lsm_runs.specs.RunParts.{range_of}
+use Rattle.lsm_readers.specs.point.Table.{OpenTable}
+use Rattle.lsm_run_parts.specs.RunParts.{range_of}
 use Rattle.tool_show.specs.Faults.{begin_of, block_fault, named_blocks}
 use Rattle.tool_show.specs.Files.{IsSoundTable}
 use Rattle.tool_show.specs.declared.blocks.NamedBlock.{NamedBlock}

@@ -2,7 +2,7 @@
 use Rattle.std.specs.Prelude.{List, [], ◌∷◌, map}
 use Rattle.sst_entries.specs.Entry.{Entry}
 use Rattle.lsm_readers.specs.Stored.{StoresList}
-use Rattle.lsm_readers.specs.Table.{OpenTable}
+use Rattle.lsm_readers.specs.point.Table.{OpenTable}
 use Rattle.tool_show.specs.declared.named.NamedTable.{NamedTable}
 
 -- a table's bytes store a list, from its index to its last entry

@@ -10,15 +10,15 @@ use Rattle.sst_blocks.specs.Handles.{reaches}
 use Rattle.sst_blocks.specs.Opened.{none_opened}
 use Rattle.sst_blocks.specs.Place.{Place, place_of}
 use Rattle.sst_blocks.specs.declared.opened.Opened.{Opened}
-use Rattle.sst_sections.specs.Sections.{body_of}
-use Rattle.sst_sections.specs.declared.section.SectionName.{SectionName}
-use Rattle.sst_sections.specs.declared.section.SectionName.TheVariants as section
-use Rattle.lsm_ranges.specs.KeyRange.{has_key}
-use Rattle.lsm_readers.specs.Answer.{table_answer}
-use Rattle.lsm_readers.specs.Read.{opened_by}
-use Rattle.lsm_readers.specs.Table.{OpenTable}
-use Rattle.lsm_points.specs.declared.regions.ParsedRegions.{ParsedRegions}
-use Rattle.lsm_runs.specs.RunParts.{range_of}
+use Rattle.sst_blocks.specs.Sections.{body_of}
+use Rattle.sst_blocks.specs.declared.section.SectionName.{SectionName}
+use Rattle.sst_blocks.specs.declared.section.SectionName.TheVariants as section
+use Rattle.lsm_sorted.specs.version.KeyRange.{has_key}
+use Rattle.lsm_readers.specs.point.Answer.{table_answer}
+use Rattle.lsm_readers.specs.point.Read.{opened_by}
+use Rattle.lsm_readers.specs.point.Table.{OpenTable}
+use Rattle.lsm_readers.specs.declared.regions.ParsedRegions.{ParsedRegions}
+use Rattle.lsm_run_parts.specs.RunParts.{range_of}
 use Rattle.tool_lines.specs.declared.entry_line.Format.{Format}
 use Rattle.tool_lines.specs.declared.entry_line.Format.TheVariants.{Json, Lines}
 use Rattle.tool_show.specs.Faults.{told_handles}

@@ -14,7 +14,7 @@ use Rattle.sst_entries.specs.Entry.{Entry}
 use Rattle.sst_entries.specs.Point.{within}
 use Rattle.sst_entries.specs.Stream.{Deals, answer_stops, ok_results}
 use Rattle.sst_entries.specs.declared.error.Error.{Error}
-use Rattle.lsm_readers.specs.Table.{OpenTable}
+use Rattle.lsm_readers.specs.point.Table.{OpenTable}
 use Rattle.lsm_readers.specs.Words.{lift, range_told}
 use Rattle.tool_lines.specs.ObjectLine.{WritesEntry}
 use Rattle.tool_lines.specs.WordLine.{word_line}

@@ -16,17 +16,17 @@ use Rattle.sst_blocks.specs.Handle.{Handle}
 use Rattle.sst_blocks.specs.declared.block_type.BlockType.TheVariants.{Meta}
 use Rattle.sst_entries.specs.declared.error.Error.{Error}
 use Rattle.sst_entries.specs.declared.error.Error.TheVariants.{MetaKeyMissing}
-use Rattle.sst_sections.specs.Sections.{body_of, section_in, section_names, trailer_len}
-use Rattle.sst_sections.specs.declared.section.SectionName.{SectionName}
-use Rattle.lsm_formats.specs.MetaBlock.{name_of}
-use Rattle.lsm_formats.specs.declared.item_name.ItemName.{ItemName}
-use Rattle.lsm_formats.specs.declared.item_name.ItemName.TheVariants as item
+use Rattle.sst_blocks.specs.Sections.{body_of, section_in, section_names, trailer_len}
+use Rattle.sst_blocks.specs.declared.section.SectionName.{SectionName}
+use Rattle.sst_blocks.specs.table.MetaBlock.{name_of}
+use Rattle.sst_blocks.specs.declared.table.item_name.ItemName.{ItemName}
+use Rattle.sst_blocks.specs.declared.table.item_name.ItemName.TheVariants as item
 use Rattle.lsm_readers.specs.BlockIndexes.{table_index}
-use Rattle.lsm_readers.specs.Meta.{meta_item_told}
-use Rattle.lsm_readers.specs.Parts.{place_size}
+use Rattle.lsm_readers.specs.point.Meta.{meta_item_told}
+use Rattle.lsm_readers.specs.point.Parts.{place_size}
 use Rattle.lsm_readers.specs.Scan.{fault_of}
-use Rattle.lsm_readers.specs.Table.{OpenTable}
-use Rattle.lsm_points.specs.declared.regions.ParsedRegions.{ParsedRegions}
+use Rattle.lsm_readers.specs.point.Table.{OpenTable}
+use Rattle.lsm_readers.specs.declared.regions.ParsedRegions.{ParsedRegions}
 use Rattle.tool_lines.specs.Escapes.{bytes_word}
 use Rattle.tool_lines.specs.ObjectLine.{WritesBytes}
 use Rattle.tool_show.specs.Lines.{AreJoined, array_member, number_member, object_member}

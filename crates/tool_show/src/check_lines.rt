@@ -9,9 +9,8 @@ ghost use Rattle.tool_show.specs.Lines.{PrintsText};
 use crate::BlockPlace;
 use crate::counted::Counted;
 use crate::refusals::{print_head, print_refusal};
-use lsm_formats::ItemName;
 use lsm_readers::{Fault, Finding, Verified};
-use sst_blocks::Error;
+use sst_blocks::{Error, ItemName};
 use std::io::{self, Write};
 
 /// Writes the line of a file that is sound: what it has, and how many blocks were read.

@@ -4,8 +4,8 @@ ghost use Rattle.std.specs.Prelude.{◌≡◌, ◌+◌, ◌-◌, ◌^◌, ◌∷
 ghost use Rattle.std.specs.Prelude.{Err, None, Option, Some, if◌then◌else◌, min};
 ghost use Rattle.std.specs.Option.{option_map};
 ghost use Rattle.sst_entries.specs.Entry.{Entry};
-ghost use Rattle.sst_sections.specs.Sections.{body_of};
-ghost use Rattle.lsm_readers.specs.Parts.{places_told};
+ghost use Rattle.sst_blocks.specs.Sections.{body_of};
+ghost use Rattle.lsm_readers.specs.point.Parts.{places_told};
 ghost use Rattle.lsm_readers.specs.Stored.{StoresList};
 ghost use Rattle.lsm_readers.specs.Verification.{steps_of, verifying};
 ghost use Rattle.lsm_readers.specs.Verify.{Finds, Misses, table_found};

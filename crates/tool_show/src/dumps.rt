@@ -4,7 +4,7 @@ ghost use Rattle.std.specs.Prelude.{false, length, true};
 ghost use Rattle.sst_entries.specs.Entry.{Entry};
 ghost use Rattle.sst_entries.specs.Lending.{entry_of_ref};
 ghost use Rattle.sst_entries.specs.Stream.{CanDeal};
-ghost use Rattle.lsm_block_indexes.specs.Dealt.{DealsEnding};
+ghost use Rattle.lsm_iters.specs.block_index.Dealt.{DealsEnding};
 ghost use Rattle.lsm_readers.specs.Stored.{StoresList};
 ghost use Rattle.lsm_runs.specs.RunLists.{DealsList};
 ghost use Rattle.tool_show.specs.Failures.{BlamesNoFile, FailsAs, IfNamed, IfRefusal, NamesNone};

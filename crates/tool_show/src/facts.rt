@@ -2,13 +2,13 @@
 ghost use Rattle.std.specs.Prelude.{◌≡◌, ◌++◌, ℕ, IfErr, IfOk, List, Ok, OnOk, Result, Some};
 ghost use Rattle.std.specs.Prelude.{false, map, option_to_list};
 ghost use Rattle.std.specs.List.{filter_map};
-ghost use Rattle.sst_sections.specs.Sections.{section_in, section_names};
+ghost use Rattle.sst_blocks.specs.Sections.{section_in, section_names};
 ghost use Rattle.sst_blocks.specs.Handle.{Handle};
 ghost use Rattle.sst_entries.specs.Error.{is_memory};
 ghost use Rattle.sst_entries.specs.declared.error.Error.{Error as Refusal};
 ghost use Rattle.sst_entries.specs.declared.error.Error.TheVariants.{OutOfMemory};
-ghost use Rattle.lsm_block_indexes.specs.Dealt.{DealsEnding};
-ghost use Rattle.lsm_block_indexes.specs.Kinds.{BackGives, FrontGives};
+ghost use Rattle.lsm_iters.specs.block_index.Dealt.{DealsEnding};
+ghost use Rattle.lsm_iters.specs.block_index.Kinds.{BackGives, FrontGives};
 ghost use Rattle.tool_show.specs.Printed.{first_error};
 ghost use Rattle.tool_show.specs.Stats.{AreDataPlaces, data_handles, let_through, lies_at};
 ghost use Rattle.tool_show.specs.Stats.{named_as, section_place, sections_told, spread_by};
@@ -16,11 +16,9 @@ ghost use Rattle.tool_show.specs.Stats.{stored_number, trailer_told};
 
 use crate::blocks::source_of;
 use crate::names::section_name;
-use lsm_block_indexes::{BlockIndex, BlockIndexIterImpl};
-use lsm_formats::ItemName;
+use lsm_iters::{BlockIndex, BlockIndexIterImpl};
 use lsm_readers::Table;
-use sst_blocks::{Error, KeyedBlockHandle, SectionName};
-use sst_sections::{TRAILER_LEN, Toc};
+use sst_blocks::{Error, ItemName, KeyedBlockHandle, SectionName, TRAILER_LEN, Toc};
 use std::alloc::Allocator;
 
 /// Where something lies in a file, in bytes.

@@ -1,8 +1,8 @@
 //! Which blocks a read of a key loads.
 ghost use Rattle.std.specs.Prelude.{◌≡◌, ◌++◌, IfErr, IfOk, OnOk};
 ghost use Rattle.sst_entries.specs.declared.error.Error.TheVariants.{OutOfMemory};
-ghost use Rattle.sst_sections.specs.Sections.{body_of};
-ghost use Rattle.sst_sections.specs.declared.section.SectionName.TheVariants.{Data, Filter};
+ghost use Rattle.sst_blocks.specs.Sections.{body_of};
+ghost use Rattle.sst_blocks.specs.declared.section.SectionName.TheVariants.{Data, Filter};
 ghost use Rattle.tool_show.specs.Loads.{block_if, blocks_loaded, data_by};
 ghost use Rattle.tool_show.specs.Loads.{data_place, filter_place, index_place, index_section};
 ghost use Rattle.tool_show.specs.Loads.{loads_told};
@@ -10,8 +10,8 @@ ghost use Rattle.tool_show.specs.Loads.{reached};
 
 use crate::BlockPlace;
 use crate::blocks::{handles_in, source_of};
-use lsm_ranges::Ranged;
 use lsm_readers::{ParsedRegions, Table};
+use lsm_sorted::Ranged;
 use sst_blocks::{BlockHandle, BlockSource, Error, Opened, SectionName, SeqNo};
 use std::alloc::{AllocError, Allocator, Global};
 

@@ -1,10 +1,9 @@
 //! Names that stand in files.
 ghost use Rattle.std.specs.Prelude.{◌≡◌};
-ghost use Rattle.lsm_formats.specs.MetaBlock.{name_of};
+ghost use Rattle.sst_blocks.specs.table.MetaBlock.{name_of};
 ghost use Rattle.tool_show.specs.Lines.{section_text};
 
-use lsm_formats::ItemName;
-use sst_blocks::SectionName;
+use sst_blocks::{ItemName, SectionName};
 
 /// A section's name in a file.
 pub(crate) fn section_name(section: SectionName) -> &'static str

@@ -2,7 +2,7 @@
 ghost use Rattle.std.specs.Prelude.{◌≡◌, ◌≢◌, IfErr, IfOk, Some};
 ghost use Rattle.std.specs.Bool.{MatchBool};
 ghost use Rattle.sst_entries.specs.declared.error.Error.TheVariants.{OutOfMemory};
-ghost use Rattle.sst_sections.specs.Sections.{body_of};
+ghost use Rattle.sst_blocks.specs.Sections.{body_of};
 ghost use Rattle.tool_show.specs.Failures.{IsBlockWith, IsFirstWith, IsRefusedAt};
 ghost use Rattle.tool_show.specs.Faults.{begin_of, block_fault};
 

@@ -22,9 +22,8 @@ use crate::facts::{
 use crate::picture::{print_blocks, print_left, print_sections};
 use crate::stat_object::print_object;
 use crate::{NamedTable, ShowError};
-use lsm_formats::ItemName;
 use lsm_readers::{ParsedRegions, Table};
-use sst_blocks::{Error, Header, Slice};
+use sst_blocks::{Error, Header, ItemName, Slice};
 use std::alloc::Allocator;
 use std::io::{self, Write};
 use tool_lines::{Format, append_bytes};

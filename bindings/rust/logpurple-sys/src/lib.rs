@@ -1,5 +1,7 @@
-//! The calls of `include/sst.h`, as they stand there. That header says of each what it does, when
-//! it is refused and what its pointers must be; the crate `logpurple` makes safe calls of them.
+//! The declarations of `include/sst.h`.
+//!
+//! That header describes each call: its result, its errors and the conditions on its pointers. The
+//! crate `logpurple` wraps them in safe calls.
 
 #![no_std]
 #![warn(missing_docs)]
@@ -14,7 +16,7 @@ pub const SST_OUT_OF_MEMORY: u32 = 1;
 pub const SST_TRUNCATED: u32 = 2;
 /// A block's header is invalid.
 pub const SST_INVALID_HEADER: u32 = 3;
-/// A block is of another kind than is asked for.
+/// A block is of another kind than required.
 pub const SST_INVALID_TAG: u32 = 4;
 /// A block was damaged.
 pub const SST_CHECKSUM_MISMATCH: u32 = 5;
@@ -46,11 +48,11 @@ pub const SST_UNSUPPORTED_CHECKSUM_TYPE: u32 = 17;
 pub const SST_UNSUPPORTED_INDEX_INTERVAL: u32 = 18;
 /// A block is compressed.
 pub const SST_UNSUPPORTED_COMPRESSION: u32 = 19;
-/// The highest stored number and the global one have no sum.
+/// The highest stored sequence number plus the global one exceeds 64 bits.
 pub const SST_GLOBAL_SEQNO_TOO_LARGE: u32 = 20;
-/// An entry's number and the global one have no sum.
+/// The sequence number of an entry plus the global one exceeds 64 bits.
 pub const SST_SEQNO_OVERFLOW: u32 = 21;
-/// There is no further id for a table.
+/// No id is left for a further table.
 pub const SST_TABLE_IDS_SPENT: u32 = 22;
 /// The writer has failed before.
 pub const SST_WRITER_FAILED: u32 = 23;
@@ -61,19 +63,19 @@ pub const SST_SOURCE_ERROR: u32 = 24;
 pub const SST_NO_MEMORY: u32 = SST_OUT_OF_MEMORY;
 /// The handle holds nothing.
 pub const SST_CLOSED: u32 = 100;
-/// The handle that is to be filled holds something.
+/// The handle to fill holds something.
 pub const SST_OPEN: u32 = 101;
 /// The handle holds something of another kind.
 pub const SST_OTHER_KIND: u32 = 102;
-/// There is less room than a copy needs.
+/// A buffer is too small.
 pub const SST_NO_ROOM: u32 = 103;
 /// An entry does not follow the one before it.
 pub const SST_OUT_OF_ORDER: u32 = 104;
-/// A number names none of the things that it may name.
+/// An index, a length, a kind or an option is invalid.
 pub const SST_NO_SUCH: u32 = 105;
 /// The last read by the handle found nothing.
 pub const SST_NOTHING: u32 = 106;
-/// A verification found something wrong.
+/// A verification found a fault.
 pub const SST_FAULTY: u32 = 107;
 
 /// There is no entry.
@@ -108,21 +110,21 @@ pub const SST_FAULT_UNLOADED: u32 = 1;
 pub const SST_FAULT_HOLLOW: u32 = 2;
 /// The block does not start where the one before it ends.
 pub const SST_FAULT_MISPLACED: u32 = 3;
-/// An entry has the largest number.
+/// An entry has the largest sequence number.
 pub const SST_FAULT_TOO_HIGH: u32 = 4;
 /// An entry does not follow the one before it.
 pub const SST_FAULT_UNORDERED: u32 = 5;
-/// The filter denies a key.
+/// The filter has a false negative: it excludes a key of the table.
 pub const SST_FAULT_DENIED: u32 = 6;
 /// A block of the filter does not load.
 pub const SST_FAULT_UNFILTERED: u32 = 7;
-/// The block ends with another key than the index says.
+/// The block does not end with the key of its index entry.
 pub const SST_FAULT_OTHER_KEY: u32 = 8;
-/// The block ends with another number than the index says.
+/// The block does not end with the sequence number of its index entry.
 pub const SST_FAULT_OTHER_NUMBER: u32 = 9;
 /// The entries do not match an item of the meta block.
 pub const SST_FAULT_UNBORNE: u32 = 10;
-/// The index does not name the data block.
+/// The index has no entry for a data block.
 pub const SST_FAULT_UNNAMED: u32 = 11;
 
 /// A range without this bound.
@@ -132,18 +134,19 @@ pub const SST_INCLUDED: u32 = 1;
 /// The key itself is not within the bound.
 pub const SST_EXCLUDED: u32 = 2;
 
-/// A read at this number finds the newest version.
+/// The largest sequence number. A read at it finds the newest version below it.
 pub const SST_NEWEST: u64 = u64::MAX;
 
-/// What a call fills and `sst_close` empties: zeros hold nothing. It is moved and never copied.
+/// A handle, which calls fill and `sst_close` empties. Zeros hold nothing. It may be moved, but a
+/// copy must not be used.
 #[repr(C)]
 #[derive(Debug, Default)]
 pub struct sst_handle {
-    /// Written by the calls alone.
+    /// Only the calls write to these words.
     pub words: [u64; 2],
 }
 
-/// What is told of an entry; all of it 0 where there is none.
+/// The kind, the sequence number and the lengths of an entry; zeros if there is none.
 #[repr(C)]
 #[derive(Clone, Copy, Debug, Default)]
 pub struct sst_entry {
@@ -157,7 +160,7 @@ pub struct sst_entry {
     pub value_len: u64,
 }
 
-/// Where the key and the value of an entry lie.
+/// The addresses and the lengths of an entry's key and value.
 #[repr(C)]
 #[derive(Clone, Copy, Debug)]
 pub struct sst_lent {
@@ -171,7 +174,7 @@ pub struct sst_lent {
     pub value_len: u64,
 }
 
-/// What a table says of itself.
+/// What a table claims about itself.
 #[repr(C)]
 #[derive(Clone, Copy, Debug, Default)]
 pub struct sst_facts {
@@ -179,11 +182,11 @@ pub struct sst_facts {
     pub id: u64,
     /// The version of its format: 3 or 4.
     pub version: u64,
-    /// The number that is added to every stored number.
+    /// The global sequence number, which is added to every stored one.
     pub global_seqno: u64,
-    /// The lowest stored number.
+    /// The lowest stored sequence number.
     pub lowest_seqno: u64,
-    /// The highest stored number.
+    /// The highest stored sequence number.
     pub highest_seqno: u64,
     /// Number of entries.
     pub item_count: u64,
@@ -199,7 +202,7 @@ pub struct sst_facts {
     pub data_size: u64,
 }
 
-/// How much memory a table holds.
+/// The memory of a table.
 #[repr(C)]
 #[derive(Clone, Copy, Debug, Default)]
 pub struct sst_memory {
@@ -209,11 +212,11 @@ pub struct sst_memory {
     pub pinned_index_size: u64,
     /// Size of the pinned filter in bytes, or 0.
     pub pinned_filter_size: u64,
-    /// Size in bytes of the record of compared blocks.
+    /// Size of the verified-block cache in bytes.
     pub marks_size: u64,
 }
 
-/// What a verification found.
+/// The result of a verification.
 #[repr(C)]
 #[derive(Clone, Copy, Debug, Default)]
 pub struct sst_verified {
@@ -221,7 +224,7 @@ pub struct sst_verified {
     pub item_count: u64,
     /// Number of data blocks, if the table is valid.
     pub data_block_count: u64,
-    /// Offset of the block at which something is wrong.
+    /// Offset in the file of the block with the fault, in bytes.
     pub offset: u64,
     /// Its section, as [`SST_SECTION_DATA`].
     pub section: u32,
@@ -233,19 +236,19 @@ pub struct sst_verified {
     pub unused: u32,
 }
 
-/// How far a verification is.
+/// The progress of a verification.
 #[repr(C)]
 #[derive(Clone, Copy, Debug, Default)]
 pub struct sst_progress {
-    /// Bytes of data blocks that were read.
+    /// Bytes of data blocks read so far.
     pub bytes_read: u64,
-    /// Bytes of data blocks that there are.
+    /// Bytes of data blocks that the table claims to have.
     pub data_size: u64,
     /// 1 if all was read and is valid, else 0.
     pub at_end: u64,
 }
 
-/// What a table is written with.
+/// The options of a writer.
 #[repr(C)]
 #[derive(Clone, Copy, Debug, Default)]
 pub struct sst_options {
@@ -257,9 +260,9 @@ pub struct sst_options {
     pub level: u32,
     /// Bytes of keys and values at which a data block is cut, at most 4 MiB.
     pub data_block_size: u32,
-    /// 1 to 255; stored in the meta block, nothing else.
+    /// Restart interval of data blocks, 1 to 255. It is only stored in the meta block.
     pub data_block_restart_interval: u32,
-    /// Stored in the meta block, nothing else.
+    /// Hash ratio of data blocks. It is only stored in the meta block.
     pub data_block_hash_ratio: u32,
     /// Bytes at which a partition of the index is cut, at most 4 MiB; 0 for one block.
     pub index_partition_size: u32,
@@ -271,7 +274,7 @@ pub struct sst_options {
     pub unused: u32,
 }
 
-/// What a finished table is called, and how long it is.
+/// The id, the checksum and the length of a finished table.
 #[repr(C)]
 #[derive(Clone, Copy, Debug, Default)]
 pub struct sst_file {
@@ -286,7 +289,7 @@ pub struct sst_file {
 extern "C" {
     /// Returns [`SST_VERSION`] of the header that the library was built with.
     pub fn sst_version() -> u32;
-    /// Closes a handle; one that holds nothing stays as it is.
+    /// Closes a handle. A handle that holds nothing stays as it is.
     pub fn sst_close(handle: *mut sst_handle);
 
     /// Copies the key and the value of the entry that the last read by a handle found.
@@ -309,7 +312,7 @@ extern "C" {
         pin_index: bool,
         table: *mut sst_handle,
     ) -> u32;
-    /// Opens a table over its bytes, which are not copied and have to stay.
+    /// Opens a table over its bytes, without a copy. The bytes must stay.
     pub fn sst_table_open_kept(
         file: *const u8,
         len: usize,
@@ -318,7 +321,7 @@ extern "C" {
         pin_index: bool,
         table: *mut sst_handle,
     ) -> u32;
-    /// Finds the newest version of a key below a number.
+    /// Finds the newest version of a key below a sequence number.
     pub fn sst_table_get(
         table: *mut sst_handle,
         key: *const u8,
@@ -330,9 +333,9 @@ extern "C" {
     pub fn sst_table_facts(table: *mut sst_handle, facts: *mut sst_facts) -> u32;
     /// Returns how much memory a table holds.
     pub fn sst_table_memory(table: *mut sst_handle, memory: *mut sst_memory) -> u32;
-    /// Makes a further handle of a table.
+    /// Makes another handle of a table.
     pub fn sst_table_share(table: *mut sst_handle, other: *mut sst_handle) -> u32;
-    /// Finds the newest versions of many keys below a number.
+    /// Finds the newest versions of many keys below a sequence number.
     pub fn sst_table_get_many(
         table: *mut sst_handle,
         keys: *const u8,
@@ -418,7 +421,7 @@ extern "C" {
     pub fn sst_runs_open(runs: *mut sst_handle) -> u32;
     /// Adds a table to a list of runs, after those that are there.
     pub fn sst_runs_add(runs: *mut sst_handle, table: *mut sst_handle) -> u32;
-    /// Finds the newest version of a key below a number in all runs.
+    /// Finds the newest version of a key below a sequence number in all runs.
     pub fn sst_runs_get(
         runs: *mut sst_handle,
         key: *const u8,

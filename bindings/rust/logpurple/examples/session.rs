@@ -1,4 +1,4 @@
-//! Writes two tables, opens them, reads keys and walks a range, of one table and of both together;
+//! Writes two tables, opens them, and reads keys and ranges of one and of both together. Then it
 //! compacts them into one and verifies it. `bindings/test` runs it.
 
 use logpurple::{
@@ -6,7 +6,7 @@ use logpurple::{
 };
 use std::str;
 
-/// The older table: of `apple` two versions, the newest first.
+/// Writes the older table. It has two versions of `apple`, the newest first.
 fn write_older() -> Result<Table<'static>, Error> {
     let mut writer = Writer::new(1)?;
     writer.write(b"apple", 7, ValueType::Value, b"red")?;
@@ -16,7 +16,7 @@ fn write_older() -> Result<Table<'static>, Error> {
     Table::open(writer.finish()?.expect("entries were written"))
 }
 
-/// The newer table, in which `pear` is deleted.
+/// Writes the newer table, in which `pear` is deleted.
 fn write_newer() -> Result<Table<'static>, Error> {
     let mut writer = Writer::new(2)?;
     writer.write(b"fig", 9, ValueType::Value, b"violet")?;
@@ -38,7 +38,7 @@ fn show(what: &str, item: &InternalValue) {
     println!("{what} {} {} {kind} {}", text(&item.key.user_key), item.key.seqno, text(&item.value));
 }
 
-/// The version of a key that a reader at a number sees.
+/// Prints the version of a key that is visible at a snapshot.
 fn read_key(table: &Table, key: &str, seqno: SeqNo) -> Result<(), Error> {
     match table.get(key.as_bytes(), seqno)? {
         Some(item) => show("found", &item),
@@ -54,7 +54,8 @@ fn walk(items: impl Iterator<Item = Result<InternalValue, Error>>) -> Result<(),
     Ok(())
 }
 
-/// What is left of all tables where nobody reads older versions, as one new table.
+/// Compacts all tables into a new one. Nobody reads older versions, so it has the newest values
+/// only.
 fn compact(runs: &Runs) -> Result<Table<'static>, Error> {
     let compacted = runs.compact(&Compaction {
         watermark: NEWEST,
@@ -68,7 +69,7 @@ fn compact(runs: &Runs) -> Result<Table<'static>, Error> {
 fn main() -> Result<(), Box<dyn std::error::Error>> {
     let (older, newer) = (write_older()?, write_newer()?);
     read_key(&older, "apple", NEWEST)?;
-    read_key(&older, "apple", 5)?; // sees what is numbered below 5
+    read_key(&older, "apple", 5)?; // sees versions below 5
     read_key(&older, "fig", NEWEST)?;
     walk(older.range("pear"..)?.rev())?;
     let runs = Runs::from_tables([newer, older])?; // the newest first

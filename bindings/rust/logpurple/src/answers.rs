@@ -1,12 +1,12 @@
-//! What many reads at once found.
+//! Results of many reads in one call.
 
 use crate::error::test;
 use crate::handle::{lent_by, room, Handle};
 use crate::{Error, InternalValue, LentValue, SeqNo, Table};
 use logpurple_sys as sys;
 
-/// What [`Table::get_many_lent`] found of each key, in the keys' order. It lends all of it, for as
-/// long as it is there:
+/// Holds what [`Table::get_many_lent`] found of each key, in the order of the keys. Entries are
+/// borrowed from it:
 ///
 /// ```compile_fail,E0505
 /// fn keep(answers: logpurple::Answers) {
@@ -31,7 +31,7 @@ impl<'f> Answers<'f> {
         let (joined, lens) = joined(keys)?;
         let mut told = room(keys.len())?;
         told.resize(keys.len(), sys::sst_entry::default());
-        // SAFETY: keys and lengths are read during the call alone, there is a place for each key,
+        // SAFETY: keys and lengths are read during the call only, there is an entry for each key,
         // and the handle holds nothing.
         test(unsafe {
             sys::sst_table_get_many(
@@ -49,34 +49,40 @@ impl<'f> Answers<'f> {
         Ok(Answers { handle, told })
     }
 
-    /// How many keys were asked for.
+    /// Returns the number of keys that were read.
     pub fn len(&self) -> usize {
         self.told.len()
     }
 
-    /// Whether no key was asked for.
+    /// Returns whether no key was read.
     pub fn is_empty(&self) -> bool {
         self.told.is_empty()
     }
 
-    /// What was found of the key at a place, from 0 on: nothing where no version is below the
-    /// number, or where there is no such place.
+    /// Returns what was found of the key at an index, from 0 on.
+    ///
+    /// Returns `None` if the key has no version below the sequence number, or if there is no such
+    /// index.
     pub fn get(&self, place: usize) -> Option<LentValue<'_>> {
         let told = *self.told.get(place)?;
-        // SAFETY: both are references of the call, and what is lent lies there until the answers
-        // are closed, which are borrowed for so long.
+        // SAFETY: both are references of the call. The lent bytes are valid until the answers are
+        // closed, and the answers are borrowed for as long.
         let lent = unsafe {
             lent_by(told, |lent| sys::sst_answers_lend(self.handle.words(), place as u64, lent))
         };
         lent.expect("what was told to be found is lent")
     }
 
-    /// What was found of each key, in their order.
+    /// Iterates over what was found of each key, in the order of the keys.
     pub fn iter<'l>(&'l self) -> impl ExactSizeIterator<Item = Option<LentValue<'l>>> + 'l {
         (0..self.len()).map(move |place| self.get(place))
     }
 
-    /// Copies of all that was found. Refused for want of memory.
+    /// Copies everything that was found.
+    ///
+    /// # Errors
+    ///
+    /// `OutOfMemory`.
     pub fn to_owned(&self) -> Result<Vec<Option<InternalValue>>, Error> {
         let mut copied = room(self.len())?;
         for lent in self.iter() {
@@ -86,7 +92,7 @@ impl<'f> Answers<'f> {
     }
 }
 
-// The keys behind one another, and how long each is.
+// Returns the keys one after another, and the length of each.
 fn joined<K: AsRef<[u8]>>(keys: &[K]) -> Result<(Vec<u8>, Vec<u64>), Error> {
     let mut bytes = Vec::new();
     let mut lens = room(keys.len())?;

@@ -6,37 +6,48 @@ use crate::writer::finished_tables;
 use crate::{Error, FinishedTable, Options, SeqNo};
 use logpurple_sys as sys;
 
-/// What [`Runs::compact`](crate::Runs::compact) keeps, and what it writes.
+/// Options of [`Runs::compact`](crate::Runs::compact).
 ///
-/// Of each key the versions that are not below the watermark are kept, and the newest one that is;
-/// all older ones, which no reader sees, go. Of those that are kept the oldest alone may go too: a
-/// weak tombstone goes where the version directly behind it, which goes, is a `ValueType::Value`;
-/// with `evict_tombstones` a `ValueType::Tombstone` goes, and a weak tombstone behind which the
-/// runs have no version of its key. Any other deletion stays.
+/// Of each key, the versions that are not below the watermark are kept, and the newest version
+/// below it. All older ones, which no reader sees, are dropped. Of those that are kept, only the
+/// oldest may be dropped too:
 ///
-/// Refused with `NoSuch` where an option is out of its range, with `OutOfOrder` where a table does
-/// not hold what a writer makes or two tables have one key under one number; else with the first
-/// fault of the blocks, as a writer is, with `TableIdsSpent` where no id is left, and for want of
-/// memory. Nothing is written then.
+/// - A weak tombstone is dropped if the version directly after it is dropped, and is a
+///   `ValueType::Value`.
+/// - With `evict_tombstones`, a `ValueType::Tombstone` is dropped, and so is a weak tombstone after
+///   which the runs have no version of its key.
+///
+/// Any other deletion is kept.
+///
+/// # Errors
+///
+/// No table is returned after an error.
+///
+/// - `NoSuch` if an option is out of range.
+/// - `OutOfOrder` if a table is not as a writer makes it, or if two tables have one key with one
+///   sequence number.
+/// - The first fault of the blocks, and the errors of a writer.
+/// - `TableIdsSpent` if no id is left.
+/// - `OutOfMemory`.
 #[derive(Clone, Copy, Debug, PartialEq, Eq)]
 pub struct Compaction {
-    /// No reader stands below it.
+    /// The least snapshot that is still read.
     pub watermark: SeqNo,
-    /// Whether deletions go behind which there is nothing to delete, as is said above: only for
-    /// runs behind which no older table stands.
+    /// Whether unneeded deletions are dropped, as described above. Only for runs after which there
+    /// is no older table.
     pub evict_tombstones: bool,
-    /// Whether numbers below the watermark become 0.
+    /// Whether sequence numbers below the watermark become 0.
     pub zero_seqnos: bool,
-    /// A new table begins at the next key once the data blocks of the present one have so many
-    /// bytes; with `u64::MAX` there is one.
+    /// Target size of a table in bytes of data blocks. A table that has reached it ends before the
+    /// next key. With `u64::MAX` there is one table.
     pub target_size: u64,
-    /// What the tables are written with. Their ids run on from `options.id`, or from the one behind
-    /// it where `target_size` is 0.
+    /// Options of the new tables. Their ids ascend by 1 from `options.id`, or from the id after it
+    /// if `target_size` is 0.
     pub options: Options,
 }
 
 impl Default for Compaction {
-    /// All entries are kept as they are, and written into one table.
+    /// Keeps all entries as they are, in one table.
     fn default() -> Compaction {
         Compaction {
             watermark: 0,
@@ -48,12 +59,13 @@ impl Default for Compaction {
     }
 }
 
-/// What a compaction wrote.
+/// Result of a compaction.
 #[derive(Clone, Debug, PartialEq, Eq)]
 pub struct Compacted {
-    /// The tables, in order of their keys; none where nothing was kept.
+    /// The tables, in key order; empty if no entry was kept.
     pub tables: Vec<FinishedTable>,
-    /// The first id that is left; that of the options is taken where nothing was kept, too.
+    /// The first unused id, or `None` if no id is left. The id of the options is used up even if no
+    /// entry was kept.
     pub next_id: Option<u64>,
 }
 
@@ -61,7 +73,7 @@ impl Compacted {
     pub(crate) fn of(runs: &Handle<'_>, compaction: &Compaction) -> Result<Compacted, Error> {
         let (files, asked) = (Handle::closed(), compaction.options.told());
         let mut next_id = 0;
-        // SAFETY: the options are read during the call alone, and `files` holds nothing.
+        // SAFETY: the options are read during the call only, and `files` holds nothing.
         test(unsafe {
             sys::sst_compact(
                 runs.words(),

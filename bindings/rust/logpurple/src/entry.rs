@@ -2,11 +2,13 @@
 
 use crate::Error;
 
-/// A version's number. Reads at a number see the versions that are numbered below it.
+/// Sequence number of a version. A read at a sequence number sees the versions below it.
 pub type SeqNo = u64;
 
-/// The largest number: a read at it finds the newest version of those that are numbered below it,
-/// as all are that a [`Writer`](crate::Writer) takes, where no global number lifts one to it.
+/// The largest sequence number. A read at it finds the newest version below it.
+///
+/// A [`Writer`](crate::Writer) takes only entries below it. A global sequence number may raise an
+/// entry to it.
 pub const NEWEST: SeqNo = logpurple_sys::SST_NEWEST;
 
 /// A key's bytes.
@@ -24,12 +26,12 @@ pub enum ValueType {
     Tombstone,
     /// A deletion of the one version directly before it.
     WeakTombstone,
-    /// A value that lies elsewhere, which the entry's value points to.
+    /// A value that is stored elsewhere, which the entry's value points to.
     Indirection,
 }
 
 impl ValueType {
-    /// Whether it is a deletion.
+    /// Returns whether it is a deletion.
     pub fn is_tombstone(self) -> bool {
         matches!(self, ValueType::Tombstone | ValueType::WeakTombstone)
     }
@@ -54,28 +56,29 @@ impl ValueType {
     }
 }
 
-/// A key, with a version's number and kind. Keys go up, and of one key the newest comes first.
+/// A key with the sequence number and the kind of a version. Keys ascend, and the newest version of
+/// a key is first.
 #[derive(Clone, Debug, PartialEq, Eq, Hash)]
 pub struct InternalKey {
     /// The key.
     pub user_key: UserKey,
-    /// The version's number.
+    /// The version's sequence number.
     pub seqno: SeqNo,
     /// The version's kind.
     pub value_type: ValueType,
 }
 
-/// An entry of its own bytes.
+/// An entry that owns its bytes.
 #[derive(Clone, Debug, PartialEq, Eq, Hash)]
 pub struct InternalValue {
-    /// The key, with its number and kind.
+    /// The key, with its sequence number and kind.
     pub key: InternalKey,
     /// The value.
     pub value: UserValue,
 }
 
 impl InternalValue {
-    /// An entry of these parts.
+    /// Makes an entry of these parts.
     pub fn from_components(
         key: impl Into<UserKey>,
         value: impl Into<UserValue>,
@@ -88,18 +91,18 @@ impl InternalValue {
         }
     }
 
-    /// Whether it is a deletion.
+    /// Returns whether it is a deletion.
     pub fn is_tombstone(&self) -> bool {
         self.key.value_type.is_tombstone()
     }
 }
 
-/// An entry whose bytes are lent by what found it, until that reads again.
+/// An entry whose bytes are borrowed from the object that found it.
 #[derive(Clone, Copy, Debug, PartialEq, Eq, Hash)]
 pub struct LentValue<'l> {
     /// The key.
     pub user_key: &'l [u8],
-    /// The version's number.
+    /// The version's sequence number.
     pub seqno: SeqNo,
     /// The version's kind.
     pub value_type: ValueType,
@@ -108,7 +111,11 @@ pub struct LentValue<'l> {
 }
 
 impl LentValue<'_> {
-    /// A copy of its own. Refused for want of memory.
+    /// Copies the entry.
+    ///
+    /// # Errors
+    ///
+    /// `OutOfMemory`.
     pub fn to_owned(&self) -> Result<InternalValue, Error> {
         Ok(InternalValue {
             key: InternalKey {

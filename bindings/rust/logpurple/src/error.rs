@@ -1,15 +1,15 @@
-//! Refusals.
+//! Errors.
 
 use std::fmt;
 
 macro_rules! refusals {
     ($($(#[$doc:meta])* $number:literal $name:ident $sentence:literal,)*) => {
-        /// Why a call was refused.
+        /// The error of a call.
         #[derive(Clone, Copy, Debug, PartialEq, Eq, Hash)]
         #[non_exhaustive]
         pub enum Error {
             $($(#[$doc])* $name,)*
-            /// A number that this crate does not know.
+            /// An error code that this crate does not know.
             Unknown(u32),
         }
 
@@ -21,7 +21,8 @@ macro_rules! refusals {
                 }
             }
 
-            /// The number of the refusal: 1 to 24 are the library's, from 100 on the calls' own.
+            /// Returns the error code: 1 to 24 are the library's, codes from 100 on are those of
+            /// the calls.
             pub fn number(&self) -> u32 {
                 match self {
                     $(Error::$name => $number,)*
@@ -42,17 +43,17 @@ macro_rules! refusals {
 }
 
 refusals! {
-    /// Memory was refused.
+    /// An allocation failed.
     1 OutOfMemory "out of memory",
     /// A block reaches past the sections.
     2 Truncated "a block reaches past the sections",
-    /// A block's header is none.
+    /// The header of a block is invalid.
     3 InvalidHeader "invalid block header",
-    /// A block is of another kind than is asked for.
+    /// A block is of another kind than required.
     4 InvalidTag "a block of another kind",
     /// A block was damaged.
     5 ChecksumMismatch "checksum mismatch",
-    /// A block's payload is none.
+    /// The payload of a block is invalid.
     6 InvalidBlock "invalid block payload",
     /// A key has more than 1,048,576 bytes.
     7 KeyTooLong "key too long",
@@ -64,47 +65,47 @@ refusals! {
     10 SectionTooLarge "section too large",
     /// The bytes do not end as a table does.
     11 InvalidTrailer "invalid trailer",
-    /// A section that has to be there is not.
+    /// A required section is missing.
     12 MissingSection "missing section",
-    /// An item of the meta block that has to be there is not.
+    /// A required item of the meta block is missing.
     13 MetaKeyMissing "missing meta item",
-    /// An item of the meta block has a value that it cannot have.
+    /// The value of an item of the meta block is too short.
     14 InvalidMetaValue "invalid meta value",
     /// The table's version is not 3 or 4.
     15 UnsupportedTableVersion "unsupported table version",
-    /// The filter's hashes are others.
+    /// The filter uses another hash function.
     16 UnsupportedHashType "unsupported hash type",
-    /// The checksums are others.
+    /// The table uses another checksum.
     17 UnsupportedChecksumType "unsupported checksum type",
-    /// The index restarts otherwise than after each handle.
+    /// The restart interval of the index is not 1.
     18 UnsupportedIndexInterval "unsupported index restart interval",
     /// A block is compressed.
     19 UnsupportedCompression "unsupported compression",
-    /// The highest stored number and the global number have no sum.
+    /// The highest stored sequence number plus the global one exceeds 64 bits.
     20 GlobalSeqNoTooLarge "global sequence number too large",
-    /// An entry's number and the global number have no sum.
+    /// The sequence number of an entry plus the global one exceeds 64 bits.
     21 SeqNoOverflow "sequence number overflow",
-    /// There is no further id for a table.
+    /// No id is left for a further table.
     22 TableIdsSpent "table ids spent",
-    /// The writer has been refused before.
+    /// The writer has failed before.
     23 WriterFailed "the writer has failed",
     /// A source of entries failed.
     24 Source "source error",
-    /// A handle holds nothing. No safe call is refused so.
+    /// A handle holds nothing. No safe call returns this.
     100 Closed "the handle is closed",
-    /// A handle that is to be filled holds something. No safe call is refused so.
+    /// A handle to fill holds something. No safe call returns this.
     101 AlreadyOpen "the handle is open",
-    /// A handle holds something of another kind. No safe call is refused so.
+    /// A handle holds something of another kind. No safe call returns this.
     102 OtherKind "the handle holds another kind",
-    /// There is less room than a copy needs. No safe call is refused so.
+    /// A buffer is too small. No safe call returns this.
     103 NoRoom "the room is too small",
-    /// An entry does not follow the one before it, or a table's greatest key its least.
+    /// An entry does not follow the one before it, or a table's least key is above its greatest.
     104 OutOfOrder "an entry is out of order",
-    /// An option is out of its range, as `Options` has them.
+    /// An option of `Options` is out of its range.
     105 NoSuch "there is no such number",
-    /// Nothing was found. No safe call is refused so: it answers `None`.
+    /// Nothing was found. No safe call returns this: it returns `None`.
     106 Nothing "nothing was found",
-    /// A table is not sound. `Table::verify` answers `VerifyError::Found` in its place.
+    /// A table is invalid. `Table::verify` returns `VerifyError::Found` instead.
     107 Faulty "the table is not sound",
 }
 

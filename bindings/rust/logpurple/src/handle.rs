@@ -1,4 +1,4 @@
-//! Handles: the one place where pointers are handed to the calls.
+//! Handles of the library, and how calls use them.
 
 use crate::error::test;
 use crate::{Error, LentValue, SeqNo, ValueType};
@@ -9,19 +9,18 @@ use std::ops::Bound;
 use std::slice;
 use std::sync::Once;
 
-/// What a call fills, and what is closed when it is dropped.
+/// A handle of the library, which is closed when it is dropped.
 ///
-/// Its words are written by the calls alone, through `&self` too: reads keep in the handle what
-/// they found. So it is not `Sync`, and neither is what has one: one thread uses a handle at a
-/// time.
+/// Only the calls write to its words, also through `&self`: a read keeps in the handle what it
+/// found. So a handle is not `Sync`, and neither is a type that has one. One thread uses a handle
+/// at a time.
 ///
-/// It is `Send`, as its words are. The header says what threads may share: those that use different
-/// handles at once need nothing between them, whatever the handles share, since a table's bytes and
-/// blocks are never written, shares are counted by atomic steps, and so is noted which blocks were
-/// compared. A handle that goes to another thread needs what orders memory between the two; in Rust
-/// nothing is sent without that.
+/// A handle is `Send`, as its words are. Threads that use different handles need no
+/// synchronization, whatever the handles share, as the header states. A table's bytes and blocks
+/// are never written. Reference counts and the verified-block cache are updated atomically. Passing
+/// a handle to another thread needs memory ordering, and sending in Rust always provides it.
 ///
-/// What it holds may read bytes that are kept for `'f`, and never copied: so it is dropped before
+/// Its content may read bytes that are borrowed for `'f`, without a copy. So it is dropped before
 /// these are.
 #[derive(Debug)]
 pub(crate) struct Handle<'f> {
@@ -30,40 +29,40 @@ pub(crate) struct Handle<'f> {
 }
 
 impl<'f> Handle<'f> {
-    /// A handle that holds nothing.
+    /// Returns a handle that holds nothing.
     pub(crate) fn closed() -> Handle<'f> {
         require_version();
         Handle { words: UnsafeCell::new(sys::sst_handle::default()), kept: PhantomData }
     }
 
-    /// The words, for one call.
+    /// Returns the words, for one call.
     pub(crate) fn words(&self) -> *mut sys::sst_handle {
         self.words.get()
     }
 
-    /// Lends what the last read by the handle found, as that read told it.
+    /// Borrows the entry that the last read through the handle found. `told` is what that read
+    /// reported.
     ///
     /// # Safety
     ///
-    /// `'l` ends before the next read by the handle, and before it is dropped.
+    /// `'l` ends before the next read through the handle, and before it is dropped.
     pub(crate) unsafe fn lend<'l>(
         &self,
         told: sys::sst_entry,
     ) -> Result<Option<LentValue<'l>>, Error> {
-        // SAFETY: both are references of the call. What is lent lies there until the next read.
+        // SAFETY: both are references of the call. The lent bytes are valid until the next read.
         unsafe { lent_by(told, |lent| sys::sst_found_lend(self.words(), lent)) }
     }
 }
 
 impl Drop for Handle<'_> {
     fn drop(&mut self) {
-        // SAFETY: the handle is this one's own, and nothing that it lent is in use.
+        // SAFETY: the handle is owned, and nothing that it lent is in use.
         unsafe { sys::sst_close(self.words()) }
     }
 }
 
-/// Ends the program where a library was linked or loaded whose calls are others than those that are
-/// declared.
+/// Panics unless the library has the calls that are declared here.
 pub(crate) fn require_version() {
     static TESTED: Once = Once::new();
     TESTED.call_once(|| {
@@ -71,11 +70,11 @@ pub(crate) fn require_version() {
     });
 }
 
-/// What a call lends of an entry that was told; nothing where there is none.
+/// Borrows what a call lends of an entry that a read reported; `None` if there is no entry.
 ///
 /// # Safety
 ///
-/// What the call lends lies there for as long as `'l`.
+/// The bytes that the call lends are valid for `'l`.
 pub(crate) unsafe fn lent_by<'l>(
     told: sys::sst_entry,
     lend: impl FnOnce(*mut sys::sst_lent) -> u32,
@@ -87,13 +86,13 @@ pub(crate) unsafe fn lent_by<'l>(
     let none = [].as_ptr();
     let mut lent = sys::sst_lent { key: none, key_len: 0, value: none, value_len: 0 };
     test(lend(&mut lent))?;
-    // SAFETY: the caller sees to it.
+    // SAFETY: the caller guarantees it.
     let (user_key, value) =
         unsafe { (bytes_at(lent.key, lent.key_len), bytes_at(lent.value, lent.value_len)) };
     Ok(Some(LentValue { user_key, seqno: told.seqno, value_type, value }))
 }
 
-// SAFETY of callers: so many bytes lie there for as long as `'l`. Of none nothing is asked.
+// SAFETY of callers: `len` bytes at `at` are valid for `'l`. If `len` is 0, `at` is not used.
 unsafe fn bytes_at<'l>(at: *const u8, len: u64) -> &'l [u8] {
     match usize::try_from(len) {
         Ok(len) if len > 0 => unsafe { slice::from_raw_parts(at, len) },
@@ -101,11 +100,11 @@ unsafe fn bytes_at<'l>(at: *const u8, len: u64) -> &'l [u8] {
     }
 }
 
-/// A call that finds the newest version of a key that is numbered below a number.
+/// A call that finds the newest version of a key below a sequence number.
 type Get =
     unsafe extern "C" fn(*mut sys::sst_handle, *const u8, usize, u64, *mut sys::sst_entry) -> u32;
 
-/// Makes such a call, and tells what it found.
+/// Makes such a call, and returns what it reports.
 pub(crate) fn get(
     call: Get,
     handle: &Handle<'_>,
@@ -113,12 +112,12 @@ pub(crate) fn get(
     seqno: SeqNo,
 ) -> Result<sys::sst_entry, Error> {
     let mut told = sys::sst_entry::default();
-    // SAFETY: the key is read during the call alone, and the rest are references of this call.
+    // SAFETY: the key is read during the call only, and the rest are references of this call.
     test(unsafe { call(handle.words(), key.as_ptr(), key.len(), seqno, &mut told) })?;
     Ok(told)
 }
 
-/// The kind of a bound, and its key.
+/// Returns the kind of a bound, and its key.
 pub(crate) fn bound<K: AsRef<[u8]>>(bound: Bound<&K>) -> (u32, &[u8]) {
     match bound {
         Bound::Unbounded => (sys::SST_UNBOUNDED, &[]),
@@ -127,7 +126,7 @@ pub(crate) fn bound<K: AsRef<[u8]>>(bound: Bound<&K>) -> (u32, &[u8]) {
     }
 }
 
-/// An empty list with so much room, or a refusal for want of memory.
+/// Returns an empty list with capacity for `len` items, or `OutOfMemory`.
 pub(crate) fn room<T>(len: usize) -> Result<Vec<T>, Error> {
     let mut list = Vec::new();
     list.try_reserve_exact(len).map_err(|_| Error::OutOfMemory)?;

@@ -1,6 +1,6 @@
 //! Sorted tables of a log-structured store: written, read from both ends, compacted and verified.
 //!
-//! A table is bytes, and each entry has a key, a number, a kind and a value:
+//! A table is bytes. Each entry has a key, a sequence number, a kind and a value:
 //!
 //! ```
 //! use logpurple::{Table, ValueType, Writer, NEWEST};
@@ -24,9 +24,14 @@
 //! # }
 //! ```
 //!
-//! Below it are the calls of `sst.h`, which are proved to do what is said of them. What is between
-//! is not proved but typed: a handle is closed when it is dropped, cannot be used where it holds
-//! something else, and what it lends ends before its next read.
+//! This crate wraps the calls of `sst.h`. Their contracts are proved, and the wrapper is not. Its
+//! types ensure three things:
+//!
+//! - A handle is closed when it is dropped.
+//! - No call gets a handle of another kind.
+//! - A borrowed entry ends before the next read.
+//!
+//! Any call that returns a `Result` may fail with `OutOfMemory`.
 
 #![warn(missing_docs)]
 #![deny(unsafe_op_in_unsafe_fn)]
@@ -61,8 +66,8 @@ pub use verification::Verification;
 pub use verify::{Fault, Finding, SectionName, Verified, VerifyError};
 pub use writer::{FinishedTable, Options, Writer};
 
-/// The version of the calls that the library answers to.
+/// Returns the version of the library's calls.
 pub fn version() -> u32 {
-    // SAFETY: it takes nothing.
+    // SAFETY: the call takes no argument.
     unsafe { logpurple_sys::sst_version() }
 }

@@ -1,21 +1,21 @@
-//! Packing tables in as few runs as there can be.
+//! Packing tables into as few runs as possible.
 
 use crate::error::test;
 use crate::handle::{room, Handle};
 use crate::Error;
 use logpurple_sys as sys;
 
-/// How tables are packed. Each is named by its place among them, from 0 on.
+/// How tables are packed. A table is an index into the list of tables, from 0 on.
 #[derive(Clone, Debug, PartialEq, Eq)]
 pub struct Packing {
-    /// The tables of each run, in the order of their keys.
+    /// The tables of each run, in key order.
     pub runs: Vec<Vec<usize>>,
-    /// Tables each of which overlaps the next, an older one: as many as there are runs, so that
-    /// there are no fewer.
+    /// One table for each run. Each overlaps the next one, which is older, so there cannot be fewer
+    /// runs.
     pub chain: Vec<usize>,
 }
 
-/// How the tables of a list of runs are packed.
+/// Returns how the tables of a list of runs are packed.
 pub(crate) fn packing_of(runs: &Handle<'_>) -> Result<Packing, Error> {
     let packing = Handle::closed();
     // SAFETY: both are references of this call, and the second holds nothing.
@@ -45,7 +45,8 @@ fn run_of(packing: &Handle<'_>, run: usize) -> Result<Vec<usize>, Error> {
     Ok(tables)
 }
 
-// A number that a call tells: places and counts of tables, which have each a place in memory.
+// Returns an index or a count of tables that a call reports. Each table is in memory, so it fits
+// `usize`.
 fn told(tell: impl FnOnce(*mut u64) -> u32) -> Result<usize, Error> {
     let mut told = 0;
     test(tell(&mut told))?;

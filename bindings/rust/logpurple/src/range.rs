@@ -1,4 +1,4 @@
-//! Ranges of a table, and of several.
+//! Ranges of one table, and of several.
 
 use crate::error::test;
 use crate::handle::{bound, Handle};
@@ -8,13 +8,16 @@ use logpurple_sys as sys;
 use std::iter::FusedIterator;
 use std::ops::Bound;
 
-/// Reads entries within bounds, from both ends: by key up, and of one key by number down. Of a
-/// table it reads every version, of runs one of each key. After a refusal nothing more comes, from
-/// either end.
+/// Iterates over the entries within bounds, from both ends. Keys ascend, and sequence numbers of
+/// one key descend.
 ///
-/// As an iterator it copies each entry; `next_lent` and `next_back_lent` lend it instead.
+/// A range of a table yields every version, a range of runs one version of each key. After an error
+/// it is exhausted, from both ends.
 ///
-/// It has shares of the tables that it reads: these may be closed, and it may go to another thread.
+/// As an iterator it copies each entry. `next_lent` and `next_back_lent` borrow it instead.
+///
+/// A range has shares of the tables that it reads: these may be dropped before it, and it may go to
+/// another thread.
 ///
 /// ```
 /// # fn main() -> Result<(), Box<dyn std::error::Error>> {
@@ -31,8 +34,8 @@ use std::ops::Bound;
 pub struct Range<'f> {
     // The range.
     steps: Steps<'f>,
-    // The scan that reads the front of several tables: the range reads their back alone. Each has
-    // the entry that it found last until it reads again. They end where they meet.
+    // The scan that reads the front of several tables: the range then reads only their back. Each
+    // has the entry that it found last until it reads again. They end where they meet.
     front: Option<Steps<'f>>,
 }
 
@@ -44,7 +47,7 @@ impl<'f> Range<'f> {
     ) -> Result<Range<'f>, Error> {
         let handle = Handle::closed();
         let ((lower_kind, lower), (upper_kind, upper)) = (bound(lower), bound(upper));
-        // SAFETY: the keys are read during the call alone, and the handle holds nothing.
+        // SAFETY: the keys are read during the call only, and the handle holds nothing.
         test(unsafe {
             sys::sst_range_open(
                 table.handle.words(),
@@ -69,7 +72,7 @@ impl<'f> Range<'f> {
         let ((lower_kind, lower), (upper_kind, upper)) = (bound(lower), bound(upper));
         let open = |call: OpenRuns| {
             let handle = Handle::closed();
-            // SAFETY: the keys are read during the call alone, and the handle holds nothing.
+            // SAFETY: the keys are read during the call only, and the handle holds nothing.
             test(unsafe {
                 call(
                     runs.handle.words(),
@@ -89,7 +92,12 @@ impl<'f> Range<'f> {
         Ok(Range { steps: open(sys::sst_runs_range_open)?, front: Some(front) })
     }
 
-    /// The next entry from the front, lent until the range reads again.
+    /// Returns the next entry from the front, borrowed until the range reads again. Returns `None`
+    /// at the end.
+    ///
+    /// # Errors
+    ///
+    /// The first fault of the blocks that it loads. The range is exhausted then.
     ///
     /// ```compile_fail,E0499
     /// fn keep(mut range: logpurple::Range) {
@@ -102,7 +110,12 @@ impl<'f> Range<'f> {
         self.lent(false)
     }
 
-    /// The next entry from the back, lent until the range reads again.
+    /// Returns the next entry from the back, borrowed until the range reads again. Returns `None`
+    /// at the end.
+    ///
+    /// # Errors
+    ///
+    /// Those of `next_lent`.
     ///
     /// ```compile_fail,E0505
     /// fn keep(mut range: logpurple::Range) {
@@ -115,7 +128,7 @@ impl<'f> Range<'f> {
         self.lent(true)
     }
 
-    /// The next entry from an end, lent until the range reads again.
+    /// Returns the next entry from an end, borrowed until the range reads again.
     fn lent(&mut self, back: bool) -> Result<Option<LentValue<'_>>, Error> {
         let advanced = match &mut self.front {
             Some(front) if !back => front.advance(scanner::step()),
@@ -131,7 +144,7 @@ impl<'f> Range<'f> {
         }
     }
 
-    /// Whether one end of several tables has come to an entry that the other end has read.
+    /// Returns whether one end of several tables has reached an entry that the other end has read.
     fn has_met(&self) -> Result<bool, Error> {
         match &self.front {
             Some(front) if front.has_found() && self.steps.has_found() => {
@@ -142,7 +155,7 @@ impl<'f> Range<'f> {
         }
     }
 
-    /// Nothing more comes, from either end.
+    /// Exhausts the range, from both ends.
     fn end(&mut self) {
         self.steps.end();
         if let Some(front) = &mut self.front {
@@ -150,7 +163,7 @@ impl<'f> Range<'f> {
         }
     }
 
-    /// The next entry from an end, copied.
+    /// Returns a copy of the next entry from an end.
     fn copied(&mut self, back: bool) -> Option<Result<InternalValue, Error>> {
         let copied = copied(self.lent(back));
         if matches!(copied, Some(Err(_))) {
@@ -160,7 +173,7 @@ impl<'f> Range<'f> {
     }
 }
 
-/// A call that opens what several tables have together, at one end or at both.
+/// A call that opens the entries of several tables together, at one end or at both.
 type OpenRuns = unsafe extern "C" fn(
     *mut sys::sst_handle,
     u32,
@@ -173,9 +186,9 @@ type OpenRuns = unsafe extern "C" fn(
     *mut sys::sst_handle,
 ) -> u32;
 
-/// A call that takes the next entry, from the back where `back` says so.
+/// Returns a call that takes the next entry, from the back if `back`.
 fn step(back: bool) -> impl FnOnce(*mut sys::sst_handle, *mut sys::sst_entry) -> u32 {
-    // SAFETY: those who make the call give references of their own.
+    // SAFETY: callers pass references of their own.
     move |range, entry| unsafe { sys::sst_range_next(range, back, entry) }
 }
 

@@ -11,12 +11,16 @@ use std::ops::RangeBounds;
 #[derive(Debug)]
 pub struct Runs<'f> {
     pub(crate) handle: Handle<'f>,
-    // Run by run, where these were packed.
+    // Run by run, if the runs are packed.
     tables: Vec<Table<'f>>,
 }
 
 impl<'f> Runs<'f> {
-    /// No tables. Refused for want of memory.
+    /// Makes a list without tables.
+    ///
+    /// # Errors
+    ///
+    /// `OutOfMemory`.
     pub fn new() -> Result<Runs<'f>, Error> {
         let handle = Handle::closed();
         // SAFETY: the handle holds nothing.
@@ -24,7 +28,11 @@ impl<'f> Runs<'f> {
         Ok(Runs { handle, tables: Vec::new() })
     }
 
-    /// These tables, the newest first. Refused as `push` is; the tables are given up then.
+    /// Makes a list of these tables, the newest first.
+    ///
+    /// # Errors
+    ///
+    /// Those of `push`. The tables are dropped then.
     pub fn from_tables(tables: impl IntoIterator<Item = Table<'f>>) -> Result<Runs<'f>, Error> {
         let mut runs = Runs::new()?;
         for table in tables {
@@ -33,9 +41,12 @@ impl<'f> Runs<'f> {
         Ok(runs)
     }
 
-    /// Adds a table behind those that are there. Refused with `OutOfOrder` where the table says of
-    /// itself that its least key is above its greatest, as only damaged bytes do, and for want of
-    /// memory: the table is given up then, and the others stay.
+    /// Adds a table after those that are there. Push the newest table first.
+    ///
+    /// # Errors
+    ///
+    /// `OutOfOrder` if the table claims a least key above its greatest, as only damaged bytes do,
+    /// and `OutOfMemory`. The table is dropped then, and the others stay.
     pub fn push(&mut self, table: Table<'f>) -> Result<(), Error> {
         self.tables.try_reserve(1).map_err(|_| Error::OutOfMemory)?;
         // SAFETY: both are references of this call.
@@ -44,35 +55,48 @@ impl<'f> Runs<'f> {
         Ok(())
     }
 
-    /// The tables, the newest first; of packed runs run by run.
+    /// Returns the tables, the newest first; of packed runs, run by run.
     pub fn tables(&self) -> &[Table<'f>] {
         &self.tables
     }
 
-    /// The tables, in the order of `tables`, each on its own again.
+    /// Returns the tables, in the order of `tables`.
     pub fn into_tables(self) -> Vec<Table<'f>> {
         self.tables
     }
 
-    /// Finds the newest version of a key that is numbered below `seqno` in all tables together, a
-    /// deletion too, and copies it. Refused as `Table::get` is.
+    /// Finds the newest version of a key below `seqno` in all tables together, and copies it. The
+    /// version may be a deletion.
+    ///
+    /// # Errors
+    ///
+    /// Those of `Table::get`.
     pub fn get(&self, key: &[u8], seqno: SeqNo) -> Result<Option<InternalValue>, Error> {
         let told = get(sys::sst_runs_get, &self.handle, key, seqno)?;
-        // SAFETY: what is lent is copied here, before anything else is read.
+        // SAFETY: the lent bytes are copied here, before any other read.
         let found = unsafe { self.handle.lend(told) }?;
         found.map(|lent| lent.to_owned()).transpose()
     }
 
-    /// As `get`, and lends what it found, until these runs are used again.
+    /// Finds what `get` finds, borrowed until these runs are used again.
+    ///
+    /// # Errors
+    ///
+    /// Those of `get`.
     pub fn get_lent(&mut self, key: &[u8], seqno: SeqNo) -> Result<Option<LentValue<'_>>, Error> {
         let told = get(sys::sst_runs_get, &self.handle, key, seqno)?;
-        // SAFETY: the runs are borrowed mutably for as long as the bytes are lent.
+        // SAFETY: the runs are borrowed mutably for as long as the bytes.
         unsafe { self.handle.lend(told) }
     }
 
-    /// What all tables have together within bounds, from both ends: of each key the newest version
-    /// that is numbered below `seqno`, a deletion too. Bounds are as in [`Table::range`]. Nothing
-    /// is loaded yet. A table that is pushed later is not in it.
+    /// Returns a range of all tables together within bounds, from both ends.
+    ///
+    /// For each key it yields the newest version below `seqno`, deletions too. Bounds are as in
+    /// [`Table::range`]. No block is loaded yet. A table that is pushed later is not in the range.
+    ///
+    /// # Errors
+    ///
+    /// `OutOfMemory`.
     ///
     /// ```
     /// use logpurple::{Runs, Table, ValueType, Writer, NEWEST};
@@ -101,13 +125,17 @@ impl<'f> Runs<'f> {
         Range::of_runs(self, bounds.start_bound(), bounds.end_bound(), seqno)
     }
 
-    /// As `range`, without bounds.
+    /// Returns a range of all tables together, without bounds.
     pub fn iter(&self, seqno: SeqNo) -> Result<Range<'f>, Error> {
         self.range::<&[u8], _>(.., seqno)
     }
 
-    /// Finds in which runs the tables go where these are as few as there can be, so that each key
-    /// keeps the order of its tables, and why there are no fewer. Refused for want of memory.
+    /// Finds the fewest runs into which the tables go, so that each key keeps the order of its
+    /// tables, and why there cannot be fewer.
+    ///
+    /// # Errors
+    ///
+    /// `OutOfMemory`.
     ///
     /// ```
     /// use logpurple::{Runs, Table, ValueType, Writer, NEWEST};
@@ -132,8 +160,13 @@ impl<'f> Runs<'f> {
         packing_of(&self.handle)
     }
 
-    /// The same tables in as few runs as there can be: reads find the same, over fewer runs. These
-    /// stay. Refused for want of memory.
+    /// Returns the same tables in as few runs as possible. This object stays as it is.
+    ///
+    /// If each table stores a list of entries, reads of both find the same.
+    ///
+    /// # Errors
+    ///
+    /// `OutOfMemory`.
     pub fn packed(&self) -> Result<Runs<'f>, Error> {
         let mut tables = room(self.tables.len())?;
         for place in self.packing()?.runs.into_iter().flatten() {
@@ -145,8 +178,12 @@ impl<'f> Runs<'f> {
         Ok(Runs { handle, tables })
     }
 
-    /// Writes what is kept of all entries into new tables, as [`Compaction`] says. These tables
+    /// Writes the entries that are kept into new tables, as [`Compaction`] describes. These tables
     /// stay.
+    ///
+    /// # Errors
+    ///
+    /// Those of [`Compaction`].
     ///
     /// ```
     /// use logpurple::{Compaction, Options, Runs, Table, ValueType, Writer, NEWEST};
@@ -158,7 +195,7 @@ impl<'f> Runs<'f> {
     /// writer.write(b"pear", 4, ValueType::Tombstone, b"")?;
     /// let runs = Runs::from_tables([Table::open(writer.finish()?.unwrap())?])?;
     /// let compacted = runs.compact(&Compaction {
-    ///     watermark: 6, // no reader stands below it
+    ///     watermark: 6, // the least snapshot that is still read
     ///     evict_tombstones: true,
     ///     options: Options { id: 2, ..Options::default() },
     ///     ..Compaction::default()

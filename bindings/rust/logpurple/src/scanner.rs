@@ -7,11 +7,11 @@ use crate::{Error, InternalValue, LentValue, Table};
 use logpurple_sys as sys;
 use std::iter::FusedIterator;
 
-/// Reads a table's data blocks in file order, each once, and gives their entries, as
-/// [`Table::scan`] says. After a refusal nothing more comes.
+/// Iterates over the entries of a table in file order, as [`Table::scan`] describes. It reads each
+/// data block once. After an error it is exhausted.
 ///
-/// As an iterator it copies each entry; `next_lent` lends it instead. It has a share of the table,
-/// which may be dropped before it, and may go to another thread.
+/// As an iterator it copies each entry. `next_lent` borrows it instead. It has a share of the
+/// table, which may be dropped before it, and may go to another thread.
 #[derive(Debug)]
 pub struct Scanner<'f> {
     steps: Steps<'f>,
@@ -25,7 +25,11 @@ impl<'f> Scanner<'f> {
         Ok(Scanner { steps: Steps::of(handle) })
     }
 
-    /// The next entry, lent until the scanner reads again.
+    /// Returns the next entry, borrowed until the scanner reads again. Returns `None` at the end.
+    ///
+    /// # Errors
+    ///
+    /// The first fault of the blocks that it loads. The scanner is exhausted then.
     ///
     /// ```compile_fail,E0499
     /// fn keep(mut scanner: logpurple::Scanner) {
@@ -40,9 +44,9 @@ impl<'f> Scanner<'f> {
     }
 }
 
-/// A call that takes the next entry.
+/// Returns a call that takes the next entry.
 pub(crate) fn step() -> impl FnOnce(*mut sys::sst_handle, *mut sys::sst_entry) -> u32 {
-    // SAFETY: those who make the call give references of their own.
+    // SAFETY: callers pass references of their own.
     |scan, entry| unsafe { sys::sst_scan_next(scan, entry) }
 }
 

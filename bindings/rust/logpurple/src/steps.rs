@@ -1,11 +1,11 @@
-//! What reads entries one by one.
+//! Reading entries one by one.
 
 use crate::error::test;
 use crate::handle::Handle;
 use crate::{Error, InternalValue, LentValue};
 use logpurple_sys as sys;
 
-/// A handle by which entries are read one by one. After a refusal nothing more comes.
+/// A handle through which entries are read one by one. After an error it is exhausted.
 #[derive(Debug)]
 pub(crate) struct Steps<'f> {
     handle: Handle<'f>,
@@ -14,12 +14,12 @@ pub(crate) struct Steps<'f> {
 }
 
 impl<'f> Steps<'f> {
-    /// Those of a handle that a call filled.
+    /// Makes the steps of a handle that a call filled.
     pub(crate) fn of(handle: Handle<'f>) -> Steps<'f> {
         Steps { handle, found: sys::sst_entry::default(), is_over: false }
     }
 
-    /// Reads the next entry by a call. Returns whether there is one.
+    /// Reads the next entry by a call, and returns whether there is one.
     pub(crate) fn advance(
         &mut self,
         call: impl FnOnce(*mut sys::sst_handle, *mut sys::sst_entry) -> u32,
@@ -33,26 +33,26 @@ impl<'f> Steps<'f> {
         Ok(!self.is_over)
     }
 
-    /// Whether the last read found an entry.
+    /// Returns whether the last read found an entry.
     pub(crate) fn has_found(&self) -> bool {
         self.found.kind != sys::SST_NO_ENTRY
     }
 
-    /// The entry that the last read found, borrowed until the next one.
+    /// Returns the entry that the last read found, borrowed until the next read.
     pub(crate) fn entry(&self) -> Result<Option<LentValue<'_>>, Error> {
-        // SAFETY: to read on, these steps are borrowed mutably.
+        // SAFETY: the next read borrows these steps mutably.
         unsafe { self.handle.lend(self.found) }
     }
 
-    /// Nothing more comes.
+    /// Exhausts the steps.
     pub(crate) fn end(&mut self) {
         self.found = sys::sst_entry::default();
         self.is_over = true;
     }
 }
 
-/// What was found, copied. Where there is no memory for the copy the reader is to end, since the
-/// entry would be missing from what comes then.
+/// Copies what was found. If the copy fails with `OutOfMemory`, the caller exhausts the reader:
+/// otherwise it would skip the entry.
 pub(crate) fn copied(
     found: Result<Option<LentValue<'_>>, Error>,
 ) -> Option<Result<InternalValue, Error>> {

@@ -10,13 +10,14 @@ use logpurple_sys as sys;
 use std::alloc::{handle_alloc_error, Layout};
 use std::ops::RangeBounds;
 
-/// An opened table.
+/// An open table.
 ///
-/// It has a copy of its bytes, or reads bytes that are kept for `'f`, and shares them with its
-/// clones, its ranges and the runs that it was pushed to. Threads that use different ones of these
-/// at once need nothing between them, as the header says: a table's bytes and blocks are never
-/// written, shares are counted by atomic steps, and so is noted which blocks were compared. So it
-/// is `Send`, and each thread reads by a clone:
+/// It has a copy of its bytes, or reads bytes that are borrowed for `'f`. It shares them with its
+/// clones, its ranges and the runs that it was pushed to.
+///
+/// Threads that use different ones of these need no synchronization, as the header states. A
+/// table's bytes and blocks are never written. Reference counts and the verified-block cache are
+/// updated atomically. So a table is `Send`, and each thread reads through a clone:
 ///
 /// ```
 /// use logpurple::{Table, ValueType, Writer, NEWEST};
@@ -32,7 +33,8 @@ use std::ops::RangeBounds;
 /// # }
 /// ```
 ///
-/// Reads keep in it what they found, so two threads cannot read by one: it is not `Sync`.
+/// A read keeps in the table what it found, so two threads cannot read through one table. It is not
+/// `Sync`:
 ///
 /// ```compile_fail,E0277
 /// fn is_sync<T: Sync>() {}
@@ -43,35 +45,44 @@ pub struct Table<'f> {
     pub(crate) handle: Handle<'f>,
 }
 
-/// What a table is opened with.
+/// Options of opening a table.
 #[derive(Clone, Copy, Debug, PartialEq, Eq)]
 pub struct OpenOptions {
-    /// What is added to every stored number.
+    /// The global sequence number, which is added to every stored one.
     pub global_seqno: SeqNo,
-    /// Whether a filter in one block stays loaded, else each read loads it.
+    /// Whether a filter of one block is pinned, else each read loads it.
     pub pin_filter: bool,
-    /// Whether an index in one block stays loaded, else each read loads it.
+    /// Whether an index of one block is pinned, else each read loads it.
     pub pin_index: bool,
 }
 
 impl Default for OpenOptions {
-    /// Nothing is added, and both stay loaded.
+    /// Adds nothing, and pins both.
     fn default() -> OpenOptions {
         OpenOptions { global_seqno: 0, pin_filter: true, pin_index: true }
     }
 }
 
 impl OpenOptions {
-    /// Opens a table from a copy of its bytes. Refused with the first fault of the bytes. Bytes
-    /// whose blocks are damaged may open: reads that meet the damage are refused.
+    /// Opens a table from a copy of its bytes.
+    ///
+    /// # Errors
+    ///
+    /// The first fault of the bytes, and `OutOfMemory`. Bytes with damaged blocks may open: reads
+    /// that meet the damage fail.
     pub fn open(&self, file: impl AsRef<[u8]>) -> Result<Table<'static>, Error> {
-        // SAFETY: the bytes are read during the call alone.
+        // SAFETY: the bytes are read during the call only.
         unsafe { self.open_by(sys::sst_table_open, file.as_ref()) }
     }
 
-    /// As `open`, over the bytes themselves: none is copied, and the compiler sees to it that they
-    /// stay until the table is dropped, and all that was opened from it. As any bytes that are
-    /// borrowed, nobody else may write to them meanwhile, as to a file that is mapped.
+    /// Opens a table as `open` does, over the bytes themselves, without a copy.
+    ///
+    /// The compiler ensures that the bytes stay until the table and all that was opened from it are
+    /// dropped. No process may write to borrowed bytes meanwhile, for example to a mapped file.
+    ///
+    /// # Errors
+    ///
+    /// Those of `open`.
     ///
     /// ```compile_fail,E0597
     /// fn open() {
@@ -85,15 +96,15 @@ impl OpenOptions {
     /// }
     /// ```
     pub fn open_kept<'f>(&self, file: &'f [u8]) -> Result<Table<'f>, Error> {
-        // SAFETY: the bytes stay for `'f`, and each handle of what is opened from the table has it
-        // too, and is closed before it ends.
+        // SAFETY: the bytes stay for `'f`. Each handle of what is opened from the table has this
+        // lifetime too, and is closed before it ends.
         unsafe { self.open_by(sys::sst_table_open_kept, file) }
     }
 
     // SAFETY of callers: the call reads the bytes no longer than they stay.
     unsafe fn open_by<'f>(&self, open: Open, file: &[u8]) -> Result<Table<'f>, Error> {
         let handle = Handle::closed();
-        // SAFETY: the caller sees to the bytes, and the handle holds nothing.
+        // SAFETY: the caller guarantees the bytes, and the handle holds nothing.
         test(unsafe {
             open(
                 file.as_ptr(),
@@ -111,55 +122,61 @@ impl OpenOptions {
 /// A call that opens a table.
 type Open = unsafe extern "C" fn(*const u8, usize, u64, bool, bool, *mut sys::sst_handle) -> u32;
 
-/// What a table says of itself. The numbers of entries are as stored, without the global number.
+/// What a table claims about itself. Sequence numbers are as stored, without the global one.
 #[derive(Clone, Copy, Debug, PartialEq, Eq)]
 pub struct Metadata {
     /// The table's id.
     pub id: u64,
     /// The version of its format: 3 or 4.
     pub table_version: u64,
-    /// The lowest and the highest stored number.
+    /// The lowest and the highest stored sequence number.
     pub seqnos: (SeqNo, SeqNo),
-    /// How many entries there are: versions, not keys.
+    /// Number of entries: versions, not keys.
     pub item_count: u64,
-    /// How many of them are tombstones of either kind.
+    /// Number of tombstones of either kind.
     pub tombstone_count: u64,
-    /// How many of them are weak tombstones.
+    /// Number of weak tombstones.
     pub weak_tombstone_count: u64,
-    /// How many data blocks there are.
+    /// Number of data blocks.
     pub data_block_count: u64,
-    /// How many index blocks there are.
+    /// Number of index blocks.
     pub index_block_count: u64,
-    /// How many bytes the data blocks have, and not the file, whose bytes [`Memory::file_len`]
-    /// counts. The name is that of the meta block's item.
+    /// Size of the data blocks in bytes, as the item `file_size` of the meta block has it.
+    /// [`Memory::file_len`] is the size of the file.
     pub file_size: u64,
 }
 
-/// How much memory a table holds, in bytes, for all of its clones together and for what was opened
-/// from them.
+/// The memory of a table in bytes, for all of its clones together and for what was opened from
+/// them.
 #[derive(Clone, Copy, Debug, PartialEq, Eq)]
 pub struct Memory {
-    /// How many bytes its file has. Where these are kept, they are not its own.
+    /// Size of the file. After `open_kept` the bytes are the caller's.
     pub file_len: u64,
-    /// How many of them the index has that stays loaded, the whole or the top level; 0 where none
-    /// does.
+    /// Size of the pinned index in the file, the whole or the top level; 0 if none is pinned.
     pub pinned_block_index_size: u64,
-    /// How many of them the filter has that stays loaded; 0 where none does, and of a filter in
-    /// partitions.
+    /// Size of the pinned filter in the file; 0 if none is pinned, and for a partitioned filter.
     pub pinned_filter_size: u64,
-    /// How many bytes it takes beside the file to remember which blocks were compared.
+    /// Size of the verified-block cache, beside the file.
     pub marks_size: u64,
 }
 
 impl Table<'static> {
-    /// Opens a table from a copy of its bytes, as `OpenOptions::default()` does.
+    /// Opens a table from a copy of its bytes, with `OpenOptions::default()`.
+    ///
+    /// # Errors
+    ///
+    /// Those of [`OpenOptions::open`].
     pub fn open(file: impl AsRef<[u8]>) -> Result<Table<'static>, Error> {
         OpenOptions::default().open(file)
     }
 }
 
 impl<'f> Table<'f> {
-    /// Opens a table over its bytes, of which none is copied, as `OpenOptions::default()` does.
+    /// Opens a table over its bytes, without a copy, with `OpenOptions::default()`.
+    ///
+    /// # Errors
+    ///
+    /// Those of [`OpenOptions::open`].
     ///
     /// ```
     /// # use logpurple::{Table, ValueType, Writer, NEWEST};
@@ -177,16 +194,24 @@ impl<'f> Table<'f> {
         OpenOptions::default().open_kept(file)
     }
 
-    /// Finds the newest version of a key that is numbered below `seqno`, a deletion too, and copies
-    /// it. Refused with the first fault of the blocks that it loads, and for want of memory.
+    /// Finds the newest version of a key below `seqno`, and copies it. The version may be a
+    /// deletion.
+    ///
+    /// # Errors
+    ///
+    /// The first fault of the blocks that it loads, and `OutOfMemory`.
     pub fn get(&self, key: &[u8], seqno: SeqNo) -> Result<Option<InternalValue>, Error> {
         let told = get(sys::sst_table_get, &self.handle, key, seqno)?;
-        // SAFETY: what is lent is copied here, before anything else is read.
+        // SAFETY: the lent bytes are copied here, before any other read.
         let found = unsafe { self.handle.lend(told) }?;
         found.map(|lent| lent.to_owned()).transpose()
     }
 
-    /// As `get`, and lends what it found, until the table is used again.
+    /// Finds what `get` finds, borrowed until the table is used again.
+    ///
+    /// # Errors
+    ///
+    /// Those of `get`.
     ///
     /// ```compile_fail,E0499
     /// fn keep(mut table: logpurple::Table) {
@@ -197,16 +222,19 @@ impl<'f> Table<'f> {
     /// ```
     pub fn get_lent(&mut self, key: &[u8], seqno: SeqNo) -> Result<Option<LentValue<'_>>, Error> {
         let told = get(sys::sst_table_get, &self.handle, key, seqno)?;
-        // SAFETY: the table is borrowed mutably for as long as the bytes are lent.
+        // SAFETY: the table is borrowed mutably for as long as the bytes.
         unsafe { self.handle.lend(told) }
     }
 
-    /// Finds of each of some keys what `get` finds, in their order, and copies it. The keys may
-    /// stand in any order and repeat; a block in which several stand is loaded once for them.
-    /// Refused as the read of the first key is that is refused, and for want of memory.
+    /// Finds for each of several keys what `get` finds, and copies it, in the order of the keys.
     ///
-    /// All keys are of one type: byte strings of several lengths are given as slices, as
+    /// The keys may be in any order and may repeat. A block that has several of them is loaded
+    /// once. All keys are of one type: byte strings of several lengths are passed as slices, as
     /// `&[&b"pear"[..], b"fig"]`.
+    ///
+    /// # Errors
+    ///
+    /// The error of the first key whose read fails, and `OutOfMemory`.
     ///
     /// ```
     /// # use logpurple::{Table, ValueType, Writer, NEWEST};
@@ -228,8 +256,11 @@ impl<'f> Table<'f> {
         self.get_many_lent(keys, seqno)?.to_owned()
     }
 
-    /// As `get_many`, and lends what it found, for as long as the answers are there. The table may
-    /// be used again meanwhile.
+    /// Finds what `get_many` finds, borrowed from the answers. The table may be used meanwhile.
+    ///
+    /// # Errors
+    ///
+    /// Those of `get_many`.
     pub fn get_many_lent<K: AsRef<[u8]>>(
         &self,
         keys: &[K],
@@ -238,9 +269,14 @@ impl<'f> Table<'f> {
         Answers::of(self, keys, seqno)
     }
 
-    /// The entries whose keys lie within bounds, each version of a key, from both ends; none where
-    /// no key lies between the bounds, as where the lower one is above the upper one. Nothing is
-    /// loaded yet.
+    /// Returns a range of the entries whose keys are within bounds, from both ends.
+    ///
+    /// It yields each version of a key. It is empty if no key is between the bounds, for example
+    /// with the lower bound above the upper one. No block is loaded yet.
+    ///
+    /// # Errors
+    ///
+    /// `OutOfMemory`.
     ///
     /// ```
     /// # use logpurple::{Table, ValueType, Writer};
@@ -270,14 +306,19 @@ impl<'f> Table<'f> {
         Range::of_table(self, bounds.start_bound(), bounds.end_bound())
     }
 
-    /// All entries, from both ends.
+    /// Returns a range of all entries, from both ends.
     pub fn iter(&self) -> Result<Range<'f>, Error> {
         self.range::<&[u8], _>(..)
     }
 
-    /// All entries in order, from the front: the data blocks are read in file order, each once, and
-    /// no index is. The first is read at once: refused with its first fault, and for want of
-    /// memory.
+    /// Returns a scan of all entries in order, from the front.
+    ///
+    /// It reads the data blocks in file order, each once, and no index. This call loads the first
+    /// block.
+    ///
+    /// # Errors
+    ///
+    /// The first fault of that block, and `OutOfMemory`.
     ///
     /// ```
     /// # use logpurple::{Table, ValueType, Writer};
@@ -297,7 +338,7 @@ impl<'f> Table<'f> {
         Scanner::of(self)
     }
 
-    /// How much memory the table holds.
+    /// Returns how much memory the table holds.
     ///
     /// ```
     /// # use logpurple::{Table, ValueType, Writer};
@@ -323,7 +364,7 @@ impl<'f> Table<'f> {
         }
     }
 
-    /// What the table says of itself.
+    /// Returns what the table claims about itself.
     pub fn metadata(&self) -> Metadata {
         let facts = self.facts();
         Metadata {
@@ -339,13 +380,16 @@ impl<'f> Table<'f> {
         }
     }
 
-    /// What is added to every stored number.
+    /// Returns the global sequence number, which is added to every stored one.
     pub fn global_seqno(&self) -> SeqNo {
         self.facts().global_seqno
     }
 
-    /// The same table once more, as `clone` makes it: no bytes are copied. Refused for want of
-    /// memory.
+    /// Returns another object for the same table, as `clone` does. No bytes are copied.
+    ///
+    /// # Errors
+    ///
+    /// `OutOfMemory`.
     pub fn share(&self) -> Result<Table<'f>, Error> {
         let handle = Handle::closed();
         // SAFETY: both are references of this call, and the handle holds nothing.
@@ -361,14 +405,18 @@ impl<'f> Table<'f> {
         facts
     }
 
-    /// Reads all blocks of the table once, and says whether its bytes store a list of entries in
-    /// order, whoever wrote them; else what is wrong first, and where. Refused for want of memory
-    /// too, which says nothing of the table.
+    /// Reads all blocks of the table once, and verifies that its bytes store a list of entries in
+    /// order, whoever wrote them.
     ///
-    /// Bytes that no read needs are not looked at, as that of the version section, and where the
-    /// trailer says that this section, the data blocks and partitions lie: a file in which one of
-    /// these differs may open, and be verified. The checksum of a
-    /// [`FinishedTable`](crate::FinishedTable) is that of every byte.
+    /// Bytes that no read needs are not checked: the byte of the version section, and the trailer's
+    /// positions of that section, the data blocks and partitions. A file that differs only there
+    /// may open and be verified. The checksum of a [`FinishedTable`](crate::FinishedTable) covers
+    /// every byte.
+    ///
+    /// # Errors
+    ///
+    /// `VerifyError::Found` with the first fault and its position. `VerifyError::Refused` if an
+    /// allocation failed, which does not mean that the table is invalid.
     pub fn verify(&self) -> Result<Verified, VerifyError> {
         let mut told = sys::sst_verified::default();
         // SAFETY: both are references of this call.
@@ -376,8 +424,12 @@ impl<'f> Table<'f> {
         Verified::of(code, &told)
     }
 
-    /// A verification that is made by steps, so that progress can be shown and it can be stopped.
-    /// Nothing is read yet. Refused for want of memory.
+    /// Returns a verification by steps. The caller can show its progress, and stop it. Nothing is
+    /// read yet.
+    ///
+    /// # Errors
+    ///
+    /// `OutOfMemory`.
     ///
     /// ```
     /// # use logpurple::{Table, ValueType, Writer};
@@ -402,8 +454,8 @@ impl<'f> Table<'f> {
 }
 
 impl<'f> Clone for Table<'f> {
-    /// A share of the same bytes, of which none are copied. Where there is no memory for it the
-    /// program ends, as with any clone; [`Table::share`] is refused instead.
+    /// Returns a share of the same bytes, without a copy. The program aborts if memory is short, as
+    /// with any clone; [`Table::share`] returns an error instead.
     fn clone(&self) -> Table<'f> {
         match self.share() {
             Ok(table) => table,

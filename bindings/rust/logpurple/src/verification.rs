@@ -5,8 +5,8 @@ use crate::handle::Handle;
 use crate::{Error, Table, Verified, VerifyError};
 use logpurple_sys as sys;
 
-/// A verification of a table that is made by steps, as [`Table::verification`] makes it. It has a
-/// share of the table, which may be dropped before it.
+/// A verification by steps, as [`Table::verification`] returns it. It has a share of the table,
+/// which may be dropped before it.
 #[derive(Debug)]
 pub struct Verification<'f> {
     handle: Handle<'f>,
@@ -22,11 +22,13 @@ impl<'f> Verification<'f> {
         Ok(Verification { handle, told: sys::sst_progress { data_size, ..Default::default() } })
     }
 
-    /// Reads one further block, of the filter, of the index or a data block. `None` says that more
-    /// is to be read; at the end it answers what [`Table::verify`] does, and is refused as that is.
+    /// Reads the next block of the filter, of the index or of the data. Returns `None` before the
+    /// end, and at the end what [`Table::verify`] returns. A further step changes nothing then.
     ///
-    /// Where it answers or is refused nothing changes: a step that wanted memory can be made again,
-    /// and one that found something wrong finds it again.
+    /// # Errors
+    ///
+    /// Those of [`Table::verify`]. A failed step changes nothing and may be repeated, after
+    /// `OutOfMemory` and after a fault. A fault is found again.
     pub fn step(&mut self) -> Result<Option<Verified>, VerifyError> {
         let mut told = sys::sst_verified::default();
         // SAFETY: all are references of this call.
@@ -38,12 +40,12 @@ impl<'f> Verification<'f> {
         Verified::of(code, &told).map(Some)
     }
 
-    /// How many bytes of data blocks were read.
+    /// Returns the number of bytes of data blocks read so far.
     pub fn bytes_read(&self) -> u64 {
         self.told.bytes_read
     }
 
-    /// How many bytes of data blocks there are, as the table says.
+    /// Returns the number of bytes of data blocks that the table claims to have.
     pub fn data_size(&self) -> u64 {
         self.told.data_size
     }

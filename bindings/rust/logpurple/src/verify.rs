@@ -1,35 +1,35 @@
-//! What a verification answers.
+//! Results of a verification.
 
 use crate::Error;
 use logpurple_sys as sys;
 use std::fmt;
 
-/// What a table was verified to have.
+/// The counts of a valid table.
 #[derive(Clone, Copy, Debug, PartialEq, Eq)]
 pub struct Verified {
-    /// How many data blocks there are.
+    /// Number of data blocks.
     pub data_block_count: u64,
-    /// How many entries there are.
+    /// Number of entries.
     pub item_count: u64,
 }
 
-/// Why a table was not verified.
+/// The error of a verification.
 #[derive(Clone, Copy, Debug, PartialEq, Eq)]
 pub enum VerifyError {
-    /// The bytes store no list.
+    /// The bytes do not store a list of entries in order.
     Found(Finding),
-    /// The call was refused, for want of memory: nothing is said of the table.
+    /// An allocation failed. The table may be valid.
     Refused(Error),
 }
 
-/// What is wrong first with a table, and where.
+/// The first fault of a table, and its position.
 #[derive(Clone, Copy, Debug, PartialEq, Eq)]
 pub struct Finding {
-    /// The section.
+    /// The section of the block.
     pub section: SectionName,
-    /// Where the block begins.
+    /// Offset in the file at which the block starts, in bytes.
     pub offset: u64,
-    /// What is wrong there.
+    /// The fault.
     pub fault: Fault,
 }
 
@@ -55,31 +55,31 @@ pub enum SectionName {
     Unknown(u32),
 }
 
-/// What is wrong with a block.
+/// A fault of a block.
 #[derive(Clone, Copy, Debug, PartialEq, Eq, Hash)]
 #[non_exhaustive]
 pub enum Fault {
-    /// It does not load.
+    /// The block does not load.
     Unloaded(Error),
-    /// It is empty.
+    /// The block is empty.
     Hollow,
-    /// It does not begin where the one before it ended.
+    /// The block does not start where the one before it ends.
     Misplaced,
-    /// An entry has the largest number.
+    /// An entry has the largest sequence number.
     TooHigh,
     /// An entry does not follow the one before it.
     Unordered,
-    /// The filter denies a key.
+    /// The filter has a false negative: it excludes a key of the table.
     Denied,
     /// A block of the filter does not load.
     Unfiltered(Error),
-    /// It does not end with the key by which it is named.
+    /// The block does not end with the key of its index entry.
     OtherKey,
-    /// It does not end with the number by which it is named.
+    /// The block does not end with the sequence number of its index entry.
     OtherNumber,
-    /// The entries do not bear out an item of the meta block.
+    /// The entries do not match an item of the meta block.
     Unborne,
-    /// A data block that the index does not name.
+    /// The index has no entry for a data block.
     Unnamed,
     /// A number that this crate does not know.
     Unknown(u32),

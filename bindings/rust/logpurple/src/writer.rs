@@ -5,33 +5,32 @@ use crate::handle::{require_version, room, Handle};
 use crate::{Error, InternalValue, SeqNo, ValueType};
 use logpurple_sys as sys;
 
-/// What a table is written with.
+/// Options of a writer.
 #[derive(Clone, Copy, Debug, PartialEq, Eq)]
 pub struct Options {
     /// The table's id.
     pub id: u64,
-    /// When it is written, in nanoseconds since 1970.
+    /// The time of creation, in nanoseconds since 1970.
     pub created_at: u64,
-    /// The level at which it stands.
+    /// The level of the tree that the table is for.
     pub level: u8,
-    /// How many bytes of keys and values a data block has when it is cut, at most 4 MiB.
+    /// Bytes of keys and values at which a data block is cut, at most 4 MiB.
     pub data_block_size: u32,
-    /// Restart interval of data blocks, 1 to 255. It is stored in the meta block and changes nothing
-    /// else.
+    /// Restart interval of data blocks, 1 to 255. It is only stored in the meta block.
     pub data_block_restart_interval: u8,
-    /// Hash ratio of data blocks. It is stored in the meta block and changes nothing else.
+    /// Hash ratio of data blocks. It is only stored in the meta block.
     pub data_block_hash_ratio: u32,
-    /// How many bytes a partition of the index has when it is cut, at most 4 MiB; 0 for one block.
+    /// Bytes at which a partition of the index is cut, at most 4 MiB; 0 for one block.
     pub index_partition_size: u32,
-    /// How many bytes a partition of the filter has when it is cut, at most 4 MiB; 0 for one block.
+    /// Bytes at which a partition of the filter is cut, at most 4 MiB; 0 for one block.
     pub filter_partition_size: u32,
-    /// How many bits the filter has for a key, in tenths of a bit; 0 for no filter.
+    /// Size of the filter, in tenths of a bit for each key; 0 for no filter.
     pub filter_bits_per_key: u32,
 }
 
 impl Default for Options {
-    /// Blocks of 4,096 bytes, an index and a filter in one block each, ten bits a key. The id, the
-    /// timestamp and the level are 0, the restart interval is 16, the hash ratio 0.
+    /// Returns blocks of 4,096 bytes, an index and a filter of one block each, and ten bits a key.
+    /// The id, the timestamp and the level are 0, the restart interval is 16, the hash ratio 0.
     fn default() -> Options {
         require_version();
         let mut told = sys::sst_options::default();
@@ -52,13 +51,16 @@ impl Default for Options {
 }
 
 impl Options {
-    /// Begins to write a table. Refused with `NoSuch` where `data_block_restart_interval` is 0, or
-    /// one of `data_block_size`, `index_partition_size` and `filter_partition_size` is above
-    /// 4,194,304, and for want of memory. The others may have any value.
+    /// Opens a writer. Options without a stated range may have any value.
+    ///
+    /// # Errors
+    ///
+    /// `NoSuch` if `data_block_restart_interval` is 0, or if `data_block_size`,
+    /// `index_partition_size` or `filter_partition_size` is above 4,194,304; and `OutOfMemory`.
     pub fn open(&self) -> Result<Writer, Error> {
         let asked = self.told();
         let handle = Handle::closed();
-        // SAFETY: the options are read during the call alone, and the handle holds nothing.
+        // SAFETY: the options are read during the call only, and the handle holds nothing.
         test(unsafe { sys::sst_writer_open(&asked, handle.words()) })?;
         Ok(Writer { handle })
     }
@@ -79,18 +81,18 @@ impl Options {
     }
 }
 
-/// Writes a table. Entries come by key up, and of one key by number down.
+/// Writes a table. Keys ascend, and sequence numbers of one key descend.
 #[derive(Debug)]
 pub struct Writer {
     handle: Handle<'static>,
 }
 
-/// A table that is written: its bytes, and what it is called.
+/// A finished table: its id, its checksum and its bytes.
 #[derive(Clone, Debug, PartialEq, Eq)]
 pub struct FinishedTable {
     /// The table's id.
     pub id: u64,
-    /// The FNV-1a sum of all its bytes.
+    /// The FNV-1a hash of all its bytes.
     pub checksum: u64,
     /// All its bytes.
     pub bytes: Vec<u8>,
@@ -103,19 +105,31 @@ impl AsRef<[u8]> for FinishedTable {
 }
 
 impl Writer {
-    /// Begins to write a table of this id, with what `Options::default()` says.
+    /// Opens a writer of a table with this id, with `Options::default()`.
+    ///
+    /// # Errors
+    ///
+    /// `OutOfMemory`.
     pub fn new(id: u64) -> Result<Writer, Error> {
         Options { id, ..Options::default() }.open()
     }
 
-    /// Writes an entry, whose key and value are copied. Refused with `OutOfOrder` where it does not
-    /// follow the one before it or is numbered `u64::MAX`; the writer stays as it is then.
+    /// Writes an entry and copies its key and value.
     ///
-    /// Refused with `KeyTooLong` where the key has more than 1,048,576 bytes, with `ValueTooLong`
-    /// where the value has 2^32 or more, and with `BlockTooLarge` where the data block that is
-    /// being filled would have 2^32 or more: 28, and of each of its entries 17, the key and the
-    /// value. After one of these, or want of memory, an entry that may follow is refused with
-    /// `WriterFailed`.
+    /// # Errors
+    ///
+    /// `OutOfOrder` if the entry does not follow the one before it, or if its sequence number is
+    /// `u64::MAX`. The writer stays as it is then.
+    ///
+    /// After these errors the writer has failed. The first that applies is returned:
+    ///
+    /// - `KeyTooLong` if the key has more than 1,048,576 bytes;
+    /// - `ValueTooLong` if the value has 2^32 bytes or more;
+    /// - `BlockTooLarge` if the current data block would have 2^32 bytes or more. It counts 28, and
+    ///   for each entry 17 plus the key and the value;
+    /// - `OutOfMemory`.
+    ///
+    /// A writer that has failed returns `WriterFailed` for an entry that may follow.
     pub fn write(
         &mut self,
         key: &[u8],
@@ -123,7 +137,7 @@ impl Writer {
         value_type: ValueType,
         value: &[u8],
     ) -> Result<(), Error> {
-        // SAFETY: key and value are read during the call alone.
+        // SAFETY: key and value are read during the call only.
         test(unsafe {
             sys::sst_writer_add(
                 self.handle.words(),
@@ -137,14 +151,25 @@ impl Writer {
         })
     }
 
-    /// Writes an entry of its own bytes, as `write` does.
+    /// Writes an entry that owns its bytes, as `write` does.
+    ///
+    /// # Errors
+    ///
+    /// Those of `write`.
     pub fn write_item(&mut self, item: &InternalValue) -> Result<(), Error> {
         let key = &item.key;
         self.write(&key.user_key, key.seqno, key.value_type, &item.value)
     }
 
-    /// Finishes the table; `None` where nothing was written. Where it is refused, what was written
-    /// is given up.
+    /// Finishes the table. Returns `None` if nothing was written.
+    ///
+    /// # Errors
+    ///
+    /// After an error, what was written is dropped.
+    ///
+    /// - `WriterFailed` if the writer has failed.
+    /// - `BlockTooLarge` or `SectionTooLarge` if the index or the filter is too large.
+    /// - `OutOfMemory`.
     pub fn finish(self) -> Result<Option<FinishedTable>, Error> {
         // SAFETY: it is a reference of this call.
         test(unsafe { sys::sst_writer_finish(self.handle.words()) })?;
@@ -152,7 +177,7 @@ impl Writer {
     }
 }
 
-/// Copies of all finished tables that a handle holds.
+/// Copies all finished tables that a handle holds.
 pub(crate) fn finished_tables(files: &Handle<'_>) -> Result<Vec<FinishedTable>, Error> {
     let mut count = 0;
     // SAFETY: both are references of this call.
@@ -172,11 +197,11 @@ fn finished_table(files: &Handle<'_>, place: u64) -> Result<FinishedTable, Error
     let len = usize::try_from(told.len).map_err(|_| Error::OutOfMemory)?;
     let mut bytes: Vec<u8> = room(len)?;
     let mut count = 0;
-    // SAFETY: there is so much room, and all are references of this call.
+    // SAFETY: the buffer has `len` bytes, and all are references of this call.
     test(unsafe {
         sys::sst_files_copy(files.words(), place, 0, bytes.as_mut_ptr(), len, &mut count)
     })?;
-    // SAFETY: so many bytes were copied, and no more than there is room for.
+    // SAFETY: `count` bytes were copied, and no more than fit.
     unsafe { bytes.set_len(count as usize) };
     Ok(FinishedTable { id: told.id, checksum: told.checksum, bytes })
 }

@@ -1,4 +1,4 @@
-//! Tables over bytes that are kept, and verification by steps.
+//! Tables over borrowed bytes, and verification by steps.
 
 mod common;
 
@@ -23,7 +23,7 @@ fn bytes_that_are_kept_are_read() {
     assert!(matches!(Table::open_kept(b"no table"), Err(Error::InvalidTrailer)));
 }
 
-/// What was opened from the table reads the bytes too, once it is dropped.
+/// What was opened from a table reads the bytes after the table is dropped.
 #[test]
 fn what_was_opened_from_the_table_reads_them_too() {
     let entries = random_entries(5, 150);
@@ -44,7 +44,7 @@ fn what_was_opened_from_the_table_reads_them_too() {
     while verification.step().unwrap().is_none() {}
 }
 
-/// Tables with a copy of their own stand beside tables over bytes that are kept.
+/// Tables with a copy of their own work beside tables over borrowed bytes.
 #[test]
 fn copied_and_kept_are_read_as_one() {
     let (newer, older) = (random_entries(6, 80), random_entries(7, 80));

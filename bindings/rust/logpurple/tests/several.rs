@@ -1,4 +1,4 @@
-//! Several tables: read as one, and compacted.
+//! Several tables, read as one and compacted.
 
 mod common;
 
@@ -10,7 +10,7 @@ use logpurple::{Compaction, Error, Options, Runs, Table, ValueType, NEWEST};
 use std::cmp::Reverse;
 use std::ops::Bound;
 
-/// Tables of random entries, the newest first, and all entries together.
+/// Returns tables of random entries, the newest first, and all entries together.
 fn several() -> (Runs<'static>, Entries) {
     let mut all = Entries::new();
     let mut tables = Vec::new();
@@ -46,7 +46,7 @@ fn the_newest_of_several_tables_is_found() {
     assert_eq!(collect(tables[0].iter().unwrap()), items(&newer));
 }
 
-/// Packed runs find the same, and their tables stand run by run.
+/// Packed runs find the same, and list their tables run by run.
 #[test]
 fn packed_runs_find_the_same() {
     let (runs, all) = several();
@@ -63,8 +63,8 @@ fn packed_runs_find_the_same() {
     assert_eq!(packed, ids);
 }
 
-/// Tables of two keys each: those of a run lie apart, each key keeps the order of its tables, and a
-/// chain is as long as there are runs.
+/// Packs tables of two keys each. Those of a run do not overlap, each key keeps the order of its
+/// tables, and a chain is as long as the list of runs.
 #[test]
 fn tables_are_packed_as_far_as_they_lie_apart() {
     let mut dice = Dice::new(3);
@@ -146,7 +146,7 @@ fn a_range_is_read_from_both_ends() {
         front.extend(back.into_iter().rev());
         assert_eq!(front, expected);
     }
-    // A range has shares of its own: what is pushed later is not in it.
+    // A range has shares of its own: it does not include what is pushed later.
     let mut range = runs.iter(NEWEST).unwrap();
     let first = range.next().unwrap().unwrap();
     runs.push(Table::open(write(&small(1), &items(&all)[..1])).unwrap()).unwrap();
@@ -187,7 +187,7 @@ fn a_compaction_begins_new_tables() {
         let options = Options { id: 9, data_block_size: 64, ..Options::default() };
         let by = Compaction { watermark: NEWEST, target_size, options, ..Compaction::default() };
         let compacted = runs.compact(&by).unwrap();
-        // At a target of 0 a table ends before its first key, and its id is passed over.
+        // At a target size of 0 a table ends before its first key, so its id is skipped.
         let first = if target_size == 0 { 10 } else { 9 };
         let next = first + compacted.tables.len() as u64;
         assert!(compacted.tables.len() > 2 && compacted.next_id == Some(next));

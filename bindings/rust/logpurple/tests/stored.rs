@@ -1,5 +1,5 @@
-//! The tables that the repository stores, which other programs wrote: each is read, and written
-//! again where its entries are told.
+//! The stored tables of the repository, which other programs wrote. Each is read, and written again
+//! if its entries are known.
 
 mod common;
 
@@ -8,7 +8,7 @@ use logpurple::{Compaction, InternalValue, Options, Runs, Table, ValueType, NEWE
 use std::cmp::Reverse;
 use std::fs;
 
-/// A stored table: its bytes, and where they are told its entries and what it was written with.
+/// A stored table: its bytes and, if they are known, its entries and options.
 #[derive(Default)]
 struct Stored {
     bytes: Vec<u8>,
@@ -35,8 +35,9 @@ fn item_of(words: &[&str]) -> InternalValue {
     InternalValue::from_components(key, value, words[1].parse().unwrap(), value_type)
 }
 
-/// Id, level and moment; then, where they are not the defaults, the kinds of index and filter, the
-/// size of partitions, that of blocks, tenths of a bit a key and the interval of restarts.
+/// Returns the options of a list of words: id, level and timestamp. If there are more, they are the
+/// kinds of index and filter, the sizes of partitions and blocks, tenths of a bit a key, and the
+/// restart interval.
 fn options_of(words: &[&str]) -> Options {
     let number = |at: usize| words[at].parse::<u64>().unwrap();
     let told = Options {
@@ -79,7 +80,7 @@ fn entries_of(items: &[InternalValue]) -> Entries {
     items.iter().map(|item| (key_of(item), entry_of(item))).collect()
 }
 
-/// What runs of some entries read, and what is kept of them.
+/// Compares what runs of some entries read, and what a compaction keeps of them.
 fn several_are_read(runs: Runs, entries: &Entries) {
     for seqno in [1, 5, NEWEST] {
         assert_eq!(collect(runs.iter(seqno).unwrap()), seen(entries, seqno));

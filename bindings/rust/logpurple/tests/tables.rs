@@ -1,4 +1,4 @@
-//! Tables as a store uses them: written, read and damaged.
+//! Writing, reading and damaging tables.
 
 mod common;
 
@@ -100,7 +100,7 @@ fn ranges_are_read_from_both_ends() {
     }
 }
 
-/// All entries, every nth from the back.
+/// Returns all entries, every nth from the back.
 fn in_turn(table: &Table, nth: usize) -> Vec<InternalValue> {
     let mut range = table.iter().unwrap();
     let (mut front, mut back) = (Vec::new(), Vec::new());
@@ -216,12 +216,12 @@ fn a_table_says_of_itself_what_was_written() {
     assert!(table.iter().unwrap().all(|item| item.unwrap().key.seqno > 100));
 }
 
-/// The library has a sentence for each refusal, and this crate the same.
+/// The library and this crate have the same sentence for each error.
 #[test]
 fn each_refusal_has_the_sentence_of_the_library() {
     for error in KNOWN {
         let mut text = [0; 100];
-        // SAFETY: there is so much room.
+        // SAFETY: the buffer has the length that is passed.
         let len =
             unsafe { logpurple_sys::sst_strerror_copy(error.number(), text.as_mut_ptr(), 100) };
         assert_eq!(error.to_string().as_bytes(), &text[..len as usize]);
@@ -285,7 +285,7 @@ fn each_refusal_is_told() {
     assert_eq!((Error::ChecksumMismatch.number(), Error::Faulty.number()), (5, 107));
 }
 
-/// Each byte is damaged in turn. What opens may be read; what verifies has the same entries.
+/// Damages each byte in turn. What opens may be read, and what verifies has the same entries.
 #[test]
 fn damage_is_refused_or_found() {
     let written = items(&random_entries(12, 5));

@@ -28,7 +28,7 @@ fn read_all(table: &Table, entries: &Entries) {
     assert_eq!(table.verify().unwrap().item_count, entries.len() as u64);
 }
 
-/// Nothing was read before, so that threads meet where blocks are compared first.
+/// Returns tables of which nothing was read, so that threads compare blocks at the same time.
 fn tables(entries: &Entries) -> impl Iterator<Item = Table<'static>> + '_ {
     (0..8).map(move |seed| {
         let pinned = seed % 2 == 0;
@@ -108,7 +108,7 @@ fn shares_are_made_and_let_go_at_once() {
     read_all(&table, &entries);
 }
 
-/// One table behind a lock, in turns.
+/// Threads use one table in turns, by a lock.
 #[test]
 fn threads_take_turns_by_one_table() {
     let entries = random_entries(9, 100);

@@ -1,5 +1,5 @@
 use Rattle.std.proofs.Common.{true, false}
-use Rattle.logpurple.specs.Words.{kept_in, rules_by}
+use Rattle.lsm_tables.specs.Words.{kept_in, rules_by}
 use Rattle.example_calling.proofs.Compacting.{kept_alike}
 use Rattle.example_calling.proofs.compact_below.Goals as goal
 

@@ -1,7 +1,7 @@
 use Rattle.std.proofs.Common.{sym, subst}
 use Rattle.std.specs.Prelude.{Some}
 use Rattle.std.specs.Iterator.{IsFinite}
-use Rattle.logpurple.specs.Words.{DealsList}
+use Rattle.lsm_tables.specs.Words.{DealsList}
 use Rattle.example_calling.proofs.Counting.{all_counted, fault_counted, none_counted, one_counted}
 use Rattle.example_calling.proofs.count.Goals as goal
 

@@ -1,5 +1,5 @@
 use Rattle.std.specs.Prelude.{List}
-use Rattle.logpurple.specs.Words.{DealsList, Entry}
+use Rattle.lsm_tables.specs.Words.{DealsList, Entry}
 use Rattle.example_calling.proofs.Counting.{Counts}
 use Rattle.example_calling.proofs.count.Given as goal
 

@@ -1,7 +1,7 @@
 use Rattle.std.proofs.Common.{◌≡◌, ◌-◌, ◌^◌, List, length, subst}
 use Rattle.std.specs.Prelude.{IfOk, min}
-use Rattle.logpurple.specs.Words.{Entry, newest, numbered_below, union_in}
-use Rattle.logpurple.proofs.Laws.{all_within}
+use Rattle.lsm_tables.specs.Words.{Entry, newest, numbered_below, union_in}
+use Rattle.lsm_tables.proofs.TableLaws.{all_within}
 use Rattle.example_calling.proofs.count_below.Goals as goal
 
 pub returns-clause-exact : goal.returns-clause-exact

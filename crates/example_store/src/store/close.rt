@@ -1,12 +1,12 @@
 //! Closing a store, and the state that it leaves.
 ghost use Rattle.std.specs.Prelude.{◌≡◌, [], IfErr, IfOk, List, OnErr, OnOk, Some, false, map};
 ghost use Rattle.example_store.specs.Words as spec;
-ghost use Rattle.logpurple.specs.Words.{OutOfMemory};
+ghost use Rattle.lsm_tables.specs.Words.{OutOfMemory};
 
 use crate::store::Store;
-use logpurple::block::{Error, SeqNo, Slice};
-use logpurple::run::Run;
-use logpurple::table::{Table, TableIds};
+use lsm_tables::block::{Error, SeqNo, Slice};
+use lsm_tables::run::Run;
+use lsm_tables::table::{Table, TableIds};
 use std::alloc::{Allocator, Global};
 use std::sync::Arc;
 

@@ -2,13 +2,13 @@
 ghost use Rattle.std.specs.Prelude.{◌≡◌, ◌+◌, ◌≤◌, [], ◌∷◌, ◌++◌, IfErr, IfOk, List, OnErr, OnOk};
 ghost use Rattle.std.specs.Prelude.{Some, false, length, map, max, min, sum_by, true, ℕ};
 ghost use Rattle.example_store.specs.Words as spec;
-ghost use Rattle.logpurple.specs.Words.{OutOfMemory};
+ghost use Rattle.lsm_tables.specs.Words.{OutOfMemory};
 
 use crate::store::Store;
-use logpurple::block::{Error, SeqNo};
-use logpurple::compaction::{Rules, compact_to_run};
-use logpurple::run::{Run, pack_runs};
-use logpurple::table::{Table, TableIds, Timestamp};
+use lsm_tables::block::{Error, SeqNo};
+use lsm_tables::compaction::{Rules, compact_to_run};
+use lsm_tables::run::{Run, pack_runs};
+use lsm_tables::table::{Table, TableIds, Timestamp};
 use std::alloc::{AllocError, Allocator};
 use std::sync::Arc;
 

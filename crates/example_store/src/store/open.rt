@@ -8,9 +8,9 @@ use crate::memtable::Memtable;
 use crate::store::compact::{Runs, push_shared};
 use crate::store::order::are_strict;
 use crate::store::{Closed, Store};
-use logpurple::block::{Checksum, Error, SeqNo, Slice};
-use logpurple::run::Run;
-use logpurple::table::{Finding, Table, VerifyError};
+use lsm_tables::block::{Checksum, Error, SeqNo, Slice};
+use lsm_tables::run::Run;
+use lsm_tables::table::{Finding, Table, VerifyError};
 use std::alloc::{AllocError, AllocFailed, Allocator};
 use std::sync::Arc;
 

@@ -2,13 +2,13 @@
 ghost use Rattle.std.specs.Prelude.{◌≡◌, ◌<◌, ◌↔◌, All, IfErr, IfOk, IsTrue, List, Some, length};
 ghost use Rattle.std.specs.Prelude.{map};
 ghost use Rattle.example_store.specs.Words as spec;
-ghost use Rattle.logpurple.specs.Words.{OutOfMemory};
-ghost use Rattle.logpurple.proofs.Laws.{may_follow};
+ghost use Rattle.lsm_tables.specs.Words.{OutOfMemory};
+ghost use Rattle.lsm_tables.proofs.TableLaws.{may_follow};
 
-use logpurple::block::{Error, InternalValue, IterItem};
-use logpurple::merge::Merger;
-use logpurple::run::{Run, RunScanner};
-use logpurple::table::Table;
+use lsm_tables::block::{Error, InternalValue, IterItem};
+use lsm_tables::merge::Merger;
+use lsm_tables::run::{Run, RunScanner};
+use lsm_tables::table::Table;
 use std::alloc::Allocator;
 use std::sync::Arc;
 

@@ -2,14 +2,14 @@
 ghost use Rattle.std.specs.Prelude.{◌≡◌, ◌++◌, IfErr, IfOk, List, OnErr, OnOk, Some, drop, false};
 ghost use Rattle.std.specs.Prelude.{map, max, min};
 ghost use Rattle.example_store.specs.Words as spec;
-ghost use Rattle.logpurple.specs.Words.{OutOfMemory};
+ghost use Rattle.lsm_tables.specs.Words.{OutOfMemory};
 
 use crate::store::Store;
 use crate::store::compact::compacted;
-use logpurple::block::{Error, SeqNo};
-use logpurple::compaction::Rules;
-use logpurple::run::Run;
-use logpurple::table::{Table, TableIds};
+use lsm_tables::block::{Error, SeqNo};
+use lsm_tables::compaction::Rules;
+use lsm_tables::run::Run;
+use lsm_tables::table::{Table, TableIds};
 use std::alloc::Allocator;
 use std::sync::Arc;
 

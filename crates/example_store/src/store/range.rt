@@ -1,12 +1,12 @@
 //! Ranges of a store at a snapshot.
 ghost use Rattle.std.specs.Prelude.{◌≡◌, [], ◌∷◌, ◌≤◌, IfErr, IfOk, List, map};
 ghost use Rattle.example_store.specs.Words as spec;
-ghost use Rattle.logpurple.specs.Words.{OutOfMemory};
+ghost use Rattle.lsm_tables.specs.Words.{OutOfMemory};
 
 use crate::store::Store;
-use logpurple::block::{Error, IterItem, SeqNo, UserKey};
-use logpurple::run::{NewestOfSourcesAt, Run, range_sources_at};
-use logpurple::table::Table;
+use lsm_tables::block::{Error, IterItem, SeqNo, UserKey};
+use lsm_tables::run::{NewestOfSourcesAt, Run, range_sources_at};
+use lsm_tables::table::Table;
 use std::alloc::Allocator;
 use std::ops::Bound;
 use std::sync::Arc;

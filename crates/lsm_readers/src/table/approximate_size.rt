@@ -5,14 +5,14 @@ ghost use Rattle.std.specs.Iterator.{IsFinite};
 ghost use Rattle.sst_entries.specs.declared.error.Error.{Error};
 ghost use Rattle.sst_entries.specs.declared.error.Error.TheVariants.{OutOfMemory};
 ghost use Rattle.sst_entries.specs.Stream.{front_of};
-ghost use Rattle.lsm_block_indexes.specs.Kinds.{IsSought, left_of};
-ghost use Rattle.lsm_block_indexes.specs.Left.{LeftGives};
+ghost use Rattle.lsm_iters.specs.block_index.Kinds.{IsSought, left_of};
+ghost use Rattle.lsm_iters.specs.block_index.Left.{LeftGives};
 ghost use Rattle.lsm_iters.specs.Bounds.{lower_edge, upper_edge};
 ghost use Rattle.lsm_readers.specs.Words.{Entry, Gives, Handle, StoresList, index_read, key_bound};
 ghost use Rattle.lsm_readers.specs.Words.{size_told, size_within, sizes_told};
 
 use crate::Table;
-use lsm_block_indexes::{BlockIndex, BlockIndexImpl, BlockIndexIter, BlockIndexIterImpl};
+use lsm_iters::{BlockIndex, BlockIndexImpl, BlockIndexIter, BlockIndexIterImpl};
 use sst_blocks::{Error, SeqNo};
 use std::alloc::Allocator;
 use std::ops::Bound;

@@ -2,13 +2,11 @@
 ghost use Rattle.std.specs.Prelude.{◌≡◌, ◌+◌, ◌*◌, ◌/◌, ◌⊎◌, IfErr, IfOk, List, length, ℕ};
 ghost use Rattle.sst_blocks.specs.declared.block_type.BlockType.TheVariants.{Meta};
 ghost use Rattle.sst_entries.specs.declared.error.Error.TheVariants.{OutOfMemory};
-ghost use Rattle.lsm_points.specs.Meta.{meta_item_told};
+ghost use Rattle.lsm_readers.specs.point.Meta.{meta_item_told};
 ghost use Rattle.lsm_readers.specs.Words.{FaultsFirst, Gives, body_of, place_fault};
 
-use crate::{Inner, Table};
-use lsm_formats::ItemName;
-use lsm_points::load_item;
-use sst_blocks::{Error, Slice, UserValue};
+use crate::{Inner, Table, load_item};
+use sst_blocks::{Error, ItemName, Slice, UserValue};
 use std::alloc::Allocator;
 
 impl<A: Allocator + Clone> Table<A> {

@@ -8,8 +8,7 @@ ghost use Rattle.lsm_readers.specs.Words.{Entry, FaultsFirst, Gives, IsOpen, Loa
 ghost use Rattle.lsm_readers.specs.Words.{StoresList, hash_of, lift, none_opened, point};
 ghost use Rattle.lsm_readers.specs.Words.{table_answer};
 
-use crate::{Inner, Table};
-use lsm_points::place_in;
+use crate::{Inner, Table, place_in};
 use sst_blocks::{EntryPlace, EntryRef, Error, Opened, SeqNo};
 use std::alloc::Allocator;
 

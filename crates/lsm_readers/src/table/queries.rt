@@ -1,10 +1,9 @@
 //! Many point reads of one table.
 ghost use Rattle.std.specs.Prelude.{◌≡◌, IsOk, List, Ok, [], map};
-ghost use Rattle.lsm_points.specs.Many.{many_told};
+ghost use Rattle.lsm_readers.specs.point.Many.{many_told};
 ghost use Rattle.lsm_readers.specs.Words.{Entry, Gives, IsOpen, StoresList, lift, point};
 
-use crate::{Inner, Table};
-use lsm_points::{Query, many_in};
+use crate::{Inner, Query, Table, many_in};
 use sst_blocks::{Error, InternalValue};
 use std::alloc::Allocator;
 

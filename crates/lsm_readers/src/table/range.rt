@@ -9,8 +9,7 @@ ghost use Rattle.lsm_readers.specs.Words.{OpenTable, blocks_within, index_read, 
 ghost use Rattle.lsm_readers.specs.Words.{range_told, table_index};
 
 use crate::{Inner, Table};
-use lsm_block_indexes::{BlockIndex, BlockIndexImpl};
-use lsm_iters::{Bound as Edge, Iter, beside};
+use lsm_iters::{BlockIndex, BlockIndexImpl, Bound as Edge, Iter, beside};
 use sst_blocks::{Error, Lending, UserKey};
 use std::alloc::Allocator;
 use std::ops::Bound;

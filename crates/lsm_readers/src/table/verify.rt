@@ -1,7 +1,7 @@
 //! Whether a table's bytes store a list.
 ghost use Rattle.std.specs.Prelude.{◌≡◌, ◌≢◌, List, length, IfErr, IfOk};
 ghost use Rattle.std.specs.Result.{IsErrAnd};
-ghost use Rattle.sst_sections.specs.Fnv.{fnv1a};
+ghost use Rattle.sst_blocks.specs.Fnv.{fnv1a};
 ghost use Rattle.lsm_readers.specs.Findings.{IsFirstFinding};
 ghost use Rattle.lsm_readers.specs.Verify.{Finds, FindsFirst, other_checksum, table_early};
 ghost use Rattle.lsm_readers.specs.Verify.{table_found};

@@ -3,7 +3,7 @@ ghost use Rattle.std.specs.Prelude.{◌≡◌, ◌<◌, List, IfErr, IfOk, Some,
 ghost use Rattle.std.specs.List.{slice_get};
 ghost use Rattle.lsm_readers.specs.declared.verify.VerifyError.TheVariants.{OutOfMemory};
 ghost use Rattle.sst_blocks.specs.declared.block_type.BlockType.TheVariants as block;
-ghost use Rattle.sst_sections.specs.declared.section.SectionName.TheVariants as section;
+ghost use Rattle.sst_blocks.specs.declared.section.SectionName.TheVariants as section;
 ghost use Rattle.lsm_readers.specs.Words.{Entry, Handle, body_of, parts_of};
 ghost use Rattle.lsm_readers.specs.declared.verify.Counts.{Counts as CountsLeft};
 ghost use Rattle.lsm_readers.specs.Verify.{Finds, FindsFirst, block_found, block_spent};
@@ -15,12 +15,10 @@ ghost use Rattle.lsm_readers.specs.Verify.{top_named};
 
 use super::entries::{read_entries, spend};
 use super::{Counts, Fault, Unread, VerifyError, found, unloaded};
-use crate::Inner;
-use lsm_formats::ItemName;
-use lsm_points::load_handles;
+use crate::{Inner, load_handles};
 use sst_blocks::{
-    BlockHandle, BlockSource, BlockType, DataBlock, IndexBlock, InternalValue, KeyedBlockHandle,
-    Opened, SectionName, SeqNo,
+    BlockHandle, BlockSource, BlockType, DataBlock, IndexBlock, InternalValue, ItemName,
+    KeyedBlockHandle, Opened, SectionName, SeqNo,
 };
 use std::alloc::Allocator;
 

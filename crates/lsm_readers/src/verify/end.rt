@@ -2,7 +2,7 @@
 ghost use Rattle.std.specs.Prelude.{◌≡◌, IfErr, IsOk, [], None, Some, map, true};
 ghost use Rattle.sst_entries.specs.declared.error.Error.{Error};
 ghost use Rattle.sst_blocks.specs.declared.block_type.BlockType.TheVariants as block;
-ghost use Rattle.sst_sections.specs.declared.section.SectionName.TheVariants as section;
+ghost use Rattle.sst_blocks.specs.declared.section.SectionName.TheVariants as section;
 ghost use Rattle.lsm_readers.specs.Words.{body_of, parts_of, place_of};
 ghost use Rattle.lsm_readers.specs.Words.{position_fault};
 ghost use Rattle.lsm_readers.specs.Verify.{Finds, FindsFirst, counts_found, early_at};
@@ -13,8 +13,9 @@ ghost use Rattle.lsm_readers.specs.Verification.{EndsCalmly, end_early};
 
 use super::{Counts, Fault, Unread, VerifyError, found, unloaded};
 use crate::Inner;
-use lsm_formats::ItemName;
-use sst_blocks::{BlockHandle, BlockSource, BlockType, Error, IndexBlock, Opened, SectionName};
+use sst_blocks::{
+    BlockHandle, BlockSource, BlockType, Error, IndexBlock, ItemName, Opened, SectionName,
+};
 use std::alloc::Allocator;
 
 /// Tests that a filter's block loads.

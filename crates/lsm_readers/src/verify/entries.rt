@@ -11,9 +11,9 @@ ghost use Rattle.lsm_readers.specs.Verify.{spent, starts_key};
 
 use super::{Counts, Fault, Unread, VerifyError, found};
 use crate::Inner;
-use lsm_formats::ItemName;
 use sst_blocks::{
-    BlockSource, Builder, DataBlock, Error, InternalValue, Opened, SectionName, SeqNo, ValueType,
+    BlockSource, Builder, DataBlock, Error, InternalValue, ItemName, Opened, SectionName, SeqNo,
+    ValueType,
 };
 use std::alloc::Allocator;
 

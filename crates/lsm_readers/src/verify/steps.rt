@@ -8,12 +8,12 @@ ghost use Rattle.lsm_readers.specs.Verify.{Finds, Misses, Unread as UnreadLeft, 
 ghost use Rattle.lsm_readers.specs.Verify.{FindsFirst, blocks_found, early_at, handles_found};
 ghost use Rattle.lsm_readers.specs.Verify.{is_found, passed};
 ghost use Rattle.lsm_readers.specs.Handles.{handles_ahead};
-ghost use Rattle.lsm_points.specs.Parts.{Parts};
+ghost use Rattle.lsm_readers.specs.point.Parts.{Parts};
 ghost use Rattle.lsm_readers.specs.Verification.{GoesOne, IsThrough, ahead_of, before_index};
 ghost use Rattle.lsm_readers.specs.Verification.{in_index, next_found, partition_found, places_in};
 ghost use Rattle.lsm_readers.specs.Verification.{StepsCalmly, chunk_early, rest_found, step_early};
 ghost use Rattle.sst_blocks.specs.declared.block_type.BlockType.TheVariants as block;
-ghost use Rattle.sst_sections.specs.declared.section.SectionName.TheVariants as section;
+ghost use Rattle.sst_blocks.specs.declared.section.SectionName.TheVariants as section;
 
 use super::blocks::{count_at, handle_at, load_chunk, load_part, read_contents, test_top};
 use super::end::{test_filter, test_left};

@@ -8,19 +8,19 @@ ghost use Rattle.sst_blocks.specs.Payload.{IsSpellable, spelled};
 ghost use Rattle.sst_entries.specs.Kind.{tag_of};
 ghost use Rattle.sst_entries.specs.Lending.{entry_of_ref};
 ghost use Rattle.sst_entries.specs.declared.error.Error.TheVariants.{OutOfMemory};
-ghost use Rattle.sst_sections.specs.Number.{le4, le8};
-ghost use Rattle.sst_sections.specs.declared.version.TableVersion.TheVariants.{V4};
-ghost use Rattle.lsm_formats.specs.Index.{block_size};
+ghost use Rattle.sst_blocks.specs.Number.{le4, le8};
+ghost use Rattle.sst_blocks.specs.declared.version.TableVersion.TheVariants.{V4};
+ghost use Rattle.sst_blocks.specs.table.Index.{block_size};
 ghost use Rattle.lsm_writers.specs.Buffered.{IsMark, MarksFront};
 ghost use Rattle.lsm_writers.specs.Words.{IsReadable, IsStrict, data_block, entries_fault};
 ghost use Rattle.lsm_writers.specs.Words.{last_of, payload};
 
+use sst_blocks::number::put_u32;
 use sst_blocks::{
     Block, BlockHandle, BlockType, CompressionType, ENTRY_HEAD_LEN, Error, SectionWriter, SeqNo,
     ValueType,
 };
 use sst_entries::EntryRef;
-use sst_sections::number::put_u32;
 use std::alloc::{Allocator, Global};
 use std::marker::Model;
 
@@ -231,7 +231,7 @@ fn put_count<A: Allocator>(payload: &mut Vec<u8, A>, count: u32)
 }
 
 /// Returns the bytes before an entry's key: kind, sequence number, length of key and of value.
-#[tactic(auto, unfolding(sst_sections::specs::Number::le4, sst_sections::specs::Number::le8))]
+#[tactic(auto, unfolding(sst_blocks::specs::Number::le4, sst_blocks::specs::Number::le8))]
 fn entry_head(value_type: ValueType, seqno: SeqNo, key_len: u32, value_len: u32) -> [u8; 17]
     ensures { result ≡ (tag_of value_type ∷ []) ++ le8 seqno ++ le4 key_len ++ le4 value_len }
 {

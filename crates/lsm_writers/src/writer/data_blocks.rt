@@ -2,7 +2,7 @@
 ghost use Rattle.std.specs.Prelude.{◌≡◌, ◌+◌, ◌*◌, ◌++◌, ◌^◌, ◌<◌, List, [], ◌∷◌, Option, None};
 ghost use Rattle.std.specs.Prelude.{Some, true, false, length, IfOk, IfErr, OnOk, OnErr};
 ghost use Rattle.sst_blocks.specs.Handles.{AreStrictHandles};
-ghost use Rattle.lsm_section_writers.specs.Kept.{handle_with};
+ghost use Rattle.lsm_writers.specs.section.Kept.{handle_with};
 ghost use Rattle.lsm_writers.specs.Words.{AreCutBy, BlockFits, CanCut, CountsCut, Entry};
 ghost use Rattle.lsm_writers.specs.Words.{Cut, IsStrict, data_section};
 ghost use Rattle.lsm_writers.specs.Words.{entries_fault, entry_head_len, handles};
@@ -10,15 +10,15 @@ ghost use Rattle.lsm_writers.specs.Words.{joined, laid, last_of};
 ghost use Rattle.lsm_writers.specs.Words.{rest_chunk, with_cut};
 ghost use Rattle.std.specs.Option.{option_map};
 ghost use Rattle.sst_entries.specs.Lending.{entry_of_ref};
-ghost use Rattle.lsm_formats.specs.Index.{last_entry};
+ghost use Rattle.sst_blocks.specs.table.Index.{last_entry};
 ghost use Rattle.sst_entries.specs.declared.error.Error.TheVariants.{OutOfMemory};
-ghost use Rattle.sst_sections.specs.declared.section.SectionName.TheVariants.{Data};
-ghost use Rattle.sst_sections.specs.declared.version.TableVersion.TheVariants.{V4};
+ghost use Rattle.sst_blocks.specs.declared.section.SectionName.TheVariants.{Data};
+ghost use Rattle.sst_blocks.specs.declared.version.TableVersion.TheVariants.{V4};
 ghost use Rattle.std.specs.List.{AllByRecursion};
 
 use crate::writer::block_buffer::BlockBuffer;
 use crate::writer::meta::Metadata;
-use lsm_section_writers::{BlockIndexWriter, FullIndexWriter, KeyBuffer};
+use crate::{BlockIndexWriter, FullIndexWriter, KeyBuffer};
 use sst_blocks::{BlockHandle, BlockOffset, Error, SectionName, SectionWriter};
 use sst_entries::EntryRef;
 use std::alloc::{Allocator, Global};
@@ -40,9 +40,9 @@ pub(crate) struct DataBlocks<A: Allocator = Global> {
 impl<A: Allocator> Model for DataBlocks<A> {
     ghost use Rattle.std.specs.Prelude.{◌*◌, ◌^◌, ◌<◌, None, length};
     ghost use Rattle.sst_entries.specs.Strict.{last_of};
-    ghost use Rattle.sst_sections.specs.declared.version.TableVersion.TheVariants.{V4};
+    ghost use Rattle.sst_blocks.specs.declared.version.TableVersion.TheVariants.{V4};
     ghost use Rattle.sst_blocks.specs.Bounds.{entry_head_len};
-    ghost use Rattle.lsm_formats.specs.Chunks.{joined};
+    ghost use Rattle.sst_blocks.specs.table.Chunks.{joined};
     ghost use Rattle.lsm_writers.specs.Cut.{Cut, chunks_in, AreCut};
 
     ghost Value = { Cut };

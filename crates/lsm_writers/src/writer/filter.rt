@@ -6,12 +6,10 @@ ghost use Rattle.lsm_writers.specs.Words.{Registers, WritesFilter};
 ghost use Rattle.lsm_writers.specs.Words.{filter_fault, registered_key, tenths_of};
 ghost use Rattle.sst_entries.specs.declared.error.Error.TheVariants.{OutOfMemory};
 
-use lsm_formats::{FilterKind, Options};
-use lsm_section_writers::{
+use crate::{
     FilterWriter, FilterWriterImpl, FullFilterWriter, PartitionedFilterWriter, small_partitions_fit,
 };
-use sst_blocks::{Error, SectionWriter};
-use sst_filters::BloomConstructionPolicy;
+use sst_blocks::{BloomConstructionPolicy, Error, FilterKind, Options, SectionWriter};
 use std::alloc::Allocator;
 
 /// Creates a filter writer of the options' kind and policy, without keys. Fails only with

@@ -3,11 +3,11 @@ ghost use Rattle.std.specs.Prelude.{◌≡◌, ◌+◌, ◌<◌, ◌^◌, Some, 
 ghost use Rattle.std.specs.Option.{option_map};
 ghost use Rattle.sst_entries.specs.Lending.{entry_of_ref};
 ghost use Rattle.sst_entries.specs.declared.error.Error.TheVariants.{OutOfMemory};
-ghost use Rattle.lsm_formats.specs.Facts.{is_weak, is_value_kind, starts_key, is_reclaimable};
+ghost use Rattle.sst_blocks.specs.table.Facts.{is_weak, is_value_kind, starts_key, is_reclaimable};
 ghost use Rattle.sst_entries.specs.Key.{same_key};
 ghost use Rattle.sst_entries.specs.Kind.{is_weak_kind};
 
-use lsm_section_writers::KeyBuffer;
+use crate::KeyBuffer;
 use sst_blocks::{BlockOffset, Error, SeqNo, UserKey, ValueType};
 use sst_entries::EntryRef;
 use std::alloc::{Allocator, Global};

@@ -2,22 +2,21 @@
 ghost use Rattle.std.specs.Prelude.{◌≡◌, [], ◌∷◌, ◌++◌, None, map, unwrap_or, IfOk};
 ghost use Rattle.std.specs.Prelude.{IfErr, OnOk};
 ghost use Rattle.sst_entries.specs.declared.error.Error.TheVariants.{OutOfMemory};
-ghost use Rattle.sst_sections.specs.Number.{le4, le8, le16};
-ghost use Rattle.sst_sections.specs.declared.version.TableVersion.TheVariants.{V4};
+ghost use Rattle.sst_blocks.specs.Number.{le4, le8, le16};
+ghost use Rattle.sst_blocks.specs.declared.version.TableVersion.TheVariants.{V4};
 ghost use Rattle.lsm_writers.specs.Counts.{counted_facts, counted_items, HasShortKeys};
-ghost use Rattle.lsm_formats.specs.File.{meta_section, HasNoMeta};
-ghost use Rattle.lsm_formats.specs.Layout.{appended};
+ghost use Rattle.sst_blocks.specs.table.File.{meta_section, HasNoMeta};
+ghost use Rattle.sst_blocks.specs.table.Layout.{appended};
 ghost use Rattle.sst_blocks.specs.Encoding.{entries_fault};
 ghost use Rattle.sst_entries.specs.Strict.{IsStrict};
-ghost use Rattle.lsm_formats.specs.MetaBlock.{meta_entry, block_items, level_items, key_items};
-ghost use Rattle.lsm_formats.specs.MetaBlock.{option_items, count_items, crate_version};
-ghost use Rattle.lsm_formats.specs.MetaBlock.{version_number};
+ghost use Rattle.sst_blocks.specs.table.MetaBlock.{meta_entry, block_items, level_items, key_items};
+ghost use Rattle.sst_blocks.specs.table.MetaBlock.{option_items, count_items, crate_version};
+ghost use Rattle.sst_blocks.specs.table.MetaBlock.{version_number};
 
 use crate::writer::meta::Metadata;
-use lsm_formats::{FILTER_HASH_TYPE, ItemName, Label, Options};
 use sst_blocks::{
-    Block, BlockType, CompressionType, DataBlock, Error, InternalValue, SectionName, SectionWriter,
-    Slice, ValueType,
+    Block, BlockType, CompressionType, DataBlock, Error, FILTER_HASH_TYPE, InternalValue, ItemName,
+    Label, Options, SectionName, SectionWriter, Slice, ValueType,
 };
 use std::alloc::Allocator;
 
@@ -228,21 +227,21 @@ fn put_all<A: Allocator + Clone>(
 }
 
 /// Returns the little-endian bytes of a number.
-#[tactic(auto, unfolding(sst_sections::specs::Number::le4))]
+#[tactic(auto, unfolding(sst_blocks::specs::Number::le4))]
 fn bytes4(number: u32) -> [u8; 4]
     ensures { result ≡ le4 number }
 {
     number.to_le_bytes()
 }
 
-#[tactic(auto, unfolding(sst_sections::specs::Number::le8))]
+#[tactic(auto, unfolding(sst_blocks::specs::Number::le8))]
 fn bytes8(number: u64) -> [u8; 8]
     ensures { result ≡ le8 number }
 {
     number.to_le_bytes()
 }
 
-#[tactic(auto, unfolding(sst_sections::specs::Number::le16))]
+#[tactic(auto, unfolding(sst_blocks::specs::Number::le16))]
 fn bytes16(number: u128) -> [u8; 16]
     ensures { result ≡ le16 number }
 {

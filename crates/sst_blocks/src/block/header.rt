@@ -3,11 +3,11 @@ ghost use Rattle.std.specs.Prelude.{◌≡◌, ◌∷◌, ◌++◌, [], length, 
 ghost use Rattle.sst_blocks.specs.Block.{header_len};
 ghost use Rattle.sst_blocks.specs.Block.{kind_tag, header_fault, version_in, data_len};
 ghost use Rattle.sst_blocks.specs.Block.{uncompressed_len, stored_checksum};
-ghost use Rattle.sst_sections.specs.Number.{le4, le8};
-ghost use Rattle.sst_sections.specs.Version.{mark};
+ghost use Rattle.sst_blocks.specs.Number.{le4, le8};
+ghost use Rattle.sst_blocks.specs.Version.{mark};
 
+use crate::number::{u32_at, u64_at};
 use crate::{BlockType, Error, TableVersion, TagName};
-use sst_sections::number::{u32_at, u64_at};
 
 /// What a block's header says of its payload.
 #[derive(Clone, Copy, Debug, PartialEq, Eq)]
@@ -35,7 +35,7 @@ impl Header {
     }
 
     /// The header of a block of a kind.
-    #[tactic(auto, unfolding(sst_sections::specs::Number::le4, sst_sections::specs::Number::le8))]
+    #[tactic(auto, unfolding(crate::specs::Number::le4, crate::specs::Number::le8))]
     pub(crate) fn encode(self, kind: BlockType) -> [u8; 24]
         ensures { result ≡ mark self.version ++ (kind_tag kind ∷ 0 ∷ 0 ∷ 0 ∷ [])
             ++ le4 self.data_len ++ le4 self.uncompressed_len ++ le8 self.checksum }

@@ -1,14 +1,14 @@
 //! Writing an entry of a data block.
 use crate::item::Item;
+use crate::number::{put_u32, put_u64};
 use crate::{ENTRY_HEAD_LEN, Error, InternalValue, TableVersion};
-use sst_sections::number::{put_u32, put_u64};
 use std::alloc::Allocator;
 
 impl<A: Allocator> Item for InternalValue<A> {
     ghost use Rattle.sst_blocks.specs.Bounds.{entry_bound};
     ghost use Rattle.sst_blocks.specs.Encoding.{IsShortEntry, entry_fault_or};
     ghost use Rattle.sst_blocks.specs.Payload.{IsSpellable, spelled};
-    ghost use Rattle.sst_sections.specs.declared.version.TableVersion.TheVariants.{V4};
+    ghost use Rattle.sst_blocks.specs.declared.version.TableVersion.TheVariants.{V4};
 
     ghost bytes = { spelled V4 };
 

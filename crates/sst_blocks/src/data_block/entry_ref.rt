@@ -3,12 +3,12 @@ ghost use Rattle.std.specs.Prelude.{◌≡◌, ◌+◌, ◌≤◌, length};
 ghost use Rattle.std.specs.Option.{option_map};
 ghost use Rattle.sst_blocks.specs.Reading.{parts_at};
 ghost use Rattle.sst_entries.specs.Lending.{entry_of_ref};
-ghost use Rattle.sst_sections.specs.Version.{key_width};
+ghost use Rattle.sst_blocks.specs.Version.{key_width};
 
+use crate::number::{key_len_at, key_width, u32_at, u64_at};
 use crate::reading::ItemRef;
 use crate::{EntryRef, SeqNo, TableVersion, ValueType};
 use sst_entries::compare_versions;
-use sst_sections::number::{key_len_at, key_width, u32_at, u64_at};
 
 /// The length of what stands before an entry's key: its tag, its number and both lengths.
 #[inline]

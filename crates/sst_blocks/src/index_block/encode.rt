@@ -1,14 +1,14 @@
 //! Writing a handle of an index block.
 use crate::item::Item;
+use crate::number::{put_u32, put_u64};
 use crate::{Error, HANDLE_HEAD_LEN, KeyedBlockHandle, TableVersion};
-use sst_sections::number::{put_u32, put_u64};
 use std::alloc::Allocator;
 
 impl<A: Allocator> Item for KeyedBlockHandle<A> {
     ghost use Rattle.sst_blocks.specs.Bounds.{handle_bound};
     ghost use Rattle.sst_blocks.specs.Encoding.{IsShortHandle, handle_fault_or};
     ghost use Rattle.sst_blocks.specs.Handles.{IsSpellableHandle, handle_spelled};
-    ghost use Rattle.sst_sections.specs.declared.version.TableVersion.TheVariants.{V4};
+    ghost use Rattle.sst_blocks.specs.declared.version.TableVersion.TheVariants.{V4};
 
     ghost bytes = { handle_spelled V4 };
 

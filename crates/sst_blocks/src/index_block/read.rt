@@ -1,11 +1,11 @@
 //! Reading the handles of a payload.
 ghost use Rattle.std.specs.Prelude.{◌≡◌, ◌+◌};
-ghost use Rattle.sst_sections.specs.Version.{key_width};
+ghost use Rattle.sst_blocks.specs.Version.{key_width};
 
+use crate::number::{key_len_at, key_width, u32_at, u64_at};
 use crate::reading::ItemRef;
 use crate::{SeqNo, TableVersion};
 use sst_entries::compare_versions;
-use sst_sections::number::{key_len_at, key_width, u32_at, u64_at};
 
 /// A handle whose end key lies in borrowed bytes.
 #[derive(Clone, Copy)]

@@ -9,8 +9,8 @@ ghost use Rattle.sst_entries.specs.Strict.{is_before};
 ghost use Rattle.sst_entries.specs.declared.error.Error.TheVariants.{InvalidBlock};
 
 use super::ItemRef;
+use crate::number::u32_at;
 use crate::{Error, SeqNo, TableVersion};
-use sst_sections::number::u32_at;
 
 /// The first item of a payload that a read of a key at a number comes before, and where it begins.
 /// Refused [`Error::InvalidBlock`] where the payload does not spell a strict list of items. Where

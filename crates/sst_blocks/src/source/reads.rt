@@ -13,7 +13,7 @@ ghost use Rattle.sst_blocks.specs.Opened.{with_load};
 ghost use Rattle.sst_blocks.specs.Placed.{IsSound, IsSoundAt, IsSoundHeaded};
 ghost use Rattle.sst_entries.specs.Entry.{Entry};
 ghost use Rattle.sst_entries.specs.Error.{FaultsFirst, Gives};
-ghost use Rattle.sst_sections.specs.Sections.{body_of};
+ghost use Rattle.sst_blocks.specs.Sections.{body_of};
 
 use super::BlockSource;
 use crate::block::Header;

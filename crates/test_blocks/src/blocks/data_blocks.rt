@@ -13,7 +13,7 @@ use sst_blocks::{
     TableVersion, ValueType, are_strict, data_block_bound,
 };
 use std::alloc::{AllocError, Allocator, Global};
-use test_refusing::Refusing;
+use test_support::Refusing;
 
 fn entry<A: Allocator>(row: &EntryRef<'static>) -> InternalValue<A> {
     let (key, value) = (

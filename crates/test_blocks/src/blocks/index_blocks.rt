@@ -10,7 +10,7 @@ use sst_blocks::{
     KeyedBlockHandle, SeqNo, Slice, TableVersion, are_strict_handles, index_block_bound,
 };
 use std::alloc::{AllocError, Allocator};
-use test_refusing::Refusing;
+use test_support::Refusing;
 
 // An end key, its sequence number, and the offset and size of the block.
 type Row = (&'static [u8], SeqNo, u64, u32);

@@ -7,7 +7,7 @@ use sst_blocks::{
     Block, BlockSource, BlockType, DataBlock, Error, IndexBlock, Opened, TableVersion,
 };
 use std::alloc::Allocator;
-use test_refusing::Refusing;
+use test_support::Refusing;
 
 // A version, a kind, a payload, and the number of its entries or handles; `None` where the load
 // fails.

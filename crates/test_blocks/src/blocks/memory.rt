@@ -3,7 +3,7 @@
 use crate::blocks::{data_blocks, index_blocks, loads};
 use sst_blocks::BlockType;
 use std::alloc::Global;
-use test_refusing::each_refused;
+use test_support::each_refused;
 
 // The tables of cases: data blocks, index blocks and loads; and the number of cases of each.
 const TABLES: &[(BlockType, usize)] = &[

@@ -1,8 +1,8 @@
 //! Filters: their sizes and their bits.
+use sst_blocks::{BloomConstructionPolicy, Builder, filter_bound};
 use sst_entries::Error;
-use sst_filters::{BloomConstructionPolicy, Builder, filter_bound};
 use std::alloc::{Allocator, Global};
-use test_refusing::Refusing;
+use test_support::Refusing;
 
 fn tenths(tenths: u32) -> BloomConstructionPolicy {
     BloomConstructionPolicy::BitsPerKey(tenths)

@@ -6,7 +6,7 @@ use sst_blocks::{
     Block, BlockSource, BlockType, Counted, Error, LoadBlocks, Opened, TagName, written_blocks_load,
 };
 use std::alloc::{AllocError, Allocator, Global};
-use test_refusing::Refusing;
+use test_support::Refusing;
 
 /// The result of a load: the kind and the size of the block's payload.
 pub(crate) type Answer = Result<(BlockType, usize), Error>;

@@ -1,7 +1,7 @@
 //! Writing sections and building filters, with each request for memory failing in turn.
 
 use crate::sections::{filters, sections};
-use test_refusing::{Refusing, each_refused};
+use test_support::{Refusing, each_refused};
 
 // Whether the stored table is written again and filters are built; or `OutOfMemory`, where it may
 // fail.

@@ -1,12 +1,12 @@
 //! The sections of a stored table, written again.
 ghost use Rattle.std.specs.Prelude.{◌≡◌, ◌++◌, ◌∷◌, [], length, OnOk, All};
-ghost use Rattle.sst_sections.specs.Sections.{slot_index};
+ghost use Rattle.sst_blocks.specs.Sections.{slot_index};
 
 use crate::sections::stored_table;
 use crate::sections::tables::finished;
 use sst_blocks::{BlockSource, Error, Section, SectionName, SectionWriter};
 use std::alloc::Allocator;
-use test_refusing::Refusing;
+use test_support::Refusing;
 
 fn put_section<A: Allocator + Copy>(
     writer: &mut SectionWriter<A>,

@@ -1,21 +1,21 @@
 //! Compactions of runs that are not verified: the entries of the new tables, the drawn ids,
 //! filters, callbacks, observers, and the unchanged source runs.
 use crate::tables::number_of;
-use logpurple::compaction::{
+use lsm_sorted::compaction::lending::{LentCallback, LentFilter};
+use lsm_sorted::compaction::stream::{NoCallback, NoFilter, StreamFilterVerdict};
+use lsm_tables::compaction::{
     CompactionObserver, CompactionOutcome, CompactionProgress, NoObserver, Rules,
     compact_any_runs_with, compact_to_run_with,
 };
-use logpurple::laws::compaction_law;
-use logpurple::run::get_runs;
-use logpurple::table::{OpenOptions, Scanner, Table};
-use lsm_lending::compaction::lending::{LentCallback, LentFilter};
-use lsm_sorted::compaction::stream::{NoCallback, NoFilter, StreamFilterVerdict};
+use lsm_tables::laws::compaction_law;
+use lsm_tables::run::get_runs;
+use lsm_tables::table::{OpenOptions, Scanner, Table};
 use lsm_writers::{FinishedTable, MultiWriter, TableId, TableIds, Timestamp};
 use sst_blocks::{EntryRef, Error, IterItem, SeqNo, Slice, UserValue, ValueType};
 use std::alloc::{Allocator, Global};
-use test_tables::large::asked;
-use test_tables::runs::{Lists, Tables, runs_of};
-use test_tables::tables::open;
+use test_support::samples::large::asked;
+use test_support::samples::runs::{Lists, Tables, runs_of};
+use test_support::samples::tables::open;
 
 /// A key of one byte, 0 for any other, a sequence number and a kind.
 pub(crate) type Version = (u8, SeqNo, ValueType);

@@ -1,10 +1,10 @@
 //! Key ranges of numbers, and reversed bounds.
-use lsm_ranges::KeyRange;
+use lsm_sorted::KeyRange;
 use sst_blocks::{Error, Slice};
 use std::alloc::Global;
 use std::ops::Bound;
-use test_tables::large::{add, asked_with};
-use test_tables::runs::Bounds;
+use test_support::samples::large::{add, asked_with};
+use test_support::samples::runs::Bounds;
 
 fn range_of(alloc: Global, min: &[u8], max: &[u8]) -> Result<KeyRange, Error> {
     let min = Slice::from(alloc, min)?;

@@ -1,14 +1,14 @@
 //! Lending ranges over runs, compared with those by value.
 ghost use Rattle.test_reads.specs.Words as spec;
 
-use logpurple::merge::NewestOf;
-use logpurple::run::{LentNewestOf, lend_runs_at, range_runs_at};
+use lsm_tables::merge::NewestOf;
+use lsm_tables::run::{LentNewestOf, lend_runs_at, range_runs_at};
 use sst_blocks::{Error, IterItem, Lending, SeqNo, ValueType};
 use std::alloc::Global;
 use std::ops::Bound;
-use test_lent::{agree, random};
-use test_tables::rows::Row;
-use test_tables::runs::{Bounds, Tables, owned_range, run_of};
+use test_support::samples::rows::Row;
+use test_support::samples::runs::{Bounds, Tables, owned_range, run_of};
+use test_support::{agree, random};
 
 const KEYS: &[&[u8]] = &[b"", b"a", b"b", b"bb", b"c", b"d"];
 

@@ -1,17 +1,17 @@
 //! Lists that are written as runs and then read, unchanged or compacted; and the tables that a
 //! target cuts.
 use example_calling::{compact_run_back, read_run_back};
-use logpurple::compaction::Rules;
-use logpurple::run::write_run_with;
-use logpurple::table::{MultiWriter, OpenOptions, Table};
-use lsm_ranges::Run;
+use lsm_sorted::Run;
+use lsm_tables::compaction::Rules;
+use lsm_tables::run::write_run_with;
+use lsm_tables::table::{MultiWriter, OpenOptions, Table};
 use lsm_writers::{TableId, TableIds, Timestamp};
 use sst_blocks::{Error, SeqNo, ValueType};
 use std::alloc::{Allocator, Global};
 use std::ops::Bound;
-use test_tables::lists::{list_of, read_names};
-use test_tables::rows::Row;
-use test_tables::runs::{ALL, Bounds, Name, owned_range};
+use test_support::samples::lists::{list_of, read_names};
+use test_support::samples::rows::Row;
+use test_support::samples::runs::{ALL, Bounds, Name, owned_range};
 
 // How a list is read: unchanged with a global sequence number, or compacted.
 #[derive(Clone, Copy)]

@@ -1,16 +1,16 @@
 //! Packing of runs: the tables of each packed run, an unchanged run, and a run without tables,
 //! which is ignored.
-use logpurple::laws::packing_law;
-use logpurple::run::{pack_runs, write_run};
-use logpurple::table::Table;
+use lsm_tables::laws::packing_law;
+use lsm_tables::run::{pack_runs, write_run};
+use lsm_tables::table::Table;
 use lsm_writers::{TableIds, Timestamp};
 use sst_blocks::{Error, SeqNo, ValueType};
 use std::alloc::Global;
 use std::sync::Arc;
-use test_tables::large::add;
-use test_tables::lists::list_of;
-use test_tables::rows::Row;
-use test_tables::runs::{Lists, Tables, runs_of};
+use test_support::samples::large::add;
+use test_support::samples::lists::list_of;
+use test_support::samples::rows::Row;
+use test_support::samples::runs::{Lists, Tables, runs_of};
 
 const V: ValueType = ValueType::Value;
 

@@ -3,16 +3,16 @@ ghost use Rattle.std.specs.Prelude.{◌∷◌, [], IfOk, map};
 ghost use Rattle.test_reads.specs.Words as spec;
 
 use example_calling::compact_part_back;
-use logpurple::compaction::{Rules, compact_to_run_with};
-use logpurple::table::OpenOptions;
+use lsm_tables::compaction::{Rules, compact_to_run_with};
+use lsm_tables::table::OpenOptions;
 use lsm_writers::{MultiWriter, TableId, TableIds, Timestamp};
 use sst_blocks::{Error, SeqNo, ValueType};
 use std::alloc::{Allocator, Global};
 use std::ops::Bound;
 use std::sync::Arc;
-use test_tables::large::asked_with;
-use test_tables::lists::read_names;
-use test_tables::runs::{ALL, Bounds, Lists, Name, Tables, owned_range, runs_of};
+use test_support::samples::large::asked_with;
+use test_support::samples::lists::read_names;
+use test_support::samples::runs::{ALL, Bounds, Lists, Name, Tables, owned_range, runs_of};
 
 // The names of the entry that a point read finds, and of the entries at both ends of a range.
 type Names = [Option<Name>; 3];

@@ -4,18 +4,20 @@
 //! damaged table.
 use crate::tables::{cloned, lends_same, number_of};
 use example_calling::read_run;
-use logpurple::run::{
+use lsm_runs::{get_runs_ref_counted, place_in_runs_counted};
+use lsm_sorted::Run;
+use lsm_tables::run::{
     RunPlace, entry_in_runs, get_runs, get_runs_by_age, get_runs_by_age_counted, get_runs_counted,
     get_runs_ref, place_in_runs,
 };
-use logpurple::table::Table;
-use lsm_ranges::Run;
-use lsm_runs::{get_runs_ref_counted, place_in_runs_counted};
+use lsm_tables::table::Table;
 use sst_blocks::{Error, InternalValue, Opened, SeqNo, ValueType};
 use std::alloc::Global;
-use test_tables::large::{add, asked_with};
-use test_tables::rows::Row;
-use test_tables::runs::{ALL, Lists, Tables, damaged_run_of, owned_range, run_of, runs_of};
+use test_support::samples::large::{add, asked_with};
+use test_support::samples::rows::Row;
+use test_support::samples::runs::{
+    ALL, Lists, Tables, damaged_run_of, owned_range, run_of, runs_of,
+};
 
 // Some runs, and the damaged table of one of them.
 type DamagedRuns = (&'static [Lists], (usize, usize));

@@ -4,11 +4,11 @@ use crate::runs::walks::{Answer, is_given, row_at};
 use sst_blocks::{Direction, Error, IterItem, ValueType};
 use std::alloc::{Allocator, Global};
 use std::ops::Bound;
-use test_refusing::Refusing;
-use test_tables::lists::answers_within;
-use test_tables::rows::Row;
-use test_tables::runs::{ALL, Bounds, Lists, runs_of};
-use test_tables::whole::{A7, A9, B6, B8, C5, D2, D3};
+use test_support::Refusing;
+use test_support::samples::lists::answers_within;
+use test_support::samples::rows::Row;
+use test_support::samples::runs::{ALL, Bounds, Lists, runs_of};
+use test_support::samples::whole::{A7, A9, B6, B8, C5, D2, D3};
 
 const F: Direction = Direction::Front;
 

@@ -1,12 +1,12 @@
 //! Ranges of two runs and a memtable, below a sequence number.
 ghost use Rattle.test_reads.specs.Words as spec;
 
-use logpurple::merge::NewestOf;
-use logpurple::run::range_sources_at;
+use lsm_tables::merge::NewestOf;
+use lsm_tables::run::range_sources_at;
 use sst_blocks::{Error, IterItem, SeqNo, ValueType};
 use std::alloc::{Allocator, Global};
-use test_tables::rows::{Row, entry};
-use test_tables::runs::{ALL, Lists, owned_range, runs_of};
+use test_support::samples::rows::{Row, entry};
+use test_support::samples::runs::{ALL, Lists, owned_range, runs_of};
 
 const V: ValueType = ValueType::Value;
 

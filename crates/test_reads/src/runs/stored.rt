@@ -4,19 +4,19 @@ ghost use Rattle.std.specs.Prelude.{[], ◌∷◌, IfOk, List};
 ghost use Rattle.test_reads.specs.Words as spec;
 
 use crate::runs::compactions::{Version, are, entries_of};
-use logpurple::compaction::compact_runs;
-use logpurple::run::RunReader;
-use logpurple::table::Table;
-use lsm_ranges::Run;
+use lsm_sorted::Run;
+use lsm_tables::compaction::compact_runs;
+use lsm_tables::run::RunReader;
+use lsm_tables::table::Table;
 use lsm_writers::{FinishedTable, MultiWriter, TableIds, Timestamp, write_list};
 use sst_blocks::{Checksum, Error, InternalValue, Slice, ValueType};
 use std::alloc::Global;
 use std::ops::Bound;
 use std::sync::Arc;
-use test_tables::large::{asked, asked_if_any};
-use test_tables::runs::{Tables, name_of};
-use test_tables::stored::two_levels;
-use test_tables::tables::open;
+use test_support::samples::large::{asked, asked_if_any};
+use test_support::samples::runs::{Tables, name_of};
+use test_support::samples::stored::two_levels;
+use test_support::samples::tables::open;
 
 const V: ValueType = ValueType::Value;
 

@@ -6,14 +6,14 @@
 ghost use Rattle.std.specs.Prelude.{◌≡◌, ◌-◌, ◌<◌, ◌≤◌, true, IfOk, length, unwrap_or};
 ghost use Rattle.test_reads.specs.Words as spec;
 
-use logpurple::run::{RunReader, RunScanner};
+use lsm_tables::run::{RunReader, RunScanner};
 use sst_blocks::{Direction, Error, IterItem, Lending, ValueType};
 use std::alloc::{Allocator, Global};
 use std::ops::Bound;
-use test_tables::lending::walk_both;
-use test_tables::rows::Row;
-use test_tables::runs::{ALL, Bounds, Lists, Tables, damaged_run_of, owned_range};
-use test_tables::whole::{A7, A9, B6, B8, C5, D2, D3, is_answer};
+use test_support::samples::lending::walk_both;
+use test_support::samples::rows::Row;
+use test_support::samples::runs::{ALL, Bounds, Lists, Tables, damaged_run_of, owned_range};
+use test_support::samples::whole::{A7, A9, B6, B8, C5, D2, D3, is_answer};
 
 /// The result of a step: the entry of a row, nothing, or an error.
 pub(crate) type Answer = Result<Option<Row<'static>>, Error>;

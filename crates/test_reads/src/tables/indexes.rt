@@ -5,14 +5,14 @@
 //! compares which blocks these are and their order.
 use crate::tables::walks::{Call, Walk, is_loaded, walked};
 use crate::tables::{Changed, KINDS, Of, Parted, Pins, opened};
-use logpurple::table::{
+use lsm_tables::table::{
     BlockIndex, BlockIndexImpl, BlockIndexIterImpl, Bound as Edge, Iter, Table,
 };
 use sst_blocks::{BlockSource, CompressionType, Error, SeqNo, UserKey};
 use std::alloc::Global;
 use std::ops::Bound;
-use test_tables::large::{asked, asked_if_any, asked_with};
-use test_tables::runs::{ALL, Bounds, Name, owned_range};
+use test_support::samples::large::{asked, asked_if_any, asked_with};
+use test_support::samples::runs::{ALL, Bounds, Name, owned_range};
 
 // The index of a table. By the law it has the blocks of any table that is cut alike, as the table
 // itself is.

@@ -2,12 +2,12 @@
 //! in the same order, and as many loads, also over damaged bytes.
 use crate::tables::walks::{blocks_in, range_in};
 use crate::tables::{Changed, KINDS, Of, Pins, changed_bytes};
-use logpurple::table::Iter;
+use lsm_tables::table::Iter;
 use sst_blocks::{Error, IterItem, Lending};
 use std::alloc::Global;
 use std::ops::Bound;
-use test_tables::lending::{Walk, walk_both};
-use test_tables::runs::{ALL, Bounds};
+use test_support::samples::lending::{Walk, walk_both};
+use test_support::samples::runs::{ALL, Bounds};
 
 // Whether a lending range yields the same as one by value; or the error of making it.
 fn lends(alloc: Global, changed: &Changed<'_>, bounds: Bounds<'_>) -> Result<bool, Error> {

@@ -1,17 +1,16 @@
 //! Lists that are written as one table, opened and read, and the metadata of the tables.
 use example_calling::{read_back, write_and_find};
-use logpurple::table::{Scanner, Table, write_and_open};
-use lsm_formats::ItemName;
-use lsm_ranges::Ranged;
+use lsm_sorted::Ranged;
+use lsm_tables::table::{Scanner, Table, write_and_open};
 use lsm_writers::Timestamp;
-use sst_blocks::{Error, InternalValue, SeqNo, ValueType};
+use sst_blocks::{Error, InternalValue, ItemName, SeqNo, ValueType};
 use std::alloc::{Allocator, Global};
 use std::ops::Bound;
-use test_tables::large::{asked_if_any, asked_mut};
-use test_tables::lists::list_of;
-use test_tables::rows::Row;
-use test_tables::runs::Bounds;
-use test_tables::tables::open;
+use test_support::samples::large::{asked_if_any, asked_mut};
+use test_support::samples::lists::list_of;
+use test_support::samples::rows::Row;
+use test_support::samples::runs::Bounds;
+use test_support::samples::tables::open;
 
 // The lists of cases, which refer to them by index: each reference in a table of cases makes its
 // proof slower.

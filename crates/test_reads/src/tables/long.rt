@@ -3,16 +3,16 @@
 ghost use Rattle.std.specs.Prelude.{◌≡◌, []};
 
 use crate::tables::{ALL_PINS, Parted, open_with, written, written_by};
-use logpurple::table::Table;
+use lsm_tables::table::Table;
 use lsm_writers::Writer;
 use sst_blocks::{
     Block, BlockHandle, BlockSource, BlockType, CompressionType, DataBlock, Error, Opened,
     SectionName, SectionWriter, SeqNo, Slice, ValueType,
 };
 use std::alloc::Global;
-use test_tables::large::{asked, asked_with};
-use test_tables::rows::{self, Row, new_writer, put_rows};
-use test_tables::tables::{load_entries, read};
+use test_support::samples::large::{asked, asked_with};
+use test_support::samples::rows::{self, Row, new_writer, put_rows};
+use test_support::samples::tables::{load_entries, read};
 
 // A key, a snapshot, the sequence number that is found, if any, and the number of data blocks
 // loaded.

@@ -2,12 +2,12 @@
 use crate::tables::walks::{Call, Walk};
 use crate::tables::{Parted, open_with, written};
 use example_calling::read_each_way;
-use logpurple::table::{Iter, Scanner, Table};
+use lsm_tables::table::{Iter, Scanner, Table};
 use sst_blocks::{Error, InternalValue, Slice, ValueType};
 use std::alloc::Global;
 use std::ops::Bound;
-use test_tables::large::asked_with;
-use test_tables::rows::Row;
+use test_support::samples::large::asked_with;
+use test_support::samples::rows::Row;
 
 const ROWS: &[Row<'static>] = &[
     (b"a", 9, ValueType::Value, b"v"),

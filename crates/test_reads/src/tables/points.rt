@@ -4,14 +4,14 @@ use crate::tables::{
     Changed, LOADED, ON_DEMAND, Of, Parted, Sought, TWO_LEVELS, counted_read, lends_same,
     number_of, open_with, opened, written,
 };
-use logpurple::table::{Table, point_in};
+use lsm_tables::table::{Table, point_in};
 use sst_blocks::{
     Block, BlockHandle, BlockSource, BlockType, Counted, EntryPlace, Error, InternalValue,
     LoadBlocks, SeqNo, ValueType,
 };
 use std::alloc::{Allocator, Global};
-use test_tables::large::asked_with;
-use test_tables::rows::Row;
+use test_support::samples::large::asked_with;
+use test_support::samples::rows::Row;
 
 // The offset of a block, and its size.
 type Place = (u64, u32);
@@ -24,7 +24,7 @@ struct Listing<'a, A: Allocator> {
 }
 
 impl<A: Allocator + Copy> LoadBlocks for Listing<'_, A> {
-    ghost use Rattle.sst_sections.specs.Sections.{body_of};
+    ghost use Rattle.sst_blocks.specs.Sections.{body_of};
 
     type Alloc = A;
 

@@ -1,11 +1,11 @@
 //! Many reads of one table at once, and the requests for memory of reads.
 use crate::tables::{Changed, Of, Parted, Pins, Sought, cloned, counted_read, opened};
-use logpurple::table::{Query, Table, get_many};
+use lsm_tables::table::{Query, Table, get_many};
 use sst_blocks::{Error, InternalValue, Slice};
 use std::alloc::{Allocator, Global};
-use test_refusing::Refusing;
-use test_tables::large::{asked, asked_with};
-use test_tables::runs::Name;
+use test_support::Refusing;
+use test_support::samples::large::{asked, asked_with};
+use test_support::samples::runs::Name;
 
 fn queries_of<A: Allocator + Copy>(alloc: A, sought: &[Sought]) -> Result<Vec<Query<A>, A>, Error> {
     let mut queries = Vec::new(alloc);

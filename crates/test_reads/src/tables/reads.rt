@@ -8,10 +8,10 @@ use crate::tables::{
     ALL_PINS, BELITTLED, Changed, Of, Parted, Pins, Sought, UNDERSTATED, cloned, counted_read,
     opened,
 };
-use logpurple::table::Table;
+use lsm_tables::table::Table;
 use sst_blocks::{Error, SeqNo};
 use std::alloc::Global;
-use test_tables::large::{asked, asked_with};
+use test_support::samples::large::{asked, asked_with};
 
 // The pinned parts.
 pub(crate) const BOTH: Pins = (true, true);

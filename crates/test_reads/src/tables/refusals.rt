@@ -1,7 +1,7 @@
 //! Errors of opening a table: the stored table of one entry with some of its bytes changed.
 use crate::tables::reads::{BOTH, Bytes, LARGEST, NO, damaged};
 use crate::tables::{Changed, Changes, Of, bytes_of, open_with, opened};
-use logpurple::table::Table;
+use lsm_tables::table::Table;
 use sst_blocks::{Error, Slice, TagName};
 use std::alloc::{Allocator, Global};
 

@@ -1,11 +1,10 @@
 //! The layout of written tables: their lengths, the offsets of their sections, and the numbers of
 //! index and filter blocks in their meta blocks.
 use crate::tables::{Of, Parted, opened};
-use logpurple::table::Table;
-use lsm_formats::ItemName;
-use sst_blocks::{Error, SectionName, Toc};
+use lsm_tables::table::Table;
+use sst_blocks::{Error, ItemName, SectionName, Toc};
 use std::alloc::Global;
-use test_tables::large::asked_with;
+use test_support::samples::large::asked_with;
 
 // The sections that vary, in the order in which they are compared.
 const NAMES: [SectionName; 4] = [

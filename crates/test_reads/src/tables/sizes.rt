@@ -1,12 +1,12 @@
 //! The size in bytes of the data blocks of a range, by each kind of index.
 use crate::tables::{Parted, open_with, written};
-use logpurple::table::Table;
+use lsm_tables::table::Table;
 use sst_blocks::{Error, ValueType};
 use std::alloc::Global;
 use std::ops::Bound;
-use test_tables::large::asked;
-use test_tables::rows::Row;
-use test_tables::runs::{ALL, Bounds};
+use test_support::samples::large::asked;
+use test_support::samples::rows::Row;
+use test_support::samples::runs::{ALL, Bounds};
 
 // Each row has its own data block, of 46 bytes and the value.
 const ROWS: &[Row<'static>] = &[

@@ -1,10 +1,9 @@
 //! Results of verifying tables, and the first fault of tables whose bytes were changed.
 use crate::tables::{Changed, Changes, Of, Pins, opened};
-use logpurple::table::{Fault, Finding, Table, Verified, VerifyError};
-use lsm_formats::ItemName;
-use sst_blocks::{Checksum, Error, SectionName};
+use lsm_tables::table::{Fault, Finding, Table, Verified, VerifyError};
+use sst_blocks::{Checksum, Error, ItemName, SectionName};
 use std::alloc::Global;
-use test_tables::large::asked_with;
+use test_support::samples::large::asked_with;
 
 // The result of verifying a table, with a checksum of its file if there is one.
 fn verified(table: &Table, checksum: Option<u128>) -> Result<Result<Verified, VerifyError>, Error> {

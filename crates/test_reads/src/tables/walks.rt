@@ -4,13 +4,13 @@ use crate::tables::{
     BELITTLED, Changed, KINDS, LOADED, OLDER, ON_DEMAND, Of, Parted, Pins, TWO_LEVELS, UNDERSTATED,
     changed_bytes, opened,
 };
-use logpurple::table::{BlockIndex, BlockIndexIter, BlockIndexIterImpl, Iter, Scanner, Table};
+use lsm_tables::table::{BlockIndex, BlockIndexIter, BlockIndexIterImpl, Iter, Scanner, Table};
 use sst_blocks::{BlockSource, CompressionType, Error, KeyedBlockHandle, SeqNo, TagName};
 use std::alloc::{Allocator, Global};
 use std::ops::Bound;
-use test_refusing::Refusing;
-use test_tables::large::{asked, asked_with};
-use test_tables::runs::{ALL, Bounds, Name, name_of, owned_range};
+use test_support::Refusing;
+use test_support::samples::large::{asked, asked_with};
+use test_support::samples::runs::{ALL, Bounds, Name, name_of, owned_range};
 
 /// A call and its result: the name that a step at the front or at the back yields, if any; or
 /// whether a seek before the first step leaves anything.

@@ -6,7 +6,7 @@ ghost use Rattle.std.specs.Cmp.{eq_by_cmp_equiv, on_total, nat_cmp_total};
 ghost use Rattle.std.specs.Ordering.{as_partial_cmp, eq_by_cmp, nat_cmp, on};
 
 use crate::heaps::examples::{Example, first_wrong};
-use lsm_merge::LazyTournament;
+use lsm_sorted::LazyTournament;
 use std::alloc::Global;
 use std::cell::Cell;
 use std::cmp::Ordering;

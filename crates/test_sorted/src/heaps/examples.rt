@@ -1,7 +1,7 @@
 //! Worked examples, and the first of some that fails.
 
 use std::alloc::Global;
-use test_refusing::{Refusing, each_refused};
+use test_support::{Refusing, each_refused};
 
 pub(crate) trait Example {
     /// Whether all results are as expected.

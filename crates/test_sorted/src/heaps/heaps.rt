@@ -5,7 +5,7 @@ use crate::heaps::examples::{Example, Refused, first_wrong, requests};
 use crate::heaps::queues::{Counts, Queue, Turn, interval_heap, lazy_tournament, tournament};
 use sst_entries::Error;
 use std::alloc::Global;
-use test_refusing::Refusing;
+use test_support::Refusing;
 
 // The queue under test.
 enum Kind {

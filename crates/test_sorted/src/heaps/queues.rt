@@ -2,7 +2,7 @@
 //! numbers in a queue.
 ghost use Rattle.std.specs.Prelude.{◌≡◌, ℕ};
 
-use lsm_merge::{IntervalHeap, LazyTournament, Tournament};
+use lsm_sorted::{IntervalHeap, LazyTournament, Tournament};
 use sst_entries::Error;
 use std::alloc::Allocator;
 use std::marker::Model;

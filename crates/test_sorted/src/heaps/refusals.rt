@@ -2,7 +2,7 @@
 
 use crate::heaps::examples::{Example, Refused, first_wrong, requests};
 use std::alloc::{Allocator, Global};
-use test_refusing::Refusing;
+use test_support::Refusing;
 
 // How many of some requests succeed before the first that fails, and how many in all; and whether
 // each is counted.

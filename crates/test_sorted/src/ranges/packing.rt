@@ -3,10 +3,10 @@
 use crate::ranges::tables::{
     Example, FakeTable, first_wrong, has_ids, number_of, requests, run_of,
 };
-use lsm_ranges::{Ranged, Run, optimize_runs, overlap_chain};
+use lsm_sorted::{Ranged, Run, optimize_runs, overlap_chain};
 use sst_entries::Error;
 use std::alloc::Allocator;
-use test_refusing::Refusing;
+use test_support::Refusing;
 
 // The tables of some runs, each run up to a `/`, possibly emptied ones. The ids of the runs that
 // they are packed into, if these are compared. The least and the greatest length of a chain. If

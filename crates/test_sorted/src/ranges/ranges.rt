@@ -3,10 +3,10 @@
 use crate::ranges::tables::{
     Example, FakeTable, ends_of, first_wrong, is_like, range_of, tables_of,
 };
-use lsm_ranges::{Indexed, KeyRange, Ranged};
+use lsm_sorted::{Indexed, KeyRange, Ranged};
 use std::alloc::{Allocator, Global};
 use std::ops::Bound;
-use test_refusing::Refusing;
+use test_support::Refusing;
 
 // Whether a range is well-formed, has the first key of another one, overlaps with that one, and
 // contains it.

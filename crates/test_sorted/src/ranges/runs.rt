@@ -3,11 +3,11 @@
 use crate::ranges::tables::{
     Example, FakeTable, first_wrong, has_ids, is_like, range_of, run_of, table_of, tables_of,
 };
-use lsm_ranges::Run;
+use lsm_sorted::Run;
 use sst_entries::Error;
 use std::alloc::{Allocator, Global};
 use std::ops::Bound;
-use test_refusing::Refusing;
+use test_support::Refusing;
 
 // A change of a run.
 enum Change {

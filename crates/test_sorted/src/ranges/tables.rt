@@ -4,10 +4,10 @@
 //! id is a digit.
 ghost use Rattle.std.specs.Prelude.{◌≡◌};
 
-use lsm_ranges::{KeyRange, Ranged, Run};
+use lsm_sorted::{KeyRange, Ranged, Run};
 use sst_entries::{Error, Slice};
 use std::alloc::{AllocError, Allocator, Global};
-use test_refusing::{Refusing, each_refused};
+use test_support::{Refusing, each_refused};
 
 #[derive(Drop)]
 #[derive_where(PartialEq)]
@@ -19,7 +19,7 @@ pub struct FakeTable<A: Allocator = Global> {
 impl<A: Allocator> Ranged for FakeTable<A> {
     ghost use Rattle.std.specs.Prelude.{ℕ};
     ghost use Rattle.std.proofs.Common.{ap};
-    ghost use Rattle.lsm_ranges.specs.KeyRange.{Interval};
+    ghost use Rattle.lsm_sorted.specs.version.KeyRange.{Interval};
 
     type Alloc = A;
 

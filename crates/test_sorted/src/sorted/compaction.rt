@@ -6,8 +6,8 @@ mod rows;
 
 use crate::sorted::sources::forward_of;
 use crate::sorted::words::{byte_of, gives_all, lends_so, results_of, said_by, said_of_lent};
-use lsm_lending::compaction::lending::{LendingCompaction, LentCallback, LentFilter};
 use lsm_sorted::compaction::Rules;
+use lsm_sorted::compaction::lending::{LendingCompaction, LentCallback, LentFilter};
 use lsm_sorted::compaction::stream::{
     CompactionStream, DroppedKvCallback, StreamFilter, StreamFilterVerdict,
 };
@@ -15,7 +15,7 @@ use rows::ROWS;
 use sst_entries::{EntryRef, Error, InternalValue, IterItem, Slice, ValueType};
 use std::alloc::Global;
 use std::str::SplitWhitespace;
-use test_lent::lent_list;
+use test_support::lent_list;
 
 // Compares the entries that it receives with words.
 #[derive(Drop)]

@@ -4,8 +4,8 @@ ghost use Rattle.std.specs.Prelude.{◌≡◌, Bool, List, [], IfOk};
 ghost use Rattle.lsm_sorted.specs.Words as spec;
 ghost use Rattle.sst_entries.specs.Stream.{ok_results};
 ghost use Rattle.sst_entries.specs.declared.error.Error.{Error};
-ghost use Rattle.lsm_merge.specs.Union.{all_errors, union_of};
-ghost use Rattle.lsm_merge.specs.MergeLaws.{CanMerge, DealSorted, every_error};
+ghost use Rattle.lsm_sorted.specs.merge.Union.{all_errors, union_of};
+ghost use Rattle.lsm_sorted.specs.merge.MergeLaws.{CanMerge, DealSorted, every_error};
 ghost use Rattle.lsm_sorted.specs.Compaction.{kept, unfiltered};
 ghost use Rattle.lsm_sorted.specs.Gap.{GivesUpToGap};
 

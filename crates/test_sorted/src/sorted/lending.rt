@@ -4,16 +4,14 @@ ghost use Rattle.std.specs.Prelude.{IfOk};
 ghost use Rattle.sst_entries.specs.Stream.{CanDeal, nowhere};
 
 use crate::sorted::words::{lends_so, results_of, said_by, said_lent};
-use lsm_lending::compaction::lending::LendingCompaction;
-use lsm_lending::{LendingMerger, LendingNewest};
-use lsm_merge::Merger;
 use lsm_sorted::compaction::Rules;
+use lsm_sorted::compaction::lending::LendingCompaction;
 use lsm_sorted::compaction::stream::CompactionStream;
-use lsm_sorted::{Below, MvccStream};
+use lsm_sorted::{Below, LendingMerger, LendingNewest, Merger, MvccStream};
 use sst_entries::{Error, IterItem, Lending, SeqNo, ValueType};
 use std::alloc::Global;
 use std::vec::IntoIter;
-use test_lent::{LentList, agree, entry_of, go_on, lent_list, random};
+use test_support::{LentList, agree, entry_of, go_on, lent_list, random};
 
 fn kind_of(number: u64) -> ValueType {
     match number % 6 {

@@ -10,7 +10,7 @@ use lsm_sorted::compaction::stream::CompactionStream;
 use lsm_sorted::{Merger, MvccStream, from_both_ends, newest_from_both_ends, newest_of};
 use sst_entries::{Error, IterItem};
 use std::alloc::{Allocator, Global};
-use test_refusing::{Refusing, each_refused};
+use test_support::{Refusing, each_refused};
 
 // Whether a merger of any sources yields these items at the ends.
 fn merger_answers_so<I: DoubleEndedIterator<Item = IterItem<A>> + Drop, A: Allocator + Copy>(

@@ -11,7 +11,7 @@ use sst_entries::{
     Direction, EntryRef, Error, InternalValue, IterItem, Lending, Slice, ValueType, answer_at,
 };
 use std::alloc::Allocator;
-use test_lent::go_on;
+use test_support::go_on;
 
 /// The parts of a word: a key or the sign before a number, the letter of a kind, a number, and a
 /// value. A part that is not there is 0.

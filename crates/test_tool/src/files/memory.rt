@@ -1,5 +1,5 @@
 //! A place in memory.
-use logpurple::block::Slice;
+use lsm_tables::block::Slice;
 use std::alloc::{AllocError, Allocator, Global};
 use std::fs::{Metadata, Permissions};
 use std::io;

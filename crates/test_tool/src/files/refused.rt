@@ -3,7 +3,7 @@ use crate::files::memory::Memory;
 use crate::files::written::{
     Asked, LINES, NEVER, compact, entries_of, keep_all, sources, told, write, write_options,
 };
-use logpurple::block::Error;
+use lsm_tables::block::Error;
 use std::alloc::Global;
 use tool_files::FileFault;
 

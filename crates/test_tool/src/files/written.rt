@@ -1,7 +1,7 @@
 //! Lines that are written into files, compacted and read back.
 use crate::files::memory::Memory;
-use logpurple::compaction::Rules;
-use logpurple::table::{BloomConstructionPolicy, IndexKind, Timestamp};
+use lsm_tables::compaction::Rules;
+use lsm_tables::table::{BloomConstructionPolicy, IndexKind, Timestamp};
 use std::alloc::Global;
 use tool_files::{FileFault, Place, open_table};
 use tool_lines::Format;

@@ -3,7 +3,7 @@
 use crate::scripts::streams::{FailingReader, TightWriter};
 use sst_script::run_script;
 use std::alloc::Global;
-use test_refusing::Refusing;
+use test_support::Refusing;
 
 const SCRIPT: &[u8] = b"get a 1\n\nentry a 1 V x\ntable\nget a 2\nrange * *\npack\n";
 

@@ -3,7 +3,7 @@ use sst_script::run_script;
 use std::alloc::{AllocError, Allocator, Global};
 use std::io::{self, BufWriter};
 use std::test::Fail;
-use test_refusing::{Refusing, each_refused};
+use test_support::{Refusing, each_refused};
 
 // What a script prints, what it reports, and its status.
 #[derive(Drop)]

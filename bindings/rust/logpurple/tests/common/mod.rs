@@ -1,11 +1,11 @@
-//! What the tests share: lists of entries, and tables of them.
+//! Shared by the tests: lists of entries, and tables of them.
 #![allow(dead_code)]
 
 use logpurple::{Compaction, Error, FinishedTable, InternalValue, Options, SeqNo, ValueType};
 use std::cmp::Reverse;
 use std::collections::BTreeMap;
 
-/// Numbers that look like those of a die, and are the same in each run.
+/// Pseudo-random numbers, which are the same in each run.
 pub struct Dice(u64);
 
 impl Dice {
@@ -28,12 +28,12 @@ impl Dice {
 
 pub type Entries = BTreeMap<(Vec<u8>, Reverse<SeqNo>), (ValueType, Vec<u8>)>;
 
-/// Random versions of few keys, in the order of a table.
+/// Returns random versions of few keys, in the order of a table.
 pub fn random_entries(seed: u64, count: usize) -> Entries {
     spaced_entries(seed, count, 0, 1)
 }
 
-/// The same with numbers above one, that are so far apart.
+/// Returns such entries with sequence numbers above one number, and a step apart.
 pub fn spaced_entries(seed: u64, count: usize, above: SeqNo, step: SeqNo) -> Entries {
     let mut dice = Dice::new(seed);
     let mut entries = Entries::new();
@@ -59,7 +59,7 @@ pub fn items(entries: &Entries) -> Vec<InternalValue> {
         .collect()
 }
 
-/// The newest version of a key below a number.
+/// Returns the newest version of a key below a sequence number.
 pub fn newest(entries: &Entries, key: &[u8], seqno: SeqNo) -> Option<InternalValue> {
     let below = seqno.checked_sub(1)?;
     let from = (key.to_vec(), Reverse(below));
@@ -68,7 +68,7 @@ pub fn newest(entries: &Entries, key: &[u8], seqno: SeqNo) -> Option<InternalVal
         .then(|| InternalValue::from_components(key, entry.1.clone(), found.1 .0, entry.0))
 }
 
-/// Small blocks, with and without partitions and a filter.
+/// Returns options for small blocks, with and without partitions and a filter.
 pub fn small(seed: u64) -> Options {
     Options {
         id: seed,
@@ -88,7 +88,7 @@ where
     range.map(Result::unwrap).collect()
 }
 
-/// Of each key the newest version below a number, in order.
+/// Returns the newest version of each key below a sequence number, in order.
 pub fn seen(entries: &Entries, seqno: SeqNo) -> Vec<InternalValue> {
     let mut found = Entries::new();
     let mut last = None;
@@ -101,7 +101,7 @@ pub fn seen(entries: &Entries, seqno: SeqNo) -> Vec<InternalValue> {
     items(&found)
 }
 
-/// What a compaction keeps of entries.
+/// Returns the entries that a compaction keeps of sorted entries.
 pub fn kept(entries: &Entries, by: &Compaction) -> Vec<InternalValue> {
     let mut of_keys: BTreeMap<Vec<u8>, Vec<InternalValue>> = BTreeMap::new();
     for item in items(entries) {
@@ -136,7 +136,7 @@ pub fn write(options: &Options, items: &[InternalValue]) -> FinishedTable {
     writer.finish().unwrap().expect("entries were written")
 }
 
-/// Keys of some entries, and some that none has.
+/// Returns the keys of some entries, and some that none has.
 pub fn keys(entries: &Entries) -> Vec<Vec<u8>> {
     let mut keys: Vec<_> = entries.keys().map(|(key, _)| key.clone()).collect();
     keys.dedup();

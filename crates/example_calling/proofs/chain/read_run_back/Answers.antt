@@ -1,9 +1,9 @@
 use Rattle.std.proofs.Common.{◌∙◌, ap, sym, ℕ}
 use Rattle.std.specs.Prelude.{Option}
 use Rattle.sst_entries.proofs.Refusals.{faults_memory}
-use Rattle.lsm_compactions.specs.Chain.{chain_fault}
-use Rattle.lsm_compactions.proofs.Compactable.{some_listed}
-use Rattle.lsm_compactions.proofs.RunWriting.{wants}
+use Rattle.lsm_runs.specs.compaction.Chain.{chain_fault}
+use Rattle.lsm_runs.proofs.Compactable.{some_listed}
+use Rattle.lsm_runs.proofs.RunWriting.{wants}
 use Rattle.example_calling.proofs.chain.read_run_back.Goals as goal
 
 pub returns-in_err-read_run-in-Some-clause-taken : goal.returns-in_err-read_run-in-Some-clause-taken

@@ -2,13 +2,13 @@ use Rattle.std.proofs.Common.{◌≡◌, ◌∙◌, ap, subst, List, [], ◌∷�
 use Rattle.std.specs.Prelude.{IfSome, MatchOption}
 use Rattle.sst_entries.specs.Entry.{Entry}
 use Rattle.sst_entries.proofs.Refusals.{faults_refusal}
-use Rattle.lsm_readers.specs.Table.{OpenTable}
+use Rattle.lsm_readers.specs.point.Table.{OpenTable}
 use Rattle.lsm_sorted.specs.Compaction.{kept, unfiltered}
-use Rattle.lsm_compactions.specs.Chain.{FitsAsTables, IsRunOfList, tables_fault}
-use Rattle.lsm_compactions.proofs.Compactable.{run_listed}
-use Rattle.lsm_compactions.proofs.CompactedBack.{fault_alone, kept_alone}
-use Rattle.lsm_compactions.proofs.RunBack.{run_held}
-use Rattle.lsm_compactions.proofs.RunWriting.{wants}
+use Rattle.lsm_runs.specs.compaction.Chain.{FitsAsTables, IsRunOfList, tables_fault}
+use Rattle.lsm_runs.proofs.Compactable.{run_listed}
+use Rattle.lsm_runs.proofs.CompactedBack.{fault_alone, kept_alone}
+use Rattle.lsm_runs.proofs.RunBack.{run_held}
+use Rattle.lsm_runs.proofs.RunWriting.{wants}
 use Rattle.example_calling.proofs.compacted.compact_alone.Goals as goal
 
 pub returns-in_err-compacted-clause-taken : goal.returns-in_err-compacted-clause-taken

@@ -1,7 +1,7 @@
 use Rattle.sst_entries.proofs.Refusals.{faults_refusal, faults_memory}
 use Rattle.lsm_sorted.specs.Compaction.{kept, unfiltered}
-use Rattle.lsm_compactions.specs.Chain.{both_fault}
-use Rattle.lsm_compactions.proofs.CompactedBack.{unlifted}
+use Rattle.lsm_runs.specs.compaction.Chain.{both_fault}
+use Rattle.lsm_runs.proofs.CompactedBack.{unlifted}
 use Rattle.example_calling.proofs.compacted.compact_run_back.Goals as goal
 
 pub returns-in_ok-read_run-in-Some-clause-list : goal.returns-in_ok-read_run-in-Some-clause-list

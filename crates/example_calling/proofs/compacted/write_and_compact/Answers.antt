@@ -1,10 +1,10 @@
 use Rattle.std.proofs.Common.{◌∙◌, ap, sym, subst, ℕ, length}
 use Rattle.std.specs.Prelude.{Option}
-use Rattle.lsm_compactions.specs.Chain.{FitsAsTables, both_fault, ids_behind}
-use Rattle.lsm_compactions.proofs.CompactedBack.{first_refused, fits_behind, none_refused}
-use Rattle.lsm_compactions.proofs.CompactedBack.{small_numbers, then_refused}
-use Rattle.lsm_compactions.proofs.CompactedBack.{written_run_is_compactable}
-use Rattle.lsm_compactions.proofs.RunWriting.{wants}
+use Rattle.lsm_runs.specs.compaction.Chain.{FitsAsTables, both_fault, ids_behind}
+use Rattle.lsm_runs.proofs.CompactedBack.{first_refused, fits_behind, none_refused}
+use Rattle.lsm_runs.proofs.CompactedBack.{small_numbers, then_refused}
+use Rattle.lsm_runs.proofs.CompactedBack.{written_run_is_compactable}
+use Rattle.lsm_runs.proofs.RunWriting.{wants}
 use Rattle.lsm_sorted.specs.Compaction.{kept, unfiltered}
 use Rattle.sst_entries.proofs.Refusals.{faults_refusal}
 use Rattle.sst_entries.proofs.Lists.{none_of}

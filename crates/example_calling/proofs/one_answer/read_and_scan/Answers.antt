@@ -1,13 +1,13 @@
 use Rattle.std.proofs.Common.{ap, refl}
 use Rattle.sst_entries.proofs.Refusals.{faults_refusal}
 use Rattle.lsm_readers.specs.Scan.{fault_of}
-use Rattle.lsm_compactions.specs.Written.{reads_fault}
+use Rattle.lsm_runs.specs.compaction.Written.{reads_fault}
 use Rattle.sst_entries.specs.Point.{point}
 use Rattle.lsm_writers.proofs.CutTables.{some_length}
-use Rattle.lsm_readers.specs.Answer.{lift}
-use Rattle.lsm_compactions.proofs.Opening.{or_fine, or_first, or_second, reads}
-use Rattle.lsm_compactions.proofs.RunBack.{told_alone}
-use Rattle.lsm_compactions.proofs.RunWriting.{wants}
+use Rattle.lsm_readers.specs.point.Answer.{lift}
+use Rattle.lsm_runs.proofs.Opening.{or_fine, or_first, or_second, reads}
+use Rattle.lsm_runs.proofs.RunBack.{told_alone}
+use Rattle.lsm_runs.proofs.RunWriting.{wants}
 use Rattle.example_calling.proofs.one_answer.read_and_scan.Goals as goal
 
 pub returns-in_err-found-clause-err : goal.returns-in_err-found-clause-err

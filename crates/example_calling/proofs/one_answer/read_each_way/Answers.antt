@@ -1,4 +1,4 @@
-use Rattle.lsm_compactions.proofs.RunWriting.{wants}
+use Rattle.lsm_runs.proofs.RunWriting.{wants}
 use Rattle.example_calling.proofs.one_answer.read_each_way.Goals as goal
 
 pub returns-in_err-read-clause-err : goal.returns-in_err-read-clause-err

@@ -1,5 +1,5 @@
 use Rattle.std.specs.Arc.{arc_value}
-use Rattle.lsm_compactions.specs.Compacted.{kept_in}
+use Rattle.lsm_runs.specs.compaction.Compacted.{kept_in}
 use Rattle.example_calling.proofs.PartRuns.{made_result}
 use Rattle.example_calling.proofs.part.compact_part.Goals as goal
 

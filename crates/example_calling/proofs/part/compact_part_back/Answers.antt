@@ -1,8 +1,8 @@
 use Rattle.std.specs.Prelude.{◌≡◌}
 use Rattle.sst_entries.specs.declared.error.Error.{Error}
 use Rattle.sst_entries.specs.declared.error.Error.TheVariants.{OutOfMemory}
-use Rattle.lsm_compactions.specs.Chain.{tables_fault}
-use Rattle.lsm_compactions.specs.Compacted.{kept_in}
+use Rattle.lsm_runs.specs.compaction.Chain.{tables_fault}
+use Rattle.lsm_runs.specs.compaction.Compacted.{kept_in}
 use Rattle.lsm_runs.proofs.OneList.{beside_ok}
 use Rattle.example_calling.proofs.Beside.{beside_errs, beside_faults, beside_former, beside_later}
 use Rattle.example_calling.proofs.Beside.{beside_tied}

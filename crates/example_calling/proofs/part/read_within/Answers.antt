@@ -1,5 +1,5 @@
 use Rattle.std.proofs.Common.{◌++◌}
-use Rattle.lsm_ranges.proofs.PackLemmas.{if_ok}
+use Rattle.lsm_sorted.proofs.PackLemmas.{if_ok}
 use Rattle.lsm_runs.specs.SeveralRuns.{union_in}
 use Rattle.example_calling.proofs.PartRuns.{same_bounds}
 use Rattle.example_calling.proofs.part.read_within.Goals as goal

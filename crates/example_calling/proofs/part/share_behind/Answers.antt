@@ -1,5 +1,5 @@
 use Rattle.std.specs.Arc.{arc_value}
-use Rattle.logpurple.proofs.Laws.{share_all, share_next, share_none}
+use Rattle.lsm_tables.proofs.TableLaws.{share_all, share_next, share_none}
 use Rattle.example_calling.proofs.part.share_behind.Goals as goal
 
 pub loop-run-init : goal.loop-run-init

@@ -1,10 +1,10 @@
 use Rattle.std.proofs.Common.{◌≡◌, ap, List, [], ◌∷◌}
 use Rattle.std.specs.Prelude.{IfErr, IfOk, None, Ok}
 use Rattle.sst_entries.specs.Error.{Fails}
-use Rattle.lsm_readers.specs.Table.{OpenTable}
+use Rattle.lsm_readers.specs.point.Table.{OpenTable}
 use Rattle.lsm_runs.specs.SeveralRuns.{runs_told}
 use Rattle.example_calling.proofs.OneRun.{of_one, over_one}
-use Rattle.lsm_compactions.proofs.RunBack.{reads_back, run_held}
+use Rattle.lsm_runs.proofs.RunBack.{reads_back, run_held}
 use Rattle.example_calling.proofs.reads.read_run.Goals as goal
 
 pub returns-clause-list : goal.returns-clause-list

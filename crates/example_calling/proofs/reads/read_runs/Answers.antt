@@ -1,7 +1,7 @@
 use Rattle.sst_entries.specs.Point.{point}
 use Rattle.lsm_runs.specs.SeveralRuns.{union_in}
-use Rattle.lsm_compactions.proofs.RunBack.{fails_refusal, memory_fails}
-use Rattle.lsm_compactions.proofs.Opening.{value_of}
+use Rattle.lsm_runs.proofs.RunBack.{fails_refusal, memory_fails}
+use Rattle.lsm_runs.proofs.Opening.{value_of}
 use Rattle.example_calling.proofs.reads.read_runs.Goals as goal
 
 pub returns-clause-list : goal.returns-clause-list

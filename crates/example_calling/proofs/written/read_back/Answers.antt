@@ -1,5 +1,5 @@
 use Rattle.sst_entries.proofs.Refusals.{faults_refusal}
-use Rattle.lsm_compactions.proofs.Opening.{read_alone, reads, scan_alone}
+use Rattle.lsm_runs.proofs.Opening.{read_alone, reads, scan_alone}
 use Rattle.example_calling.proofs.written.read_back.Goals as goal
 
 pub returns-in_err-found-in-Some-clause-refused : goal.returns-in_err-found-in-Some-clause-refused

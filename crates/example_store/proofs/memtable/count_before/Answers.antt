@@ -1,6 +1,6 @@
 use Rattle.std.proofs.Common.{rules}
 use Rattle.std.proofs.lemmas.List.Sorted.{IsPartitionPoint-from_clause}
-use Rattle.logpurple.specs.Words.{Entry, is_before}
+use Rattle.lsm_tables.specs.Words.{Entry, is_before}
 use Rattle.example_store.proofs.Places.{before_cuts, place_is}
 use Rattle.example_store.proofs.memtable.count_before.Goals as goal
 

@@ -1,8 +1,8 @@
 use Rattle.std.proofs.Common.{rules}
 use Rattle.std.specs.Prelude.{not}
 use Rattle.std.proofs.lemmas.List.Sorted.{IsPartitionPoint-from_clause}
-use Rattle.logpurple.specs.Words.{Entry, is_before, read_place}
-use Rattle.logpurple.proofs.Laws.{past_parted}
+use Rattle.lsm_tables.specs.Words.{Entry, is_before, read_place}
+use Rattle.lsm_tables.proofs.TableLaws.{past_parted}
 use Rattle.example_store.proofs.Places.{place_is}
 use Rattle.example_store.proofs.memtable.count_up_to.Goals as goal
 

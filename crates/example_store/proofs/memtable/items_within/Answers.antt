@@ -1,6 +1,6 @@
 use Rattle.std.proofs.Common.{◌≡◌, ap, true, false}
 use Rattle.std.specs.Prelude.{◌&&◌}
-use Rattle.logpurple.specs.Words.{Entry, is_from, is_to}
+use Rattle.lsm_tables.specs.Words.{Entry, is_from, is_to}
 use Rattle.example_store.proofs.Shares.{none_within, one_within}
 use Rattle.example_store.proofs.memtable.items_within.Goals as goal
 

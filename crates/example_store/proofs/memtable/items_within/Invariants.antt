@@ -1,5 +1,5 @@
 use Rattle.std.proofs.Common.{◌≡◌, take}
-use Rattle.logpurple.specs.Words.{ok_results, within}
+use Rattle.lsm_tables.specs.Words.{ok_results, within}
 use Rattle.example_store.proofs.memtable.items_within.Given as goal
 
 abbrev pub invariant-loop-item : goal.invariant-loop-item

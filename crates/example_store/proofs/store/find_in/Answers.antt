@@ -1,7 +1,7 @@
 use Rattle.std.proofs.Common.{◌≡◌, sym, ◌∙◌, ap, subst}
 use Rattle.std.specs.Prelude.{Ok, Option}
 use Rattle.std.specs.Option.{option_or}
-use Rattle.logpurple.specs.Words.{Entry, Gives, point, union_in}
+use Rattle.lsm_tables.specs.Words.{Entry, Gives, point, union_in}
 use Rattle.example_store.proofs.Stories.{point_behind}
 use Rattle.example_store.proofs.store.find_in.Goals as goal
 

@@ -1,7 +1,7 @@
 use Rattle.std.proofs.Common.{◌≡◌, sym, ◌∙◌, rules, subst, ℕ}
 use Rattle.std.specs.Prelude.{IfSome}
 use Rattle.std.specs.Arc.{arc_value}
-use Rattle.logpurple.specs.Words.{AreCutOf, run_label, tables_fault}
+use Rattle.lsm_tables.specs.Words.{AreCutOf, run_label, tables_fault}
 use Rattle.example_store.specs.Story.{IsOwnRun}
 use Rattle.example_store.proofs.Counters.{shared_counter}
 use Rattle.example_store.proofs.Own.{cut_own}

@@ -3,7 +3,7 @@ use Rattle.std.specs.Option.{option_map}
 use Rattle.sst_entries.specs.Entry.{Entry}
 use Rattle.sst_entries.specs.Lending.{came}
 use Rattle.std.proofs.Common.{refl}
-use Rattle.lsm_walks.specs.Walks.{near}
+use Rattle.lsm_iters.specs.walk.Walks.{near}
 use Rattle.lsm_iters.specs.Blocks.{lent_at, range_at}
 use Rattle.lsm_iters.specs.Lending.{lent_in}
 use Rattle.lsm_iters.proofs.Lent.{came_on, ends_err, ends_ok, steps_by, steps_fault, steps_refused}

@@ -1,9 +1,9 @@
 use Rattle.std.proofs.Common.{◌∙◌, ap, arith, length, refl, sym}
 use Rattle.std.specs.Prelude.{Some}
-use Rattle.lsm_walks.specs.Walks.{near}
+use Rattle.lsm_iters.specs.walk.Walks.{near}
 use Rattle.lsm_iters.specs.Blocks.{KeepsBlocks, coming_blocks}
 use Rattle.lsm_iters.specs.Lending.{cursor_remains}
-use Rattle.lsm_walks.proofs.Reaching.{near_keeps, smaller}
+use Rattle.lsm_iters.proofs.Reaching.{near_keeps, smaller}
 use Rattle.lsm_iters.proofs.Cursors.{none_lent}
 use Rattle.lsm_iters.proofs.Lent.{comes_first, comes_on, lends_fault, lends_item, lends_rest}
 use Rattle.lsm_iters.proofs.lending.step.Goals as goal

@@ -5,8 +5,8 @@ use Rattle.sst_blocks.specs.Block.{Loaded, entries_of}
 use Rattle.sst_entries.specs.Entry.{Entry}
 use Rattle.sst_blocks.proofs.LoadLemmas.{data_holds}
 use Rattle.lsm_readers.specs.Scan.{behind}
-use Rattle.lsm_points.specs.Read.{◌>>=◌}
-use Rattle.lsm_points.proofs.Loads.{load_at_kind}
+use Rattle.lsm_readers.specs.point.Read.{◌>>=◌}
+use Rattle.lsm_readers.proofs.Loads.{load_at_kind}
 use Rattle.lsm_readers.proofs.scanner.block_at.Goals as goal
 
 pub new-requires : goal.new-requires

@@ -1,4 +1,4 @@
-use Rattle.lsm_points.proofs.Recovered.{first_from, first_none}
+use Rattle.lsm_readers.proofs.Recovered.{first_from, first_none}
 use Rattle.lsm_readers.proofs.table.fitting_metadata.Goals as goal
 
 pub returns-in_err-metadata-clause-early : goal.returns-in_err-metadata-clause-early

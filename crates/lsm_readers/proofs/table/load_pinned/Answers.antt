@@ -2,15 +2,16 @@ use Rattle.std.proofs.Common.{List, ap, subst, sym, ◌∙◌}
 use Rattle.std.specs.Prelude.{Option, Result, Ok}
 use Rattle.sst_entries.specs.declared.error.Error.{Error}
 use Rattle.sst_entries.specs.Error.{Gives}
-use Rattle.sst_sections.specs.Sections.{body_of}
-use Rattle.sst_filters.specs.Filter.{BloomFilter}
+use Rattle.sst_blocks.specs.Sections.{body_of}
+use Rattle.sst_blocks.specs.filter.Filter.{BloomFilter}
 use Rattle.sst_blocks.specs.Handle.{Handle}
 use Rattle.sst_blocks.specs.Place.{Place}
-use Rattle.lsm_points.specs.declared.pinned.PinnedBlockIndex.{PinnedBlockIndex}
-use Rattle.lsm_points.specs.IndexKinds.{pinned_index_of}
-use Rattle.lsm_points.specs.Parts.{Pinned, filter_told, pinned_told}
-use Rattle.lsm_points.specs.Table.{pinned_of}
-use Rattle.lsm_points.proofs.Steps.{goes_on, fails_here, fails_later, passes_fault, beside_fails, beside_first, beside_gives}
+use Rattle.lsm_readers.specs.declared.pinned.PinnedBlockIndex.{PinnedBlockIndex}
+use Rattle.lsm_readers.specs.point.IndexKinds.{pinned_index_of}
+use Rattle.lsm_readers.specs.point.Parts.{Pinned, filter_told, pinned_told}
+use Rattle.lsm_readers.specs.point.Table.{pinned_of}
+use Rattle.lsm_readers.proofs.Steps.{goes_on, fails_here, fails_later, passes_fault, beside_fails}
+use Rattle.lsm_readers.proofs.Steps.{beside_first, beside_gives}
 use Rattle.lsm_readers.proofs.table.load_pinned.Goals as goal
 
 -- what is told, by what stays loaded

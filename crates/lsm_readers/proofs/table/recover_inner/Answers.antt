@@ -1,16 +1,20 @@
 use Rattle.std.proofs.Common.{ap, sym, ◌∙◌}
 use Rattle.std.proofs.lemmas.Result.{IfOk-from_err}
-use Rattle.sst_sections.specs.Sections.{body_of}
-use Rattle.lsm_points.specs.Meta.{Facts, facts_of, meta_told}
+use Rattle.sst_blocks.specs.Sections.{body_of}
+use Rattle.lsm_readers.specs.point.Meta.{Facts, facts_of, meta_told}
 use Rattle.std.specs.Prelude.{Result, Ok}
 use Rattle.sst_entries.specs.declared.error.Error.{Error}
-use Rattle.lsm_points.specs.declared.meta.ParsedMeta.{ParsedMeta}
-use Rattle.lsm_points.specs.declared.regions.ParsedRegions.{ParsedRegions}
-use Rattle.lsm_points.specs.Parts.{Parts, Pinned, parts_told, facts_fitting, pinned_told, places_told}
-use Rattle.lsm_points.specs.Regions.{regions_told}
-use Rattle.lsm_points.specs.Table.{parts_of, pinned_of}
-use Rattle.lsm_points.proofs.Recovered.{first_from, first_none, places_fine, places_first, places_none}
-use Rattle.lsm_points.proofs.Steps.{goes_on, fails_here, fails_later, passes_fault, both_on, both_fail, both_later, beside_fails, beside_first, beside_gives}
+use Rattle.lsm_readers.specs.declared.meta.ParsedMeta.{ParsedMeta}
+use Rattle.lsm_readers.specs.declared.regions.ParsedRegions.{ParsedRegions}
+use Rattle.lsm_readers.specs.point.Parts.{Parts, Pinned, parts_told, facts_fitting, pinned_told}
+use Rattle.lsm_readers.specs.point.Parts.{places_told}
+use Rattle.lsm_readers.specs.point.Regions.{regions_told}
+use Rattle.lsm_readers.specs.point.Table.{parts_of, pinned_of}
+use Rattle.lsm_readers.proofs.Recovered.{first_from, first_none, places_fine, places_first}
+use Rattle.lsm_readers.proofs.Recovered.{places_none}
+use Rattle.lsm_readers.proofs.Steps.{goes_on, fails_here, fails_later, passes_fault, both_on}
+use Rattle.lsm_readers.proofs.Steps.{both_fail, both_later, beside_fails, beside_first}
+use Rattle.lsm_readers.proofs.Steps.{beside_gives}
 use Rattle.lsm_readers.proofs.table.recover_inner.Goals as goal
 
 abbrev told_parts : Facts → ParsedRegions → Pinned → Result Parts Error

@@ -1,10 +1,10 @@
 use Rattle.std.proofs.Common.{◌≡◌}
-use Rattle.sst_sections.specs.Sections.{body_of}
-use Rattle.sst_sections.specs.declared.section.SectionName.TheVariants.{Tli}
+use Rattle.sst_blocks.specs.Sections.{body_of}
+use Rattle.sst_blocks.specs.declared.section.SectionName.TheVariants.{Tli}
 use Rattle.sst_blocks.specs.declared.block_type.BlockType.TheVariants.{Index}
 use Rattle.lsm_readers.specs.declared.verify.Finding.{Finding}
 use Rattle.lsm_readers.specs.declared.verify.VerifyError.TheVariants.{Found}
-use Rattle.lsm_points.specs.Table.{parts_of}
+use Rattle.lsm_readers.specs.point.Table.{parts_of}
 use Rattle.lsm_readers.specs.Verify.{early_at, filter_places}
 use Rattle.lsm_readers.proofs.VerifyEarly.{filters_behind, filters_first, passes_first}
 use Rattle.lsm_readers.proofs.verify.verify_table.Goals as goal

@@ -2,7 +2,7 @@ use Rattle.std.proofs.Common.{◌∙◌, sym}
 use Rattle.std.specs.Prelude.{Some, Ok, Err}
 use Rattle.std.proofs.lemmas.Result.{err_from_is_err_and}
 use Rattle.sst_entries.specs.declared.stream.Direction.TheVariants.{Front}
-use Rattle.lsm_walks.proofs.Reaching.{smaller}
+use Rattle.lsm_iters.proofs.Reaching.{smaller}
 use Rattle.lsm_iters.specs.Range.{range_remains}
 use Rattle.lsm_runs.specs.LentRun.{OpensNext}
 use Rattle.lsm_run_parts.specs.Tables.{KeepsTables, coming_tables}

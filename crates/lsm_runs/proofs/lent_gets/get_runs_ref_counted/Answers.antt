@@ -5,7 +5,7 @@ use Rattle.std.specs.Arc.{arc_value}
 use Rattle.std.specs.Prelude.{None}
 use Rattle.sst_blocks.specs.Opened.{none_opened}
 use Rattle.sst_entries.specs.Lending.{entry_of_ref}
-use Rattle.lsm_points.proofs.ReadViews.{first_seen, ok_seen, opens_seen}
+use Rattle.lsm_readers.proofs.ReadViews.{first_seen, ok_seen, opens_seen}
 use Rattle.lsm_runs.specs.RunPlaces.{placed_in_runs}
 use Rattle.lsm_runs.specs.SeveralRuns.{runs_read}
 use Rattle.lsm_runs.proofs.RunPlaces.{lent_does, lent_gives}

@@ -7,10 +7,10 @@ use Rattle.sst_entries.specs.Entry.{Entry}
 use Rattle.sst_blocks.specs.Asked.{told_map}
 use Rattle.sst_blocks.specs.EntryPlace.{entry_placed}
 use Rattle.sst_blocks.specs.Opened.{none_opened}
-use Rattle.lsm_points.proofs.ReadViews.{does_by}
-use Rattle.lsm_readers.specs.Answer.{table_answer}
-use Rattle.lsm_readers.specs.Read.{DoesRead}
-use Rattle.lsm_readers.specs.Table.{OpenTable}
+use Rattle.lsm_readers.proofs.ReadViews.{does_by}
+use Rattle.lsm_readers.specs.point.Answer.{table_answer}
+use Rattle.lsm_readers.specs.point.Read.{DoesRead}
+use Rattle.lsm_readers.specs.point.Table.{OpenTable}
 use Rattle.lsm_runs.specs.RunPlaces.{place_in, placed_in_run}
 use Rattle.lsm_runs.specs.SeveralRuns.{run_read, table_read}
 use Rattle.lsm_runs.proofs.RunPlaces.{all_there, seen_there}

@@ -7,8 +7,8 @@ use Rattle.sst_entries.specs.declared.error.Error.{Error}
 use Rattle.sst_entries.specs.Entry.{Entry}
 use Rattle.sst_entries.specs.Error.{Gives}
 use Rattle.sst_blocks.specs.Opened.{none_opened}
-use Rattle.lsm_points.proofs.ReadViews.{opens_seen}
-use Rattle.lsm_ranges.specs.Run.{IsInOrder}
+use Rattle.lsm_readers.proofs.ReadViews.{opens_seen}
+use Rattle.lsm_sorted.specs.version.Run.{IsInOrder}
 use Rattle.lsm_run_parts.specs.RunParts.{range_of}
 use Rattle.lsm_runs.specs.RunPlaces.{IsThere, placed_in_runs}
 use Rattle.lsm_runs.specs.SeveralRuns.{loads_together, run_read, runs_read}

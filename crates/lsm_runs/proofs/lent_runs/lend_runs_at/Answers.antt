@@ -1,7 +1,7 @@
 use Rattle.std.specs.Prelude.{ℕ, map}
 use Rattle.std.specs.Arc.{arc_value}
 use Rattle.sst_entries.proofs.StreamLemmas.{can_now}
-use Rattle.lsm_ranges.proofs.PackLemmas.{if_ok}
+use Rattle.lsm_sorted.proofs.PackLemmas.{if_ok}
 use Rattle.lsm_runs.specs.LentRun.{RunLends}
 use Rattle.sst_entries.specs.Stream.{back_of}
 use Rattle.lsm_runs.specs.RunRange.{RunGives, back_tables, run_size}

@@ -1,5 +1,5 @@
 use Rattle.std.proofs.Common.{subst}
-use Rattle.lsm_readers.specs.Table.{OpenTable}
+use Rattle.lsm_readers.specs.point.Table.{OpenTable}
 use Rattle.lsm_runs.specs.RunScan.{BeginsScan, early_scan_fault, scan_fault}
 use Rattle.sst_entries.specs.Error.{Faults, FaultsFirst}
 use Rattle.lsm_run_parts.proofs.Places.{same_there}

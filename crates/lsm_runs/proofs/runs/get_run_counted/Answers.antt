@@ -1,9 +1,9 @@
 use Rattle.std.proofs.Common.{subst}
 use Rattle.std.specs.Prelude.{None, Option}
 use Rattle.sst_blocks.specs.Opened.{none_opened}
-use Rattle.lsm_readers.specs.Read.{DoesRead}
-use Rattle.lsm_readers.specs.Table.{OpenTable}
-use Rattle.lsm_points.proofs.ReadLaws.{does_known}
+use Rattle.lsm_readers.specs.point.Read.{DoesRead}
+use Rattle.lsm_readers.specs.point.Table.{OpenTable}
+use Rattle.lsm_readers.proofs.ReadLaws.{does_known}
 use Rattle.lsm_runs.specs.SeveralRuns.{table_read}
 use Rattle.lsm_runs.proofs.RunReads.{few_each, found_is, none_each}
 use Rattle.lsm_runs.proofs.runs.get_run_counted.Goals as goal

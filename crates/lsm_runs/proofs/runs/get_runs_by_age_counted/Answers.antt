@@ -4,7 +4,7 @@ use Rattle.std.specs.Arc.{arc_value}
 use Rattle.sst_entries.specs.declared.error.Error.{Error}
 use Rattle.sst_entries.specs.Entry.{Entry}
 use Rattle.sst_entries.specs.Error.{Gives}
-use Rattle.lsm_ranges.specs.Run.{IsInOrder}
+use Rattle.lsm_sorted.specs.version.Run.{IsInOrder}
 use Rattle.lsm_run_parts.specs.RunParts.{range_of}
 use Rattle.lsm_runs.specs.SeveralRuns.{loads_together, run_read_behind}
 use Rattle.lsm_runs.proofs.ByAge.{age_point}

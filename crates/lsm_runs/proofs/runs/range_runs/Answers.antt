@@ -1,6 +1,6 @@
 use Rattle.sst_entries.specs.Stream.{back_of, front_of}
 use Rattle.sst_entries.proofs.StreamLemmas.{can_now, can_now_back}
-use Rattle.lsm_ranges.proofs.PackLemmas.{if_ok}
+use Rattle.lsm_sorted.proofs.PackLemmas.{if_ok}
 use Rattle.lsm_runs.specs.RunRange.{RunGives, back_tables, front_tables}
 use Rattle.lsm_runs.proofs.RunLaws.{if_ok_both, run_deals}
 use Rattle.lsm_runs.proofs.Together.{all_of, newest_together}

@@ -2,7 +2,7 @@ use Rattle.std.specs.Prelude.{ℕ}
 use Rattle.std.specs.Iterator.{at_most}
 use Rattle.sst_entries.specs.Stream.{back_of, front_of}
 use Rattle.sst_entries.proofs.StreamLemmas.{can_now, can_now_back}
-use Rattle.lsm_ranges.proofs.PackLemmas.{if_ok}
+use Rattle.lsm_sorted.proofs.PackLemmas.{if_ok}
 use Rattle.lsm_sorted.proofs.BelowLemmas.{can_below}
 use Rattle.lsm_runs.specs.RunRange.{RunGives, back_tables, front_tables, run_size}
 use Rattle.lsm_runs.proofs.Numbered.{dealt_as, newest_numbered_of, none_cut, past_as, starts_as}

@@ -3,7 +3,7 @@ use Rattle.std.specs.Prelude.{map, ℕ}
 use Rattle.std.proofs.Common.{◌++◌, ◌∙◌, ap}
 use Rattle.sst_entries.specs.Stream.{back_of, front_of}
 use Rattle.sst_entries.proofs.StreamLemmas.{can_now, can_now_back}
-use Rattle.lsm_ranges.proofs.PackLemmas.{if_ok}
+use Rattle.lsm_sorted.proofs.PackLemmas.{if_ok}
 use Rattle.lsm_sorted.specs.Below.{below_of}
 use Rattle.lsm_runs.specs.RunLists.{single}
 use Rattle.lsm_runs.specs.RunRange.{RunGives, back_tables, front_tables, run_size}

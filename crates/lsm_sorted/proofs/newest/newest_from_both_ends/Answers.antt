@@ -1,7 +1,7 @@
 use Rattle.sst_entries.proofs.StreamLemmas.{can_now, can_now_back}
-use Rattle.lsm_merge.specs.MergeLaws.{every_error}
-use Rattle.lsm_merge.specs.Union.{union_of}
-use Rattle.lsm_merge.proofs.UnionLemmas.{merged_union}
+use Rattle.lsm_sorted.specs.merge.MergeLaws.{every_error}
+use Rattle.lsm_sorted.specs.merge.Union.{union_of}
+use Rattle.lsm_sorted.proofs.UnionLemmas.{merged_union}
 use Rattle.lsm_sorted.proofs.GapLemmas.{merges_up_to_gap}
 use Rattle.lsm_sorted.proofs.NewestPast.{answers_newest, merger_read, starts_read}
 use Rattle.lsm_sorted.proofs.newest.newest_from_both_ends.Goals as goal

@@ -1,6 +1,6 @@
 use Rattle.sst_entries.specs.Stream.{nowhere}
-use Rattle.lsm_merge.specs.MergeLaws.{every_error}
-use Rattle.lsm_merge.specs.Union.{union_of}
+use Rattle.lsm_sorted.specs.merge.MergeLaws.{every_error}
+use Rattle.lsm_sorted.specs.merge.Union.{union_of}
 use Rattle.lsm_sorted.proofs.GapLemmas.{merges_up_to_gap}
 use Rattle.lsm_sorted.proofs.NewestPast.{answers_newest, never_called}
 use Rattle.lsm_sorted.proofs.newest.newest_of.Goals as goal

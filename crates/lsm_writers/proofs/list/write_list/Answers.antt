@@ -5,7 +5,7 @@ use Rattle.std.specs.Prelude.{Option, None}
 use Rattle.std.specs.Option.{option_or}
 use Rattle.sst_entries.specs.declared.error.Error.{Error}
 use Rattle.sst_entries.specs.Entry.{Entry}
-use Rattle.lsm_formats.specs.Options.{label_of}
+use Rattle.sst_blocks.specs.table.Options.{label_of}
 use Rattle.lsm_writers.specs.Writing.{IsWritable, Writing, new_writing, spills_of, written, write_fault, writing_fault, may_be_written, gained, list_fault}
 use Rattle.sst_entries.specs.Error.{is_memory, Faults}
 use Rattle.lsm_writers.proofs.ListWriting.{listed_follows, no_spills, written_gained, same_label, same_spills, table_by}

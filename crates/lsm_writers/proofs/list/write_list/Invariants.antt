@@ -1,5 +1,5 @@
 use Rattle.std.proofs.Common.{◌≡◌, [], ◌++◌}
-use Rattle.lsm_formats.specs.Options.{default_options, label_of}
+use Rattle.sst_blocks.specs.table.Options.{default_options, label_of}
 use Rattle.lsm_writers.specs.Writing.{list_fault, spills_of, written, writing_fault}
 use Rattle.lsm_writers.proofs.list.write_list.Given as goal
 

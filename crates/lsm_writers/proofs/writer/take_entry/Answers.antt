@@ -4,7 +4,7 @@ use Rattle.sst_blocks.specs.Encoding.{entries_fault}
 use Rattle.sst_entries.specs.Entry.{Entry}
 use Rattle.sst_entries.specs.Lending.{entry_of_ref}
 use Rattle.sst_entries.specs.Strict.{IsStrict}
-use Rattle.lsm_formats.specs.Chunks.{joined}
+use Rattle.sst_blocks.specs.table.Chunks.{joined}
 use Rattle.lsm_writers.proofs.Taking.{given_up, taken_full, taken_unfilled}
 use Rattle.lsm_writers.proofs.writer.take_entry.Goals as goal
 

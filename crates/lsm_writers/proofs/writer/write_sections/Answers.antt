@@ -1,11 +1,11 @@
-use Rattle.lsm_section_writers.specs.IndexEither.{registered_by}
-use Rattle.lsm_formats.specs.Chunks.{joined}
-use Rattle.lsm_formats.specs.Filters.{filtered_keys}
-use Rattle.lsm_formats.specs.Index.{data_section}
-use Rattle.lsm_formats.specs.Kinds.{index_parts}
+use Rattle.lsm_writers.specs.section.IndexEither.{registered_by}
+use Rattle.sst_blocks.specs.table.Chunks.{joined}
+use Rattle.sst_blocks.specs.table.Filters.{filtered_keys}
+use Rattle.sst_blocks.specs.table.Index.{data_section}
+use Rattle.sst_blocks.specs.table.Kinds.{index_parts}
 use Rattle.std.specs.Prelude.{length}
-use Rattle.sst_sections.specs.declared.version.TableVersion.TheVariants.{V4}
-use Rattle.lsm_section_writers.proofs.Behind.{faults_none}
+use Rattle.sst_blocks.specs.declared.version.TableVersion.TheVariants.{V4}
+use Rattle.lsm_writers.proofs.Behind.{faults_none}
 use Rattle.lsm_writers.proofs.Finishing.{sections_fit, sections_written}
 use Rattle.lsm_writers.proofs.Starting.{no_meta_yet, no_version_yet}
 use Rattle.lsm_writers.proofs.writer.write_sections.Goals as goal

@@ -3,10 +3,10 @@ use Rattle.std.proofs.Common.{◌≡◌, ℕ, List, inl, inr, refl, subst, sym}
 use Rattle.std.specs.Prelude.{Ok, None, Option, is_some}
 use Rattle.std.specs.List.{AllByRecursion}
 use Rattle.std.specs.Global.{Global}
-use Rattle.lsm_ranges.specs.Run.{IsInOrder}
-use Rattle.lsm_runs.specs.RunParts.{range_of}
+use Rattle.lsm_sorted.specs.version.Run.{IsInOrder}
+use Rattle.lsm_run_parts.specs.RunParts.{range_of}
 use Rattle.lsm_runs.specs.SeveralRuns.{runs_told}
-use Rattle.logpurple.specs.Words.{Entry}
+use Rattle.lsm_tables.specs.Words.{Entry}
 use Rattle.tool_lines.specs.Escapes.{WordMeans}
 use Rattle.tool_show.specs.Failures.{NamesFaulty}
 use Rattle.tool_show.specs.Files.{runs_in}

@@ -1,6 +1,6 @@
 use Rattle.std.proofs.Common.{ℕ, List, false, subst}
 use Rattle.std.specs.Prelude.{Err}
-use Rattle.logpurple.specs.Words.{Gives, OpenTable, recovered_told}
+use Rattle.lsm_tables.specs.Words.{Gives, OpenTable, recovered_told}
 use Rattle.sst.proofs.Files.{no_table}
 use Rattle.sst.proofs.show.verify_bytes.Goals as goal
 

@@ -1,6 +1,6 @@
 use Rattle.std.proofs.Common.{◌≡◌, ◌+◌, ◌⊎◌, ℕ, List, Bool, refl, true, false, ap, subst, sym, ◌∙◌, inl, inr}
 use Rattle.std.specs.Prelude.{is_some, not, IfErr, IfOk, IsTrue, Option, Some, None, Result, Ok, Err, if◌then◌else◌}
-use Rattle.sst_sections.specs.Version.{key_width}
+use Rattle.sst_blocks.specs.Version.{key_width}
 use Rattle.sst_entries.specs.declared.error.Error.{Error}
 use Rattle.sst_entries.specs.declared.error.Error.TheVariants.{InvalidBlock}
 use Rattle.sst_entries.specs.Error.{Faults, is_memory}

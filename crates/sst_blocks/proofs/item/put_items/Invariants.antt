@@ -1,6 +1,6 @@
 use Rattle.std.proofs.Common.{◌≡◌, ◌++◌, length, take}
 use Rattle.std.specs.List.{flat_map, AllByRecursion}
-use Rattle.sst_sections.specs.Number.{le4}
+use Rattle.sst_blocks.specs.Number.{le4}
 use Rattle.sst_blocks.proofs.item.put_items.Given as goal
 
 abbrev pub invariant-loop-item : goal.invariant-loop-item

@@ -1,7 +1,7 @@
 use Rattle.std.proofs.Common.{◌≡◌, ◌<◌, length, refl, rules, arith, true, false, Some, None}
 use Rattle.std.specs.Option.{option_map}
 use Rattle.std.proofs.lemmas.List.{take_rest}
-use Rattle.sst_sections.specs.Number.{num4}
+use Rattle.sst_blocks.specs.Number.{num4}
 use Rattle.sst_entries.specs.Strict.{may_follow}
 use Rattle.sst_blocks.proofs.Items.{walk_begins, walk_on, walk_ends, walk_missing, walk_tested, walk_unordered, walk_over}
 use Rattle.sst_blocks.proofs.reading.starts_in.Goals as goal

@@ -23,7 +23,7 @@ use Rattle.std.proofs.raw_atomic.Walks.{proved_at, leaves}
 use Rattle.std.proofs.alloc.Global.TheLaws as heap_laws
 use Rattle.std.specs.declared.option.Option.{Option}
 use Rattle.std.specs.declared.option.Option.TheVariants.{None}
-use Rattle.loose_boxes.proofs.Values.{both}
+use Rattle.sst_c.proofs.LooseValues.{both}
 use Rattle.sst_c.proofs.Values.{R, Z, handle_in, handle_good}
 use Rattle.sst_c.specs.contracts.boxed.bare.{ended, clauses}
 use Rattle.sst_c.specs.contracts.boxed.bare.Key.{name as #self}

@@ -22,7 +22,7 @@ use Rattle.std.proofs.alloc.Global.TheLaws as heap_laws
 use Rattle.std.specs.declared.option.Option.{Option}
 use Rattle.std.specs.declared.option.Option.TheVariants.{Some}
 use Rattle.std.specs.contracts.impls.GlobalAllocator.TheImpl.{ghosts}
-use Rattle.loose_boxes.proofs.Values.{both, Loose, loose_good, loose_out}
+use Rattle.sst_c.proofs.LooseValues.{both, Loose, loose_good, loose_out}
 use Rattle.sst_c.proofs.Values.{R, Z, handle_in, handle_good}
 use Rattle.sst_c.specs.contracts.boxed.hold.{ended, clauses}
 use Rattle.sst_c.specs.contracts.boxed.hold.Key.{name as #self}

@@ -29,7 +29,7 @@ use Rattle.std.proofs.alloc.Global.TheLaws as heap_laws
 use Rattle.std.specs.declared.option.Option.{Option}
 use Rattle.std.specs.declared.option.Option.TheVariants.{None, Some}
 use Rattle.std.specs.contracts.impls.GlobalAllocator.TheImpl.{ghosts}
-use Rattle.loose_boxes.proofs.Values.{both, Loose, loose_good, loose_in}
+use Rattle.sst_c.proofs.LooseValues.{both, Loose, loose_good, loose_in}
 use Rattle.sst_c.proofs.Values.{R, Z, Hr, handle_out, handle_good}
 use Rattle.sst_c.specs.contracts.boxed.release.{ended, clauses}
 use Rattle.sst_c.specs.contracts.boxed.release.Key.{name as #self}

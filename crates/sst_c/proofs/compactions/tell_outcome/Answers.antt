@@ -1,8 +1,8 @@
 use Rattle.std.proofs.Common.{Result, Ok, subst, sym}
 use Rattle.std.specs.Global.{Global}
 use Rattle.sst_entries.specs.declared.error.Error.{Error}
-use Rattle.lsm_compactions.specs.declared.any_runs.CompactionOutcome.{CompactionOutcome}
-use Rattle.lsm_compactions.specs.declared.any_runs.CompactionOutcome.TheVariants.{Tables}
+use Rattle.lsm_runs.specs.declared.compaction.any_runs.CompactionOutcome.{CompactionOutcome}
+use Rattle.lsm_runs.specs.declared.compaction.any_runs.CompactionOutcome.TheVariants.{Tables}
 use Rattle.sst_c.specs.Compact.{TellsOutcome}
 use Rattle.sst_c.proofs.Compacting.{outcome_tables}
 use Rattle.sst_c.proofs.compactions.tell_outcome.Goals as goal

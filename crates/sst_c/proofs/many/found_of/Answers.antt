@@ -1,5 +1,5 @@
 use Rattle.std.proofs.Common.{◌∙◌}
-use Rattle.lsm_readers.specs.Many.{found_told}
+use Rattle.lsm_readers.specs.point.Many.{found_told}
 use Rattle.lsm_readers.specs.Words.{lift}
 use Rattle.sst_c.specs.Many.{keys_cut}
 use Rattle.sst_c.proofs.ManyFound.{counted, list_given}

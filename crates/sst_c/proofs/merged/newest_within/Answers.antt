@@ -1,5 +1,5 @@
 use Rattle.std.proofs.Common.{List, subst, sym}
-use Rattle.lsm_ranges.specs.Packing.{AreInOrder}
+use Rattle.lsm_sorted.specs.version.Packing.{AreInOrder}
 use Rattle.lsm_readers.specs.Words.{OpenTable}
 use Rattle.lsm_runs.specs.Words.{RunsHoldLists, range_of}
 use Rattle.sst_c.proofs.merged.newest_within.Goals as goal

@@ -1,6 +1,6 @@
 use Rattle.std.proofs.Common.{◌∙◌, ap}
-use Rattle.lsm_ranges.specs.Packing.{tables_in}
-use Rattle.lsm_compactions.proofs.PackingRuns.{formed}
+use Rattle.lsm_sorted.specs.version.Packing.{tables_in}
+use Rattle.lsm_runs.proofs.PackingRuns.{formed}
 use Rattle.lsm_runs.specs.Words.{range_of}
 use Rattle.sst_c.proofs.Alone.{packed_all}
 use Rattle.sst_c.proofs.packed.packing_of.Goals as goal

@@ -1,7 +1,7 @@
 use Rattle.std.proofs.Common.{◌≡◌, [], List, None, Ok, ◌∙◌, subst, sym}
 use Rattle.std.specs.Prelude.{map}
 use Rattle.std.specs.Arc.{arc_value}
-use Rattle.lsm_ranges.specs.Packing.{AreInOrder}
+use Rattle.lsm_sorted.specs.version.Packing.{AreInOrder}
 use Rattle.lsm_readers.specs.Words.{Entry, OpenTable, point}
 use Rattle.lsm_runs.specs.Words.{RunsHoldLists, range_of, runs_read, runs_told, union_in}
 use Rattle.sst_c.specs.Codes.{TellsFirst}

@@ -1,5 +1,5 @@
 use Rattle.std.proofs.Common.{◌∙◌, subst, sym}
-use Rattle.sst_sections.specs.Sections.{body_of}
+use Rattle.sst_blocks.specs.Sections.{body_of}
 use Rattle.lsm_readers.specs.Findings.{IsFirstFinding}
 use Rattle.lsm_readers.specs.Verify.{table_early, table_found}
 use Rattle.sst_c.specs.Verify.{TellsCounts, TellsFinding, TellsWrong, VerifyAnswers, verify_code, verify_told}

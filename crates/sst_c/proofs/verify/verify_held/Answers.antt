@@ -1,5 +1,5 @@
 use Rattle.std.proofs.Common.{subst, sym}
-use Rattle.sst_sections.specs.Sections.{body_of}
+use Rattle.sst_blocks.specs.Sections.{body_of}
 use Rattle.lsm_readers.specs.Findings.{IsFirstFinding}
 use Rattle.lsm_readers.specs.Verify.{table_early}
 use Rattle.lsm_readers.specs.Words.{OpenTable, StoresList}

@@ -1,6 +1,6 @@
 use Rattle.std.proofs.Common.{◌≡◌, ◌∙◌, ap, sym, subst, refl, List, ℕ, [], ◌∷◌, rules}
 use Rattle.std.specs.Prelude.{codes, None}
-use Rattle.lsm_ranges.specs.KeyRange.{key_bound}
+use Rattle.lsm_sorted.specs.version.KeyRange.{key_bound}
 use Rattle.sst_script.specs.Command.{words_of, Limits}
 use Rattle.sst_script.proofs.CommandLemmas.{limit_word, parts, one_word}
 use Rattle.sst_script.proofs.command.parse_range.Goals as goal

@@ -2,8 +2,8 @@ use Rattle.std.proofs.Common.{refl, []}
 use Rattle.std.specs.Prelude.{map}
 use Rattle.std.specs.Arc.{arc_value}
 use Rattle.sst_entries.specs.Point.{within}
-use Rattle.lsm_merge.specs.Union.{newest}
-use Rattle.lsm_ranges.specs.KeyRange.{key_bound}
+use Rattle.lsm_sorted.specs.merge.Union.{newest}
+use Rattle.lsm_sorted.specs.version.KeyRange.{key_bound}
 use Rattle.sst_script.specs.Runs.{union}
 use Rattle.sst_script.proofs.RunLemmas.{range_deals}
 use Rattle.sst_script.proofs.runs.newest_entries.Goals as goal

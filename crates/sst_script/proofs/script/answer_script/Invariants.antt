@@ -1,7 +1,7 @@
 use Rattle.std.specs.Prelude.{map}
 use Rattle.std.specs.Arc.{arc_value}
 use Rattle.std.specs.Io.Buffered.{reader_remaining}
-use Rattle.lsm_compactions.specs.Compacted.{AreCompactable}
+use Rattle.lsm_runs.specs.compaction.Compacted.{AreCompactable}
 use Rattle.sst_script.specs.Runs.{HasRuns}
 use Rattle.sst_script.specs.Script.{store}
 use Rattle.sst_script.proofs.ScriptLemmas.{IsAt}

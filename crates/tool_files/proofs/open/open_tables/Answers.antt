@@ -1,6 +1,6 @@
 use Rattle.std.proofs.Common.{◌≡◌, ◌∙◌, ◌∷◌, ◌+◌, [], ap, length-append, ℕ}
-use Rattle.logpurple.proofs.Laws.{all_append}
-use Rattle.logpurple.specs.Words.{OpenTable}
+use Rattle.lsm_tables.proofs.TableLaws.{all_append}
+use Rattle.lsm_tables.specs.Words.{OpenTable}
 use Rattle.tool_files.specs.Opened.{IsToldByBytes}
 use Rattle.tool_files.proofs.Opened.{opened_more, stops_opening, told_memory}
 use Rattle.tool_files.proofs.open.open_tables.Goals as goal

@@ -2,14 +2,15 @@ use Rattle.std.proofs.Common.{◌≡◌, ◌∙◌, ap, map, rules, subst, sym, 
 use Rattle.std.specs.Option.{MatchOption}
 use Rattle.std.specs.Prelude.{None, Option, Some}
 use Rattle.std.specs.Arc.{arc_value}
-use Rattle.lsm_compactions.specs.OpenedBy.{AreOpenedBy, HasRunBy, default_opening}
-use Rattle.lsm_compactions.specs.declared.any_runs.CompactionOutcome.{CompactionOutcome}
-use Rattle.lsm_compactions.specs.declared.any_runs.CompactionOutcome.TheVariants.{OutOfOrder, Stopped}
-use Rattle.lsm_compactions.specs.declared.any_runs.CompactionOutcome.TheVariants.{Tables}
+use Rattle.lsm_runs.specs.compaction.OpenedBy.{AreOpenedBy, HasRunBy, default_opening}
+use Rattle.lsm_runs.specs.declared.compaction.any_runs.CompactionOutcome.{CompactionOutcome}
+use Rattle.lsm_runs.specs.declared.compaction.any_runs.CompactionOutcome.TheVariants.{OutOfOrder}
+use Rattle.lsm_runs.specs.declared.compaction.any_runs.CompactionOutcome.TheVariants.{Stopped}
+use Rattle.lsm_runs.specs.declared.compaction.any_runs.CompactionOutcome.TheVariants.{Tables}
 use Rattle.lsm_writers.specs.Tables.{TablesWriting}
 use Rattle.lsm_writers.specs.declared.writer.FinishedTable.{FinishedTable}
-use Rattle.logpurple.specs.Words.{AreCompactable, AreTablesBy, CameInOrder, HasMade, OpenTable}
-use Rattle.logpurple.specs.Words.{RunsHoldLists, kept_in}
+use Rattle.lsm_tables.specs.Words.{AreCompactable, AreTablesBy, CameInOrder, HasMade, OpenTable}
+use Rattle.lsm_tables.specs.Words.{RunsHoldLists, kept_in}
 use Rattle.tool_make.specs.Compacted.{HasCount, counted, each_alone}
 use Rattle.tool_make.proofs.compact.compact_tables.Goals as goal
 

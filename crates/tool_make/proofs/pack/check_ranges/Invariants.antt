@@ -1,5 +1,5 @@
 use Rattle.std.proofs.Common.{take}
-use Rattle.lsm_ranges.specs.Packing.{AreTablesWellFormed}
+use Rattle.lsm_sorted.specs.version.Packing.{AreTablesWellFormed}
 use Rattle.tool_make.proofs.pack.check_ranges.Given as goal
 
 abbrev pub invariant-loop-place : goal.invariant-loop-place

@@ -1,8 +1,8 @@
 use Rattle.std.proofs.Common.{◌≡◌}
 use Rattle.std.specs.Prelude.{List}
-use Rattle.lsm_compactions.specs.AnyRuns.{DealsResults}
-use Rattle.lsm_merge.specs.Ends.{R}
-use Rattle.lsm_merge.specs.Union.{errors_among}
+use Rattle.lsm_runs.specs.compaction.AnyRuns.{DealsResults}
+use Rattle.lsm_sorted.specs.merge.Ends.{R}
+use Rattle.lsm_sorted.specs.merge.Union.{errors_among}
 use Rattle.lsm_readers.specs.Scan.{ScansLent, scan_size}
 use Rattle.tool_make.proofs.scanned.first_refusal.Given as goal
 

@@ -4,9 +4,9 @@ use Rattle.std.specs.Option.{option_map}
 use Rattle.sst_entries.specs.Point.{read_place}
 use Rattle.sst_entries.specs.Stream.{up_to_error}
 use Rattle.sst_entries.specs.Strict.{is_strict_after}
-use Rattle.lsm_compactions.specs.AnyRuns.{DealsResults}
-use Rattle.lsm_merge.specs.Ends.{R}
-use Rattle.lsm_merge.specs.Union.{entries_among}
+use Rattle.lsm_runs.specs.compaction.AnyRuns.{DealsResults}
+use Rattle.lsm_sorted.specs.merge.Ends.{R}
+use Rattle.lsm_sorted.specs.merge.Union.{entries_among}
 use Rattle.lsm_readers.specs.Scan.{ScansLent, scan_size}
 use Rattle.tool_make.specs.Scanned.{come_in_order}
 use Rattle.tool_make.proofs.scanned.is_in_order.Given as goal

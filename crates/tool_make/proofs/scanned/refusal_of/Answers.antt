@@ -1,7 +1,7 @@
 use Rattle.std.proofs.Common.{◌≡◌, sym}
 use Rattle.std.specs.Prelude.{None, Some}
 use Rattle.sst_entries.specs.Stream.{ok_results}
-use Rattle.lsm_readers.specs.Answer.{lift}
+use Rattle.lsm_readers.specs.point.Answer.{lift}
 use Rattle.lsm_runs.specs.RunScan.{table_scan}
 use Rattle.tool_make.proofs.Scanning.{only_memory, refused_first, scan_refused}
 use Rattle.tool_make.proofs.scanned.refusal_of.Goals as goal

@@ -1,4 +1,4 @@
-use Rattle.sst_sections.specs.Sections.{body_of}
+use Rattle.sst_blocks.specs.Sections.{body_of}
 use Rattle.tool_show.specs.Faults.{partition}
 use Rattle.tool_show.proofs.BlockLemmas.{grown_more}
 use Rattle.tool_show.proofs.blocks.add_below.Goals as goal

@@ -3,7 +3,7 @@ use Rattle.std.proofs.Common.{◌≡◌, false, rules, subst, sym, List}
 use Rattle.std.specs.Option.{option_map}
 use Rattle.std.specs.Prelude.{Some}
 use Rattle.sst_entries.specs.declared.error.Error.{Error}
-use Rattle.sst_sections.specs.Sections.{body_of}
+use Rattle.sst_blocks.specs.Sections.{body_of}
 use Rattle.lsm_readers.specs.declared.verify.Finding.{Finding}
 use Rattle.tool_show.specs.Faults.{block_fault, is_told}
 use Rattle.tool_show.specs.Lines.{AreJoined, IsUnloadedLine, PrintsText}

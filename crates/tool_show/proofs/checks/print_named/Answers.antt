@@ -1,6 +1,6 @@
 use Rattle.std.proofs.Common.{◌≡◌, rules, subst, List, ℕ}
 use Rattle.std.specs.Prelude.{OnOk, Some}
-use Rattle.sst_sections.specs.Sections.{body_of}
+use Rattle.sst_blocks.specs.Sections.{body_of}
 use Rattle.tool_show.specs.Faults.{further_faults, named_blocks}
 use Rattle.tool_show.specs.Lines.{AreJoined, IsUnloadedLine, PrintsText}
 use Rattle.tool_show.specs.declared.blocks.NamedBlock.{NamedBlock}

@@ -1,6 +1,6 @@
 use denote.Ref.{Bor}
 use Rattle.std.specs.Option.{option_map}
-use Rattle.sst_sections.specs.Sections.{body_of}
+use Rattle.sst_blocks.specs.Sections.{body_of}
 use Rattle.lsm_readers.specs.declared.verify.Finding.{Finding}
 use Rattle.tool_show.specs.Faults.{further_fault}
 use Rattle.tool_show.specs.Lines.{IsUnloadedLine}

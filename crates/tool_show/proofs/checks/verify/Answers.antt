@@ -1,6 +1,6 @@
 use Rattle.std.proofs.Common.{◌≡◌}
 use Rattle.std.specs.Prelude.{Err, Ok}
-use Rattle.sst_sections.specs.Sections.{body_of}
+use Rattle.sst_blocks.specs.Sections.{body_of}
 use Rattle.lsm_readers.specs.Verify.{table_found}
 use Rattle.lsm_readers.specs.declared.verify.VerifyError.TheVariants.{Found}
 use Rattle.tool_show.proofs.CheckLemmas.{checks_faulty, checks_sound}

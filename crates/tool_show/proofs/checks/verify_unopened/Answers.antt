@@ -1,8 +1,8 @@
 use Rattle.std.proofs.Common.{◌≡◌, rules, subst, List, ℕ}
 use Rattle.std.specs.Prelude.{None, OnOk, Some}
 use Rattle.sst_entries.specs.declared.error.Error.{Error}
-use Rattle.sst_sections.specs.Sections.{body_of, trailer_fault}
-use Rattle.lsm_readers.specs.Parts.{places_told}
+use Rattle.sst_blocks.specs.Sections.{body_of, trailer_fault}
+use Rattle.lsm_readers.specs.point.Parts.{places_told}
 use Rattle.tool_show.specs.Faults.{faults_in}
 use Rattle.tool_show.specs.Lines.{AreJoined, IsUnloadedLine, PrintsText}
 use Rattle.tool_show.specs.declared.places.BlockPlace.{BlockPlace}

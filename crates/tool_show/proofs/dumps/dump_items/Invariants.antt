@@ -2,7 +2,7 @@
 use Rattle.std.proofs.Common.{Bool, List}
 use Rattle.sst_entries.specs.Stream.{CanDeal, Deals, answer_stops}
 use Rattle.sst_entries.specs.declared.error.Error.{Error}
-use Rattle.lsm_block_indexes.specs.Dealt.{DealsEnding}
+use Rattle.lsm_iters.specs.block_index.Dealt.{DealsEnding}
 use Rattle.tool_show.proofs.DumpLemmas.{Prints}
 use Rattle.tool_show.proofs.EndingLemmas.{Comes}
 use Rattle.tool_show.specs.Printed.{Outcome, PrintsLines, dumped}

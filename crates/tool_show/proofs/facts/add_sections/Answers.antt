@@ -1,5 +1,5 @@
 use Rattle.std.proofs.Common.{map}
-use Rattle.sst_sections.specs.declared.section.SectionName.TheVariants.{Data}
+use Rattle.sst_blocks.specs.declared.section.SectionName.TheVariants.{Data}
 use Rattle.tool_show.specs.Stats.{named_as, section_place}
 use Rattle.tool_show.proofs.StatLemmas.{gathered_next}
 use Rattle.tool_show.proofs.facts.add_sections.Goals as goal

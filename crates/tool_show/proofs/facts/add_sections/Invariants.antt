@@ -1,7 +1,7 @@
 -- The sections so far were added, where there are such.
 use Rattle.std.proofs.Common.{◌≡◌, ℕ, List, ◌++◌, map, take}
 use Rattle.std.specs.List.{filter_map}
-use Rattle.sst_sections.specs.Sections.{section_in, section_names}
+use Rattle.sst_blocks.specs.Sections.{section_in, section_names}
 use Rattle.tool_show.specs.Stats.{named_as, section_place}
 use Rattle.tool_show.proofs.facts.add_sections.Given as goal
 

@@ -2,7 +2,7 @@ use Rattle.std.proofs.Common.{◌≡◌, ◌∙◌, ap, rules, subst, sym, map}
 use Rattle.std.specs.Prelude.{Err, Result, Some}
 use Rattle.sst_blocks.specs.Handle.{Handle}
 use Rattle.sst_entries.specs.declared.error.Error.{Error}
-use Rattle.lsm_block_indexes.specs.Kinds.{BackGives as B, FrontGives as F}
+use Rattle.lsm_iters.specs.block_index.Kinds.{BackGives as B, FrontGives as F}
 use Rattle.tool_show.specs.Stats.{lies_at}
 use Rattle.tool_show.proofs.EndingLemmas.{came_all, came_error, came_none, came_one, ends_up}
 use Rattle.tool_show.proofs.StatLemmas.{places_one, refused_is}

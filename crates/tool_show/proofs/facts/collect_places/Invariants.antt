@@ -3,9 +3,9 @@ use Rattle.std.proofs.Common.{◌≡◌, List, map}
 use Rattle.std.specs.Prelude.{Result}
 use Rattle.sst_blocks.specs.Handle.{Handle}
 use Rattle.sst_entries.specs.declared.error.Error.{Error}
-use Rattle.lsm_block_indexes.specs.Dealt.{DealsEnding}
-use Rattle.lsm_block_indexes.specs.Kinds.{BackGives, FrontGives, left_of}
-use Rattle.lsm_block_indexes.specs.Left.{left_size}
+use Rattle.lsm_iters.specs.block_index.Dealt.{DealsEnding}
+use Rattle.lsm_iters.specs.block_index.Kinds.{BackGives, FrontGives, left_of}
+use Rattle.lsm_iters.specs.block_index.Left.{left_size}
 use Rattle.tool_show.specs.Stats.{lies_at}
 use Rattle.tool_show.proofs.EndingLemmas.{Came}
 use Rattle.tool_show.proofs.facts.collect_places.Given as goal

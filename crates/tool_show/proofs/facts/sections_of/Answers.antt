@@ -1,7 +1,7 @@
 use Rattle.std.proofs.Common.{◌≡◌, ◌∙◌, ap, rules, List, ◌∷◌, ◌++◌, map, ℕ, length, []}
 use Rattle.std.specs.List.{filter_map}
 use Rattle.std.proofs.lemmas.List.{map-append}
-use Rattle.sst_sections.specs.Sections.{section_in, section_names}
+use Rattle.sst_blocks.specs.Sections.{section_in, section_names}
 use Rattle.tool_show.specs.Stats.{named_as, section_place, trailer_told}
 use Rattle.tool_show.specs.declared.facts.NamedPlace.{NamedPlace}
 use Rattle.tool_show.specs.declared.facts.Place.{Place}

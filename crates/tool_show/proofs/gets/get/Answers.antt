@@ -2,10 +2,10 @@ use Rattle.std.proofs.Common.{◌≡◌, ◌∙◌, List, ap, map, subst, sym}
 use Rattle.std.specs.Prelude.{None}
 use Rattle.std.specs.Arc.{arc_value}
 use Rattle.std.specs.List.{AllByRecursion}
-use Rattle.lsm_ranges.specs.Run.{IsInOrder}
-use Rattle.lsm_readers.specs.Table.{OpenTable}
+use Rattle.lsm_sorted.specs.version.Run.{IsInOrder}
+use Rattle.lsm_readers.specs.point.Table.{OpenTable}
 use Rattle.lsm_runs.specs.RunLists.{RunsHoldLists}
-use Rattle.lsm_runs.specs.RunParts.{range_of}
+use Rattle.lsm_run_parts.specs.RunParts.{range_of}
 use Rattle.lsm_runs.specs.SeveralRuns.{runs_told}
 use Rattle.tool_show.specs.Files.{runs_in}
 use Rattle.tool_show.specs.Printed.{seen_below}

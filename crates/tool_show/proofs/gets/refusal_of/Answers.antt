@@ -2,8 +2,8 @@ use Rattle.std.proofs.Common.{◌≡◌, ◌∙◌, false, rules, subst, sym, tr
 use Rattle.std.specs.Prelude.{IfSome, Option}
 use Rattle.sst_entries.specs.Error.{is_memory}
 use Rattle.sst_entries.specs.declared.error.Error.{Error}
-use Rattle.lsm_ranges.specs.KeyRange.{has_key}
-use Rattle.lsm_runs.specs.RunParts.{range_of}
+use Rattle.lsm_sorted.specs.version.KeyRange.{has_key}
+use Rattle.lsm_run_parts.specs.RunParts.{range_of}
 use Rattle.tool_show.specs.Files.{IsSoundTable}
 use Rattle.tool_show.proofs.FileLemmas.{asked_early, error_early, error_faulty}
 use Rattle.tool_show.proofs.gets.refusal_of.Goals as goal

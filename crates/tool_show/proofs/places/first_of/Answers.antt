@@ -1,5 +1,5 @@
 use Rattle.std.proofs.Common.{rules}
-use Rattle.sst_sections.specs.Sections.{body_of}
+use Rattle.sst_blocks.specs.Sections.{body_of}
 use Rattle.tool_show.proofs.FirstLemmas.{first_behind, first_here, first_none}
 use Rattle.tool_show.proofs.places.first_of.Goals as goal
 

@@ -1,4 +1,4 @@
-use Rattle.lsm_formats.specs.declared.item_name.ItemName.TheVariants.{BlockCountData}
+use Rattle.sst_blocks.specs.declared.table.item_name.ItemName.TheVariants.{BlockCountData}
 use Rattle.tool_show.specs.Stats.{IsItemMember}
 use Rattle.tool_show.specs.declared.facts.Shown.TheVariants.{Number}
 use Rattle.tool_show.proofs.TokenLemmas.{items_more}

@@ -1,5 +1,5 @@
 use Rattle.std.proofs.Common.{sym, subst}
-use Rattle.logpurple.specs.Words.{IsStrict, IsStrictAfter}
+use Rattle.lsm_tables.specs.Words.{IsStrict, IsStrictAfter}
 use Rattle.example_store.proofs.memtable.Memtable.clear.Goals as goal
 
 pub invariant_of-self : goal.invariant_of-self

@@ -1,7 +1,7 @@
 use Rattle.std.proofs.Common.{◌≡◌, ◌<◌, ◌≤◌, sym, ◌∙◌, ap, subst, List, length, get_or}
 use Rattle.std.specs.Prelude.{Ok, Some, Option, not}
-use Rattle.logpurple.specs.Words.{Entry, IsStrict, front_length, is_before, point, read_place}
-use Rattle.logpurple.proofs.Laws.{apart}
+use Rattle.lsm_tables.specs.Words.{Entry, IsStrict, front_length, is_before, point, read_place}
+use Rattle.lsm_tables.proofs.TableLaws.{apart}
 use Rattle.example_store.proofs.Places.{found_at, none_at, other_at}
 use Rattle.example_store.proofs.memtable.Memtable.get.Goals as goal
 

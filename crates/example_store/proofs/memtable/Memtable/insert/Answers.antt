@@ -1,5 +1,5 @@
 use Rattle.std.proofs.Common.{sym, subst, ap, ◌∙◌, List}
-use Rattle.logpurple.specs.Words.{Entry, IsStrict, front_length, is_before}
+use Rattle.lsm_tables.specs.Words.{Entry, IsStrict, front_length, is_before}
 use Rattle.example_store.specs.Recent.{IsPut}
 use Rattle.example_store.proofs.Places.{Older, is_put, put_in_order}
 use Rattle.example_store.proofs.memtable.Memtable.insert.Goals as goal

@@ -1,5 +1,5 @@
 use Rattle.std.proofs.Common.{◌∙◌, ap, List}
-use Rattle.logpurple.specs.Words.{Entry, ok_results, within}
+use Rattle.lsm_tables.specs.Words.{Entry, ok_results, within}
 use Rattle.example_store.proofs.Shares.{deals_items}
 use Rattle.example_store.proofs.memtable.Memtable.within.Goals as goal
 

@@ -1,5 +1,5 @@
 use Rattle.std.proofs.Common.{sym, ◌∙◌, ap, subst, ℕ, ◌+◌, ◌-◌, ◌^◌, ◌<◌, List}
-use Rattle.logpurple.specs.Words.{Entry}
+use Rattle.lsm_tables.specs.Words.{Entry}
 use Rattle.example_store.specs.Recent.{IsPut}
 use Rattle.example_store.specs.Story.{Holding}
 use Rattle.example_store.proofs.Stories.{sound_more, tells_more}

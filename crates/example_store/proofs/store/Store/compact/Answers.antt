@@ -3,8 +3,8 @@ use Rattle.std.specs.Prelude.{Some, length, map, max, min, sum_by}
 use Rattle.std.specs.Arc.{arc_value}
 use Rattle.std.specs.List.{AllByRecursion}
 use Rattle.std.proofs.lemmas.List.{length-map}
-use Rattle.logpurple.specs.Words.{AreCompactable, AreCutOf, OpenTable, RunsHoldLists, ids_behind}
-use Rattle.logpurple.specs.Words.{is_memory, kept_in, rules_by, run_label, tables_fault}
+use Rattle.lsm_tables.specs.Words.{AreCompactable, AreCutOf, OpenTable, RunsHoldLists, ids_behind}
+use Rattle.lsm_tables.specs.Words.{is_memory, kept_in, rules_by, run_label, tables_fault}
 use Rattle.example_store.specs.Ids.{AreMadeOf}
 use Rattle.example_store.specs.Story.{Holding, IsOwnRun, IsStore}
 use Rattle.example_store.proofs.Compacting.{sound_replaced, tells_compacted}

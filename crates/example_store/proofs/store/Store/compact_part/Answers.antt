@@ -3,8 +3,9 @@ use Rattle.std.specs.Prelude.{length, map, max, min, sum_by}
 use Rattle.std.specs.Arc.{arc_value}
 use Rattle.std.specs.List.{AllByRecursion}
 use Rattle.std.proofs.lemmas.List.{length-map}
-use Rattle.logpurple.specs.Words.{AreCompactable, AreCutOf, OpenTable, RunsHoldLists, ids_behind, kept_in, rules_by}
-use Rattle.logpurple.specs.Words.{run_label}
+use Rattle.lsm_tables.specs.Words.{AreCompactable, AreCutOf, OpenTable, RunsHoldLists, ids_behind}
+use Rattle.lsm_tables.specs.Words.{kept_in, rules_by}
+use Rattle.lsm_tables.specs.Words.{run_label}
 use Rattle.example_store.specs.Ids.{AreMadeOf}
 use Rattle.example_store.specs.Part.{front_runs, part_runs}
 use Rattle.example_store.specs.Story.{Holding, IsOwnRun, IsStore}

@@ -1,8 +1,8 @@
 use Rattle.std.proofs.Common.{◌≡◌, sym, ◌∙◌, ap, subst, ℕ, false, length, List, []}
 use Rattle.std.specs.Prelude.{IfSome, MatchOption, Some}
 use Rattle.std.specs.Arc.{arc_value}
-use Rattle.logpurple.specs.Words.{AreCutOf, Entry, HasList, IsStrict, IsWritable, ids_behind}
-use Rattle.logpurple.specs.Words.{is_memory, run_label, tables_fault}
+use Rattle.lsm_tables.specs.Words.{AreCutOf, Entry, HasList, IsStrict, IsWritable, ids_behind}
+use Rattle.lsm_tables.specs.Words.{is_memory, run_label, tables_fault}
 use Rattle.example_store.specs.Story.{AreNumbered, Holding, IsOwnRun}
 use Rattle.example_store.proofs.Counters.{flushed_none}
 use Rattle.example_store.proofs.Refusing.{passed_on}

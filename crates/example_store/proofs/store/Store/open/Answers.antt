@@ -2,8 +2,8 @@ use Rattle.std.proofs.Common.{◌≡◌, ◌<◌, sym, ◌∙◌, ap, subst, ℕ
 use Rattle.std.specs.Prelude.{map}
 use Rattle.std.specs.Arc.{arc_value}
 use Rattle.std.specs.List.{AllByRecursion}
-use Rattle.logpurple.specs.Words.{OpenTable, RunsHoldLists}
-use Rattle.logpurple.proofs.Laws.{all_more}
+use Rattle.lsm_tables.specs.Words.{OpenTable, RunsHoldLists}
+use Rattle.lsm_tables.proofs.TableLaws.{all_more}
 use Rattle.example_store.specs.Closed.{StoreLists}
 use Rattle.example_store.specs.Story.{AreNumbered, IsOwnRun}
 use Rattle.example_store.specs.declared.store.open.OpenError.TheVariants.{OutOfMemory}

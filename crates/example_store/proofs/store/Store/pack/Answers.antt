@@ -1,9 +1,9 @@
 use Rattle.std.proofs.Common.{length, ◌≡◌, sym, ◌∙◌, ap, subst, List}
 use Rattle.std.specs.Prelude.{map}
 use Rattle.std.specs.Arc.{arc_value}
-use Rattle.logpurple.specs.Words.{AreCompactable, IsLeastSize, OpenTable, RunsHoldLists}
-use Rattle.logpurple.specs.Words.{SameTables, range_of}
-use Rattle.logpurple.proofs.Laws.{runs_in_order}
+use Rattle.lsm_tables.specs.Words.{AreCompactable, IsLeastSize, OpenTable, RunsHoldLists}
+use Rattle.lsm_tables.specs.Words.{SameTables, range_of}
+use Rattle.lsm_tables.proofs.TableLaws.{runs_in_order}
 use Rattle.std.specs.List.{AllByRecursion}
 use Rattle.example_store.specs.Story.{Holding, IsOwnRun}
 use Rattle.example_store.proofs.Compacting.{sound_replaced, tells_packed}

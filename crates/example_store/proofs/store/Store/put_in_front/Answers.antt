@@ -1,7 +1,7 @@
 use Rattle.std.proofs.Common.{sym, ◌∙◌, ap, subst, ℕ, List, ◌∷◌}
 use Rattle.std.specs.Prelude.{map}
 use Rattle.std.specs.Arc.{arc_value}
-use Rattle.logpurple.specs.Words.{Entry, HasList, IsStrict}
+use Rattle.lsm_tables.specs.Words.{Entry, HasList, IsStrict}
 use Rattle.example_store.specs.Story.{Holding, IsOwnRun, IsStore}
 use Rattle.example_store.proofs.Counters.{flushed_one}
 use Rattle.example_store.proofs.Stories.{sound_flushed, tells_flushed}

@@ -1,8 +1,8 @@
 use Rattle.std.proofs.Common.{◌≡◌, sym, ◌∙◌, ap, subst, List, [], ◌∷◌, ◌++◌}
 use Rattle.std.specs.Prelude.{map}
 use Rattle.std.specs.Arc.{arc_value}
-use Rattle.logpurple.specs.Words.{Entry, IsStrict, OpenTable, RunsHoldLists, all_shown, newest}
-use Rattle.logpurple.specs.Words.{numbered_below, single, sort_entries, union_in, within}
+use Rattle.lsm_tables.specs.Words.{Entry, IsStrict, OpenTable, RunsHoldLists, all_shown, newest}
+use Rattle.lsm_tables.specs.Words.{numbered_below, single, sort_entries, union_in, within}
 use Rattle.example_store.specs.Story.{Holding, IsStore}
 use Rattle.example_store.proofs.Ranges.{dealt_as, dealt_told, range_told}
 use Rattle.example_store.proofs.store.Store.range.Goals as goal

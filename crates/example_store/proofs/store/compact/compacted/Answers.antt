@@ -1,6 +1,7 @@
 use Rattle.std.proofs.Common.{◌≡◌, sym, ◌∙◌, ap, subst, length, rules, ℕ, false}
-use Rattle.logpurple.specs.Words.{AreCompactable, AreCutOf, HaveAll, ids_behind, is_memory, kept_in}
-use Rattle.logpurple.specs.Words.{run_label, tables_fault}
+use Rattle.lsm_tables.specs.Words.{AreCompactable, AreCutOf, HaveAll, ids_behind, is_memory}
+use Rattle.lsm_tables.specs.Words.{kept_in}
+use Rattle.lsm_tables.specs.Words.{run_label, tables_fault}
 use Rattle.std.specs.Prelude.{IfSome, Some, map, sum_by}
 use Rattle.std.specs.Arc.{arc_value}
 use Rattle.std.specs.List.{AllByRecursion}

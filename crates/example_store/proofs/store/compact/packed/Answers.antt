@@ -2,8 +2,9 @@ use Rattle.std.proofs.Common.{List, length}
 use Rattle.std.specs.Prelude.{map}
 use Rattle.std.specs.Arc.{arc_value}
 use Rattle.std.specs.List.{AllByRecursion}
-use Rattle.logpurple.specs.Words.{AreCompactable, AreInOrder, HoldUnion, IsLeastSize, OpenTable, SameTables}
-use Rattle.logpurple.specs.Words.{range_of, union_in}
+use Rattle.lsm_tables.specs.Words.{AreCompactable, AreInOrder, HoldUnion, IsLeastSize, OpenTable}
+use Rattle.lsm_tables.specs.Words.{SameTables}
+use Rattle.lsm_tables.specs.Words.{range_of, union_in}
 use Rattle.example_store.specs.Story.{IsOwnRun}
 use Rattle.example_store.proofs.Compacting.{own_packed}
 use Rattle.example_store.proofs.Refusing.{ok_is}

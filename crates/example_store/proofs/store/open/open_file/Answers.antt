@@ -1,5 +1,5 @@
 use Rattle.std.proofs.Common.{sym, ◌∙◌, subst, ℕ, List}
-use Rattle.logpurple.specs.Words.{StoresList}
+use Rattle.lsm_tables.specs.Words.{StoresList}
 use Rattle.example_store.specs.declared.store.open.OpenError.TheVariants.{OutOfMemory}
 use Rattle.example_store.proofs.Own.{table_stored}
 use Rattle.example_store.proofs.Refusing.{wanted}

@@ -1,8 +1,8 @@
 use Rattle.std.proofs.Common.{◌≡◌, refl, sym, ◌∙◌, subst, ℕ, [], ◌∷◌, List}
 use Rattle.std.specs.Prelude.{map}
 use Rattle.std.proofs.lemmas.List.{take_all}
-use Rattle.logpurple.specs.Words.{OpenTable}
-use Rattle.logpurple.proofs.Laws.{all_append}
+use Rattle.lsm_tables.specs.Words.{OpenTable}
+use Rattle.lsm_tables.proofs.TableLaws.{all_append}
 use Rattle.example_store.specs.Story.{IsOwnTable}
 use Rattle.example_store.specs.declared.store.open.OpenError.TheVariants.{OutOfMemory}
 use Rattle.example_store.proofs.Opening.{made_at, one_made, order_alike, run_owned, some_alike}

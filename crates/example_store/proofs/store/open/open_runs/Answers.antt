@@ -2,7 +2,7 @@ use Rattle.std.proofs.Common.{refl, sym, ◌∙◌, ap, subst, ℕ, [], ◌∷�
 use Rattle.std.specs.Prelude.{map}
 use Rattle.std.specs.Arc.{arc_value}
 use Rattle.std.proofs.lemmas.List.{length-map, take_all}
-use Rattle.logpurple.proofs.Laws.{all_append}
+use Rattle.lsm_tables.proofs.TableLaws.{all_append}
 use Rattle.example_store.specs.Story.{IsOwnRun}
 use Rattle.example_store.specs.declared.store.open.OpenError.TheVariants.{OutOfMemory}
 use Rattle.example_store.proofs.Opening.{one_seen, seen_at}

@@ -1,6 +1,6 @@
 use Rattle.std.proofs.Common.{◌<◌, refl, sym, ◌∙◌, subst, List, length, inl, inr, arith}
-use Rattle.logpurple.specs.Words.{IsInOrder, OpenTable, range_of}
-use Rattle.logpurple.proofs.Laws.{apart}
+use Rattle.lsm_tables.specs.Words.{IsInOrder, OpenTable, range_of}
+use Rattle.lsm_tables.proofs.TableLaws.{apart}
 use Rattle.example_store.proofs.Opening.{some_there}
 use Rattle.example_store.proofs.store.open.run_of_tables.Goals as goal
 

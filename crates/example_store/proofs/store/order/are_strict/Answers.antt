@@ -1,5 +1,5 @@
-use Rattle.logpurple.specs.Words.{OutOfMemory}
-use Rattle.logpurple.proofs.Laws.{all_of, scan_asked}
+use Rattle.lsm_tables.specs.Words.{OutOfMemory}
+use Rattle.lsm_tables.proofs.TableLaws.{all_of, scan_asked}
 use Rattle.example_store.proofs.Refusing.{wanted}
 use Rattle.example_store.proofs.store.order.are_strict.Goals as goal
 

@@ -1,6 +1,6 @@
 use Rattle.std.proofs.Common.{refl, []}
-use Rattle.logpurple.specs.Words.{union_in}
-use Rattle.logpurple.proofs.Laws.{merged_together, nowhere}
+use Rattle.lsm_tables.specs.Words.{union_in}
+use Rattle.lsm_tables.proofs.TableLaws.{merged_together, nowhere}
 use Rattle.example_store.proofs.store.order.come_in_order.Goals as goal
 
 pub comes_in_order-requires : goal.comes_in_order-requires

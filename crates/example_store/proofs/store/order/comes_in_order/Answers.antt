@@ -1,8 +1,8 @@
 use Rattle.std.proofs.Common.{◌≡◌, refl, sym, subst, false, true}
 use Rattle.std.specs.Prelude.{Some}
 use Rattle.std.specs.Iterator.{IsFinite}
-use Rattle.logpurple.specs.Words.{DealsList}
-use Rattle.logpurple.proofs.Laws.{apart, may_follow, nowhere}
+use Rattle.lsm_tables.specs.Words.{DealsList}
+use Rattle.lsm_tables.proofs.TableLaws.{apart, may_follow, nowhere}
 use Rattle.example_store.proofs.Order.{ComesOn, comes_fine, comes_first, comes_last, comes_next, comes_out, only_memory}
 use Rattle.example_store.proofs.store.order.comes_in_order.Goals as goal
 

@@ -1,6 +1,6 @@
 use Rattle.std.proofs.Common.{List}
-use Rattle.logpurple.specs.Words.{DealsList, Entry}
-use Rattle.logpurple.proofs.Laws.{nowhere}
+use Rattle.lsm_tables.specs.Words.{DealsList, Entry}
+use Rattle.lsm_tables.proofs.TableLaws.{nowhere}
 use Rattle.example_store.proofs.Order.{ComesOn}
 use Rattle.example_store.proofs.store.order.comes_in_order.Given as goal
 

@@ -1,8 +1,8 @@
 use Rattle.std.proofs.Common.{◌≡◌, ◌∙◌, ◌<◌, false, length, subst, sym, List}
 use Rattle.std.specs.Arc.{arc_value}
 use Rattle.std.specs.Prelude.{IfErr, Some, Err}
-use Rattle.logpurple.specs.Words.{Error, HoldLists, OpenTable, is_memory}
-use Rattle.logpurple.proofs.Laws.{first, scan_wants, tables_scan, whole_places, whole_run}
+use Rattle.lsm_tables.specs.Words.{Error, HoldLists, OpenTable, is_memory}
+use Rattle.lsm_tables.proofs.TableLaws.{first, scan_wants, tables_scan, whole_places, whole_run}
 use Rattle.example_store.proofs.store.order.scanner_of.Goals as goal
 
 pub culled-requires : goal.culled-requires

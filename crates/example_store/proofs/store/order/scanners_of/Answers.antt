@@ -3,8 +3,8 @@ use Rattle.std.specs.Prelude.{map}
 use Rattle.std.specs.Arc.{arc_value}
 use Rattle.std.specs.List.{AllZip}
 use Rattle.std.proofs.lemmas.List.{take_all}
-use Rattle.logpurple.specs.Words.{OpenTable, OutOfMemory}
-use Rattle.logpurple.proofs.Laws.{all_at}
+use Rattle.lsm_tables.specs.Words.{OpenTable, OutOfMemory}
+use Rattle.lsm_tables.proofs.TableLaws.{all_at}
 use Rattle.example_store.proofs.Order.{ScansRun, lists_at_place, scan_more, scans_together}
 use Rattle.example_store.proofs.Refusing.{wanted}
 use Rattle.example_store.proofs.store.order.scanners_of.Goals as goal

@@ -1,7 +1,7 @@
 use Rattle.std.proofs.Common.{◌∙◌, sym, subst}
 use Rattle.std.specs.Prelude.{Option}
 use Rattle.sst_entries.specs.Entry.{Entry}
-use Rattle.lsm_walks.specs.Ends.{StepGives}
+use Rattle.lsm_iters.specs.walk.Ends.{StepGives}
 use Rattle.lsm_iters.specs.Lending.{cursor_remains}
 use Rattle.lsm_iters.proofs.Cursors.{cursor_shared, cursor_step, given, none_lent}
 use Rattle.lsm_iters.proofs.block_cursor.BlockCursorEnds.step.Goals as goal

@@ -1,7 +1,7 @@
 use Rattle.std.proofs.Common.{sym, subst}
 use Rattle.sst_blocks.specs.declared.block_type.BlockType.TheVariants.{Data}
 use Rattle.sst_blocks.specs.Starts.{HoldsEntries}
-use Rattle.lsm_block_indexes.proofs.Loads.{OfKind, load_of_kind}
+use Rattle.lsm_iters.proofs.Loads.{OfKind, load_of_kind}
 use Rattle.lsm_iters.proofs.blocks.Blocks.read.Goals as goal
 
 pub new-requires : goal.new-requires

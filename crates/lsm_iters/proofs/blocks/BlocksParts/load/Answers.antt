@@ -1,5 +1,5 @@
 use Rattle.std.proofs.Common.{refl}
-use Rattle.sst_sections.specs.Sections.{body_of}
+use Rattle.sst_blocks.specs.Sections.{body_of}
 use Rattle.lsm_iters.specs.Blocks.{Blocks}
 use Rattle.lsm_iters.specs.Bounds.{edge_in}
 use Rattle.lsm_iters.specs.Rows.{Bounded}

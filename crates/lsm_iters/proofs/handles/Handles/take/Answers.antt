@@ -1,8 +1,8 @@
 use Rattle.std.proofs.Common.{Bool, sym, subst}
 use Rattle.sst_entries.specs.Stream.{back_of, front_of}
-use Rattle.lsm_block_indexes.specs.Kinds.{left_of}
-use Rattle.lsm_block_indexes.specs.Left.{LeftGives}
-use Rattle.lsm_block_indexes.proofs.KindLaws.{kind_back, kind_front}
+use Rattle.lsm_iters.specs.block_index.Kinds.{left_of}
+use Rattle.lsm_iters.specs.block_index.Left.{LeftGives}
+use Rattle.lsm_iters.proofs.KindLaws.{kind_back, kind_front}
 use Rattle.lsm_iters.specs.Range.{left_unless}
 use Rattle.lsm_iters.proofs.handles.Handles.take.Goals as goal
 

@@ -1,6 +1,6 @@
 use Rattle.sst_entries.specs.Stream.{back_of}
 use Rattle.lsm_iters.specs.Range.{back_next}
-use Rattle.lsm_iters.proofs.Ends.{back_shortens}
+use Rattle.lsm_iters.proofs.RangeEnds.{back_shortens}
 use Rattle.lsm_iters.proofs.RangeLaws.{progress}
 use Rattle.lsm_iters.proofs.iter.IterDoubleEndedIterator.next_back.Goals as goal
 

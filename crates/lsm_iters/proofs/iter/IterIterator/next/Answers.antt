@@ -1,6 +1,6 @@
 use Rattle.sst_entries.specs.Stream.{front_of}
 use Rattle.lsm_iters.specs.Range.{front_next}
-use Rattle.lsm_iters.proofs.Ends.{front_shortens}
+use Rattle.lsm_iters.proofs.RangeEnds.{front_shortens}
 use Rattle.lsm_iters.proofs.RangeLaws.{progress}
 use Rattle.lsm_iters.proofs.iter.IterIterator.next.Goals as goal
 

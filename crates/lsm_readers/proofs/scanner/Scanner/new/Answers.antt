@@ -1,11 +1,11 @@
 use Rattle.std.proofs.Common.{◌-◌, ap, sym, ◌∙◌, inr}
 use Rattle.std.specs.Option.{option_map}
-use Rattle.sst_sections.specs.Sections.{body_of}
+use Rattle.sst_blocks.specs.Sections.{body_of}
 use Rattle.sst_blocks.specs.Cursor.{Cursor}
-use Rattle.lsm_points.specs.Answer.{lifted}
+use Rattle.lsm_readers.specs.point.Answer.{lifted}
 use Rattle.lsm_readers.specs.Scan.{scan_told}
 use Rattle.lsm_readers.proofs.Scans.{first_left, lends_end, same_left, scan_deals, scan_ends, scan_lends}
-use Rattle.lsm_points.proofs.Steps.{beside_first, beside_is}
+use Rattle.lsm_readers.proofs.Steps.{beside_first, beside_is}
 use Rattle.lsm_readers.proofs.scanner.Scanner.new.Goals as goal
 
 pub returns-in_err-block-clause-ends : goal.returns-in_err-block-clause-ends

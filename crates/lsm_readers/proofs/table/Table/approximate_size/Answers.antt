@@ -1,5 +1,5 @@
-use Rattle.lsm_block_indexes.specs.Kinds.{left_of}
-use Rattle.lsm_block_indexes.proofs.KindLaws.{kind_front}
+use Rattle.lsm_iters.specs.block_index.Kinds.{left_of}
+use Rattle.lsm_iters.proofs.KindLaws.{kind_front}
 use Rattle.lsm_readers.specs.Words.{index_read, key_bound}
 use Rattle.lsm_readers.proofs.Sizes.{size_is, size_most, size_refused}
 use Rattle.lsm_readers.proofs.table.Table.approximate_size.Goals as goal

@@ -3,13 +3,13 @@ use Rattle.std.specs.Prelude.{List, Result, Ok, Err, IfOk}
 use Rattle.sst_entries.specs.declared.error.Error.{Error}
 use Rattle.sst_entries.specs.Entry.{Entry}
 use Rattle.lsm_readers.specs.Stored.{StoresList}
-use Rattle.lsm_block_indexes.specs.declared.kinds.BlockIndexImpl.{BlockIndexImpl}
-use Rattle.lsm_block_indexes.specs.Kinds.{index_of}
-use Rattle.lsm_block_indexes.specs.Index.{Index}
+use Rattle.lsm_iters.specs.declared.block_index.kinds.BlockIndexImpl.{BlockIndexImpl}
+use Rattle.lsm_iters.specs.block_index.Kinds.{index_of}
+use Rattle.lsm_iters.specs.block_index.Index.{Index}
 use Rattle.lsm_readers.specs.BlockIndexes.{NamesBlocksOf, table_index}
-use Rattle.lsm_points.specs.IndexKinds.{Kind, kind_kept, index_kind_of}
-use Rattle.lsm_points.specs.Table.{IsOpen, OpenTable, table_of}
-use Rattle.lsm_points.proofs.IndexKinds.{opened_kind}
+use Rattle.lsm_readers.specs.point.IndexKinds.{Kind, kind_kept, index_kind_of}
+use Rattle.lsm_readers.specs.point.Table.{IsOpen, OpenTable, table_of}
+use Rattle.lsm_readers.proofs.IndexKinds.{opened_kind}
 use Rattle.lsm_readers.proofs.OneIndex.{names_blocks}
 use Rattle.lsm_readers.proofs.table.Table.block_index.Goals as goal
 

@@ -2,10 +2,10 @@ use Rattle.std.proofs.Common.{◌≡◌, ap, subst, sym, ◌∙◌}
 use Rattle.std.specs.List.{AllByRecursion}
 use Rattle.std.specs.Prelude.{IsTrue}
 use Rattle.sst_entries.specs.Entry.{Entry}
-use Rattle.lsm_ranges.specs.KeyRange.{Interval, key_bound, has_key}
-use Rattle.lsm_points.specs.Table.{IsOpen, table_of}
+use Rattle.lsm_sorted.specs.version.KeyRange.{Interval, key_bound, has_key}
+use Rattle.lsm_readers.specs.point.Table.{IsOpen, table_of}
 use Rattle.lsm_readers.specs.OfList.{ends_of}
-use Rattle.lsm_points.specs.Table.{OpenTable}
+use Rattle.lsm_readers.specs.point.Table.{OpenTable}
 use Rattle.lsm_readers.proofs.Ends.{keys_within, nothing_within}
 use Rattle.lsm_readers.proofs.StoredParts.{bears_out}
 use Rattle.lsm_readers.proofs.table.Table.check_key_range_overlap.Goals as goal

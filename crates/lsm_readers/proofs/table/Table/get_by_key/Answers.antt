@@ -1,6 +1,6 @@
 use Rattle.lsm_readers.proofs.ByKey.{memory_alone, plain_is}
 use Rattle.sst_entries.specs.Point.{point}
-use Rattle.lsm_points.specs.Answer.{lift}
+use Rattle.lsm_readers.specs.point.Answer.{lift}
 use Rattle.lsm_readers.proofs.table.Table.get_by_key.Goals as goal
 
 pub returns-clause-plain : goal.returns-clause-plain

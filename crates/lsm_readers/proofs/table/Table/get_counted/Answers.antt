@@ -4,12 +4,12 @@ use Rattle.sst_entries.specs.declared.error.Error.{Error}
 use Rattle.sst_entries.specs.Entry.{Entry}
 use Rattle.sst_entries.specs.Error.{FaultsFirst, Gives}
 use Rattle.sst_blocks.specs.declared.opened.Opened.{Opened}
-use Rattle.lsm_points.specs.Answer.{table_answer}
-use Rattle.lsm_points.specs.Read.{Opens, Read}
-use Rattle.lsm_points.specs.Table.{IsOpen, table_of}
-use Rattle.sst_sections.specs.Sections.{body_of}
-use Rattle.lsm_points.proofs.FewLoads.{answer_few}
-use Rattle.lsm_points.proofs.Points.{table_read}
+use Rattle.lsm_readers.specs.point.Answer.{table_answer}
+use Rattle.lsm_readers.specs.point.Read.{Opens, Read}
+use Rattle.lsm_readers.specs.point.Table.{IsOpen, table_of}
+use Rattle.sst_blocks.specs.Sections.{body_of}
+use Rattle.lsm_readers.proofs.FewLoads.{answer_few}
+use Rattle.lsm_readers.proofs.Points.{table_read}
 use Rattle.lsm_readers.proofs.StoredParts.{stored_answers}
 use Rattle.lsm_readers.proofs.table.Table.get_counted.Goals as goal
 

@@ -1,7 +1,7 @@
 use Rattle.std.proofs.Common.{rules}
 use Rattle.std.specs.Arc.{arc_value}
-use Rattle.lsm_points.specs.Table.{table_of}
-use Rattle.lsm_points.proofs.Recovered.{highest_fits}
+use Rattle.lsm_readers.specs.point.Table.{table_of}
+use Rattle.lsm_readers.proofs.Recovered.{highest_fits}
 use Rattle.lsm_readers.proofs.table.Table.get_highest_seqno.Goals as goal
 
 pub overflow_add-result : goal.overflow_add-result

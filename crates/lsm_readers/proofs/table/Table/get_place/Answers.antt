@@ -6,9 +6,9 @@ use Rattle.sst_entries.specs.Entry.{Entry}
 use Rattle.sst_entries.specs.Error.{FaultsFirst, Gives}
 use Rattle.sst_blocks.specs.EntryPlace.{IsPlacedIn, entry_placed}
 use Rattle.sst_blocks.specs.Opened.{none_opened}
-use Rattle.lsm_points.specs.Answer.{LoadsFew, table_answer}
-use Rattle.lsm_points.specs.Read.{Opens}
-use Rattle.lsm_points.specs.Table.{IsOpen, OpenTable, table_of}
+use Rattle.lsm_readers.specs.point.Answer.{LoadsFew, table_answer}
+use Rattle.lsm_readers.specs.point.Read.{Opens}
+use Rattle.lsm_readers.specs.point.Table.{IsOpen, OpenTable, table_of}
 use Rattle.lsm_readers.proofs.StoredParts.{stored_answers}
 use Rattle.lsm_readers.proofs.table.Table.get_place.Goals as goal
 

@@ -1,8 +1,8 @@
 use Rattle.std.specs.Option.{option_map}
 use Rattle.sst_entries.specs.Lending.{entry_of_ref}
 use Rattle.sst_blocks.specs.Opened.{none_opened}
-use Rattle.lsm_points.specs.Answer.{table_answer}
-use Rattle.lsm_points.proofs.ReadViews.{first_seen, ok_seen, opens_seen}
+use Rattle.lsm_readers.specs.point.Answer.{table_answer}
+use Rattle.lsm_readers.proofs.ReadViews.{first_seen, ok_seen, opens_seen}
 use Rattle.lsm_readers.proofs.LentReads.{lent_does, lent_gives}
 use Rattle.lsm_readers.proofs.table.Table.get_ref_counted.Goals as goal
 

@@ -1,5 +1,5 @@
 use Rattle.std.proofs.Common.{subst}
-use Rattle.lsm_points.specs.Table.{IsOpen}
+use Rattle.lsm_readers.specs.point.Table.{IsOpen}
 use Rattle.lsm_readers.proofs.OneIndex.{names_blocks, tell_alike}
 use Rattle.lsm_readers.proofs.table.Table.names_blocks_as.Goals as goal
 

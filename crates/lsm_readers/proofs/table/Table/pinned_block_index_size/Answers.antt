@@ -1,10 +1,10 @@
 use Rattle.std.proofs.Common.{ap, ◌∙◌, arith}
 use Rattle.sst_blocks.specs.declared.block_type.BlockType.TheVariants.{Index}
-use Rattle.sst_sections.specs.Sections.{body_of}
-use Rattle.lsm_points.specs.IndexKinds.{index_len}
-use Rattle.lsm_points.specs.Table.{OpenTable, table_of}
-use Rattle.lsm_points.proofs.IndexKinds.{kept_len}
-use Rattle.lsm_points.proofs.Loads.{load_size}
+use Rattle.sst_blocks.specs.Sections.{body_of}
+use Rattle.lsm_readers.specs.point.IndexKinds.{index_len}
+use Rattle.lsm_readers.specs.point.Table.{OpenTable, table_of}
+use Rattle.lsm_readers.proofs.IndexKinds.{kept_len}
+use Rattle.lsm_readers.proofs.Loads.{load_size}
 use Rattle.lsm_readers.proofs.table.Table.pinned_block_index_size.Goals as goal
 
 pub returns-clause-payload : goal.returns-clause-payload

@@ -2,7 +2,7 @@ use Rattle.std.proofs.Common.{List, ℕ, subst}
 use Rattle.std.specs.declared.ops.Bound.{Bound}
 use Rattle.std.specs.declared.ops.Bound.TheVariants.{Unbounded}
 use Rattle.lsm_readers.specs.Ranges.{IsRangeOf}
-use Rattle.lsm_points.proofs.Steps.{beside_first, beside_is}
+use Rattle.lsm_readers.proofs.Steps.{beside_first, beside_is}
 use Rattle.lsm_readers.proofs.TableRanges.{list_deals, list_lends, list_lends_few, list_loads, table_deals, table_lends}
 use Rattle.lsm_readers.proofs.table.Table.range.Goals as goal
 

@@ -4,13 +4,16 @@ use Rattle.std.specs.Arc.{arc_value}
 use Rattle.std.specs.Prelude.{Result}
 use Rattle.sst_entries.specs.declared.error.Error.{Error}
 use Rattle.sst_entries.specs.Error.{Gives}
-use Rattle.sst_sections.specs.declared.checksum.Checksum.{Checksum}
-use Rattle.lsm_points.specs.Parts.{Parts}
-use Rattle.lsm_points.specs.Table.{OpenTable, parts_of, table_of}
+use Rattle.sst_blocks.specs.declared.checksum.Checksum.{Checksum}
+use Rattle.lsm_readers.specs.point.Parts.{Parts}
+use Rattle.lsm_readers.specs.point.Table.{OpenTable, parts_of, table_of}
 use Rattle.lsm_readers.proofs.FileParts.{table_told}
 use Rattle.lsm_readers.proofs.StoredParts.{opens_by, stored_fits}
-use Rattle.lsm_points.proofs.Recovered.{first_from, is_open, opening_fails, opening_told, trailer_fine, trailer_first, trailer_none}
-use Rattle.lsm_points.proofs.Steps.{beside_early, beside_fails, beside_first, beside_gives, beside_none, beside_second, passes_fault, shared_early, shared_gives, shared_has}
+use Rattle.lsm_readers.proofs.Recovered.{first_from, is_open, opening_fails, opening_told}
+use Rattle.lsm_readers.proofs.Recovered.{trailer_fine, trailer_first, trailer_none}
+use Rattle.lsm_readers.proofs.Steps.{beside_early, beside_fails, beside_first, beside_gives}
+use Rattle.lsm_readers.proofs.Steps.{beside_none, beside_second, passes_fault, shared_early}
+use Rattle.lsm_readers.proofs.Steps.{shared_gives, shared_has}
 use Rattle.lsm_readers.proofs.table.Table.recover.Goals as goal
 
 pub returns-in_err-source-clause-told : goal.returns-in_err-source-clause-told

@@ -3,11 +3,11 @@ use Rattle.std.specs.Prelude.{IfOk}
 use Rattle.sst_blocks.specs.declared.block_type.BlockType.TheVariants.{Data}
 use Rattle.sst_blocks.specs.Block.{load_at_told}
 use Rattle.sst_entries.specs.Error.{Faults}
-use Rattle.sst_sections.specs.Sections.{body_of}
+use Rattle.sst_blocks.specs.Sections.{body_of}
 use Rattle.sst_entries.specs.Stream.{Deals, nowhere, answer_stops}
-use Rattle.lsm_points.specs.Table.{IsOpen, table_of}
+use Rattle.lsm_readers.specs.point.Table.{IsOpen, table_of}
 use Rattle.lsm_readers.specs.Scan.{IsNewScan, Scan, ScansLent, ScansNext, fault_of, scan_told}
-use Rattle.lsm_points.specs.Table.{OpenTable}
+use Rattle.lsm_readers.specs.point.Table.{OpenTable}
 use Rattle.lsm_readers.proofs.StoredParts.{stored_lends, stored_scans}
 use Rattle.lsm_readers.proofs.table.Table.scan.Goals as goal
 

@@ -1,8 +1,8 @@
 use Rattle.std.proofs.Common.{subst, ◌∙◌}
-use Rattle.lsm_points.specs.Table.{IsOpen}
+use Rattle.lsm_readers.specs.point.Table.{IsOpen}
 use Rattle.lsm_readers.proofs.FileParts.{table_parts}
 use Rattle.lsm_readers.proofs.FileStored.{open_stores}
-use Rattle.lsm_points.proofs.Recovered.{range_is}
+use Rattle.lsm_readers.proofs.Recovered.{range_is}
 use Rattle.lsm_readers.proofs.StoredOne.{stored_one}
 use Rattle.lsm_readers.proofs.StoredParts.{bears_out}
 use Rattle.lsm_readers.proofs.table.Table.tells_its_list.Goals as goal

@@ -1,7 +1,7 @@
 use Rattle.std.proofs.Common.{ap, subst, ◌∙◌}
-use Rattle.sst_sections.specs.Sections.{body_of}
+use Rattle.sst_blocks.specs.Sections.{body_of}
 use Rattle.lsm_readers.specs.declared.verify.Verified.{Verified}
-use Rattle.lsm_points.specs.Table.{IsOpen, OpenTable, table_of}
+use Rattle.lsm_readers.specs.point.Table.{IsOpen, OpenTable, table_of}
 use Rattle.lsm_readers.specs.Verify.{Finds, FindsFirst, table_early, table_found}
 use Rattle.lsm_readers.proofs.VerifyTables.{all_complete, all_first, all_sound}
 use Rattle.lsm_readers.proofs.table.Table.verify.Goals as goal

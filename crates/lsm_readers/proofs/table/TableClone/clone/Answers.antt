@@ -1,5 +1,5 @@
 use Rattle.std.proofs.Common.{◌∙◌}
-use Rattle.lsm_points.proofs.Steps.{beside_first, beside_is}
+use Rattle.lsm_readers.proofs.Steps.{beside_first, beside_is}
 use Rattle.lsm_readers.proofs.table.TableClone.clone.Goals as goal
 
 pub invariant_of-result : goal.invariant_of-result

@@ -1,6 +1,6 @@
 use Rattle.std.proofs.Common.{ap, subst, sym, ◌∙◌}
-use Rattle.lsm_points.specs.Table.{IsOpen, OpenTable, table_of}
-use Rattle.lsm_points.proofs.Recovered.{range_is}
+use Rattle.lsm_readers.specs.point.Table.{IsOpen, OpenTable, table_of}
+use Rattle.lsm_readers.proofs.Recovered.{range_is}
 use Rattle.lsm_readers.proofs.table.TableRanged.key_range.Goals as goal
 
 pub returns : goal.returns

@@ -2,7 +2,7 @@ use Rattle.std.proofs.Common.{◌≡◌, ℕ, ◌+◌, ◌-◌, ◌^◌, sym, ap
 use Rattle.std.specs.Prelude.{min, Some, None, Ok, Err}
 use Rattle.lsm_readers.specs.Sizes.{dealt, sizes_told}
 use Rattle.lsm_readers.proofs.Sizes.{added, added_fault, added_last, added_next, added_none}
-use Rattle.lsm_points.proofs.Steps.{passes_fault}
+use Rattle.lsm_readers.proofs.Steps.{passes_fault}
 use Rattle.lsm_readers.proofs.table.approximate_size.sum_sizes.Goals as goal
 
 pub loop-handle-init : goal.loop-handle-init

@@ -1,4 +1,4 @@
-use Rattle.sst_sections.specs.Sections.{body_of}
+use Rattle.sst_blocks.specs.Sections.{body_of}
 use Rattle.lsm_readers.proofs.Verifications.{at_start}
 use Rattle.lsm_readers.proofs.table.verification.begin.Goals as goal
 

@@ -1,5 +1,5 @@
-use Rattle.sst_sections.specs.Sections.{body_of}
-use Rattle.sst_sections.specs.declared.section.SectionName.TheVariants as section
+use Rattle.sst_blocks.specs.Sections.{body_of}
+use Rattle.sst_blocks.specs.declared.section.SectionName.TheVariants as section
 use Rattle.sst_blocks.specs.declared.block_type.BlockType.TheVariants.{Data}
 use Rattle.sst_blocks.specs.Block.{place_fault}
 use Rattle.sst_blocks.proofs.LoadLemmas.{data_holds, load_kind}

@@ -1,5 +1,5 @@
 use Rattle.sst_blocks.specs.declared.block_type.BlockType.TheVariants.{Index}
-use Rattle.sst_sections.specs.Sections.{body_of}
+use Rattle.sst_blocks.specs.Sections.{body_of}
 use Rattle.lsm_readers.proofs.VerifyEarly.{place_first}
 use Rattle.lsm_readers.proofs.verify.blocks.load_part.Goals as goal
 

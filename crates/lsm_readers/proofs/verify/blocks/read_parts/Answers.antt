@@ -1,8 +1,8 @@
 use Rattle.std.proofs.Common.{◌≤◌, length, subst, sym, ◌∙◌, arith}
 use Rattle.std.specs.Prelude.{Result}
-use Rattle.sst_sections.specs.Sections.{body_of}
+use Rattle.sst_blocks.specs.Sections.{body_of}
 use Rattle.lsm_readers.specs.declared.verify.Finding.{Finding}
-use Rattle.lsm_points.specs.Table.{parts_of}
+use Rattle.lsm_readers.specs.point.Table.{parts_of}
 use Rattle.lsm_readers.specs.Verify.{Unread, Misses}
 use Rattle.lsm_readers.proofs.VerifyLoops.{parts_last, parts_miss, parts_next, passes}
 use Rattle.lsm_readers.proofs.verify.blocks.read_parts.Goals as goal

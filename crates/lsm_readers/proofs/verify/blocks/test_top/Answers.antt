@@ -1,6 +1,6 @@
 use Rattle.std.proofs.Common.{◌≡◌, ℕ, ◌+◌, ◌-◌, List, length, ap, subst, sym, ◌∙◌, arith}
 use Rattle.std.specs.Prelude.{Result}
-use Rattle.sst_sections.specs.declared.section.SectionName.TheVariants.{Index}
+use Rattle.sst_blocks.specs.declared.section.SectionName.TheVariants.{Index}
 use Rattle.lsm_readers.specs.declared.verify.Finding.{Finding}
 use Rattle.lsm_readers.specs.Verify.{Finds, end_named}
 use Rattle.lsm_readers.proofs.VerifyLoops.{finds_it, top_at, top_hollow}

@@ -1,5 +1,5 @@
-use Rattle.sst_sections.specs.Sections.{body_of}
-use Rattle.sst_sections.specs.declared.section.SectionName.TheVariants as section
+use Rattle.sst_blocks.specs.Sections.{body_of}
+use Rattle.sst_blocks.specs.declared.section.SectionName.TheVariants as section
 use Rattle.sst_blocks.specs.declared.block_type.BlockType.TheVariants.{Filter}
 use Rattle.lsm_readers.proofs.VerifyEarly.{place_first}
 use Rattle.lsm_readers.proofs.verify.end.test_filter.Goals as goal

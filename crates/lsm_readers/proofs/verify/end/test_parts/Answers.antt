@@ -1,6 +1,6 @@
 use Rattle.std.proofs.Common.{◌≤◌, length, refl, subst, sym, ◌∙◌, arith}
 use Rattle.std.specs.Prelude.{Result}
-use Rattle.sst_sections.specs.Sections.{body_of}
+use Rattle.sst_blocks.specs.Sections.{body_of}
 use Rattle.lsm_readers.specs.declared.verify.Finding.{Finding}
 use Rattle.lsm_readers.specs.Verify.{Misses}
 use Rattle.lsm_readers.proofs.VerifyEarly.{passed_all, passed_err, passed_more, passed_none}

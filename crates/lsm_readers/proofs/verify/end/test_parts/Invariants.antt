@@ -1,5 +1,5 @@
 use Rattle.std.proofs.Common.{◌≡◌, drop}
-use Rattle.sst_sections.specs.Sections.{body_of}
+use Rattle.sst_blocks.specs.Sections.{body_of}
 use Rattle.lsm_readers.specs.Verify.{tops_found}
 use Rattle.lsm_readers.proofs.VerifyEarly.{Passed}
 use Rattle.lsm_readers.proofs.verify.end.test_parts.Given as goal

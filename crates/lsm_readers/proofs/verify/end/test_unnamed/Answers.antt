@@ -1,4 +1,4 @@
-use Rattle.sst_sections.specs.Sections.{body_of}
+use Rattle.sst_blocks.specs.Sections.{body_of}
 use Rattle.sst_blocks.specs.declared.block_type.BlockType.TheVariants.{Data}
 use Rattle.sst_blocks.specs.Block.{position_fault}
 use Rattle.lsm_readers.proofs.VerifyEarly.{position_want, refused_want}

@@ -1,6 +1,6 @@
 use Rattle.std.proofs.Common.{◌≡◌, drop}
-use Rattle.sst_sections.specs.Sections.{body_of}
-use Rattle.lsm_points.specs.Table.{parts_of}
+use Rattle.sst_blocks.specs.Sections.{body_of}
+use Rattle.lsm_readers.specs.point.Table.{parts_of}
 use Rattle.lsm_readers.specs.Verify.{entries_found}
 use Rattle.lsm_readers.proofs.verify.entries.read_entries.Given as goal
 

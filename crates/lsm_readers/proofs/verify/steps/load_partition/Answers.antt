@@ -1,7 +1,7 @@
 use Rattle.std.proofs.Common.{◌≡◌, subst}
 use Rattle.std.specs.Prelude.{Ok}
-use Rattle.sst_sections.specs.Sections.{body_of}
-use Rattle.sst_sections.specs.declared.section.SectionName.TheVariants as section
+use Rattle.sst_blocks.specs.Sections.{body_of}
+use Rattle.sst_blocks.specs.declared.section.SectionName.TheVariants as section
 use Rattle.sst_blocks.specs.Handle.{Handle}
 use Rattle.sst_blocks.specs.Place.{Place}
 use Rattle.lsm_readers.specs.Verify.{Misses, handles_found, top_named}

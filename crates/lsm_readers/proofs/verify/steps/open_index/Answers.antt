@@ -1,7 +1,7 @@
 use Rattle.std.proofs.Common.{[]}
-use Rattle.sst_sections.specs.Sections.{body_of}
-use Rattle.sst_sections.specs.declared.section.SectionName.TheVariants as section
-use Rattle.lsm_points.specs.Table.{parts_of}
+use Rattle.sst_blocks.specs.Sections.{body_of}
+use Rattle.sst_blocks.specs.declared.section.SectionName.TheVariants as section
+use Rattle.lsm_readers.specs.point.Table.{parts_of}
 use Rattle.lsm_readers.specs.Verification.{before_index, rest_found}
 use Rattle.lsm_readers.specs.Verify.{handles_found, passed}
 use Rattle.lsm_readers.proofs.Verifications.{full_goes, index_misses, misses_passed, refuses}

@@ -1,11 +1,11 @@
 use Rattle.std.proofs.Common.{◌≡◌, ap, subst, ◌∙◌}
 use Rattle.std.specs.Prelude.{Ok, Option}
-use Rattle.sst_sections.specs.Sections.{body_of}
+use Rattle.sst_blocks.specs.Sections.{body_of}
 use Rattle.sst_entries.specs.Entry.{Entry}
 use Rattle.sst_blocks.specs.Handle.{Handle}
 use Rattle.sst_blocks.specs.Place.{Place, place_of}
 use Rattle.lsm_readers.specs.declared.verify.Counts.{Counts}
-use Rattle.lsm_points.specs.Table.{parts_of}
+use Rattle.lsm_readers.specs.point.Table.{parts_of}
 use Rattle.lsm_readers.specs.Verify.{Misses, Unread, block_found, chunk_found, contents_found}
 use Rattle.lsm_readers.specs.Verify.{counted_found}
 use Rattle.lsm_readers.proofs.VerifyLoops.{passes}

@@ -1,7 +1,7 @@
 use Rattle.std.proofs.Common.{◌∷◌, List, drop, refl, ap, sym, ◌∙◌}
-use Rattle.sst_sections.specs.Sections.{body_of}
+use Rattle.sst_blocks.specs.Sections.{body_of}
 use Rattle.sst_blocks.specs.Handle.{Handle}
-use Rattle.lsm_points.specs.Table.{parts_of}
+use Rattle.lsm_readers.specs.point.Table.{parts_of}
 use Rattle.std.specs.List.{slice_get}
 use Rattle.lsm_readers.specs.Verify.{block_found, blocks_found}
 use Rattle.lsm_readers.proofs.Verifications.{at_none, first_misses, refuses}

@@ -1,8 +1,8 @@
 use Rattle.std.specs.Prelude.{IfErr, IfOk, Some}
 use Rattle.std.proofs.Common.{◌≡◌, ◌+◌, List, drop, ap, subst, sym, ◌∙◌}
-use Rattle.sst_sections.specs.Sections.{body_of}
+use Rattle.sst_blocks.specs.Sections.{body_of}
 use Rattle.sst_blocks.specs.Place.{Place}
-use Rattle.lsm_points.specs.Table.{parts_of}
+use Rattle.lsm_readers.specs.point.Table.{parts_of}
 use Rattle.lsm_readers.specs.declared.verify.Finding.{Finding}
 use Rattle.lsm_readers.specs.Verify.{FindsFirst, Misses, filter_found}
 use Rattle.lsm_readers.specs.Verification.{GoesOne, ahead_of, before_index, places_in, rest_found}

@@ -1,8 +1,8 @@
 use Rattle.std.proofs.Common.{List, false, ap, subst, sym, ◌∙◌}
 use Rattle.std.specs.Prelude.{Ok}
-use Rattle.sst_sections.specs.Sections.{body_of}
+use Rattle.sst_blocks.specs.Sections.{body_of}
 use Rattle.sst_blocks.specs.Handle.{Handle}
-use Rattle.lsm_points.specs.Table.{parts_of}
+use Rattle.lsm_readers.specs.point.Table.{parts_of}
 use Rattle.lsm_readers.specs.Verification.{GoesOne, in_index, next_found, rest_found}
 use Rattle.lsm_readers.proofs.VerifyEarly.{early_block, early_part, passes_first, some_first}
 use Rattle.lsm_readers.proofs.Verifications.{at_none, at_some, block_goes, block_misses}

@@ -5,7 +5,7 @@ use Rattle.std.specs.List.{slice_get}
 use Rattle.sst_entries.specs.declared.error.Error.{Error}
 use Rattle.sst_entries.specs.Error.{is_memory}
 use Rattle.sst_entries.specs.Stream.{first}
-use Rattle.lsm_readers.specs.Table.{OpenTable}
+use Rattle.lsm_readers.specs.point.Table.{OpenTable}
 use Rattle.lsm_run_parts.specs.RunParts.{ends_given}
 use Rattle.lsm_runs.specs.RunScan.{early_scan_fault, scan_fault, tables_between, tables_scan}
 use Rattle.lsm_run_parts.proofs.Places.{table_at}

@@ -3,7 +3,7 @@ use Rattle.std.specs.Prelude.{Option, Some, None, Ok, false, is_some}
 use Rattle.std.proofs.lemmas.Result.{err_from_is_err_and}
 use Rattle.sst_entries.specs.Entry.{Entry}
 use Rattle.sst_entries.specs.Lending.{came}
-use Rattle.lsm_readers.specs.Table.{OpenTable}
+use Rattle.lsm_readers.specs.point.Table.{OpenTable}
 use Rattle.lsm_runs.specs.RunScan.{RunScan, RunScansNext, lent_of_run}
 use Rattle.lsm_runs.proofs.ScanSteps.{Reached, fault, kept, lent_item, none_came, none_lent, opened, refusal, rest, starts}
 use Rattle.lsm_runs.proofs.run_scanner.RunScanner.step.Goals as goal

@@ -1,6 +1,6 @@
 use Rattle.std.proofs.Common.{◌<◌}
 use Rattle.std.specs.Prelude.{None}
-use Rattle.lsm_merge.specs.Ends.{Goes}
+use Rattle.lsm_sorted.specs.merge.Ends.{Goes}
 use Rattle.lsm_sorted.specs.Peeked.{peeked_size}
 use Rattle.sst_entries.specs.Stream.{nowhere}
 use Rattle.sst_entries.specs.declared.stream.Direction.TheVariants.{Front}

@@ -1,10 +1,10 @@
 use Rattle.std.proofs.Common.{◌≡◌, ◌∙◌, ap, sym, subst, true, []}
 use Rattle.std.specs.List.{AllByRecursion}
-use Rattle.sst_sections.specs.declared.version.TableVersion.TheVariants.{V4}
+use Rattle.sst_blocks.specs.declared.version.TableVersion.TheVariants.{V4}
 use Rattle.sst_entries.specs.Strict.{IsStrict}
-use Rattle.lsm_formats.specs.Fits.{EntryFits, LabelFits}
+use Rattle.sst_blocks.specs.table.Fits.{EntryFits, LabelFits}
 use Rattle.sst_entries.proofs.StreamLemmas.{on_err}
-use Rattle.lsm_formats.specs.Chunks.{joined}
+use Rattle.sst_blocks.specs.table.Chunks.{joined}
 use Rattle.lsm_writers.specs.Writing.{Writing, WritesTable, written}
 use Rattle.sst_entries.proofs.Refusals.{faults_refusal}
 use Rattle.lsm_writers.proofs.Refused.{none_some}

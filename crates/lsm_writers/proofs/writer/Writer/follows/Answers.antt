@@ -4,7 +4,7 @@ use Rattle.sst_entries.specs.declared.value_type.ValueType.TheVariants.{Value}
 use Rattle.sst_entries.specs.Entry.{entry}
 use Rattle.sst_entries.specs.Lending.{entry_of_ref}
 use Rattle.sst_entries.specs.Strict.{is_before}
-use Rattle.lsm_formats.specs.Chunks.{joined}
+use Rattle.sst_blocks.specs.table.Chunks.{joined}
 use Rattle.lsm_writers.proofs.Orders.{follows_nothing, follows_last, last_of-append}
 use Rattle.lsm_writers.proofs.writer.Writer.follows.Goals as goal
 

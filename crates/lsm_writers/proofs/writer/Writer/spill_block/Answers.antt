@@ -1,7 +1,7 @@
 use Rattle.std.proofs.Common.{refl, arith}
-use Rattle.sst_sections.specs.declared.version.TableVersion.TheVariants.{V4}
-use Rattle.lsm_formats.specs.Fits.{EntryFits}
-use Rattle.lsm_formats.specs.Chunks.{joined}
+use Rattle.sst_blocks.specs.declared.version.TableVersion.TheVariants.{V4}
+use Rattle.sst_blocks.specs.table.Fits.{EntryFits}
+use Rattle.sst_blocks.specs.table.Chunks.{joined}
 use Rattle.sst_entries.proofs.Lists.{all_behind}
 use Rattle.sst_entries.proofs.StreamLemmas.{on_err}
 use Rattle.lsm_writers.proofs.Gaining.{left_is, parts_left, parts_spilled, spilled_now}

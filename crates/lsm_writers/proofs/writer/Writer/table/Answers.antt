@@ -2,7 +2,7 @@ use Rattle.std.proofs.Common.{◌≡◌, ◌∙◌, ap, sym, subst, List, ℕ}
 use Rattle.std.specs.Prelude.{None}
 use Rattle.sst_entries.proofs.Refusals.{faults_memory}
 use Rattle.lsm_writers.specs.Writing.{Writing, WritesTable, cut_writing, sections_fault}
-use Rattle.lsm_formats.specs.Fits.{LabelFits}
+use Rattle.sst_blocks.specs.table.Fits.{LabelFits}
 use Rattle.lsm_writers.proofs.Finishing.{all_cut, parts_are}
 use Rattle.lsm_writers.proofs.writer.Writer.table.Goals as goal
 

@@ -1,5 +1,5 @@
 use Rattle.std.proofs.Common.{subst, sym}
-use Rattle.lsm_formats.specs.declared.options.FilterKind.{FilterKind}
+use Rattle.sst_blocks.specs.declared.table.options.FilterKind.{FilterKind}
 use Rattle.lsm_writers.specs.Filtering.{IsSmallFilter}
 use Rattle.lsm_writers.proofs.Filtered.{filtered_anew, fresh_list, sized_small}
 use Rattle.lsm_writers.proofs.writer.Writer.use_meta_partition_size.Goals as goal

@@ -5,8 +5,8 @@ use Rattle.sst_entries.specs.Lending.{entry_of_ref}
 use Rattle.sst_entries.specs.Strict.{last_of}
 use Rattle.lsm_writers.specs.Counts.{added, tally_of}
 use Rattle.lsm_writers.specs.Writing.{Writing, written, may_be_written}
-use Rattle.lsm_formats.specs.Chunks.{entry_size, is_full, joined}
-use Rattle.lsm_formats.specs.Facts.{starts_key}
+use Rattle.sst_blocks.specs.table.Chunks.{entry_size, is_full, joined}
+use Rattle.sst_blocks.specs.table.Facts.{starts_key}
 use Rattle.lsm_writers.specs.Filtering.{MayHaveKeys, registered_key}
 use Rattle.lsm_writers.proofs.Filtered.{may_register, registered_now}
 use Rattle.sst_entries.proofs.Refusals.{faults_refusal, faults_memory}

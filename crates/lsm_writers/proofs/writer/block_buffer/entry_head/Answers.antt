@@ -1,5 +1,5 @@
 use Rattle.std.proofs.Common.{refl}
-use Rattle.sst_sections.specs.Number.{le4, le8}
+use Rattle.sst_blocks.specs.Number.{le4, le8}
 use Rattle.lsm_writers.proofs.writer.block_buffer.entry_head.Goals as goal
 
 pub returns : goal.returns

@@ -1,4 +1,4 @@
-use Rattle.sst_sections.specs.Number.{le4}
+use Rattle.sst_blocks.specs.Number.{le4}
 use Rattle.lsm_writers.proofs.Buffering.{set_four}
 use Rattle.lsm_writers.proofs.writer.block_buffer.put_count.Goals as goal
 

@@ -1,12 +1,12 @@
 use Rattle.std.proofs.Common.{◌∙◌, ap, refl, sym, subst, [], ◌∷◌, ◌++◌, length}
 use Rattle.std.specs.Prelude.{None, Some}
-use Rattle.sst_sections.specs.Sections.{Written}
+use Rattle.sst_blocks.specs.Sections.{Written}
 use Rattle.sst_entries.proofs.StreamLemmas.{on_err}
 use Rattle.sst_entries.proofs.Strictness.{strict_alone, strict_back}
 use Rattle.sst_blocks.specs.Handle.{Handle}
 use Rattle.sst_blocks.proofs.Faults.{on_ok}
-use Rattle.lsm_formats.specs.Chunks.{joined}
-use Rattle.lsm_formats.specs.Index.{last_entry}
+use Rattle.sst_blocks.specs.table.Chunks.{joined}
+use Rattle.sst_blocks.specs.table.Index.{last_entry}
 use Rattle.lsm_writers.specs.Cut.{AreCut}
 use Rattle.lsm_writers.proofs.Cutting.{cut_lost, cut_more, registered_strict, told_handle}
 use Rattle.lsm_writers.proofs.Refused.{err_then}

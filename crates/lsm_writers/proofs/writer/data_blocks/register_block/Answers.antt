@@ -2,7 +2,7 @@ use Rattle.std.proofs.Common.{◌≡◌, ap, sym, subst, [], ◌∷◌, ◌++◌
 use Rattle.std.specs.Prelude.{OnOk}
 use Rattle.sst_entries.specs.Entry.{Entry}
 use Rattle.sst_blocks.specs.Handles.{AreStrictHandles}
-use Rattle.lsm_section_writers.specs.Kept.{handle_with}
+use Rattle.lsm_writers.specs.section.Kept.{handle_with}
 use Rattle.lsm_writers.proofs.Orders.{nothing_is_last, the_last}
 use Rattle.lsm_writers.proofs.writer.data_blocks.register_block.Goals as goal
 

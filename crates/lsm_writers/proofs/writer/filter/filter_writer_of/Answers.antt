@@ -1,7 +1,7 @@
 -- A writer that is made has no keys.
 use Rattle.std.proofs.Common.{ap, ◌∙◌}
-use Rattle.lsm_section_writers.specs.Given.{no_keys}
-use Rattle.lsm_section_writers.specs.Held.{CutParts}
+use Rattle.lsm_writers.specs.section.Given.{no_keys}
+use Rattle.lsm_writers.specs.section.Held.{CutParts}
 use Rattle.lsm_writers.proofs.Filtered.{full_has_none, parts_have_none}
 use Rattle.lsm_writers.proofs.writer.filter.filter_writer_of.Goals as goal
 use Rattle.lsm_writers.proofs.writer.filter.filter_writer_of.Goals.{in-Full, in-Partitioned+in_ok-new-in-Partitioned}

@@ -1,7 +1,7 @@
 use Rattle.std.proofs.Common.{◌∙◌, ap, refl, subst, List, ℕ}
-use Rattle.lsm_section_writers.specs.FilterRefusing.{filter_fault}
+use Rattle.lsm_writers.specs.section.FilterRefusing.{filter_fault}
 use Rattle.std.specs.Prelude.{Option}
-use Rattle.lsm_section_writers.specs.declared.filter_either.FilterWriterImpl.{FilterWriterImpl}
+use Rattle.lsm_writers.specs.declared.section.filter_either.FilterWriterImpl.{FilterWriterImpl}
 use Rattle.lsm_writers.specs.Filtering.{MayHaveKeys}
 use Rattle.lsm_writers.proofs.Filtered.{finish_in, finish_refuses, none_kept, nothing_written, no_filter_fault}
 use Rattle.lsm_writers.proofs.writer.filter.finish_filter.Goals as goal

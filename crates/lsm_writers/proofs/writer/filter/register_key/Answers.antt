@@ -1,8 +1,8 @@
 use Rattle.std.proofs.Common.{[], subst}
 use Rattle.std.specs.Prelude.{Option}
 use Rattle.sst_entries.proofs.Lists.{none_of}
-use Rattle.lsm_section_writers.specs.declared.filter_either.FilterWriterImpl.{FilterWriterImpl}
-use Rattle.lsm_section_writers.specs.Given.{given_by}
+use Rattle.lsm_writers.specs.declared.section.filter_either.FilterWriterImpl.{FilterWriterImpl}
+use Rattle.lsm_writers.specs.section.Given.{given_by}
 use Rattle.lsm_writers.specs.Filtering.{MayHaveKeys}
 use Rattle.lsm_writers.proofs.Filtered.{first_rises, has_given, no_register_fault, none_kept, registered_first, registered_in, rises_given, rising_now}
 use Rattle.lsm_writers.proofs.Refused.{memory_alone, refused_alone}

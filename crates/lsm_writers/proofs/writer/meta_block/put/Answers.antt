@@ -1,6 +1,6 @@
 use Rattle.std.proofs.Common.{◌≡◌, ◌∙◌, ap, refl, ◌++◌, ◌∷◌, []}
 use Rattle.sst_entries.specs.Entry.{Entry}
-use Rattle.lsm_formats.specs.MetaBlock.{meta_entry}
+use Rattle.sst_blocks.specs.table.MetaBlock.{meta_entry}
 use Rattle.lsm_writers.proofs.writer.meta_block.put.Goals as goal
 
 pub returns-clause-ok : goal.returns-clause-ok

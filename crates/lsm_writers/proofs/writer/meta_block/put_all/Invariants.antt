@@ -1,5 +1,5 @@
 use Rattle.std.proofs.Common.{◌≡◌, ◌++◌, map, take}
-use Rattle.lsm_formats.specs.MetaBlock.{meta_entry}
+use Rattle.sst_blocks.specs.table.MetaBlock.{meta_entry}
 use Rattle.lsm_writers.proofs.writer.meta_block.put_all.Given as goal
 
 abbrev pub invariant-loop-name : goal.invariant-loop-name

@@ -1,5 +1,5 @@
 use Rattle.std.proofs.Common.{◌≡◌, ◌∙◌, ap, ℕ, List, ◌++◌, length, arith}
-use Rattle.sst_sections.specs.declared.version.TableVersion.TheVariants.{V4}
+use Rattle.sst_blocks.specs.declared.version.TableVersion.TheVariants.{V4}
 use Rattle.sst_blocks.specs.Encoding.{entries_fault}
 use Rattle.sst_blocks.specs.Payload.{payload}
 use Rattle.sst_entries.proofs.Refusals.{faults_refusal}

@@ -1,5 +1,5 @@
 use Rattle.sst_blocks.specs.Payload.{AreSpellable}
-use Rattle.sst_sections.specs.declared.version.TableVersion.TheVariants.{V4}
+use Rattle.sst_blocks.specs.declared.version.TableVersion.TheVariants.{V4}
 use Rattle.sst_blocks.proofs.Entries.{entries_read}
 use Rattle.sst_blocks.proofs.Faults.{on_ok}
 use Rattle.sst_blocks.proofs.data_block.DataBlock.encode_into.Goals as goal

@@ -1,5 +1,5 @@
 use Rattle.sst_blocks.specs.Handles.{AreSpellableHandles}
-use Rattle.sst_sections.specs.declared.version.TableVersion.TheVariants.{V4}
+use Rattle.sst_blocks.specs.declared.version.TableVersion.TheVariants.{V4}
 use Rattle.sst_blocks.proofs.Faults.{on_ok}
 use Rattle.sst_blocks.proofs.HandleLaws.{handles_read}
 use Rattle.sst_blocks.proofs.index_block.IndexBlock.encode_into.Goals as goal

@@ -1,5 +1,5 @@
 use Rattle.std.proofs.Common.{slice_range}
-use Rattle.sst_sections.specs.Sections.{body_of}
+use Rattle.sst_blocks.specs.Sections.{body_of}
 use Rattle.sst_blocks.proofs.LoadLemmas.{given_items}
 use Rattle.sst_blocks.proofs.MarkLemmas.{there_items, there_sum}
 use Rattle.sst_blocks.proofs.source.BlockSource.block.Goals as goal

@@ -1,7 +1,7 @@
 use Rattle.std.proofs.Common.{ℕ, List, slice_range, sym, ap, ◌∙◌}
 use Rattle.std.specs.Prelude.{Ok}
-use Rattle.sst_filters.specs.Filter.{admits, filter_in}
-use Rattle.sst_sections.specs.Sections.{body_of}
+use Rattle.sst_blocks.specs.filter.Filter.{admits, filter_in}
+use Rattle.sst_blocks.specs.Sections.{body_of}
 use Rattle.sst_blocks.specs.Asked.{maybe_in}
 use Rattle.sst_blocks.specs.declared.block_type.BlockType.TheVariants.{Filter}
 use Rattle.sst_blocks.proofs.Asked.{asked_right}

@@ -1,5 +1,5 @@
 use Rattle.std.proofs.Common.{List, ℕ, ap, refl, slice_range, sym, ◌∙◌}
-use Rattle.sst_sections.specs.Fnv.{fnv1a}
+use Rattle.sst_blocks.specs.Fnv.{fnv1a}
 use Rattle.sst_blocks.proofs.MarkLemmas.{sum_there, there_sum}
 use Rattle.sst_blocks.proofs.source.BlockSource.has_sum.Goals as goal
 

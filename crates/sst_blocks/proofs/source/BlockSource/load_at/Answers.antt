@@ -8,7 +8,7 @@ use Rattle.sst_entries.specs.declared.error.Error.TheVariants.{Truncated, Invali
 use Rattle.sst_blocks.specs.Block.{Loaded, load_at_told, position_fault, checked_payload, checksum_fault, data_len, header_fault, room_fault, stored_checksum, version_in}
 use Rattle.sst_blocks.proofs.MarkLemmas.{headed_there}
 use Rattle.sst_entries.specs.Error.{FaultsFirst, Gives}
-use Rattle.sst_sections.specs.Sections.{body_of}
+use Rattle.sst_blocks.specs.Sections.{body_of}
 use Rattle.sst_blocks.proofs.LoadLemmas.{load_at_truncated, load_at_fault, load_at_lengths, load_at_passes, load_at_checked, loaded_within, range_short, position_truncated, position_header, position_lengths, position_passes, position_checked}
 use Rattle.sst_blocks.proofs.source.BlockSource.load_at.Goals as goal
 use Rattle.sst_blocks.proofs.source.BlockSource.load_at.Goals.{then-body-lt-HEADER_LEN-via-then-body-lt-HEADER_LEN, then-body-lt-HEADER_LEN-via-else-body-lt-HEADER_LEN+then-body-position}

@@ -3,7 +3,7 @@ use Rattle.std.specs.Prelude.{Result, Ok}
 use Rattle.sst_blocks.specs.Block.{Loaded, has_room, in_grammar, loaded, grammar_fault}
 use Rattle.sst_entries.specs.declared.error.Error.{Error}
 use Rattle.sst_entries.specs.Error.{Gives, unless}
-use Rattle.sst_sections.specs.Sections.{body_of}
+use Rattle.sst_blocks.specs.Sections.{body_of}
 use Rattle.sst_blocks.proofs.LoadLemmas.{checksum_right}
 use Rattle.sst_blocks.proofs.MarkLemmas.{body_part}
 use Rattle.sst_blocks.proofs.source.BlockSource.open.Goals as goal

@@ -5,7 +5,7 @@ use Rattle.std.proofs.lemmas.Result.{err_from_is_err_and}
 use Rattle.sst_blocks.specs.Block.{load_told, place_fault, checked_payload, checksum_fault, data_len, header_fault, room_fault, stored_checksum, version_in}
 use Rattle.sst_blocks.specs.Marks.{IsHeaded}
 use Rattle.sst_blocks.proofs.MarkLemmas.{headed_there}
-use Rattle.sst_sections.specs.Sections.{body_of}
+use Rattle.sst_blocks.specs.Sections.{body_of}
 use Rattle.sst_blocks.proofs.LoadLemmas.{load_truncated, load_fault, load_lengths, load_checked, place_truncated, place_header, place_lengths, place_checked}
 use Rattle.sst_blocks.proofs.source.BlockSource.place.Goals as goal
 use Rattle.sst_blocks.proofs.source.BlockSource.place.Goals.{then-size-lt-HEADER_LEN-via-then-size-lt-HEADER_LEN, then-size-lt-HEADER_LEN-via-else-size-lt-HEADER_LEN+then-body-size, then-size-lt-HEADER_LEN-via-else-size-lt-HEADER_LEN+else-body-size+then-body-size-2, then-header-via-then-header, then-header-via-else-header+then-header-size}

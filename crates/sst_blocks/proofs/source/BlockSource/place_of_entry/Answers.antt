@@ -1,8 +1,8 @@
 use Rattle.std.proofs.Common.{◌≡◌, ℕ, ◌+◌, ◌≤◌, List, length, slice_range, refl, sym, ap, subst, rules, arith, Some, None, ◌∙◌}
 use Rattle.std.specs.Option.{option_map}
 use Rattle.std.proofs.lemmas.Result.{err_from_is_err_and}
-use Rattle.sst_sections.specs.Sections.{body_of}
-use Rattle.sst_sections.specs.Version.{key_width}
+use Rattle.sst_blocks.specs.Sections.{body_of}
+use Rattle.sst_blocks.specs.Version.{key_width}
 use Rattle.std.specs.Prelude.{Ok}
 use Rattle.sst_entries.specs.Entry.{Entry}
 use Rattle.sst_entries.specs.Lending.{entry_of_ref}

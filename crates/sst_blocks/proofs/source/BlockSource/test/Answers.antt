@@ -1,6 +1,6 @@
 use Rattle.std.proofs.Common.{◌≡◌, ℕ, List, true, false, slice_range, refl, sym, ap, ◌∙◌}
 use Rattle.sst_blocks.specs.Block.{has_room}
-use Rattle.sst_sections.specs.Sections.{body_of}
+use Rattle.sst_blocks.specs.Sections.{body_of}
 use Rattle.sst_blocks.proofs.LoadLemmas.{checksum_wrong}
 use Rattle.sst_blocks.proofs.MarkLemmas.{items_there, sum_there}
 use Rattle.sst_blocks.proofs.Room.{grammar_room, room_wrong}

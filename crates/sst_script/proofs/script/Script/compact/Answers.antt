@@ -3,9 +3,9 @@ use Rattle.std.specs.Prelude.{None, Some, map}
 use Rattle.std.specs.Arc.{arc_value}
 use Rattle.sst_entries.specs.Entry.{Entry}
 use Rattle.sst_entries.specs.Error.{is_memory}
-use Rattle.lsm_readers.specs.Table.{OpenTable}
-use Rattle.lsm_compactions.specs.Chain.{AreCutOf, IsRunOfList, run_label, tables_fault}
-use Rattle.lsm_compactions.specs.Compacted.{AreCompactable, kept_in, rules_by}
+use Rattle.lsm_readers.specs.point.Table.{OpenTable}
+use Rattle.lsm_runs.specs.compaction.Chain.{AreCutOf, IsRunOfList, run_label, tables_fault}
+use Rattle.lsm_runs.specs.compaction.Compacted.{AreCompactable, kept_in, rules_by}
 use Rattle.sst_script.specs.declared.stop.Failure.TheVariants.{Refused}
 use Rattle.sst_script.specs.Script.{kept_by, target_size}
 use Rattle.sst_script.proofs.CompactLemmas.{able_none, compacted, compacted_away, compaction_fails, kept_is, moved, not_compacted}

@@ -2,8 +2,8 @@ use Rattle.std.proofs.Common.{◌≡◌, ◌∙◌, sym, ap, subst, length, List
 use Rattle.std.specs.Prelude.{map}
 use Rattle.std.specs.Arc.{arc_value}
 use Rattle.std.proofs.lemmas.List.{length-map}
-use Rattle.lsm_readers.specs.Table.{OpenTable}
-use Rattle.lsm_compactions.specs.Compacted.{AreCompactable}
+use Rattle.lsm_readers.specs.point.Table.{OpenTable}
+use Rattle.lsm_runs.specs.compaction.Compacted.{AreCompactable}
 use Rattle.sst_script.specs.Runs.{HasRuns}
 use Rattle.sst_script.specs.Script.{Packs, store}
 use Rattle.sst_script.proofs.PackLemmas.{in_order, packed_runs}

@@ -2,9 +2,9 @@ use Rattle.std.proofs.Common.{◌≡◌, ◌∙◌, sym, ap, subst, ◌∷◌, f
 use Rattle.std.specs.Prelude.{None, map}
 use Rattle.std.specs.Arc.{arc_value}
 use Rattle.sst_entries.specs.Entry.{Entry}
-use Rattle.lsm_readers.specs.Table.{OpenTable}
+use Rattle.lsm_readers.specs.point.Table.{OpenTable}
 use Rattle.lsm_writers.specs.Writing.{IsWritable}
-use Rattle.lsm_compactions.specs.Chain.{AreCutOf, IsRunOfList, run_label, tables_fault}
+use Rattle.lsm_runs.specs.compaction.Chain.{AreCutOf, IsRunOfList, run_label, tables_fault}
 use Rattle.sst_script.specs.Script.{target_size}
 use Rattle.sst_script.proofs.CompactLemmas.{able_more, able_runs}
 use Rattle.sst_script.proofs.StoreLemmas.{answered, wrote}

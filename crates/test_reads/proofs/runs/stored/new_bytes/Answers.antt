@@ -1,5 +1,5 @@
 use Rattle.std.proofs.Common.{sym, subst}
-use Rattle.lsm_formats.specs.Table.{IsTable}
+use Rattle.sst_blocks.specs.table.Table.{IsTable}
 use Rattle.lsm_writers.specs.Writing.{IsWritable}
 use Rattle.test_reads.proofs.StoredTable.{new_alone, new_writable}
 use Rattle.test_reads.proofs.runs.stored.new_bytes.Goals as goal

@@ -1,6 +1,6 @@
 use Rattle.std.proofs.Common.{◌∙◌, ap, sym, subst, List, [], ◌∷◌, ◌++◌}
-use Rattle.lsm_readers.specs.Table.{OpenTable}
-use Rattle.lsm_compactions.specs.Compacted.{AreCompactable}
+use Rattle.lsm_readers.specs.point.Table.{OpenTable}
+use Rattle.lsm_runs.specs.compaction.Compacted.{AreCompactable}
 use Rattle.test_reads.proofs.StoredTable.{both_compactable}
 use Rattle.test_reads.proofs.runs.stored.run.Goals as goal
 

@@ -1,5 +1,5 @@
 use Rattle.sst_entries.specs.Stream.{ok_results}
-use Rattle.lsm_merge.specs.Union.{union_of}
+use Rattle.lsm_sorted.specs.merge.Union.{union_of}
 use Rattle.test_sorted.proofs.sorted.laws.compaction_of.Goals as goal
 
 pub returns-clause-kept : goal.returns-clause-kept

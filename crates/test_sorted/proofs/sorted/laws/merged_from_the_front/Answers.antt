@@ -1,6 +1,6 @@
 use Rattle.sst_entries.specs.Stream.{ok_results}
-use Rattle.lsm_merge.specs.Union.{union_of}
-use Rattle.lsm_merge.specs.MergeLaws.{every_error}
+use Rattle.lsm_sorted.specs.merge.Union.{union_of}
+use Rattle.lsm_sorted.specs.merge.MergeLaws.{every_error}
 use Rattle.test_sorted.proofs.sorted.laws.merged_from_the_front.Goals as goal
 
 pub returns-clause-deals : goal.returns-clause-deals

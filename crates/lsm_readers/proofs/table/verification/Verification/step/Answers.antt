@@ -1,8 +1,8 @@
 use Rattle.std.specs.Prelude.{Err, IfErr, Ok}
 use Rattle.std.proofs.Common.{◌≡◌, ap, subst, sym, ◌∙◌}
-use Rattle.sst_sections.specs.Sections.{body_of}
+use Rattle.sst_blocks.specs.Sections.{body_of}
 use Rattle.lsm_readers.specs.Findings.{IsFirstFinding}
-use Rattle.lsm_points.specs.Table.{IsOpen, OpenTable}
+use Rattle.lsm_readers.specs.point.Table.{IsOpen, OpenTable}
 use Rattle.lsm_readers.specs.Verify.{FindsFirst, Misses, table_found}
 use Rattle.lsm_readers.specs.Verification.{Verifying, next_found, step_early}
 use Rattle.lsm_readers.specs.declared.verify.Finding.{Finding}

@@ -2,7 +2,7 @@ use Rattle.std.specs.Prelude.{None}
 use Rattle.std.proofs.Common.{◌≡◌, ◌≤◌, Bool}
 use Rattle.sst_entries.specs.declared.error.Error.{Error}
 use Rattle.sst_entries.specs.Stream.{nowhere}
-use Rattle.lsm_merge.specs.Ends.{Goes}
+use Rattle.lsm_sorted.specs.merge.Ends.{Goes}
 use Rattle.lsm_sorted.specs.Ahead.{HoldsAhead, ahead_size}
 use Rattle.lsm_sorted.specs.CompactionState.{rules_of}
 use Rattle.lsm_sorted.proofs.SettleLemmas.{Draining}

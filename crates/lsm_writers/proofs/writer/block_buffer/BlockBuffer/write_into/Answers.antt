@@ -3,7 +3,7 @@ use Rattle.std.specs.Prelude.{IfOk, OnOk}
 use Rattle.sst_blocks.specs.Block.{block_bytes}
 use Rattle.sst_blocks.specs.Payload.{payload}
 use Rattle.sst_blocks.specs.declared.block_type.BlockType.TheVariants.{Data}
-use Rattle.sst_sections.specs.declared.version.TableVersion.TheVariants.{V4}
+use Rattle.sst_blocks.specs.declared.version.TableVersion.TheVariants.{V4}
 use Rattle.lsm_writers.proofs.Buffering.{block_short, counted_buffered, few_entries, held_as_read, read_again, reads_back}
 use Rattle.lsm_writers.proofs.writer.block_buffer.BlockBuffer.write_into.Goals as goal
 

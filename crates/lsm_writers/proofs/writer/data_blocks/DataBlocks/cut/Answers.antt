@@ -1,12 +1,12 @@
 use Rattle.std.proofs.Common.{◌≡◌, ◌∙◌, ap, refl, sym, subst, ◌<◌, ◌^◌, List, [], ◌∷◌, ◌++◌, length, arith}
 use Rattle.std.specs.Prelude.{Some, None, Option}
-use Rattle.sst_sections.specs.declared.version.TableVersion.TheVariants.{V4}
+use Rattle.sst_blocks.specs.declared.version.TableVersion.TheVariants.{V4}
 use Rattle.sst_entries.specs.Entry.{Entry}
 use Rattle.sst_blocks.specs.Payload.{payload}
 use Rattle.sst_entries.specs.Strict.{IsStrict, last_of}
 use Rattle.sst_entries.proofs.StreamLemmas.{on_err}
-use Rattle.lsm_formats.specs.Chunks.{joined}
-use Rattle.lsm_formats.specs.Index.{last_entry}
+use Rattle.sst_blocks.specs.table.Chunks.{joined}
+use Rattle.sst_blocks.specs.table.Index.{last_entry}
 use Rattle.lsm_writers.specs.Cut.{AreCut, chunks_in, Cut, with_cut}
 use Rattle.lsm_writers.proofs.Cutting.{added_is, held_again, held_by_bytes, counted_more, rest_is, room_for, at_least_blocks, exact_blocks, last_is_some, sizes}
 use Rattle.std.proofs.lemmas.List.{append-nil}

@@ -1,9 +1,9 @@
 use Rattle.std.proofs.Common.{◌∙◌, ap, subst, List}
 use Rattle.std.specs.List.{AllByRecursion}
-use Rattle.sst_sections.specs.declared.version.TableVersion.TheVariants.{V4}
+use Rattle.sst_blocks.specs.declared.version.TableVersion.TheVariants.{V4}
 use Rattle.sst_entries.specs.Entry.{Entry}
-use Rattle.lsm_formats.specs.Fits.{BlockFits}
-use Rattle.lsm_formats.specs.Index.{handles}
+use Rattle.sst_blocks.specs.table.Fits.{BlockFits}
+use Rattle.sst_blocks.specs.table.Index.{handles}
 use Rattle.lsm_writers.specs.Cut.{Cut}
 use Rattle.lsm_writers.proofs.Cutting.{blocks_fit}
 use Rattle.lsm_writers.proofs.writer.data_blocks.DataBlocks.into_parts.Goals as goal

@@ -1,9 +1,9 @@
 use Rattle.std.proofs.Common.{◌≡◌, ◌∙◌, ap, refl, [], ◌∷◌, lit<}
 use Rattle.std.specs.Prelude.{None}
 use Rattle.sst_entries.specs.Strict.{last_of}
-use Rattle.sst_sections.specs.declared.section.SectionName.TheVariants.{Data}
+use Rattle.sst_blocks.specs.declared.section.SectionName.TheVariants.{Data}
 use Rattle.lsm_writers.specs.Cut.{chunks_in}
-use Rattle.lsm_section_writers.specs.Registered.{Registered}
+use Rattle.lsm_writers.specs.section.Registered.{Registered}
 use Rattle.lsm_writers.proofs.Cutting.{nothing_cut}
 use Rattle.lsm_writers.proofs.Orders.{nothing_last}
 use Rattle.lsm_writers.proofs.writer.data_blocks.DataBlocks.new.Goals as goal

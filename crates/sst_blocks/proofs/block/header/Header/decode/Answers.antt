@@ -2,10 +2,10 @@ use Rattle.std.proofs.Common.{◌≡◌, ℕ, ◌||◌, ◌==◌, ◌&&◌, not,
 use Rattle.std.specs.Prelude.{None, Some, is_none, unwrap_or}
 use Rattle.std.proofs.lemmas.Bool.{eq-eqb}
 use Rattle.std.proofs.lemmas.List.{take_rest}
-use Rattle.sst_sections.specs.declared.version.TableVersion.{TableVersion}
-use Rattle.sst_sections.specs.declared.version.TableVersion.TheVariants.{V4}
+use Rattle.sst_blocks.specs.declared.version.TableVersion.{TableVersion}
+use Rattle.sst_blocks.specs.declared.version.TableVersion.TheVariants.{V4}
 use Rattle.sst_entries.specs.declared.error.Error.{Error}
-use Rattle.sst_sections.specs.Number.{num4, num8}
+use Rattle.sst_blocks.specs.Number.{num4, num8}
 use Rattle.sst_blocks.proofs.block.header.Header.decode.Goals as goal
 
 -- a header that passes every test has no fault

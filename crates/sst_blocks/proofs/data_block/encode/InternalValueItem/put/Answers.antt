@@ -2,9 +2,9 @@ use Rattle.std.proofs.Common.{◌≡◌, ℕ, List, [], ◌∷◌, ◌++◌, len
 use Rattle.std.proofs.lemmas.Result.{IfOk-from_err}
 use Rattle.sst_entries.specs.Entry.{Entry}
 use Rattle.sst_entries.specs.Kind.{tag_of}
-use Rattle.sst_sections.specs.Number.{le4, le8}
+use Rattle.sst_blocks.specs.Number.{le4, le8}
 use Rattle.sst_blocks.specs.Payload.{spelled}
-use Rattle.sst_sections.specs.declared.version.TableVersion.TheVariants.{V4}
+use Rattle.sst_blocks.specs.declared.version.TableVersion.TheVariants.{V4}
 use Rattle.sst_blocks.proofs.Grown.{none, first, then, same, front}
 use Rattle.sst_blocks.proofs.data_block.encode.InternalValueItem.put.Goals as goal
 

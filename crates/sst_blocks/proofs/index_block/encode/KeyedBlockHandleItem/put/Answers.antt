@@ -2,8 +2,8 @@ use Rattle.std.proofs.Common.{◌≡◌, ℕ, List, ◌++◌, length, rules, ari
 use Rattle.std.proofs.lemmas.Result.{IfOk-from_err}
 use Rattle.sst_blocks.specs.Handle.{Handle}
 use Rattle.sst_blocks.specs.Handles.{handle_spelled}
-use Rattle.sst_sections.specs.Number.{le4, le8}
-use Rattle.sst_sections.specs.declared.version.TableVersion.TheVariants.{V4}
+use Rattle.sst_blocks.specs.Number.{le4, le8}
+use Rattle.sst_blocks.specs.declared.version.TableVersion.TheVariants.{V4}
 use Rattle.sst_blocks.proofs.Grown.{none, first, then, same, front}
 use Rattle.sst_blocks.proofs.index_block.encode.KeyedBlockHandleItem.put.Goals as goal
 

@@ -1,5 +1,0 @@
-use Rattle.lsm_block_indexes.proofs.Laws.{span_deals}
-use Rattle.lsm_block_indexes.proofs.full.IterBlockIndexIter.seek_lower.Goals as goal
-
-pub returns-clause-deals : goal.returns-clause-deals
-returns-clause-deals g c = span_deals _

@@ -1,7 +1,0 @@
-use Rattle.sst_entries.specs.Stream.{front_of}
-use Rattle.lsm_block_indexes.specs.Left.{two_level_left}
-use Rattle.lsm_block_indexes.proofs.Going.{front_shortens, progress}
-use Rattle.lsm_block_indexes.proofs.two_level.IterIterator.next.Goals as goal
-
-pub returns-clause-goes : goal.returns-clause-goes
-returns-clause-goes g c = progress two_level_left front_of front_shortens _ _ _ c.answer.ensures.gives

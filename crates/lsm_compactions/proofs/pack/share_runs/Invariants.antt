@@ -1,8 +1,0 @@
-use Rattle.std.proofs.Common.{◌≡◌, take}
-use Rattle.std.specs.Prelude.{filter, map}
-use Rattle.std.specs.Arc.{arc_value}
-use Rattle.lsm_compactions.specs.Packed.{has_table}
-use Rattle.lsm_compactions.proofs.pack.share_runs.Given as goal
-
-abbrev pub invariant-loop-run : goal.invariant-loop-run
-invariant-loop-run g l = l.shared.items ≡ filter has_table (map arc_value (take l.run-index l.runs))

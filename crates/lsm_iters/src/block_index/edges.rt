@@ -1,0 +1,98 @@
+//! The edges between which an iterator deals.
+ghost use Rattle.std.specs.Prelude.{◌≡◌, ◌↔◌, IsTrue, Some, None, OnOk, OnErr, IfErr};
+ghost use Rattle.sst_entries.specs.declared.error.Error.TheVariants.{OutOfMemory};
+ghost use Rattle.lsm_iters.specs.block_index.Words.{rest_in, window};
+
+use crate::block_index::iter::OwnedIndexBlockIter;
+use sst_blocks::{Error, IndexBlock, SeqNo, Slice, UserKey};
+use std::alloc::Allocator;
+use std::marker::Model;
+
+/// A lower and an upper edge, each where it was sought.
+#[derive(Drop)]
+pub struct Edges<A: Allocator> {
+    alloc: A,
+    lower: Option<(UserKey<A>, SeqNo)>,
+    upper: Option<UserKey<A>>,
+}
+
+impl<A: Allocator> Model for Edges<A> {
+    ghost use Rattle.std.specs.Prelude.{List, ℕ, Option};
+
+    ghost Value = { Option (List ℕ × ℕ) × Option (List ℕ) };
+
+    ghost view = { λ e. (e.lower, e.upper) };
+}
+
+impl<A: Allocator + Clone> Edges<A> {
+    /// No edges.
+    pub fn new(alloc: A) -> Edges<A>
+        ensures { result ≡ (None, None) }
+    {
+        Edges {
+            alloc,
+            lower: None,
+            upper: None,
+        }
+    }
+
+    /// Whether neither edge was sought.
+    pub fn are_none(&self) -> bool
+        ensures { IsTrue result ↔ (self.now ≡ (None, None)) }
+    {
+        self.lower.is_none() && self.upper.is_none()
+    }
+
+    /// Keeps a copy of the lower edge. Refused [`Error::OutOfMemory`] alone; the edges are then as
+    /// they were.
+    pub fn set_lower(&mut self, key: &[u8], seqno: SeqNo) -> Result<(), Error>
+        ensures ok { OnOk result (self.new ≡ (Some (key.now, seqno), self.old.1)) }
+        ensures unchanged { OnErr result (self.new ≡ self.old) }
+        ensures err { IfErr result (λ e. e ≡ OutOfMemory) }
+    {
+        let key = Slice::from(self.alloc.clone()?, key)?;
+        drop(self.lower.replace((key, seqno)));
+        Ok(())
+    }
+
+    /// Keeps a copy of the upper edge. Refused [`Error::OutOfMemory`] alone; the edges are then as
+    /// they were.
+    pub fn set_upper(&mut self, key: &[u8]) -> Result<(), Error>
+        ensures ok { OnOk result (self.new ≡ (self.old.0, Some key.now)) }
+        ensures unchanged { OnErr result (self.new ≡ self.old) }
+        ensures err { IfErr result (λ e. e ≡ OutOfMemory) }
+    {
+        let key = Slice::from(self.alloc.clone()?, key)?;
+        drop(self.upper.replace(key));
+        Ok(())
+    }
+
+    /// The handles of a block from the lower edge on.
+    fn from_lower(&self, block: IndexBlock<A>) -> OwnedIndexBlockIter<A>
+        ensures list { result.list ≡ block }
+        ensures rest { rest_in result ≡ window block self.now.0 None }
+    {
+        let mut iter = OwnedIndexBlockIter::new(block);
+        match &self.lower {
+            Some((key, seqno)) => {
+                iter.seek_lower(key.as_slice(), *seqno);
+                iter
+            }
+            None => iter,
+        }
+    }
+
+    /// The handles of a block between the edges.
+    pub fn within(&self, block: IndexBlock<A>) -> OwnedIndexBlockIter<A>
+        ensures { rest_in result ≡ window block self.now.0 self.now.1 }
+    {
+        let mut iter = self.from_lower(block);
+        match &self.upper {
+            Some(key) => {
+                iter.seek_upper(key.as_slice(), 0);
+                iter
+            }
+            None => iter,
+        }
+    }
+}

@@ -1,0 +1,153 @@
+//! The full index: one block with the handle of every data block, which stays loaded.
+ghost use Rattle.std.specs.Prelude.{◌≡◌, ◌-◌, Some, None, IfOk, IfErr, MatchOption, [], ◌↔◌};
+ghost use Rattle.std.specs.Prelude.{IsTrue};
+ghost use Rattle.std.specs.Iterator.{at_most};
+ghost use Rattle.sst_entries.specs.declared.error.Error.TheVariants.{OutOfMemory};
+ghost use Rattle.lsm_iters.specs.block_index.Words.{SpanGives, back_of, front_of, reaching_place};
+ghost use Rattle.lsm_iters.specs.block_index.Words.{rest_in};
+ghost use Rattle.lsm_iters.specs.block_index.Words.{AnswersAny, DealsEnding, IsBetween};
+ghost use Rattle.lsm_iters.specs.block_index.Words.{IsSpanSought};
+ghost use Rattle.lsm_iters.specs.block_index.Words.{span_from, span_left, whole_span, window};
+
+use crate::block_index::iter::OwnedIndexBlockIter;
+use crate::block_index::kinds::BlockIndexIter;
+use sst_blocks::{Error, IndexBlock, KeyedBlockHandle, Opened, SeqNo};
+use std::alloc::{Allocator, Global};
+use std::marker::Model;
+
+/// An index of one block, which stays loaded. A contract sees its handles.
+#[derive(Drop)]
+pub struct FullBlockIndex<A: Allocator = Global>(IndexBlock<A>);
+
+impl<A: Allocator> Model for FullBlockIndex<A> {
+    ghost use Rattle.std.specs.Prelude.{List};
+    ghost use Rattle.sst_blocks.specs.Handle.{Handle};
+
+    ghost Value = { List Handle };
+
+    ghost view = { λ index. index.0 };
+}
+
+impl<A: Allocator> FullBlockIndex<A> {
+    /// The index of a loaded block.
+    pub fn new(block: IndexBlock<A>) -> FullBlockIndex<A>
+        ensures { result ≡ block }
+    {
+        FullBlockIndex(block)
+    }
+
+    /// The block of handles.
+    pub fn inner(&self) -> &IndexBlock<A>
+        ensures { result.now ≡ self.now }
+    {
+        &self.0
+    }
+
+    /// The handles from the first on that reaches a key and a number: whose end key is greater, or
+    /// equal and numbered below `seqno`. `None` where there is no such handle. Refused
+    /// [`Error::OutOfMemory`] alone.
+    pub fn forward_reader(&self, key: &[u8], seqno: SeqNo) -> Result<Option<Iter<A>>, Error>
+        ensures none { IfOk result (λ found. MatchOption found
+            (window self.now (Some (key.now, seqno)) None ≡ []) (λ i. rest_in i ≡ [] → ⊥)) }
+        ensures found { let place = reaching_place (key.now, seqno) self.now in
+            IfOk result (λ found. MatchOption found (Unit {0})
+            (λ i. i ≡ span_from place (whole_span self.now))) }
+        ensures kept { let handles = window self.now (Some (key.now, seqno)) None in
+            IfOk result (λ found. MatchOption found (Unit {0}) (λ i. rest_in i ≡ handles)) }
+        ensures deals { let gives = ⟦<Iter<A> as Iterator>⟧.next_gives in
+            let back_gives = ⟦<Iter<A> as DoubleEndedIterator>⟧.next_back_gives in
+            IfOk result (λ found. MatchOption found (Unit {0}) (λ i.
+            DealsEnding gives back_gives (λ _. Unit {0}) (λ _. Unit {0}) i (span_left i).results)) }
+        ensures err { IfErr result (λ e. e ≡ OutOfMemory) }
+    {
+        let mut iter = self.iter()?;
+        if iter.0.seek_lower(key, seqno) {
+            Ok(Some(iter))
+        } else {
+            drop(iter);
+            Ok(None)
+        }
+    }
+
+    /// All handles. Refused [`Error::OutOfMemory`] alone.
+    pub fn iter(&self) -> Result<Iter<A>, Error>
+        ensures whole { IfOk result (λ i. i ≡ whole_span self.now) }
+        ensures between { IfOk result (λ i. IsBetween (span_left i) None None) }
+        ensures deals { let gives = ⟦<Iter<A> as Iterator>⟧.next_gives in
+            let back_gives = ⟦<Iter<A> as DoubleEndedIterator>⟧.next_back_gives in
+            IfOk result (λ i. DealsEnding gives back_gives (λ _. Unit {0}) (λ _. Unit {0}) i
+            (span_left i).results) }
+        ensures err { IfErr result (λ e. e ≡ OutOfMemory) }
+    {
+        Ok(Iter(OwnedIndexBlockIter::new(self.0.clone()?)))
+    }
+}
+
+/// The handles of a full index, dealt from both ends. After a call that is refused
+/// [`Error::OutOfMemory`] nothing more comes, from either end.
+#[derive(Drop)]
+pub struct Iter<A: Allocator = Global>(OwnedIndexBlockIter<A>);
+
+impl<A: Allocator> Model for Iter<A> {
+    ghost use Rattle.sst_blocks.specs.Handle.{Handle};
+    ghost use Rattle.sst_entries.specs.Span.{Span};
+
+    ghost Value = { Span Handle };
+
+    ghost view = { λ i. i.0 };
+}
+
+impl<A: Allocator> Iter<A> {
+    /// Whether all handles are left: no step was made, and no edge was sought that left one out.
+    pub(crate) fn is_unsought(&self) -> bool
+        ensures { IsTrue result ↔ IsSpanSought self.now None None }
+    {
+        self.0.is_whole()
+    }
+}
+
+impl<A: Allocator> Iterator for Iter<A> {
+    type Item = Result<KeyedBlockHandle<A>, Error>;
+
+    ghost can_next = { λ _. Unit {0} };
+
+    ghost next_gives = { SpanGives front_of };
+
+    ghost remaining = { λ s. at_most (s.to - s.from) };
+
+    fn next(&mut self) -> Option<Self::Item> {
+        self.0.next()
+    }
+}
+
+impl<A: Allocator> DoubleEndedIterator for Iter<A> {
+    ghost can_next_back = { λ _. Unit {0} };
+
+    ghost next_back_gives = { SpanGives back_of };
+
+    fn next_back(&mut self) -> Option<Self::Item> {
+        self.0.next_back()
+    }
+}
+
+impl<A: Allocator> BlockIndexIter<A> for Iter<A> {
+    ghost left = { span_left };
+
+    ghost sought = { IsSpanSought };
+
+    ghost seek_answers = { AnswersAny };
+
+    ghost takes_memory = { λ _. ⊥ };
+
+    fn seek_lower(&mut self, key: &[u8], seqno: SeqNo) -> Result<bool, Error> {
+        Ok(self.0.seek_lower(key, seqno))
+    }
+
+    fn seek_upper(&mut self, key: &[u8], seqno: SeqNo) -> Result<bool, Error> {
+        Ok(self.0.seek_upper(key, seqno))
+    }
+
+    fn opened(&self) -> Opened {
+        Opened::none()
+    }
+}

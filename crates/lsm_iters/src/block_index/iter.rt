@@ -1,0 +1,205 @@
+//! The handles of an index block, from both ends, by an iterator that holds the block.
+ghost use Rattle.std.specs.Prelude.{◌≡◌, ◌+◌, ◌-◌, ◌↔◌, [], IsTrue, Some, None};
+ghost use Rattle.std.specs.Iterator.{at_most};
+ghost use Rattle.lsm_iters.specs.block_index.Words.{DealsLeft, KeepsLowerEdge, KeepsUpperEdge};
+ghost use Rattle.lsm_iters.specs.block_index.Words.{PlaceGives, SpanGives};
+ghost use Rattle.lsm_iters.specs.block_index.Words.{above_place, back_of, front_of, reaching_place};
+ghost use Rattle.lsm_iters.specs.block_index.Words.{rest_in};
+ghost use Rattle.lsm_iters.specs.block_index.Words.{span_from, span_remains, span_to, taken_at};
+ghost use Rattle.lsm_iters.specs.block_index.Words.{whole_span, window};
+
+use crate::Ends;
+use sst_blocks::{BlockHandle, Error, IndexBlock, KeyedBlockHandle, SeqNo};
+use sst_entries::Direction;
+use std::alloc::{Allocator, Global};
+use std::marker::Model;
+
+/// The handles of an index block that it holds, dealt from both ends. After a call that is refused
+/// [`Error::OutOfMemory`] nothing more comes, from either end. A contract sees the block's handles
+/// and the places between which they are left.
+#[derive(Drop)]
+pub struct OwnedIndexBlockIter<A: Allocator = Global> {
+    block: IndexBlock<A>,
+    from: usize,
+    to: usize,
+}
+
+impl<A: Allocator> Model for OwnedIndexBlockIter<A> {
+    ghost use Rattle.std.specs.Prelude.{◌≤◌, length};
+    ghost use Rattle.sst_blocks.specs.Handle.{Handle};
+    ghost use Rattle.sst_entries.specs.Span.{Span};
+
+    ghost Value = { Span Handle };
+
+    ghost view = { λ i. record { list = i.block; from = i.from; to = i.to } };
+
+    ghost invariant = { λ i. i.to ≤ length i.block };
+}
+
+impl<A: Allocator> OwnedIndexBlockIter<A> {
+    /// All handles of a block.
+    pub fn new(block: IndexBlock<A>) -> OwnedIndexBlockIter<A>
+        ensures whole { result ≡ whole_span block }
+        ensures deals { DealsLeft ⟦<OwnedIndexBlockIter<A> as Iterator>⟧.next_gives
+            ⟦<OwnedIndexBlockIter<A> as DoubleEndedIterator>⟧.next_back_gives result }
+    {
+        let to = block.len();
+        OwnedIndexBlockIter { block, from: 0, to }
+    }
+
+    /// Drops what stands before the first handle that reaches a key and a number: whose end key is
+    /// greater, or equal and numbered below `seqno`. Answers whether a handle is left.
+    pub fn seek_lower(&mut self, key: &[u8], seqno: SeqNo) -> bool
+        ensures narrowed { let place = reaching_place (key.now, seqno) self.old.list in
+            self.new ≡ span_from place self.old }
+        ensures left { IsTrue result ↔ (rest_in self.new ≡ [] → ⊥) }
+        ensures kept { rest_in self.new ≡ window (rest_in self.old) (Some (key.now, seqno)) None }
+        ensures both { KeepsUpperEdge (key.now, seqno) self.old self.new }
+        ensures deals { DealsLeft ⟦<OwnedIndexBlockIter<A> as Iterator>⟧.next_gives
+            ⟦<OwnedIndexBlockIter<A> as DoubleEndedIterator>⟧.next_back_gives self.new }
+    {
+        self.from = self.from.max(self.block.first_reaching(key, seqno));
+        self.from < self.to
+    }
+
+    /// Drops what stands behind the first handle whose end key is greater than a key. Answers
+    /// whether a handle is left. The number is not looked at: versions of the key may go on in the
+    /// block of a handle that ends with the key.
+    pub fn seek_upper(&mut self, key: &[u8], _seqno: SeqNo) -> bool
+        ensures narrowed { self.new ≡ span_to (1 + above_place key.now self.old.list) self.old }
+        ensures left { IsTrue result ↔ (rest_in self.new ≡ [] → ⊥) }
+        // Of what was left, the part that stands in the list's window up to the key.
+        ensures kept { let upper = window self.old.list None (Some key.now) in
+            rest_in self.new ≡ rest_in (record self.old { list = upper }) }
+        ensures both { KeepsLowerEdge key.now self.old self.new }
+        ensures deals { DealsLeft ⟦<OwnedIndexBlockIter<A> as Iterator>⟧.next_gives
+            ⟦<OwnedIndexBlockIter<A> as DoubleEndedIterator>⟧.next_back_gives self.new }
+    {
+        let last = self.block.first_above(key);
+        self.to = self.to.min(last.saturating_add(1));
+        self.from < self.to
+    }
+
+    /// Takes the first handle, and answers where its block lies. The end key is not shared, so no
+    /// memory is taken.
+    pub(crate) fn next_place(&mut self) -> Option<BlockHandle>
+        ensures { PlaceGives front_of self.old result self.new }
+    {
+        if self.to <= self.from {
+            return None;
+        }
+        let place = self.block.place_at(self.from);
+        self.from += 1;
+        Some(place)
+    }
+
+    /// Takes the last handle, and answers where its block lies. The end key is not shared, so no
+    /// memory is taken.
+    pub(crate) fn next_place_back(&mut self) -> Option<BlockHandle>
+        ensures { PlaceGives back_of self.old result self.new }
+    {
+        if self.to <= self.from {
+            return None;
+        }
+        let place = self.block.place_at(self.to - 1);
+        self.to -= 1;
+        Some(place)
+    }
+
+    /// Takes the handle at an end, and answers where its block lies, as [`Self::next_place`] and
+    /// [`Self::next_place_back`] do.
+    pub(crate) fn take_place(&mut self, at: Direction) -> Option<BlockHandle>
+        ensures { PlaceGives (taken_at at) self.old result self.new }
+    {
+        match at {
+            Direction::Front => self.next_place(),
+            Direction::Back => self.next_place_back(),
+        }
+    }
+
+    /// Whether all handles of the block are left.
+    pub(crate) fn is_whole(&self) -> bool
+        ensures { IsTrue result ↔ (rest_in self.now ≡ self.now.list) }
+    {
+        self.to.saturating_sub(self.from) == self.block.len()
+    }
+
+    /// Whether no handle is left.
+    pub(crate) fn is_empty(&self) -> bool
+        ensures { IsTrue result ↔ (rest_in self.now ≡ []) }
+    {
+        self.to <= self.from
+    }
+
+    /// Lets go what is left.
+    pub(crate) fn end(&mut self)
+        ensures rest { rest_in self.new ≡ [] }
+        ensures list { self.new.list ≡ self.old.list }
+    {
+        self.to = self.from.min(self.to);
+    }
+}
+
+impl<A: Allocator> Iterator for OwnedIndexBlockIter<A> {
+    type Item = Result<KeyedBlockHandle<A>, Error>;
+
+    ghost can_next = { λ _. Unit {0} };
+
+    ghost next_gives = { SpanGives front_of };
+
+    ghost remaining = { λ s. at_most (s.to - s.from) };
+
+    fn next(&mut self) -> Option<Self::Item> {
+        if self.to <= self.from {
+            return None;
+        }
+        match self.block.handle(self.from) {
+            Ok(handle) => {
+                self.from += 1;
+                Some(Ok(handle))
+            }
+            Err(refusal) => {
+                // Nothing more comes.
+                self.from = self.to;
+                Some(Err(refusal))
+            }
+        }
+    }
+}
+
+impl<A: Allocator> DoubleEndedIterator for OwnedIndexBlockIter<A> {
+    ghost can_next_back = { λ _. Unit {0} };
+
+    ghost next_back_gives = { SpanGives back_of };
+
+    fn next_back(&mut self) -> Option<Self::Item> {
+        if self.to <= self.from {
+            return None;
+        }
+        match self.block.handle(self.to - 1) {
+            Ok(handle) => {
+                self.to -= 1;
+                Some(Ok(handle))
+            }
+            Err(refusal) => {
+                // Nothing more comes.
+                self.to = self.from;
+                Some(Err(refusal))
+            }
+        }
+    }
+}
+
+impl<A: Allocator> Ends for OwnedIndexBlockIter<A> {
+    type Item = KeyedBlockHandle<A>;
+
+    ghost left = { span_remains };
+
+    #[inline(always)]
+    fn step(&mut self, at: Direction) -> Option<Result<KeyedBlockHandle<A>, Error>> {
+        match at {
+            Direction::Front => self.next(),
+            Direction::Back => self.next_back(),
+        }
+    }
+}

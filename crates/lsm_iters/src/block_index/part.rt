@@ -1,0 +1,108 @@
+//! What is left of a partition.
+ghost use Rattle.std.specs.Prelude.{◌≡◌, ◌∷◌, [], Err, false, IfOk, IfErr};
+ghost use Rattle.sst_entries.specs.Error.{FaultsFirst, is_memory};
+ghost use Rattle.sst_entries.specs.Stream.{ok_results};
+ghost use Rattle.lsm_iters.specs.block_index.Words.{PartGives, back_of, block_between, block_early};
+ghost use Rattle.lsm_iters.specs.block_index.Words.{body_of, front_of};
+ghost use Rattle.lsm_iters.specs.block_index.Words.{with_index_loads, rest_in};
+
+use crate::block_index::edges::Edges;
+use crate::block_index::iter::OwnedIndexBlockIter;
+use sst_blocks::{
+    BlockHandle, BlockSource, BlockType, Error, IndexBlock, KeyedBlockHandle, Opened,
+};
+use std::alloc::Allocator;
+use std::marker::Model;
+
+/// What is left of a partition, and nothing where none is loaded. A contract sees the handles.
+#[derive(Drop)]
+pub struct Part<A: Allocator> {
+    iter: Option<OwnedIndexBlockIter<A>>,
+}
+
+impl<A: Allocator> Model for Part<A> {
+    ghost use Rattle.std.specs.Prelude.{List};
+    ghost use Rattle.sst_blocks.specs.Handle.{Handle};
+    ghost use Rattle.lsm_iters.specs.block_index.Seen.{rest_of};
+
+    ghost Value = { List Handle };
+
+    ghost view = { λ p. rest_of p.iter };
+}
+
+impl<A: Allocator> Part<A> {
+    /// Of no partition.
+    pub fn none() -> Part<A>
+        ensures { result ≡ [] }
+    {
+        Part { iter: None }
+    }
+
+    /// Of the block that is dealt.
+    pub fn of(iter: OwnedIndexBlockIter<A>) -> Part<A>
+        ensures { result ≡ rest_in iter }
+    {
+        Part { iter: Some(iter) }
+    }
+
+    /// Takes the first handle. After a refusal nothing is left.
+    pub fn next(&mut self) -> Option<Result<KeyedBlockHandle<A>, Error>>
+        ensures { PartGives front_of self.old result self.new }
+    {
+        match &mut self.iter {
+            Some(iter) => iter.next(),
+            None => None,
+        }
+    }
+
+    /// Takes the last handle. After a refusal nothing is left.
+    pub fn next_back(&mut self) -> Option<Result<KeyedBlockHandle<A>, Error>>
+        ensures { PartGives back_of self.old result self.new }
+    {
+        match &mut self.iter {
+            Some(iter) => iter.next_back(),
+            None => None,
+        }
+    }
+}
+
+/// What the index block at a place holds between the edges. Refused as [`BlockSource::load`]; each
+/// call counts, also where it refuses.
+pub fn load_handles<A: Allocator + Clone>(
+    source: &BlockSource<A>,
+    handle: &BlockHandle,
+    edges: &Edges<A>,
+    opened: &mut Opened,
+) -> Result<OwnedIndexBlockIter<A>, Error>
+    ensures ok { let told = block_between (body_of source.now) edges.now.0 edges.now.1 in
+        IfOk result (λ hs. ok_results (rest_in hs) ≡ told handle.now) }
+    ensures err { let told = block_between (body_of source.now) edges.now.0 edges.now.1 in
+        IfErr result (λ e. is_memory e ≡ false → Err e ∷ [] ≡ told handle.now) }
+    // What is found before memory is taken comes before any want of it.
+    ensures first { FaultsFirst result (block_early (body_of source.now) handle.now) }
+    ensures counted { opened.new ≡ with_index_loads 1 opened.old }
+{
+    let block = source.load(handle, BlockType::Index, opened)?;
+    Ok(edges.within(IndexBlock::new(block)))
+}
+
+/// What of the index block at a place lies between the edges, as what is left of a partition.
+/// Refused as [`BlockSource::load`]; each call counts, also where it refuses.
+pub fn load_part<A: Allocator + Clone>(
+    source: &BlockSource<A>,
+    handle: &BlockHandle,
+    edges: &Edges<A>,
+    opened: &mut Opened,
+) -> Result<Part<A>, Error>
+    ensures ok { let told = block_between (body_of source.now) edges.now.0 edges.now.1 in
+        IfOk result (λ hs. ok_results hs ≡ told handle.now) }
+    ensures err { let told = block_between (body_of source.now) edges.now.0 edges.now.1 in
+        IfErr result (λ e. is_memory e ≡ false → Err e ∷ [] ≡ told handle.now) }
+    ensures first { FaultsFirst result (block_early (body_of source.now) handle.now) }
+    ensures counted { opened.new ≡ with_index_loads 1 opened.old }
+{
+    match load_handles(source, handle, edges, opened) {
+        Ok(iter) => Ok(Part::of(iter)),
+        Err(error) => Err(error),
+    }
+}

@@ -1,0 +1,223 @@
+//! The index of two levels: a top level that stays loaded, and partitions that each iterator loads
+//! one after another.
+ghost use Rattle.std.specs.Prelude.{◌≡◌, ◌↔◌, [], IsTrue, Some, None, IfOk, IfErr};
+ghost use Rattle.std.specs.Iterator.{at_most};
+ghost use Rattle.sst_entries.specs.declared.error.Error.TheVariants.{OutOfMemory};
+ghost use Rattle.lsm_iters.specs.block_index.Words.{AnswersTrue, DealsEnding, IsBetween};
+ghost use Rattle.lsm_iters.specs.block_index.Words.{IsTwoLevelSought, TwoLevelGives, back_early};
+ghost use Rattle.lsm_iters.specs.block_index.Words.{back_needs, back_of, body_of, fault_at};
+ghost use Rattle.lsm_iters.specs.block_index.Words.{front_early};
+ghost use Rattle.lsm_iters.specs.block_index.Words.{front_needs, front_of, left_size, needs_at};
+ghost use Rattle.lsm_iters.specs.block_index.Words.{new_two_level, none_opened, rest_of, taken_at};
+ghost use Rattle.lsm_iters.specs.block_index.Words.{two_level, two_level_left};
+
+use crate::block_index::edges::Edges;
+use crate::block_index::iter::OwnedIndexBlockIter;
+use crate::block_index::kinds::BlockIndexIter;
+use crate::block_index::partitions::Partitions;
+use crate::{Ends, Walk};
+use sst_blocks::{BlockSource, Error, IndexBlock, KeyedBlockHandle, Opened, SeqNo};
+use sst_entries::Direction;
+use std::alloc::{Allocator, Global};
+use std::marker::Model;
+
+/// An index of two levels: the handles of the top level name partitions, which hold the handles of
+/// the data blocks. The top level stays loaded. A contract sees the bytes before the trailer and
+/// the handles of the top level.
+#[derive(Drop)]
+pub struct TwoLevelBlockIndex<A: Allocator = Global> {
+    alloc: A,
+    source: BlockSource<A>,
+    top_level_index: IndexBlock<A>,
+}
+
+impl<A: Allocator> Model for TwoLevelBlockIndex<A> {
+    ghost use Rattle.std.specs.Prelude.{List, ℕ};
+    ghost use Rattle.sst_blocks.specs.Handle.{Handle};
+    ghost use Rattle.sst_blocks.specs.Sections.{body_of};
+
+    ghost Value = { List ℕ × List Handle };
+
+    ghost view = { λ index. (body_of index.source, index.top_level_index) };
+}
+
+impl<A: Allocator + Clone> TwoLevelBlockIndex<A> {
+    /// The index of a top level that was loaded from a source.
+    pub fn new(
+        alloc: A,
+        source: BlockSource<A>,
+        top_level_index: IndexBlock<A>,
+    ) -> TwoLevelBlockIndex<A>
+        ensures { result ≡ (body_of source, top_level_index) }
+    {
+        TwoLevelBlockIndex {
+            alloc,
+            source,
+            top_level_index,
+        }
+    }
+
+    /// The handles from the first on that reaches a key and a number: whose end key is greater, or
+    /// equal and numbered below `seqno`. There is always a reader, and nothing is loaded. Refused
+    /// [`Error::OutOfMemory`] alone.
+    pub fn forward_reader(&self, key: &[u8], seqno: SeqNo) -> Result<Iter<A>, Error>
+        ensures sought { IfOk result (λ i. IsTwoLevelSought i (Some (key.now, seqno)) None) }
+        ensures between { let edge = Some (key.now, seqno) in
+            IfOk result (λ i. IsBetween (two_level_left i) edge None) }
+        ensures index { let index = two_level self.now.0 self.now.1 in
+            IfOk result (λ i. (two_level_left i).index ≡ index) }
+        ensures opened { IfOk result (λ i. i.opened ≡ none_opened) }
+        ensures deals { let gives = ⟦<Iter<A> as Iterator>⟧.next_gives in
+            let back_gives = ⟦<Iter<A> as DoubleEndedIterator>⟧.next_back_gives in
+            IfOk result (λ i. DealsEnding gives back_gives (λ _. Unit {0}) (λ _. Unit {0}) i
+            (two_level_left i).results) }
+        ensures err { IfErr result (λ e. e ≡ OutOfMemory) }
+    {
+        let mut iter = self.iter()?;
+        let sought = iter.seek_lower(key, seqno);
+        sought.and(Ok(iter))
+    }
+
+    /// All handles. Nothing is loaded. Refused [`Error::OutOfMemory`] alone.
+    pub fn iter(&self) -> Result<Iter<A>, Error>
+        ensures unsought { IfOk result (λ i. i ≡ new_two_level self.now.0 self.now.1) }
+        ensures between { IfOk result (λ i. IsBetween (two_level_left i) None None) }
+        ensures deals { let gives = ⟦<Iter<A> as Iterator>⟧.next_gives in
+            let back_gives = ⟦<Iter<A> as DoubleEndedIterator>⟧.next_back_gives in
+            IfOk result (λ i. DealsEnding gives back_gives (λ _. Unit {0}) (λ _. Unit {0}) i
+            (two_level_left i).results) }
+        ensures err { IfErr result (λ e. e ≡ OutOfMemory) }
+    {
+        let alloc = self.alloc.clone()?;
+        let tops = self.top_level_index.clone()?;
+        let source = self.source.clone()?;
+        let parts = Partitions {
+            source,
+            tops: OwnedIndexBlockIter::new(tops),
+            edges: Edges::new(alloc),
+            opened: Opened::none(),
+        };
+        Ok(Iter {
+            walk: Walk::new(parts),
+        })
+    }
+}
+
+// Whether nothing is left of a partition, where one is loaded.
+fn is_over<A: Allocator>(part: &Option<OwnedIndexBlockIter<A>>) -> bool
+    ensures { IsTrue result ↔ (rest_of part.now ≡ []) }
+{
+    match part {
+        Some(part) => part.is_empty(),
+        None => true,
+    }
+}
+
+/// The handles of an index of two levels, dealt from both ends. A partition is loaded where a step
+/// first needs it, and no step loads more than it needs; each load is counted; where one cannot be
+/// loaded, the fault comes in the place of its handles, and one that needs no memory to be found
+/// comes before any want of it for this partition. After an error of a step or of a seek,
+/// [`Error::OutOfMemory`] among them, nothing more comes, from either end.
+#[derive(Drop)]
+pub struct Iter<A: Allocator = Global> {
+    walk: Walk<Partitions<A>, OwnedIndexBlockIter<A>>,
+}
+
+impl<A: Allocator> Model for Iter<A> {
+    ghost use Rattle.lsm_iters.specs.block_index.Left.{TwoLevel};
+    ghost use Rattle.lsm_iters.specs.block_index.Partitions.{two_level_of};
+
+    ghost Value = { TwoLevel };
+
+    ghost view = { λ i. two_level_of i.walk };
+}
+
+impl<A: Allocator + Clone> Iter<A> {
+    /// Whether no edge was sought, and no step was made.
+    pub(crate) fn is_unsought(&self) -> bool
+        ensures { IsTrue result ↔ IsTwoLevelSought self.now None None }
+    {
+        let parts = &self.walk.parts;
+        let whole = parts.tops.is_whole() && parts.edges.are_none();
+        whole && is_over(&self.walk.front) && is_over(&self.walk.back)
+    }
+
+    /// The answer at an end.
+    #[inline(always)]
+    fn answer(&mut self, at: Direction) -> Option<Result<KeyedBlockHandle<A>, Error>>
+        ensures { TwoLevelGives (taken_at at) (needs_at at) (fault_at at) self.old result self.new }
+    {
+        self.walk.step(at)
+    }
+
+    /// Lets go what is left.
+    fn end(&mut self)
+        ensures { self.new ≡ record self.old { tops = []; front = []; back = [] } }
+    {
+        self.walk.end();
+    }
+}
+
+impl<A: Allocator + Clone> Iterator for Iter<A> {
+    type Item = Result<KeyedBlockHandle<A>, Error>;
+
+    ghost can_next = { λ _. Unit {0} };
+
+    ghost next_gives = { TwoLevelGives front_of front_needs front_early };
+
+    ghost remaining = { λ s. at_most (left_size (two_level_left s)) };
+
+    fn next(&mut self) -> Option<Self::Item> {
+        self.answer(Direction::Front)
+    }
+}
+
+impl<A: Allocator + Clone> DoubleEndedIterator for Iter<A> {
+    ghost can_next_back = { λ _. Unit {0} };
+
+    ghost next_back_gives = { TwoLevelGives back_of back_needs back_early };
+
+    fn next_back(&mut self) -> Option<Self::Item> {
+        self.answer(Direction::Back)
+    }
+}
+
+impl<A: Allocator + Clone> BlockIndexIter<A> for Iter<A> {
+    ghost left = { two_level_left };
+
+    ghost sought = { IsTwoLevelSought };
+
+    ghost seek_answers = { AnswersTrue };
+
+    ghost takes_memory = { λ _. Unit {0} };
+
+    fn seek_lower(&mut self, key: &[u8], seqno: SeqNo) -> Result<bool, Error> {
+        match self.walk.parts.edges.set_lower(key, seqno) {
+            Ok(()) => {
+                self.walk.parts.tops.seek_lower(key, seqno);
+                Ok(true)
+            }
+            Err(refusal) => {
+                self.end();
+                Err(refusal)
+            }
+        }
+    }
+
+    fn seek_upper(&mut self, key: &[u8], seqno: SeqNo) -> Result<bool, Error> {
+        match self.walk.parts.edges.set_upper(key) {
+            Ok(()) => {
+                self.walk.parts.tops.seek_upper(key, seqno);
+                Ok(true)
+            }
+            Err(refusal) => {
+                self.end();
+                Err(refusal)
+            }
+        }
+    }
+
+    fn opened(&self) -> Opened {
+        self.walk.parts.opened
+    }
+}

@@ -1,0 +1,219 @@
+//! The index on demand: one block with the handle of every data block, which each iterator loads.
+ghost use Rattle.std.specs.Prelude.{◌≡◌, ◌↔◌, [], IsTrue, Some, None, IfOk, IfErr};
+ghost use Rattle.std.specs.Iterator.{at_most};
+ghost use Rattle.sst_entries.specs.declared.error.Error.TheVariants.{OutOfMemory};
+ghost use Rattle.lsm_iters.specs.block_index.Words.{AnswersTrue, DealsEnding, IsBetween};
+ghost use Rattle.lsm_iters.specs.block_index.Words.{IsDemandSought, OnDemandGives, back_of};
+ghost use Rattle.lsm_iters.specs.block_index.Words.{body_of};
+ghost use Rattle.lsm_iters.specs.block_index.Words.{front_of};
+ghost use Rattle.lsm_iters.specs.block_index.Words.{left_size, new_on_demand, on_demand_left};
+
+use crate::block_index::edges::Edges;
+use crate::block_index::kinds::BlockIndexIter;
+use crate::block_index::part::{Part, load_part};
+use sst_blocks::{BlockHandle, BlockSource, Error, KeyedBlockHandle, Opened, SeqNo};
+use std::alloc::{Allocator, Global};
+use std::marker::Model;
+
+/// An index of one block, which is loaded on demand: by the first step of each iterator, once. A
+/// contract sees the bytes before the trailer and the block's place.
+#[derive(Drop)]
+pub struct VolatileBlockIndex<A: Allocator = Global> {
+    alloc: A,
+    source: BlockSource<A>,
+    handle: BlockHandle,
+}
+
+impl<A: Allocator> Model for VolatileBlockIndex<A> {
+    ghost use Rattle.std.specs.Prelude.{List, ℕ};
+    ghost use Rattle.sst_blocks.specs.Place.{Place};
+    ghost use Rattle.sst_blocks.specs.Sections.{body_of};
+
+    ghost Value = { List ℕ × Place };
+
+    ghost view = { λ index. (body_of index.source, index.handle) };
+}
+
+impl<A: Allocator + Clone> VolatileBlockIndex<A> {
+    /// The index whose block a handle names. Nothing is loaded.
+    pub fn new(alloc: A, source: BlockSource<A>, handle: BlockHandle) -> VolatileBlockIndex<A>
+        ensures { result ≡ (body_of source, handle) }
+    {
+        VolatileBlockIndex {
+            alloc,
+            source,
+            handle,
+        }
+    }
+
+    /// The handles from the first on that reaches a key and a number: whose end key is greater, or
+    /// equal and numbered below `seqno`. There is always a reader, and nothing is loaded. Refused
+    /// [`Error::OutOfMemory`] alone.
+    pub fn forward_reader(&self, key: &[u8], seqno: SeqNo) -> Result<Iter<A>, Error>
+        ensures sought { let unsought = new_on_demand self.now.0 self.now.1 in
+            IfOk result (λ i. i ≡ record unsought { lower = Some (key.now, seqno) }) }
+        ensures between { let edge = Some (key.now, seqno) in
+            IfOk result (λ i. IsBetween (on_demand_left i) edge None) }
+        ensures deals { let gives = ⟦<Iter<A> as Iterator>⟧.next_gives in
+            let back_gives = ⟦<Iter<A> as DoubleEndedIterator>⟧.next_back_gives in
+            IfOk result (λ i. DealsEnding gives back_gives (λ _. Unit {0}) (λ _. Unit {0}) i
+            (on_demand_left i).results) }
+        ensures err { IfErr result (λ e. e ≡ OutOfMemory) }
+    {
+        let mut iter = self.iter()?;
+        let sought = iter.edges.set_lower(key, seqno);
+        sought.and(Ok(iter))
+    }
+
+    /// All handles. Nothing is loaded. Refused [`Error::OutOfMemory`] alone.
+    pub fn iter(&self) -> Result<Iter<A>, Error>
+        ensures unsought { IfOk result (λ i. i ≡ new_on_demand self.now.0 self.now.1) }
+        ensures between { IfOk result (λ i. IsBetween (on_demand_left i) None None) }
+        ensures deals { let gives = ⟦<Iter<A> as Iterator>⟧.next_gives in
+            let back_gives = ⟦<Iter<A> as DoubleEndedIterator>⟧.next_back_gives in
+            IfOk result (λ i. DealsEnding gives back_gives (λ _. Unit {0}) (λ _. Unit {0}) i
+            (on_demand_left i).results) }
+        ensures err { IfErr result (λ e. e ≡ OutOfMemory) }
+    {
+        let alloc = self.alloc.clone()?;
+        let source = self.source.clone()?;
+        Ok(Iter {
+            source,
+            handle: self.handle,
+            edges: Edges::new(alloc),
+            part: None,
+            opened: Opened::none(),
+        })
+    }
+}
+
+/// The handles of an index on demand, dealt from both ends. The first step loads the block, once;
+/// where that is refused, the fault comes in the place of the handles, and one that needs no memory
+/// to be found comes before any want of it. After an error of a step or of a seek,
+/// [`Error::OutOfMemory`] among them, nothing more comes, from either end.
+#[derive(Drop)]
+pub struct Iter<A: Allocator = Global> {
+    source: BlockSource<A>,
+    handle: BlockHandle,
+    edges: Edges<A>,
+    part: Option<Part<A>>,
+    opened: Opened,
+}
+
+impl<A: Allocator> Model for Iter<A> {
+    ghost use Rattle.sst_blocks.specs.Sections.{body_of};
+    ghost use Rattle.lsm_iters.specs.block_index.Left.{OnDemand};
+
+    ghost Value = { OnDemand };
+
+    ghost view = { λ i. record {
+      body = body_of i.source;
+      place = i.handle;
+      lower = i.edges.0;
+      upper = i.edges.1;
+      part = i.part;
+      opened = i.opened;
+    } };
+}
+
+impl<A: Allocator + Clone> Iter<A> {
+    /// Whether no edge was sought, and no step was made.
+    pub(crate) fn is_unsought(&self) -> bool
+        ensures { IsTrue result ↔ IsDemandSought self.now None None }
+    {
+        self.part.is_none() && self.edges.are_none()
+    }
+}
+
+impl<A: Allocator> Iter<A> {
+    /// Lets go what is left; nothing is loaded any more.
+    fn end(&mut self)
+        ensures { self.new ≡ record self.old { part = Some [] } }
+    {
+        drop(self.part.replace(Part::none()));
+    }
+}
+
+impl<A: Allocator + Clone> Iterator for Iter<A> {
+    type Item = Result<KeyedBlockHandle<A>, Error>;
+
+    ghost can_next = { λ _. Unit {0} };
+
+    ghost next_gives = { OnDemandGives front_of };
+
+    ghost remaining = { λ s. at_most (left_size (on_demand_left s)) };
+
+    fn next(&mut self) -> Option<Self::Item> {
+        if let Some(part) = &mut self.part {
+            return part.next();
+        }
+        match load_part(&self.source, &self.handle, &self.edges, &mut self.opened) {
+            Ok(mut part) => {
+                let item = part.next();
+                drop(self.part.replace(part));
+                item
+            }
+            Err(error) => {
+                self.end();
+                Some(Err(error))
+            }
+        }
+    }
+}
+
+impl<A: Allocator + Clone> DoubleEndedIterator for Iter<A> {
+    ghost can_next_back = { λ _. Unit {0} };
+
+    ghost next_back_gives = { OnDemandGives back_of };
+
+    fn next_back(&mut self) -> Option<Self::Item> {
+        if let Some(part) = &mut self.part {
+            return part.next_back();
+        }
+        match load_part(&self.source, &self.handle, &self.edges, &mut self.opened) {
+            Ok(mut part) => {
+                let item = part.next_back();
+                drop(self.part.replace(part));
+                item
+            }
+            Err(error) => {
+                self.end();
+                Some(Err(error))
+            }
+        }
+    }
+}
+
+impl<A: Allocator + Clone> BlockIndexIter<A> for Iter<A> {
+    ghost left = { on_demand_left };
+
+    ghost sought = { IsDemandSought };
+
+    ghost seek_answers = { AnswersTrue };
+
+    ghost takes_memory = { λ _. Unit {0} };
+
+    fn seek_lower(&mut self, key: &[u8], seqno: SeqNo) -> Result<bool, Error> {
+        match self.edges.set_lower(key, seqno) {
+            Ok(()) => Ok(true),
+            Err(refusal) => {
+                self.end();
+                Err(refusal)
+            }
+        }
+    }
+
+    fn seek_upper(&mut self, key: &[u8], _seqno: SeqNo) -> Result<bool, Error> {
+        match self.edges.set_upper(key) {
+            Ok(()) => Ok(true),
+            Err(refusal) => {
+                self.end();
+                Err(refusal)
+            }
+        }
+    }
+
+    fn opened(&self) -> Opened {
+        self.opened
+    }
+}

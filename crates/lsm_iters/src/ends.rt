@@ -1,0 +1,28 @@
+//! What has two ends.
+ghost use Rattle.sst_entries.specs.declared.stream.Direction.{Direction};
+ghost use Rattle.lsm_iters.specs.walk.Words.{IsOver, Remains, StepGives, remains_in};
+
+use sst_entries::{Direction, Error};
+
+/// What is taken from either end, item by item.
+pub trait Ends {
+    type Item;
+
+    // The results that are left, and how many loads may be made for them.
+    ghost left: { Self → Remains Self.Item };
+
+    /// Takes what stands at an end.
+    fn step(&mut self, at: Direction) -> Option<Result<Self::Item, Error>>
+        ensures { StepGives at (left self.old) result (left self.new) };
+}
+
+/// Takes what stands at an end of a part, where there is a part.
+#[inline(always)]
+pub fn step_in<T: Ends>(part: &mut Option<T>, at: Direction) -> Option<Result<T::Item, Error>>
+    ensures { StepGives at (remains_in T.left part.old) result (remains_in T.left part.new) }
+{
+    match part {
+        Some(part) => part.step(at),
+        None => None,
+    }
+}

@@ -1,0 +1,127 @@
+//! The walk over parts.
+ghost use Rattle.std.specs.Prelude.{◌≡◌, Some};
+ghost use Rattle.sst_entries.specs.declared.stream.Direction.{Direction};
+ghost use Rattle.lsm_iters.specs.walk.Words.{Ended, Remains, StepGives, WalkGives, WalkTakes, far};
+ghost use Rattle.lsm_iters.specs.walk.Words.{near, remains_in, walk_left, with_far, with_near};
+
+use crate::ends::step_in;
+use crate::{Ends, Parts};
+use sst_entries::{Direction, Error};
+use std::mem;
+
+/// The items of all parts, from both ends. A part is loaded where a step first needs it. Where none
+/// is to come an end takes from the part that is loaded at the other end. After an error nothing
+/// more comes, from either end.
+#[derive(Drop)]
+pub struct Walk<P, T> {
+    /// The parts that are not loaded.
+    pub parts: P,
+    /// The part that is loaded at the front.
+    pub front: Option<T>,
+    /// The part that is loaded at the back.
+    pub back: Option<T>,
+}
+
+impl<P: Parts> Walk<P, P::Part>
+where
+    P::Part: Drop,
+{
+    /// Before anything is loaded.
+    pub fn new(parts: P) -> Self
+        ensures { result ≡ record { parts = parts; front = None; back = None } }
+    {
+        Walk {
+            parts,
+            front: None,
+            back: None,
+        }
+    }
+
+    /// Takes what stands at an end of the part that is loaded there.
+    #[inline(always)]
+    fn step_near(&mut self, at: Direction) -> Option<Result<<P::Part as Ends>::Item, Error>>
+        ensures gives { let old = remains_in P.Part.left (near at self.old) in
+            StepGives at old result (remains_in P.Part.left (near at self.new)) }
+        ensures is { self.new ≡ with_near at self.old (near at self.new) }
+    {
+        match at {
+            Direction::Front => step_in(&mut self.front, at),
+            Direction::Back => step_in(&mut self.back, at),
+        }
+    }
+
+    /// Takes what stands at an end of the part that is loaded at the other end.
+    #[inline(always)]
+    fn step_far(&mut self, at: Direction) -> Option<Result<<P::Part as Ends>::Item, Error>>
+        ensures gives { let old = remains_in P.Part.left (far at self.old) in
+            StepGives at old result (remains_in P.Part.left (far at self.new)) }
+        ensures is { self.new ≡ with_far at self.old (far at self.new) }
+    {
+        match at {
+            Direction::Front => step_in(&mut self.back, at),
+            Direction::Back => step_in(&mut self.front, at),
+        }
+    }
+
+    /// Puts a part that was loaded at an end.
+    #[inline(always)]
+    fn put(&mut self, part: P::Part, at: Direction)
+        ensures { self.new ≡ with_near at self.old (Some part) }
+    {
+        match at {
+            Direction::Front => drop(mem::replace(&mut self.front, Some(part))),
+            Direction::Back => drop(mem::replace(&mut self.back, Some(part))),
+        }
+    }
+
+    /// Takes what stands at an end. An error does not end the walk yet: whoever calls this ends it.
+    #[inline(always)]
+    pub fn take(&mut self, at: Direction) -> Option<Result<<P::Part as Ends>::Item, Error>>
+        ensures { WalkTakes P.Part.left P.coming P.keeps at self.old result self.new }
+    {
+        loop {
+            if let Some(item) = self.step_near(at) {
+                return Some(item);
+            }
+            match self.parts.load(at) {
+                Some(Ok(part)) => self.put(part, at),
+                Some(Err(error)) => return Some(Err(error)),
+                None => return self.step_far(at),
+            }
+        }
+    }
+
+    /// Lets go what is left.
+    pub fn end(&mut self)
+        ensures { Ended P.coming P.ends self.old self.new }
+    {
+        self.parts.end();
+        drop(self.front.take());
+        drop(self.back.take());
+    }
+}
+
+impl<P: Parts> Ends for Walk<P, P::Part>
+where
+    P::Part: Drop,
+{
+    type Item = <P::Part as Ends>::Item;
+
+    ghost left = { walk_left P.Part.left P.coming };
+
+    #[inline(always)]
+    fn step(&mut self, at: Direction) -> Option<Result<<P::Part as Ends>::Item, Error>>
+        ensures gives { let left = walk_left P.Part.left P.coming in
+            StepGives at (left self.old) result (left self.new) }
+        ensures walk { WalkGives P.Part.left P.coming P.keeps P.ends at self.old result self.new }
+    {
+        match self.take(at) {
+            Some(Ok(item)) => Some(Ok(item)),
+            Some(Err(error)) => {
+                self.end();
+                Some(Err(error))
+            }
+            None => None,
+        }
+    }
+}

@@ -1,8 +1,0 @@
-use Rattle.std.proofs.Common.{◌≡◌, ◌++◌, length}
-use Rattle.lsm_ranges.specs.Packed.{alone}
-use Rattle.lsm_ranges.proofs.packed.runs_of.Given as goal
-
-abbrev pub invariant-loop-table : goal.invariant-loop-table
-invariant-loop-table g l =
-    l.runs.items ++ alone (length l.runs.items) l.table-iterator.rest.items
-    ≡ alone 0 l.fn.tables.items

@@ -1,0 +1,14 @@
+use Rattle.sst_blocks.proofs.LoadLemmas.{load_kind}
+use Rattle.lsm_readers.proofs.Recovered.{first_from}
+use Rattle.lsm_readers.proofs.pinned.load_handles.Goals as goal
+
+pub new-requires : goal.new-requires
+new-requires g c = load_kind _ _ _ _ _ c.in_ok-block.ensures.told
+
+pub returns-in_err-block-clause-early : goal.returns-in_err-block-clause-early
+returns-in_err-block-clause-early g c =
+    first_from c.from_residual.result c.in_err-block.field-0.0 _ c.from_residual.ensures.1
+    c.in_err-block.ensures.first
+
+pub returns-clause-early : goal.returns-clause-early
+returns-clause-early g c = c.in_ok-block.ensures.first

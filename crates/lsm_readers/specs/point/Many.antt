@@ -1,0 +1,22 @@
+-- Many point reads of one table, over any bytes.
+use Rattle.std.specs.Prelude.{List, [], ◌∷◌, Option, Result, Ok}
+use Rattle.sst_entries.specs.declared.error.Error.{Error}
+use Rattle.sst_entries.specs.Entry.{Entry}
+use Rattle.lsm_readers.specs.declared.many.Query.{Query}
+use Rattle.lsm_readers.specs.point.Answer.{table_answer}
+use Rattle.lsm_readers.specs.point.Read.{◌>>=◌}
+use Rattle.lsm_readers.specs.point.Table.{OpenTable}
+
+-- the answer to each query in order, or the refusal of the earliest that has one
+abbrev pub answers_to : {X Y : Type 0} → (X → Result Y Error) → List X → Result (List Y) Error
+answers_to f [] = Ok []
+answers_to f (x ∷ xs) = f x >>= λ y. answers_to f xs >>= λ ys. Ok (y ∷ ys)
+
+-- what a point read for a query tells
+abbrev pub found_told : {A : Type 0} → OpenTable → Query A → Result (Option Entry) Error
+found_told t q = (table_answer t q.key q.seqno).told
+
+-- what point reads for some queries tell
+abbrev pub many_told : {A : Type 0} → OpenTable → List (Query A)
+    → Result (List (Option Entry)) Error
+many_told t queries = answers_to (found_told t) queries

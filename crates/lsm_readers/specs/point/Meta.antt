@@ -1,0 +1,230 @@
+-- What a meta block tells of its table, item by item, or the first fault.
+use Rattle.std.specs.Prelude.{ℕ, ◌-◌, ◌^◌, ◌==◌, ◌||◌, nat_lt, nat_eq, List, [], ◌∷◌, length}
+use Rattle.std.specs.Prelude.{slice_index, Option, Some, None, Result, Ok, Err, if◌then◌else◌}
+use Rattle.std.specs.Cmp.Lexicographic.{pointwise}
+use Rattle.sst_blocks.specs.declared.block_type.BlockType.TheVariants.{Meta}
+use Rattle.sst_blocks.specs.Block.{load_told, entries_of}
+use Rattle.sst_blocks.specs.Place.{Place}
+use Rattle.sst_entries.specs.declared.error.Error.{Error}
+use Rattle.sst_entries.specs.declared.error.Error.TheVariants.{MetaKeyMissing, InvalidMetaValue}
+use Rattle.sst_entries.specs.declared.error.Error.TheVariants.{UnsupportedTableVersion}
+use Rattle.sst_entries.specs.declared.error.Error.TheVariants.{UnsupportedHashType}
+use Rattle.sst_entries.specs.declared.error.Error.TheVariants.{UnsupportedChecksumType}
+use Rattle.sst_entries.specs.declared.error.Error.TheVariants.{UnsupportedIndexInterval}
+use Rattle.sst_entries.specs.declared.error.Error.TheVariants.{UnsupportedCompression}
+use Rattle.sst_entries.specs.Entry.{Entry}
+use Rattle.sst_blocks.specs.Number.{num8, num16}
+use Rattle.sst_entries.specs.Point.{point}
+use Rattle.sst_blocks.specs.declared.version.TableVersion.{TableVersion}
+use Rattle.lsm_sorted.specs.version.KeyRange.{Interval, interval}
+use Rattle.sst_blocks.specs.table.Facts.{ListFacts, facts}
+use Rattle.sst_blocks.specs.table.MetaBlock.{filter_hash_type, name_of, version_number}
+use Rattle.sst_blocks.specs.declared.table.item_name.ItemName.{ItemName}
+use Rattle.sst_blocks.specs.declared.table.item_name.ItemName.TheVariants as item
+use Rattle.sst_blocks.specs.declared.table.label.Label.{Label}
+use Rattle.lsm_readers.specs.declared.meta.Numbers.{Numbers}
+use Rattle.lsm_readers.specs.declared.meta.ParsedMeta.{ParsedMeta}
+use Rattle.lsm_readers.specs.point.Read.{◌>>=◌}
+
+-- what a table says of itself
+pub record Facts : Type 0 where
+  pub table_version : ℕ
+  pub id : ℕ
+  pub created_at : ℕ
+  pub data_block_count : ℕ
+  pub index_block_count : ℕ
+  pub key_range : Interval
+  pub seqno_min : ℕ
+  pub seqno_max : ℕ
+  pub file_size : ℕ
+  pub item_count : ℕ
+  pub tombstone_count : ℕ
+  pub weak_tombstone_count : ℕ
+  pub weak_tombstone_reclaimable : ℕ
+
+abbrev pub facts_of : {A : Type 0} → ParsedMeta A → Facts
+facts_of m = record {
+  table_version = m.table_version;
+  id = m.id;
+  created_at = m.created_at;
+  data_block_count = m.data_block_count;
+  index_block_count = m.index_block_count;
+  key_range = m.key_range;
+  seqno_min = m.seqnos.0;
+  seqno_max = m.seqnos.1;
+  file_size = m.file_size;
+  item_count = m.item_count;
+  tombstone_count = m.tombstone_count;
+  weak_tombstone_count = m.weak_tombstone_count;
+  weak_tombstone_reclaimable = m.weak_tombstone_reclaimable;
+}
+
+-- what a table says of itself, by what is read: its version, the moment, its numbers, its keys, and
+-- the lowest and the highest number of its entries
+abbrev pub facts_with : ℕ → ℕ → Numbers → Interval → ℕ × ℕ → Facts
+facts_with table_version created_at n key_range seqnos = record {
+  table_version = table_version;
+  id = n.id;
+  created_at = created_at;
+  data_block_count = n.data_block_count;
+  index_block_count = n.index_block_count;
+  key_range = key_range;
+  seqno_min = seqnos.0;
+  seqno_max = seqnos.1;
+  file_size = n.file_size;
+  item_count = n.item_count;
+  tombstone_count = n.tombstone_count;
+  weak_tombstone_count = n.weak_tombstone_count;
+  weak_tombstone_reclaimable = n.weak_tombstone_reclaimable;
+}
+
+-- the numbers of the table of a list, and what it says of itself: it has so many data blocks and
+-- index blocks, the data blocks of so many bytes
+abbrev pub numbers_said : Label → ListFacts → ℕ → ℕ → ℕ → Numbers
+numbers_said label f blocks index_blocks size = record {
+  id = label.table_id;
+  item_count = f.item_count;
+  tombstone_count = f.tombstone_count;
+  data_block_count = blocks;
+  index_block_count = index_blocks;
+  file_size = size;
+  weak_tombstone_count = f.weak_tombstone_count;
+  weak_tombstone_reclaimable = f.weak_tombstone_reclaimable;
+}
+
+abbrev pub facts_said : TableVersion → Label → List Entry → ℕ → ℕ → ℕ → Facts
+facts_said v label es blocks index_blocks size =
+    let f = facts es in
+    facts_with (version_number v) label.created_at
+    (numbers_said label f blocks index_blocks size)
+    (interval f.min_key f.max_key) (f.lowest, f.highest)
+
+-- the value of the item of a name, where there is one
+abbrev pub value_told : Option Entry → Result (List ℕ) Error
+value_told None = Err MetaKeyMissing
+value_told (Some e) = Ok e.value
+
+-- the first item of a name, whatever its kind
+unfoldable pub item_told : List Entry → ItemName → Result (List ℕ) Error
+item_told es name = value_told (point es (name_of name) (2 ^ 64 - 1))
+
+-- a number of eight or sixteen bytes; bytes past it are passed over
+abbrev pub number8_told : List ℕ → Result ℕ Error
+number8_told value = if nat_lt (length value) 8 then Err InvalidMetaValue else Ok (num8 value)
+
+abbrev pub number16_told : List ℕ → Result ℕ Error
+number16_told value = if nat_lt (length value) 16 then Err InvalidMetaValue else Ok (num16 value)
+
+-- the item of a name as a number of eight bytes
+unfoldable pub u64_told : List Entry → ItemName → Result ℕ Error
+u64_told es name = item_told es name >>= number8_told
+
+-- one byte, which has to be this one, else a fault
+abbrev pub one_byte_told : List ℕ → ℕ → Error → Result (Unit {0}) Error
+one_byte_told value byte fault =
+    if pointwise nat_eq value (byte ∷ []) then Ok tt else Err fault
+
+-- an item that has to be one byte, else a fault
+unfoldable pub byte_told : List Entry → ItemName → ℕ → Error → Result (Unit {0}) Error
+byte_told es name byte fault = item_told es name >>= λ value. one_byte_told value byte fault
+
+-- a first byte that has to be this one, else a fault
+abbrev pub first_byte_told : List ℕ → ℕ → Error → Result (Unit {0}) Error
+first_byte_told value byte fault =
+    if nat_lt (length value) 1 then Err InvalidMetaValue
+    else (if slice_index value 0 == byte then Ok tt else Err fault)
+
+-- an item whose first byte has to be this one, else a fault
+unfoldable pub first_told : List Entry → ItemName → ℕ → Error → Result (Unit {0}) Error
+first_told es name byte fault = item_told es name >>= λ value. first_byte_told value byte fault
+
+-- the version, one byte, 3 or 4
+abbrev pub version_number_told : List ℕ → Result ℕ Error
+version_number_told value =
+    if pointwise nat_eq value (3 ∷ []) || pointwise nat_eq value (4 ∷ [])
+    then Ok (slice_index value 0)
+    else Err UnsupportedTableVersion
+
+unfoldable pub version_told : List Entry → Result ℕ Error
+version_told es = item_told es item.TableVersion >>= version_number_told
+
+-- the hash, the checksum and the index have to be those that are known
+unfoldable pub kinds_told : List Entry → Result (Unit {0}) Error
+kinds_told es =
+    byte_told es item.FilterHashType filter_hash_type UnsupportedHashType >>= λ _.
+    byte_told es item.ChecksumType 1 UnsupportedChecksumType >>= λ _.
+    first_told es item.RestartIntervalIndex 1 UnsupportedIndexInterval
+
+-- no block is compressed
+unfoldable pub compressions_told : List Entry → Result (Unit {0}) Error
+compressions_told es =
+    first_told es item.CompressionData 0 UnsupportedCompression >>= λ _.
+    first_told es item.CompressionIndex 0 UnsupportedCompression
+
+unfoldable pub created_told : List Entry → Result ℕ Error
+created_told es = item_told es item.CreatedAt >>= number16_told
+
+-- the numbers that are read before the moment, in this order; the count of filter blocks is read
+-- behind that of index blocks for its refusal alone
+unfoldable pub numbers_told : List Entry → Result Numbers Error
+numbers_told es =
+    u64_told es item.TableId >>= λ id.
+    u64_told es item.ItemCount >>= λ item_count.
+    u64_told es item.TombstoneCount >>= λ tombstone_count.
+    u64_told es item.BlockCountData >>= λ data_block_count.
+    u64_told es item.BlockCountIndex >>= λ index_block_count.
+    u64_told es item.BlockCountFilter >>= λ _.
+    u64_told es item.FileSize >>= λ file_size.
+    u64_told es item.WeakTombstoneCount >>= λ weak_tombstone_count.
+    u64_told es item.WeakTombstoneReclaimable >>= λ weak_tombstone_reclaimable.
+    Ok (record {
+      id = id;
+      item_count = item_count;
+      tombstone_count = tombstone_count;
+      data_block_count = data_block_count;
+      index_block_count = index_block_count;
+      file_size = file_size;
+      weak_tombstone_count = weak_tombstone_count;
+      weak_tombstone_reclaimable = weak_tombstone_reclaimable;
+    })
+
+-- the first and the last key
+unfoldable pub keys_told : List Entry → Result Interval Error
+keys_told es =
+    item_told es item.KeyMin >>= λ min.
+    item_told es item.KeyMax >>= λ max.
+    Ok (interval min max)
+
+-- the lowest and the highest number
+unfoldable pub seqnos_told : List Entry → Result (ℕ × ℕ) Error
+seqnos_told es =
+    u64_told es item.SeqnoMin >>= λ min.
+    u64_told es item.SeqnoMax >>= λ max.
+    Ok (min, max)
+
+-- what is read behind the version and the numbers, in this order
+unfoldable pub rest_told : List Entry → ℕ → Numbers → Result Facts Error
+rest_told es table_version numbers =
+    created_told es >>= λ created_at.
+    keys_told es >>= λ key_range.
+    seqnos_told es >>= λ seqnos.
+    compressions_told es >>= λ _.
+    Ok (facts_with table_version created_at numbers key_range seqnos)
+
+-- all that is read, in this order
+unfoldable pub facts_told : List Entry → Result Facts Error
+facts_told es =
+    version_told es >>= λ table_version.
+    kinds_told es >>= λ _.
+    numbers_told es >>= λ numbers.
+    rest_told es table_version numbers
+
+-- what the meta block at a place tells: it is loaded, then its items are read
+abbrev pub meta_told : List ℕ → Place → Result Facts Error
+meta_told body place =
+    load_told body place.offset place.size Meta >>= λ block. facts_told (entries_of block)
+
+-- the value of an item of the meta block at a place, whatever the others are
+abbrev pub meta_item_told : List ℕ → Place → ItemName → Result (List ℕ) Error
+meta_item_told body place name =
+    load_told body place.offset place.size Meta >>= λ block. item_told (entries_of block) name

@@ -1,0 +1,111 @@
+-- What a table is recovered to: what it says of itself, where its parts lie, and which blocks stay
+-- loaded.
+use Rattle.std.specs.Prelude.{ℕ, ◌+◌, ◌-◌, ◌^◌, ◌&&◌, nat_lt, Bool, List, [], length, map, Option}
+use Rattle.std.specs.Prelude.{Some, None, is_none, Result, Ok, Err, if◌then◌else◌}
+use Rattle.std.specs.Option.{option_or}
+use Rattle.sst_blocks.specs.declared.block_type.BlockType.TheVariants.{Filter, Meta}
+use Rattle.sst_entries.specs.declared.error.Error.{Error}
+use Rattle.sst_entries.specs.declared.error.Error.TheVariants.{GlobalSeqNoTooLarge}
+use Rattle.sst_blocks.specs.Block.{load_told, place_fault}
+use Rattle.sst_entries.specs.Error.{unless}
+use Rattle.sst_blocks.specs.Handle.{Handle}
+use Rattle.sst_blocks.specs.Place.{Place}
+use Rattle.sst_blocks.specs.filter.Filter.{BloomFilter, filter_in, payload_of}
+use Rattle.sst_blocks.specs.Sections.{body_of, section_in, section_names, trailer_fault}
+use Rattle.lsm_sorted.specs.version.KeyRange.{Interval, interval}
+use Rattle.lsm_readers.specs.declared.regions.ParsedRegions.{ParsedRegions}
+use Rattle.lsm_readers.specs.point.IndexKinds.{PinnedIndex, handles_told, index_told}
+use Rattle.lsm_readers.specs.point.Meta.{Facts, meta_told}
+use Rattle.lsm_readers.specs.point.Regions.{regions_told}
+use Rattle.lsm_readers.specs.point.Read.{◌>>=◌}
+
+-- which blocks stay loaded: those of the index, the top level of a filter with partitions, and the
+-- one block of a full filter
+pub record Pinned : Type 0 where
+  pub index : PinnedIndex
+  pub filter_tops : Option (List Handle)
+  pub filter : Option BloomFilter
+
+pub record Parts : Type 0 where
+  pub facts : Facts
+  pub regions : ParsedRegions
+  pub pinned : Pinned
+
+-- the top level of a filter, where it has one
+abbrev pub tops_told : List ℕ → Option Place → Result (Option (List Handle)) Error
+tops_told body None = Ok None
+tops_told body (Some place) = handles_told body place >>= λ tops. Ok (Some tops)
+
+-- the filter of the block at a place, where there is one
+abbrev pub filter_told : List ℕ → Option Place → Result (Option BloomFilter) Error
+filter_told body None = Ok None
+filter_told body (Some place) =
+    load_told body place.offset place.size Filter >>= λ block. Ok (Some (filter_in block.payload))
+
+-- where the filter's block lies that stays loaded: that of a full filter, where it is to stay
+abbrev pub pinned_filter : ParsedRegions → Bool → Option Place
+pinned_filter regions pin =
+    if pin && is_none regions.filter_tli then regions.filter else None
+
+-- the blocks that stay loaded, in the order in which their faults are told
+unfoldable pub pinned_told : List ℕ → ParsedRegions → Bool → Bool → Result Pinned Error
+pinned_told body regions pin_filter pin_index =
+    index_told body regions pin_index >>= λ index.
+    tops_told body regions.filter_tli >>= λ filter_tops.
+    filter_told body (pinned_filter regions pin_filter) >>= λ filter.
+    Ok (record { index = index; filter_tops = filter_tops; filter = filter })
+
+-- the highest number passes u64
+abbrev pub facts_fitting : Facts → ℕ → Result Facts Error
+facts_fitting facts g =
+    if nat_lt (2 ^ 64 - 1) (facts.seqno_max + g) then Err GlobalSeqNoTooLarge else Ok facts
+
+-- what the meta block says, where the global number fits
+abbrev pub fitting_told : List ℕ → Place → ℕ → Result Facts Error
+fitting_told body place g = meta_told body place >>= λ facts. facts_fitting facts g
+
+-- where the parts lie, by the sections that the trailer names
+abbrev pub places_told : List ℕ → Result ParsedRegions Error
+places_told bytes = regions_told (map (section_in bytes) section_names)
+
+-- the regions, the meta block, the global number and what stays loaded, in this order
+unfoldable pub parts_told : List ℕ → ℕ → Bool → Bool → Result Parts Error
+parts_told bytes g pin_filter pin_index =
+    places_told bytes >>= λ regions.
+    meta_told (body_of bytes) regions.metadata >>= λ facts.
+    facts_fitting facts g >>= λ facts.
+    pinned_told (body_of bytes) regions pin_filter pin_index >>= λ pinned.
+    Ok (record { facts = facts; regions = regions; pinned = pinned })
+
+-- what opening some bytes tells: the trailer first
+abbrev pub recovered_told : List ℕ → ℕ → Bool → Bool → Result Parts Error
+recovered_told bytes g pin_filter pin_index =
+    unless (trailer_fault bytes) (parts_told bytes g pin_filter pin_index)
+
+-- the fault of opening that is found before memory is taken: of the trailer, the regions, or the
+-- meta block up to the room for its count
+abbrev pub early_in : List ℕ → Result ParsedRegions Error → Option Error
+early_in body (Ok regions) = place_fault body regions.metadata.offset regions.metadata.size Meta
+early_in body (Err e) = Some e
+
+abbrev pub early_fault : List ℕ → Option Error
+early_fault bytes = option_or (trailer_fault bytes) (early_in (body_of bytes) (places_told bytes))
+
+-- the key range that a table's bytes tell: that of the meta block, whatever stays loaded
+abbrev pub range_in : Result Facts Error → Interval
+range_in (Ok facts) = facts.key_range
+range_in (Err e) = interval [] []
+
+abbrev pub key_range_told : List ℕ → Interval
+key_range_told bytes =
+    range_in (places_told bytes >>= λ regions. meta_told (body_of bytes) regions.metadata)
+
+-- the size of a part, or 0 where it is absent
+abbrev pub place_size : Option Place → ℕ
+place_size None = 0
+place_size (Some p) = p.size
+
+-- the payload length of the filter that stays loaded, or 0 where none does
+abbrev pub filter_len : Option BloomFilter → ℕ
+filter_len None = 0
+filter_len (Some filter) = length (payload_of filter)

@@ -1,0 +1,48 @@
+-- Where the parts of a table lie, from what its trailer says of the sections.
+use Rattle.std.specs.Prelude.{◌^◌, nat_le, List, Option, Some, None, Result, Ok, Err}
+use Rattle.std.specs.Prelude.{slice_index_or, if◌then◌else◌}
+use Rattle.sst_entries.specs.declared.error.Error.{Error}
+use Rattle.sst_entries.specs.declared.error.Error.TheVariants.{SectionTooLarge, MissingSection}
+use Rattle.sst_blocks.specs.declared.section.Section.{Section}
+use Rattle.sst_blocks.specs.declared.section.SectionName.{SectionName}
+use Rattle.sst_blocks.specs.declared.section.SectionName.TheVariants.{Index, Tli, Filter}
+use Rattle.sst_blocks.specs.declared.section.SectionName.TheVariants.{FilterTli, Meta}
+use Rattle.sst_blocks.specs.Place.{Place}
+use Rattle.sst_blocks.specs.Sections.{slot_index}
+use Rattle.lsm_readers.specs.point.Read.{◌>>=◌}
+use Rattle.lsm_readers.specs.declared.regions.ParsedRegions.{ParsedRegions}
+
+-- a section as a place, whose size is below 2^32
+abbrev pub region_told : Section → Result Place Error
+region_told s =
+    if nat_le (2 ^ 32) s.len then Err SectionTooLarge
+    else Ok (record { offset = s.position; size = s.len })
+
+-- a section that may be absent
+abbrev pub optional_told : Option Section → Result (Option Place) Error
+optional_told None = Ok None
+optional_told (Some s) = region_told s >>= λ p. Ok (Some p)
+
+-- a section that must be there
+abbrev pub needed_told : Option Section → Result Place Error
+needed_told None = Err MissingSection
+needed_told (Some s) = region_told s
+
+abbrev pub section_named : List (Option Section) → SectionName → Option Section
+section_named toc name = slice_index_or toc (slot_index name) None
+
+-- the parts, in the order in which their faults are told
+unfoldable pub regions_told : List (Option Section) → Result ParsedRegions Error
+regions_told toc =
+    optional_told (section_named toc FilterTli) >>= λ filter_tli.
+    needed_told (section_named toc Tli) >>= λ tli.
+    optional_told (section_named toc Index) >>= λ index.
+    optional_told (section_named toc Filter) >>= λ filter.
+    needed_told (section_named toc Meta) >>= λ metadata.
+    Ok (record {
+      tli = tli;
+      index = index;
+      filter_tli = filter_tli;
+      filter = filter;
+      metadata = metadata;
+    })

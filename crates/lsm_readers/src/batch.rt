@@ -1,0 +1,216 @@
+//! Point reads for some queries in key order, over whatever blocks can be loaded from.
+ghost use Rattle.std.specs.Prelude.{◌≡◌, ◌-◌, ◌<◌, ◌≤◌, Option, Ok, IfOk, IfSome, false};
+ghost use Rattle.std.specs.Prelude.{length, replicate, slice_set};
+ghost use Rattle.std.specs.List.{All};
+ghost use Rattle.lsm_readers.specs.point.Batch.{AreFound, IsLookup, query_told};
+ghost use Rattle.lsm_readers.specs.point.Words.{Entry, Gives, admitted_handle, parts_of};
+ghost use Rattle.lsm_readers.specs.point.Words.{with_load};
+ghost use Rattle.sst_blocks.specs.declared.block_type.BlockType.TheVariants.{Data};
+
+use crate::order::Headed;
+use crate::point::{admitted_handle, read_in};
+use crate::{Inner, Query};
+use sst_blocks::{BlockHandle, BlockType, Builder, Error, InternalValue, LoadBlocks};
+use std::alloc::{AllocError, Allocator, Global};
+
+/// How many data blocks are compared ahead of the reads that rest on them: as many of 4 KiB as a
+/// processor's nearest cache has room for until they are read.
+pub(crate) const AHEAD: usize = 8;
+
+/// A lookup of a query, by its place in a list: where the data block lies that a read for it rests
+/// on, if on any.
+#[derive(Clone, Copy)]
+pub(crate) struct Lookup {
+    pub(crate) at: usize,
+    pub(crate) handle: Option<BlockHandle>,
+}
+
+/// What was found for some queries, in their order, and for which of them that is known.
+#[derive(Drop)]
+pub(crate) struct Batch<A: Allocator = Global> {
+    pub(crate) found: Vec<Option<InternalValue<A>>, A>,
+    pub(crate) done: Vec<bool, A>,
+}
+
+impl<A: Allocator + Clone> Batch<A> {
+    /// Nothing is known yet of so many queries.
+    pub(crate) fn new(alloc: &A, count: usize) -> Result<Batch<A>, AllocError>
+        ensures found { IfOk result (λ b. length b.found.items ≡ count) }
+        ensures done { IfOk result (λ b. b.done.items ≡ replicate count false) }
+    {
+        let done = vec![in alloc.clone()?; false; count]?;
+        let mut found = Vec::with_capacity(alloc.clone()?, count)?;
+        for _ in 0..count {
+            found.push(None)?;
+        }
+        Ok(Batch { found, done })
+    }
+}
+
+/// Puts an item in the place of another. It is generic in the items, so that no part of a large one
+/// is looked at.
+pub(crate) fn put<T: Drop, A: Allocator>(items: &mut Vec<T, A>, at: usize, item: T)
+    requires { at < length items.old.items }
+    ensures { items.new.items ≡ slice_set items.old.items at item }
+{
+    items[at] = item;
+}
+
+/// The lookup of the query at a place. None where it is refused, or there is no such place.
+fn lookup_at<S: LoadBlocks>(
+    source: &mut S,
+    inner: &Inner<S::Alloc>,
+    queries: &[Query<S::Alloc>],
+    at: usize,
+) -> Option<Lookup>
+    ensures lookup { let parts = parts_of inner.now in
+        IfSome result (λ p.
+        IsLookup (S.body source.old) inner.now.global_seqno parts queries.now p) }
+    ensures body { S.body source.new ≡ S.body source.old }
+{
+    let query = queries.get(at)?;
+    let key = query.key.as_slice();
+    let low = query.seqno.saturating_sub(inner.global_seqno);
+    match admitted_handle(source, inner, key, low, Builder::<S::Alloc>::get_hash(key)) {
+        Ok(handle) => Some(Lookup { at, handle }),
+        Err(_) => None,
+    }
+}
+
+/// The lookups of the queries at some places, in the order of these places, up to the first that is
+/// refused.
+pub(crate) fn find_lookups<S: LoadBlocks>(
+    source: &mut S,
+    inner: &Inner<S::Alloc>,
+    queries: &[Query<S::Alloc>],
+    order: &[Headed],
+    alloc: S::Alloc,
+) -> Result<Vec<Lookup, S::Alloc>, AllocError>
+    ensures lookups { let parts = parts_of inner.now in
+        IfOk result (λ lookups.
+        All (IsLookup (S.body source.old) inner.now.global_seqno parts queries.now) lookups.items) }
+    ensures body { S.body source.new ≡ S.body source.old }
+{
+    let mut lookups = Vec::with_capacity(alloc, order.len())?;
+    for headed in order {
+        let Some(lookup) = lookup_at(source, inner, queries, headed.at) else {
+            return Ok(lookups);
+        };
+        lookups.push(lookup)?;
+    }
+    Ok(lookups)
+}
+
+/// What a read for a query gives that rests on the data block of a handle. Refused as the load of
+/// that block, and [`Error::OutOfMemory`].
+fn answer_lookup<S: LoadBlocks>(
+    source: &mut S,
+    inner: &Inner<S::Alloc>,
+    query: &Query<S::Alloc>,
+    handle: Option<BlockHandle>,
+) -> Result<Option<InternalValue<S::Alloc>>, Error>
+    requires { let low = query.now.seqno - inner.now.global_seqno in
+        (admitted_handle (S.body source.old) (parts_of inner.now) query.now.key low).told
+        ≡ Ok handle }
+    ensures told { let parts = parts_of inner.now in
+        Gives (λ (found : Option Entry). found) result
+        (query_told (S.body source.old) inner.now.global_seqno parts query.now) }
+    ensures body { S.body source.new ≡ S.body source.old }
+{
+    let low = query.seqno.saturating_sub(inner.global_seqno);
+    match handle {
+        Some(handle) => read_in(
+            source,
+            handle,
+            inner.global_seqno,
+            query.key.as_slice(),
+            low,
+        ),
+        None => Ok(None),
+    }
+}
+
+/// Gathers the data blocks that lookups at the front of some name, [`AHEAD`] of them at most and
+/// none that was named just before. Gives how many lookups these are: at least one, where there is
+/// any. Refused for want of memory alone.
+pub(crate) fn gather_blocks<A: Allocator>(
+    lookups: &[Lookup],
+    blocks: &mut Vec<(BlockHandle, BlockType), A>,
+) -> Result<usize, AllocError>
+    ensures some { IfOk result (λ n. 0 < length lookups.now → 0 < n) }
+    ensures within { IfOk result (λ n. n ≤ length lookups.now) }
+{
+    blocks.clear();
+    let mut last = None;
+    for (index, lookup) in lookups.iter().enumerate() {
+        if lookup.handle != last {
+            if blocks.len() == AHEAD {
+                return Ok(index);
+            }
+            if let Some(handle) = lookup.handle {
+                blocks.push((handle, BlockType::Data))?;
+            }
+            last = lookup.handle;
+        }
+    }
+    Ok(lookups.len())
+}
+
+/// The data block that the read of a lookup rests on, where there is such a lookup.
+fn handle_of(lookups: &[Lookup], index: usize) -> Option<BlockHandle> {
+    lookups.get(index)?.handle
+}
+
+/// Whether the read of a lookup is the first of several that rest on one data block.
+fn begins_several(lookups: &[Lookup], index: usize) -> bool {
+    let handle = handle_of(lookups, index);
+    handle.is_some()
+        && handle == handle_of(lookups, index.wrapping_add(1))
+        && handle != handle_of(lookups, index.wrapping_sub(1))
+}
+
+/// Loads the data block of a handle, which a source that keeps blocks then has for the reads to
+/// come. A fault of the block is met by the first of these; where memory is wanted for its entries'
+/// places, each of them walks over the block.
+fn load_for_several<S: LoadBlocks>(source: &mut S, handle: Option<BlockHandle>)
+    ensures body { S.body source.new ≡ S.body source.old }
+    ensures opened { IfSome handle (λ _. S.opened source.new ≡
+        with_load Data (S.opened source.old)) }
+{
+    if let Some(handle) = handle {
+        drop(source.load(&handle, BlockType::Data));
+    }
+}
+
+/// Reads for the queries of some lookups, one behind another, up to the first that is refused.
+/// Answers whether none is.
+pub(crate) fn read_lookups<S: LoadBlocks>(
+    source: &mut S,
+    inner: &Inner<S::Alloc>,
+    queries: &[Query<S::Alloc>],
+    lookups: &[Lookup],
+    batch: &mut Batch<S::Alloc>,
+) -> bool
+    requires lookups { let parts = parts_of inner.now in
+        All (IsLookup (S.body source.old) inner.now.global_seqno parts queries.now) lookups.now }
+    requires found { let parts = parts_of inner.now in
+        let told = query_told (S.body source.old) inner.now.global_seqno parts in
+        AreFound told queries.now batch.old.found.items batch.old.done.items }
+    ensures found { let parts = parts_of inner.now in
+        let told = query_told (S.body source.old) inner.now.global_seqno parts in
+        AreFound told queries.now batch.new.found.items batch.new.done.items }
+    ensures body { S.body source.new ≡ S.body source.old }
+{
+    for (index, lookup) in lookups.iter().enumerate() {
+        if begins_several(lookups, index) {
+            load_for_several(source, lookup.handle);
+        }
+        let query = &queries[lookup.at];
+        let Ok(found) = answer_lookup(source, inner, query, lookup.handle) else {
+            return false;
+        };
+        put(&mut batch.found, lookup.at, found);
+        batch.done[lookup.at] = true;
+    }
+    true
+}

@@ -1,0 +1,162 @@
+//! A source that keeps what it loaded last.
+ghost use Rattle.std.specs.Prelude.{◌≡◌, List, ℕ, IfErr, IfOk, IfSome};
+ghost use Rattle.sst_blocks.specs.Starts.{HoldsEntries};
+ghost use Rattle.sst_entries.specs.declared.error.Error.TheVariants.{OutOfMemory};
+ghost use Rattle.lsm_readers.specs.point.Keeping.{IsLoaded, KeepsOf};
+ghost use Rattle.lsm_readers.specs.point.Words.{FaultsFirst, Gives, Loaded, body_of, entries_of};
+ghost use Rattle.lsm_readers.specs.point.Words.{load_told, none_opened, place_fault, point};
+
+use sst_blocks::{
+    Block, BlockHandle, BlockSource, BlockType, DataBlock, Error, InternalValue, LoadBlocks,
+    Opened, SeqNo,
+};
+use std::alloc::{Allocator, Global};
+use std::marker::Model;
+
+/// A block that was loaded, and from where.
+#[derive(Drop)]
+pub(crate) struct Kept<A: Allocator = Global> {
+    handle: BlockHandle,
+    block: Block<A>,
+}
+
+/// A source that keeps the filter, the index block and the block of entries that it loaded last (a
+/// meta block has entries too), and gives such a block again where it is asked for it again. It
+/// counts what it is asked for.
+#[derive(Drop)]
+pub(crate) struct Keeping<'a, A: Allocator = Global> {
+    source: &'a BlockSource<A>,
+    opened: Opened,
+    filter: Option<Kept<A>>,
+    index: Option<Kept<A>>,
+    entries: Option<Kept<A>>,
+}
+
+impl<'a, A: Allocator> Model for Keeping<'a, A> {
+    ghost use Rattle.std.specs.Prelude.{List, ℕ};
+    ghost use Rattle.sst_blocks.specs.declared.opened.Opened.{Opened};
+    ghost use Rattle.sst_blocks.specs.Sections.{body_of};
+    ghost use Rattle.lsm_readers.specs.point.Keeping.{KeepsOf};
+
+    ghost Value = { List ℕ × Opened };
+
+    ghost view = { λ k. (k.source.now, k.opened) };
+
+    ghost invariant = { λ k. let body = body_of k.source.now in
+        KeepsOf body k.filter × (KeepsOf body k.index × KeepsOf body k.entries) };
+}
+
+impl<'a, A: Allocator + Clone> Keeping<'a, A> {
+    /// Nothing was loaded yet.
+    pub(crate) fn new(source: &'a BlockSource<A>) -> Keeping<'a, A>
+        ensures source { result.0 ≡ source.now }
+        ensures none { result.1 ≡ none_opened }
+    {
+        Keeping {
+            source,
+            opened: Opened::none(),
+            filter: None,
+            index: None,
+            entries: None,
+        }
+    }
+}
+
+impl<A: Allocator + Clone> LoadBlocks for Keeping<'_, A> {
+    ghost use Rattle.sst_blocks.specs.Sections.{body_of};
+
+    type Alloc = A;
+
+    ghost body = { λ k. body_of k.0 };
+
+    ghost opened = { λ k. k.1 };
+
+    fn load(&mut self, handle: &BlockHandle, kind: BlockType) -> Result<Block<A>, Error> {
+        self.opened.count(kind);
+        match kind {
+            BlockType::Filter => load_kept(self.source, &mut self.filter, handle, kind),
+            BlockType::Index => load_kept(self.source, &mut self.index, handle, kind),
+            BlockType::Data | BlockType::Meta => {
+                load_kept(self.source, &mut self.entries, handle, kind)
+            }
+        }
+    }
+
+    // A block that is not kept is walked over, and is not kept by that.
+    fn point_read(
+        &mut self,
+        handle: &BlockHandle,
+        key: &[u8],
+        seqno: SeqNo,
+    ) -> Result<Option<InternalValue<A>>, Error> {
+        match kept_at(&self.entries, handle, BlockType::Data) {
+            Some(block) => {
+                self.opened.count(BlockType::Data);
+                read_kept(block, key, seqno)
+            }
+            None => self.source.point_read(handle, key, seqno, &mut self.opened),
+        }
+    }
+}
+
+/// The block that is kept, where it is the one of this kind that a handle names.
+fn kept_at<'k, A: Allocator>(
+    kept: &'k Option<Kept<A>>,
+    handle: &BlockHandle,
+    kind: BlockType,
+) -> Option<&'k Block<A>>
+    ensures { (body : List ℕ) → KeepsOf body kept.now →
+        IfSome result (λ b. IsLoaded body handle.now kind b.now) }
+{
+    match kept {
+        Some(kept) if kept.handle == *handle && kept.block.kind() == kind => Some(&kept.block),
+        _ => None,
+    }
+}
+
+/// The first entry of a key numbered below `seqno` in a block that is kept. Refused
+/// [`Error::OutOfMemory`] alone.
+fn read_kept<A: Allocator>(
+    block: &Block<A>,
+    key: &[u8],
+    seqno: SeqNo,
+) -> Result<Option<InternalValue<A>>, Error>
+    requires { HoldsEntries block.now.kind }
+    ensures found { let found = point (entries_of block.now) key.now seqno in
+        IfOk result (λ x. x ≡ found) }
+    ensures err { IfErr result (λ e. e ≡ OutOfMemory) }
+{
+    let entries = DataBlock::new(block.clone()?);
+    let found = entries.point_read(key, seqno);
+    drop(entries);
+    found
+}
+
+/// The block of a kind that a handle names: the one that is kept, or one that is loaded, and kept
+/// from then on. Refused as [`BlockSource::load`].
+fn load_kept<A: Allocator + Clone>(
+    source: &BlockSource<A>,
+    kept: &mut Option<Kept<A>>,
+    handle: &BlockHandle,
+    kind: BlockType,
+) -> Result<Block<A>, Error>
+    requires kept { KeepsOf (body_of source.now) kept.old }
+    ensures told { let body = body_of source.now in
+        Gives (λ (b : Loaded). b) result
+        (load_told body handle.now.offset handle.now.size kind) }
+    ensures first { let body = body_of source.now in
+        FaultsFirst result (place_fault body handle.now.offset handle.now.size kind) }
+    ensures kept { KeepsOf (body_of source.now) kept.new }
+{
+    if let Some(block) = kept_at(kept, handle, kind) {
+        return Ok(block.clone()?);
+    }
+    let mut opened = Opened::none();
+    let block = source.load(handle, kind, &mut opened)?;
+    let again = block.clone()?;
+    *kept = Some(Kept {
+        handle: *handle,
+        block: again,
+    });
+    Ok(block)
+}

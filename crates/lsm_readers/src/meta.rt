@@ -1,0 +1,362 @@
+//! What a table says of itself in its meta block.
+ghost use Rattle.std.specs.Prelude.{◌≡◌, ◌-◌, List, ℕ, Result};
+ghost use Rattle.sst_entries.specs.Error.{FaultsFirst, Gives};
+ghost use Rattle.sst_blocks.specs.Block.{place_fault};
+ghost use Rattle.sst_blocks.specs.declared.block_type.BlockType.TheVariants.{Meta};
+ghost use Rattle.sst_blocks.specs.Sections.{body_of};
+ghost use Rattle.lsm_readers.specs.point.Meta.{item_told, number8_told, number16_told, u64_told};
+ghost use Rattle.lsm_readers.specs.point.Meta.{one_byte_told, byte_told, first_byte_told};
+ghost use Rattle.lsm_readers.specs.point.Meta.{first_told};
+ghost use Rattle.lsm_readers.specs.point.Meta.{version_number_told, version_told, kinds_told};
+ghost use Rattle.lsm_readers.specs.point.Meta.{compressions_told, created_told, numbers_told};
+ghost use Rattle.lsm_readers.specs.point.Meta.{keys_told};
+ghost use Rattle.lsm_readers.specs.point.Meta.{seqnos_told, rest_told, facts_of, facts_told};
+ghost use Rattle.lsm_readers.specs.point.Meta.{meta_told};
+ghost use Rattle.lsm_readers.specs.point.Meta.{meta_item_told};
+ghost use Rattle.lsm_readers.specs.declared.meta.Numbers.{Numbers};
+ghost use Rattle.lsm_sorted.specs.version.KeyRange.{Interval};
+
+use byteorder::{ByteOrder, LittleEndian};
+use lsm_iters::beside;
+use lsm_sorted::KeyRange;
+use sst_blocks::{
+    BlockHandle, BlockSource, BlockType, CompressionType, DataBlock, Error, FILTER_HASH_TYPE,
+    ItemName, Opened, SeqNo, Slice, TableId, Timestamp,
+};
+use std::alloc::{Allocator, Global};
+use std::marker::Model;
+
+/// What a table says of itself.
+#[derive(Drop)]
+#[derive_where(Debug)]
+pub struct ParsedMeta<A: Allocator = Global> {
+    /// The version of the table, 3 or 4.
+    pub table_version: u8,
+    /// The table's id.
+    pub id: TableId,
+    /// When the table was written.
+    pub created_at: Timestamp,
+    /// How many data blocks there are.
+    pub data_block_count: u64,
+    /// How many index blocks there are.
+    pub index_block_count: u64,
+    /// The first and the last key.
+    pub key_range: KeyRange<A>,
+    /// The lowest and the highest stored number.
+    pub seqnos: (SeqNo, SeqNo),
+    /// The length of the data blocks, in bytes.
+    pub file_size: u64,
+    /// How many entries there are.
+    pub item_count: u64,
+    /// How many of them are tombstones of either kind.
+    pub tombstone_count: u64,
+    /// How many of them are weak tombstones.
+    pub weak_tombstone_count: u64,
+    /// How many values stand directly after a weak tombstone of their key.
+    pub weak_tombstone_reclaimable: u64,
+    /// How data blocks are compressed.
+    pub data_block_compression: CompressionType,
+    /// How index blocks are compressed.
+    pub index_block_compression: CompressionType,
+}
+
+/// The value of an item. Refused [`Error::MetaKeyMissing`] where there is none.
+#[tactic(auto, unfolding(crate::specs::point::Meta::item_told))]
+fn item<A: Allocator>(block: &DataBlock<A>, name: ItemName) -> Result<Slice<A>, Error>
+    ensures { Gives (λ (v : List ℕ). v) result (item_told block.now name) }
+{
+    match block.point_read(name.key(), SeqNo::MAX)? {
+        Some(item) => Ok(item.value),
+        None => Err(Error::MetaKeyMissing),
+    }
+}
+
+#[tactic(auto, unfolding(sst_blocks::specs::Number::num8))]
+fn number8(value: &[u8]) -> Result<u64, Error>
+    ensures { result ≡ number8_told value.now }
+{
+    if value.len() < 8 {
+        return Err(Error::InvalidMetaValue);
+    }
+    Ok(LittleEndian::read_u64(value))
+}
+
+#[tactic(auto, unfolding(sst_blocks::specs::Number::num16))]
+fn number16(value: &[u8]) -> Result<u128, Error>
+    ensures { result ≡ number16_told value.now }
+{
+    if value.len() < 16 {
+        return Err(Error::InvalidMetaValue);
+    }
+    Ok(LittleEndian::read_u128(value))
+}
+
+#[tactic(auto, unfolding(crate::specs::point::Meta::u64_told))]
+fn u64_item<A: Allocator>(block: &DataBlock<A>, name: ItemName) -> Result<u64, Error>
+    ensures { Gives (λ (n : ℕ). n) result (u64_told block.now name) }
+{
+    let value = item(block, name)?;
+    let number = number8(value.as_slice());
+    drop(value);
+    number
+}
+
+fn test_byte(value: &[u8], byte: u8, fault: Error) -> Result<(), Error>
+    ensures { result ≡ one_byte_told value.now byte fault }
+{
+    if value == [byte].as_slice() {
+        Ok(())
+    } else {
+        Err(fault)
+    }
+}
+
+#[tactic(auto, unfolding(crate::specs::point::Meta::byte_told))]
+fn byte_item<A: Allocator>(
+    block: &DataBlock<A>,
+    name: ItemName,
+    byte: u8,
+    fault: Error,
+) -> Result<(), Error>
+    ensures { Gives (λ (_ : _). tt) result (byte_told block.now name byte fault) }
+{
+    let value = item(block, name)?;
+    let tested = test_byte(value.as_slice(), byte, fault);
+    drop(value);
+    tested
+}
+
+fn test_first(value: &[u8], byte: u8, fault: Error) -> Result<(), Error>
+    ensures { result ≡ first_byte_told value.now byte fault }
+{
+    if value.is_empty() {
+        return Err(Error::InvalidMetaValue);
+    }
+    if value[0] == byte { Ok(()) } else { Err(fault) }
+}
+
+#[tactic(auto, unfolding(crate::specs::point::Meta::first_told))]
+fn first_item<A: Allocator>(
+    block: &DataBlock<A>,
+    name: ItemName,
+    byte: u8,
+    fault: Error,
+) -> Result<(), Error>
+    ensures { Gives (λ (_ : _). tt) result (first_told block.now name byte fault) }
+{
+    let value = item(block, name)?;
+    let tested = test_first(value.as_slice(), byte, fault);
+    drop(value);
+    tested
+}
+
+// The version, one byte, 3 or 4.
+fn version(value: &[u8]) -> Result<u8, Error>
+    ensures { result ≡ version_number_told value.now }
+{
+    if value == [3].as_slice() || value == [4].as_slice() {
+        Ok(value[0])
+    } else {
+        Err(Error::UnsupportedTableVersion)
+    }
+}
+
+#[tactic(auto, unfolding(crate::specs::point::Meta::version_told))]
+fn version_item<A: Allocator>(block: &DataBlock<A>) -> Result<u8, Error>
+    ensures { Gives (λ (n : ℕ). n) result (version_told block.now) }
+{
+    let value = item(block, ItemName::TableVersion)?;
+    let number = version(value.as_slice());
+    drop(value);
+    number
+}
+
+#[tactic(auto, unfolding(crate::specs::point::Meta::kinds_told))]
+fn test_kinds<A: Allocator>(block: &DataBlock<A>) -> Result<(), Error>
+    ensures { Gives (λ (_ : _). tt) result (kinds_told block.now) }
+{
+    byte_item(
+        block,
+        ItemName::FilterHashType,
+        FILTER_HASH_TYPE,
+        Error::UnsupportedHashType,
+    )?;
+    byte_item(
+        block,
+        ItemName::ChecksumType,
+        1,
+        Error::UnsupportedChecksumType,
+    )?;
+    first_item(
+        block,
+        ItemName::RestartIntervalIndex,
+        1,
+        Error::UnsupportedIndexInterval,
+    )
+}
+
+#[tactic(auto, unfolding(crate::specs::point::Meta::compressions_told))]
+fn test_compressions<A: Allocator>(block: &DataBlock<A>) -> Result<(), Error>
+    ensures { Gives (λ (_ : _). tt) result (compressions_told block.now) }
+{
+    first_item(
+        block,
+        ItemName::CompressionData,
+        0,
+        Error::UnsupportedCompression,
+    )?;
+    first_item(
+        block,
+        ItemName::CompressionIndex,
+        0,
+        Error::UnsupportedCompression,
+    )
+}
+
+#[tactic(auto, unfolding(crate::specs::point::Meta::created_told))]
+fn created_item<A: Allocator>(block: &DataBlock<A>) -> Result<u128, Error>
+    ensures { Gives (λ (n : ℕ). n) result (created_told block.now) }
+{
+    let value = item(block, ItemName::CreatedAt)?;
+    let number = number16(value.as_slice());
+    drop(value);
+    number
+}
+
+/// The numbers of a table that are read before its moment, in this order. The count of filter
+/// blocks is read behind that of index blocks, for its refusal alone, and is not kept.
+#[derive(Clone, Copy)]
+struct Numbers {
+    id: TableId,
+    item_count: u64,
+    tombstone_count: u64,
+    data_block_count: u64,
+    index_block_count: u64,
+    file_size: u64,
+    weak_tombstone_count: u64,
+    weak_tombstone_reclaimable: u64,
+}
+
+#[tactic(auto, unfolding(crate::specs::point::Meta::numbers_told))]
+fn number_items<A: Allocator>(block: &DataBlock<A>) -> Result<Numbers, Error>
+    ensures { Gives (λ (n : Numbers). n) result (numbers_told block.now) }
+{
+    let id = u64_item(block, ItemName::TableId)?;
+    let item_count = u64_item(block, ItemName::ItemCount)?;
+    let tombstone_count = u64_item(block, ItemName::TombstoneCount)?;
+    let data_block_count = u64_item(block, ItemName::BlockCountData)?;
+    let index_block_count = u64_item(block, ItemName::BlockCountIndex)?;
+    u64_item(block, ItemName::BlockCountFilter)?;
+    let file_size = u64_item(block, ItemName::FileSize)?;
+    let weak_tombstone_count = u64_item(block, ItemName::WeakTombstoneCount)?;
+    let weak_tombstone_reclaimable = u64_item(block, ItemName::WeakTombstoneReclaimable)?;
+    Ok(Numbers {
+        id,
+        item_count,
+        tombstone_count,
+        data_block_count,
+        index_block_count,
+        file_size,
+        weak_tombstone_count,
+        weak_tombstone_reclaimable,
+    })
+}
+
+#[tactic(auto, unfolding(crate::specs::point::Meta::keys_told))]
+fn key_items<A: Allocator>(block: &DataBlock<A>) -> Result<KeyRange<A>, Error>
+    ensures { Gives (λ (r : Interval). r) result (keys_told block.now) }
+{
+    let min = item(block, ItemName::KeyMin)?;
+    let ends = beside(min, item(block, ItemName::KeyMax))?;
+    Ok(KeyRange::new(ends))
+}
+
+#[tactic(auto, unfolding(crate::specs::point::Meta::seqnos_told))]
+fn seqno_items<A: Allocator>(block: &DataBlock<A>) -> Result<(SeqNo, SeqNo), Error>
+    ensures { Gives (λ (n : ℕ × ℕ). n) result (seqnos_told block.now) }
+{
+    let min = u64_item(block, ItemName::SeqnoMin)?;
+    let max = u64_item(block, ItemName::SeqnoMax)?;
+    Ok((min, max))
+}
+
+/// What a table says of itself, where its version and its numbers were read: the rest is read here.
+fn read_rest<A: Allocator>(
+    block: &DataBlock<A>,
+    table_version: u8,
+    numbers: Numbers,
+) -> Result<ParsedMeta<A>, Error>
+    ensures { Gives facts_of result (rest_told block.now table_version numbers) }
+{
+    let created_at = created_item(block)?;
+    let key_range = key_items(block)?;
+    let (key_range, seqnos) = beside(key_range, seqno_items(block))?;
+    let meta = ParsedMeta {
+        table_version,
+        id: numbers.id,
+        created_at: Timestamp::from(created_at),
+        data_block_count: numbers.data_block_count,
+        index_block_count: numbers.index_block_count,
+        key_range,
+        seqnos,
+        file_size: numbers.file_size,
+        item_count: numbers.item_count,
+        tombstone_count: numbers.tombstone_count,
+        weak_tombstone_count: numbers.weak_tombstone_count,
+        weak_tombstone_reclaimable: numbers.weak_tombstone_reclaimable,
+        data_block_compression: CompressionType::None,
+        index_block_compression: CompressionType::None,
+    };
+    test_compressions(block).and(Ok(meta))
+}
+
+fn read_facts<A: Allocator>(block: &DataBlock<A>) -> Result<ParsedMeta<A>, Error>
+    ensures { Gives facts_of result (facts_told block.now) }
+{
+    let table_version = version_item(block)?;
+    test_kinds(block)?;
+    let numbers = number_items(block)?;
+    read_rest(block, table_version, numbers)
+}
+
+impl<A: Allocator + Clone> ParsedMeta<A> {
+    /// Loads a meta block and reads its items. Refused with the first fault: those of
+    /// [`BlockSource::load`], then, item after item, [`Error::MetaKeyMissing`] where one is not
+    /// there, [`Error::InvalidMetaValue`] where a value is too short, and the refusal of a version,
+    /// hash, checksum, index interval or compression that is not known; and [`Error::OutOfMemory`].
+    pub fn load_with_handle(
+        source: &BlockSource<A>,
+        handle: &BlockHandle,
+    ) -> Result<ParsedMeta<A>, Error>
+        ensures told { Gives facts_of result (meta_told (body_of source.now) handle.now) }
+        ensures early { let body = body_of source.now in
+            FaultsFirst result (place_fault body handle.now.offset handle.now.size Meta) }
+    {
+        let mut opened = Opened::none();
+        let block = source.load(handle, BlockType::Meta, &mut opened)?;
+        let block = DataBlock::new(block);
+        let meta = read_facts(&block);
+        drop(block);
+        meta
+    }
+}
+
+/// The value of an item of the meta block at a place. Refused as [`BlockSource::load`], then
+/// [`Error::MetaKeyMissing`] where the block has no such item; and [`Error::OutOfMemory`].
+pub fn load_item<A: Allocator + Clone>(
+    source: &BlockSource<A>,
+    handle: &BlockHandle,
+    name: ItemName,
+) -> Result<Slice<A>, Error>
+    ensures told { Gives (λ (v : List ℕ). v) result
+        (meta_item_told (body_of source.now) handle.now name) }
+    ensures early { let body = body_of source.now in
+        FaultsFirst result (place_fault body handle.now.offset handle.now.size Meta) }
+{
+    let mut opened = Opened::none();
+    let block = source.load(handle, BlockType::Meta, &mut opened)?;
+    let block = DataBlock::new(block);
+    let value = item(&block, name);
+    drop(block);
+    value
+}

@@ -1,0 +1,180 @@
+//! What of a table's index stays loaded, and what depends on that: this is all that differs between
+//! the kinds of an index.
+ghost use Rattle.std.specs.Prelude.{◌≡◌, List, IfOk, IfErr};
+ghost use Rattle.sst_blocks.specs.declared.block_type.BlockType.TheVariants.{Index};
+ghost use Rattle.sst_entries.specs.declared.error.Error.TheVariants.{OutOfMemory};
+ghost use Rattle.lsm_readers.specs.point.Words.{DoesRead, FaultsFirst, Gives, Handle, body_of};
+ghost use Rattle.lsm_readers.specs.point.Words.{handle_by, handle_in_block, place_fault};
+ghost use Rattle.lsm_readers.specs.point.Words.{handles_told, index_len, pinned_index_of};
+ghost use Rattle.lsm_readers.specs.point.Words.{index_over};
+ghost use Rattle.lsm_readers.specs.point.Words.{index_read, index_told, kind_kept, index_kind_of};
+ghost use Rattle.lsm_readers.specs.point.Words.{on_each_read, partitioned};
+ghost use Rattle.lsm_iters.specs.block_index.Index.{on_demand, two_level};
+
+use crate::ParsedRegions;
+use lsm_iters::{BlockIndexImpl, FullBlockIndex, TwoLevelBlockIndex, VolatileBlockIndex, beside};
+use sst_blocks::{
+    BlockHandle, BlockSource, BlockType, Error, Header, IndexBlock, LoadBlocks, Opened, SeqNo,
+};
+use std::alloc::{Allocator, Global};
+
+/// What of a table's index stays loaded.
+#[derive(Drop)]
+pub enum PinnedBlockIndex<A: Allocator = Global> {
+    /// The one block of a full index.
+    Full(FullBlockIndex<A>),
+    /// Nothing: each read loads the one block of a full index.
+    VolatileFull,
+    /// The top level of an index with partitions, whose handles lead to them.
+    TwoLevel(IndexBlock<A>),
+}
+
+/// The handles of the index block at a place. Refused as [`BlockSource::load`].
+pub fn load_handles<A: Allocator + Clone>(
+    source: &BlockSource<A>,
+    handle: &BlockHandle,
+) -> Result<IndexBlock<A>, Error>
+    ensures told { Gives (λ (handles : List Handle). handles) result
+        (handles_told (body_of source.now) handle.now) }
+    ensures early { let body = body_of source.now in
+        FaultsFirst result (place_fault body handle.now.offset handle.now.size Index) }
+{
+    let mut opened = Opened::none();
+    let block = source.load(handle, BlockType::Index, &mut opened)?;
+    Ok(IndexBlock::new(block))
+}
+
+/// Where the handle leads that the index block at a place has for a key below a stored number.
+fn handle_at<S: LoadBlocks>(
+    source: &mut S,
+    handle: &BlockHandle,
+    key: &[u8],
+    seqno: SeqNo,
+) -> Result<Option<BlockHandle>, Error>
+    ensures read { let read = handle_in_block (S.body source.old) key.now seqno handle.now in
+        DoesRead result read (S.opened source.old) (S.opened source.new) }
+    ensures body { S.body source.new ≡ S.body source.old }
+{
+    source.find(handle, key, seqno)
+}
+
+/// An index whose one block, at a place, each iterator loads. Refused [`Error::OutOfMemory`] alone.
+fn volatile_index<A: Allocator + Clone>(
+    source: &BlockSource<A>,
+    handle: BlockHandle,
+) -> Result<BlockIndexImpl<A>, Error>
+    ensures index { let read = on_demand (body_of source.now) handle in
+        IfOk result (λ index. index_read index ≡ read) }
+    ensures kind { IfOk result (λ index. index_kind_of index ≡ on_each_read) }
+    ensures err { IfErr result (λ e. e ≡ OutOfMemory) }
+{
+    let (alloc, source) = (source.allocator().clone()?, source.clone()?);
+    let index = VolatileBlockIndex::new(alloc, source, handle);
+    Ok(BlockIndexImpl::VolatileFull(index))
+}
+
+/// An index of partitions below a top level. Refused [`Error::OutOfMemory`] alone.
+fn two_level_index<A: Allocator + Clone>(
+    source: &BlockSource<A>,
+    tops: &IndexBlock<A>,
+) -> Result<BlockIndexImpl<A>, Error>
+    ensures index { let read = two_level (body_of source.now) tops.now in
+        IfOk result (λ index. index_read index ≡ read) }
+    ensures kind { IfOk result (λ index. index_kind_of index ≡ partitioned) }
+    ensures err { IfErr result (λ e. e ≡ OutOfMemory) }
+{
+    let (alloc, source) = (source.allocator().clone()?, source.clone()?);
+    let (source, tops) = beside(source, tops.clone())?;
+    let index = TwoLevelBlockIndex::new(alloc, source, tops);
+    Ok(BlockIndexImpl::TwoLevel(index))
+}
+
+impl<A: Allocator + Clone> PinnedBlockIndex<A> {
+    /// What of the index stays loaded: the top level where it has partitions, else the whole where
+    /// `pin_index` says so. Refused as [`BlockSource::load`].
+    pub fn load(
+        source: &BlockSource<A>,
+        regions: &ParsedRegions,
+        pin_index: bool,
+    ) -> Result<PinnedBlockIndex<A>, Error>
+        ensures { Gives pinned_index_of result
+            (index_told (body_of source.now) regions.now pin_index) }
+    {
+        if regions.index.is_some() {
+            return Ok(PinnedBlockIndex::TwoLevel(load_handles(source, &regions.tli)?));
+        }
+        if !pin_index {
+            return Ok(PinnedBlockIndex::VolatileFull);
+        }
+        let handles = load_handles(source, &regions.tli)?;
+        Ok(PinnedBlockIndex::Full(FullBlockIndex::new(handles)))
+    }
+
+    /// The index over a table's bytes, whose one block or top level lies at a place. Nothing is
+    /// loaded. Refused [`Error::OutOfMemory`] alone.
+    pub fn over(
+        &self,
+        source: &BlockSource<A>,
+        tli: &BlockHandle,
+    ) -> Result<BlockIndexImpl<A>, Error>
+        ensures index { let kept = pinned_index_of self.now in
+            let read = index_over (body_of source.now) kept tli.now in
+            IfOk result (λ index. index_read index ≡ read) }
+        ensures kind { let kept = pinned_index_of self.now in
+            IfOk result (λ index. index_kind_of index ≡ kind_kept kept) }
+        ensures err { IfErr result (λ e. e ≡ OutOfMemory) }
+    {
+        match self {
+            PinnedBlockIndex::Full(index) => {
+                let handles = index.inner().clone()?;
+                Ok(BlockIndexImpl::Full(FullBlockIndex::new(handles)))
+            }
+            PinnedBlockIndex::VolatileFull => volatile_index(source, *tli),
+            PinnedBlockIndex::TwoLevel(tops) => two_level_index(source, tops),
+        }
+    }
+}
+
+impl<A: Allocator> PinnedBlockIndex<A> {
+    /// The payload length of the index block that stays loaded, whose place is given, in bytes, or
+    /// 0 where none does.
+    #[inline]
+    pub fn payload_len(&self, tli: &BlockHandle) -> usize
+        ensures { result ≡ index_len (pinned_index_of self.now) tli.now }
+    {
+        match self {
+            PinnedBlockIndex::VolatileFull => 0,
+            // Nothing is cut off: a block that was loaded is no shorter than its header.
+            PinnedBlockIndex::Full(_) | PinnedBlockIndex::TwoLevel(_) => {
+                (tli.size() as usize).saturating_sub(Header::serialized_len())
+            }
+        }
+    }
+}
+
+/// Where the first data block lies that reaches a key below a stored number, by what stays loaded
+/// of the index, whose one block or top level lies at a place.
+///
+/// It is no method of the index, which would need a bound: the source is to have its allocator.
+#[inline]
+pub(crate) fn handle_by<S: LoadBlocks>(
+    source: &mut S,
+    index: &PinnedBlockIndex<S::Alloc>,
+    tli: &BlockHandle,
+    key: &[u8],
+    seqno: SeqNo,
+) -> Result<Option<BlockHandle>, Error>
+    ensures read { let kept = pinned_index_of index.now in
+        let read = handle_by (S.body source.old) kept tli.now key.now seqno in
+        DoesRead result read (S.opened source.old) (S.opened source.new) }
+    ensures body { S.body source.new ≡ S.body source.old }
+{
+    match index {
+        PinnedBlockIndex::Full(index) => Ok(index.inner().find(key, seqno)),
+        PinnedBlockIndex::VolatileFull => handle_at(source, tli, key, seqno),
+        PinnedBlockIndex::TwoLevel(tops) => match tops.find(key, seqno) {
+            Some(handle) => handle_at(source, &handle, key, seqno),
+            None => Ok(None),
+        },
+    }
+}

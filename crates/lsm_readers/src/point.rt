@@ -1,0 +1,297 @@
+//! Point reads, over whatever blocks can be loaded from.
+ghost use Rattle.std.specs.Prelude.{◌≡◌, ◌+◌, ◌<◌, ◌^◌, [], ℕ, List, Option, IfOk, IfSome, IsOk};
+ghost use Rattle.std.specs.Option.{option_map};
+ghost use Rattle.sst_blocks.specs.Asked.{told_map};
+ghost use Rattle.sst_blocks.specs.EntryPlace.{IsPlacedIn, entry_placed};
+ghost use Rattle.lsm_readers.specs.point.Words.{DoesRead, Entry, FaultsFirst, Gives, LoadsFew};
+ghost use Rattle.lsm_readers.specs.point.Words.{Opens};
+ghost use Rattle.lsm_readers.specs.point.Words.{admission};
+ghost use Rattle.lsm_readers.specs.point.Words.{admitted_handle, answer, block_admits};
+ghost use Rattle.lsm_readers.specs.point.Words.{filter_admits};
+ghost use Rattle.lsm_readers.specs.point.Words.{body_of, hash_of, lifted, match_at, none_opened};
+ghost use Rattle.lsm_readers.specs.point.Words.{parts_of};
+
+use crate::Inner;
+use crate::pinned::handle_by;
+use sst_blocks::{
+    BlockHandle, BlockSource, Counted, EntryPlace, Error, InternalValue, LoadBlocks, Opened, SeqNo,
+};
+use std::alloc::Allocator;
+
+// The entry with the global number added, which the caller has tested to fit.
+fn lift<A: Allocator>(item: InternalValue<A>, global_seqno: SeqNo) -> InternalValue<A>
+    requires { item.seqno + global_seqno < 2 ^ 64 }
+    ensures { result ≡ lifted global_seqno item }
+{
+    let mut item = item;
+    item.key.seqno += global_seqno;
+    item
+}
+
+// Whether the filter block at a place may have a hash.
+fn block_admits<S: LoadBlocks>(
+    source: &mut S,
+    handle: &BlockHandle,
+    key_hash: u64,
+) -> Result<bool, Error>
+    ensures read { let read = block_admits (S.body source.old) key_hash handle.now in
+        DoesRead result read (S.opened source.old) (S.opened source.new) }
+    ensures body { S.body source.new ≡ S.body source.old }
+{
+    source.maybe_contains_hash(handle, key_hash)
+}
+
+// Whether the filter may have a key of a hash.
+fn filter_admits<S: LoadBlocks>(
+    source: &mut S,
+    inner: &Inner<S::Alloc>,
+    key: &[u8],
+    key_hash: u64,
+) -> Result<bool, Error>
+    ensures read { let parts = parts_of inner.now in
+        let read = filter_admits (S.body source.old) parts.pinned.filter_tops
+        parts.pinned.filter parts.regions.filter key.now key_hash in
+        DoesRead result read (S.opened source.old) (S.opened source.new) }
+    ensures body { S.body source.new ≡ S.body source.old }
+{
+    if let Some(tops) = &inner.pinned_filter_index {
+        // The partition that was given the key, whatever the read's bound is.
+        return match tops.find(key, SeqNo::MAX) {
+            Some(handle) => block_admits(source, &handle, key_hash),
+            None => Ok(false),
+        };
+    }
+    match &inner.pinned_filter_block {
+        Some(filter) => Ok(filter.maybe_contains_hash(key_hash)),
+        None => match &inner.regions.filter {
+            Some(handle) => block_admits(source, handle, key_hash),
+            None => Ok(true),
+        },
+    }
+}
+
+// Whether a key may have an entry below a stored number.
+fn admission<S: LoadBlocks>(
+    source: &mut S,
+    inner: &Inner<S::Alloc>,
+    key: &[u8],
+    seqno: SeqNo,
+    key_hash: u64,
+) -> Result<bool, Error>
+    requires { key_hash ≡ hash_of key.now }
+    ensures read { let parts = parts_of inner.now in
+        let read = admission (S.body source.old) parts key.now seqno in
+        DoesRead result read (S.opened source.old) (S.opened source.new) }
+    ensures body { S.body source.new ≡ S.body source.old }
+{
+    if seqno <= inner.metadata.seqnos.0 {
+        return Ok(false);
+    }
+    filter_admits(source, inner, key, key_hash)
+}
+
+// Where the one data block lies that a read of a key below a stored number rests on.
+pub(crate) fn admitted_handle<S: LoadBlocks>(
+    source: &mut S,
+    inner: &Inner<S::Alloc>,
+    key: &[u8],
+    seqno: SeqNo,
+    key_hash: u64,
+) -> Result<Option<BlockHandle>, Error>
+    requires { key_hash ≡ hash_of key.now }
+    ensures read { let parts = parts_of inner.now in
+        let read = admitted_handle (S.body source.old) parts key.now seqno in
+        DoesRead result read (S.opened source.old) (S.opened source.new) }
+    ensures body { S.body source.new ≡ S.body source.old }
+{
+    if admission(source, inner, key, seqno, key_hash)? {
+        let (index, tli) = (&inner.pinned_block_index, &inner.regions.tli);
+        handle_by(source, index, tli, key, seqno)
+    } else {
+        Ok(None)
+    }
+}
+
+// What was found, with its lifted number, which is to fit.
+fn lifted_found<A: Allocator>(
+    found: Option<InternalValue<A>>,
+    global_seqno: SeqNo,
+) -> Option<InternalValue<A>>
+    requires { IfSome found (λ item. item.seqno + global_seqno < 2 ^ 64) }
+    ensures { result ≡ option_map (lifted global_seqno) found }
+{
+    match found {
+        Some(item) => Some(lift(item, global_seqno)),
+        None => None,
+    }
+}
+
+// What the block of a handle answers.
+pub(crate) fn read_in<S: LoadBlocks>(
+    source: &mut S,
+    handle: BlockHandle,
+    global_seqno: SeqNo,
+    key: &[u8],
+    seqno: SeqNo,
+) -> Result<Option<InternalValue<S::Alloc>>, Error>
+    requires { seqno + global_seqno < 2 ^ 64 }
+    ensures read { let read = match_at (S.body source.old) global_seqno key.now seqno handle in
+        DoesRead result read (S.opened source.old) (S.opened source.new) }
+    ensures body { S.body source.new ≡ S.body source.old }
+{
+    let found = source.point_read(&handle, key, seqno)?;
+    Ok(lifted_found(found, global_seqno))
+}
+
+/// The first entry of a key numbered below `seqno`, its number with the global number added. The
+/// source is its only way to a block that is not pinned: at most one filter block is loaded, one
+/// index block, and one data block, the first whose end reaches the key at that number. Refused
+/// with the first fault of loading them, and [`Error::OutOfMemory`]; where none is loaded, as where
+/// a filter says no that is pinned or has no partition for the key, nothing is refused.
+pub fn point_in<S: LoadBlocks>(
+    source: &mut S,
+    inner: &Inner<S::Alloc>,
+    key: &[u8],
+    seqno: SeqNo,
+    key_hash: u64,
+) -> Result<Option<InternalValue<S::Alloc>>, Error>
+    requires { key_hash ≡ hash_of key.now }
+    ensures told { let parts = parts_of inner.now in
+        let read = answer (S.body source.old) inner.now.global_seqno parts key.now seqno in
+        Gives (λ (found : Option Entry). found) result read.told }
+    // What is found before memory is taken is the refusal, whatever memory there is.
+    ensures early { let parts = parts_of inner.now in
+        let read = answer (S.body source.old) inner.now.global_seqno parts key.now seqno in
+        FaultsFirst result read.early }
+    // Without a load nothing is refused: memory is taken only for a block.
+    ensures calm { let parts = parts_of inner.now in
+        let read = answer (S.body source.old) inner.now.global_seqno parts key.now seqno in
+        read.loads ≡ [] → IsOk result }
+    ensures body { S.body source.new ≡ S.body source.old }
+    // It makes the loads of the read, and no others.
+    ensures opened { let parts = parts_of inner.now in
+        let read = answer (S.body source.old) inner.now.global_seqno parts key.now seqno in
+        Opens result read.loads (S.opened source.old) (S.opened source.new) }
+    // These are few, also where memory is wanted.
+    ensures few { LoadsFew (parts_of inner.now) (S.opened source.old) (S.opened source.new) }
+{
+    let low = seqno.saturating_sub(inner.global_seqno);
+    match admitted_handle(source, inner, key, low, key_hash)? {
+        Some(handle) => read_in(source, handle, inner.global_seqno, key, low),
+        None => Ok(None),
+    }
+}
+
+// The place of an entry with the global number added to its number, which the caller has tested to
+// fit.
+fn lift_place(place: EntryPlace, global_seqno: SeqNo) -> EntryPlace
+    requires { place.seqno + global_seqno < 2 ^ 64 }
+    ensures entry { (bytes : List ℕ) →
+        entry_placed bytes result ≡ lifted global_seqno (entry_placed bytes place) }
+    ensures placed { (bytes : List ℕ) → IsPlacedIn bytes place → IsPlacedIn bytes result }
+{
+    let mut place = place;
+    place.seqno += global_seqno;
+    place
+}
+
+// The place that was found, with its lifted number, which is to fit.
+fn lifted_place(found: Option<EntryPlace>, global_seqno: SeqNo) -> Option<EntryPlace>
+    requires { IfSome found (λ place. place.seqno + global_seqno < 2 ^ 64) }
+    ensures entry { (bytes : List ℕ) → option_map (entry_placed bytes) result
+        ≡ option_map (lifted global_seqno) (option_map (entry_placed bytes) found) }
+    ensures placed { (bytes : List ℕ) → IfSome found (IsPlacedIn bytes) →
+        IfSome result (IsPlacedIn bytes) }
+{
+    match found {
+        Some(place) => Some(lift_place(place, global_seqno)),
+        None => None,
+    }
+}
+
+// Where the first match is stored that the block of a handle has.
+fn place_at<A: Allocator + Clone>(
+    source: &BlockSource<A>,
+    handle: &BlockHandle,
+    global_seqno: SeqNo,
+    key: &[u8],
+    seqno: SeqNo,
+    opened: &mut Opened,
+) -> Result<Option<EntryPlace>, Error>
+    requires { seqno + global_seqno < 2 ^ 64 }
+    ensures read { let found = told_map (option_map (entry_placed source.now)) result in
+        let read = match_at (body_of source.now) global_seqno key.now seqno handle.now in
+        DoesRead found read opened.old opened.new }
+    ensures placed { IfOk result (λ found. IfSome found (IsPlacedIn source.now)) }
+{
+    let found = source.point_place(handle, key, seqno, opened)?;
+    Ok(lifted_place(found, global_seqno))
+}
+
+// Where the first match of a table is stored, with how many blocks were loaded for it.
+fn read_place<A: Allocator + Clone>(
+    source: &BlockSource<A>,
+    inner: &Inner<A>,
+    key: &[u8],
+    seqno: SeqNo,
+    key_hash: u64,
+) -> (Result<Option<EntryPlace>, Error>, Opened)
+    requires { key_hash ≡ hash_of key.now }
+    ensures read { let parts = parts_of inner.now in
+        let found = told_map (option_map (entry_placed source.now)) result.0 in
+        let read = answer (body_of source.now) inner.now.global_seqno parts key.now seqno in
+        DoesRead found read none_opened result.1 }
+    ensures placed { IfOk result.0 (λ found. IfSome found (IsPlacedIn source.now)) }
+{
+    let add = inner.global_seqno;
+    let low = seqno.saturating_sub(add);
+    let mut counted = Counted::new(source);
+    let admitted = admitted_handle(&mut counted, inner, key, low, key_hash);
+    let mut opened = counted.opened();
+    let handle = match admitted {
+        Ok(handle) => handle,
+        Err(error) => return (Err(error), opened),
+    };
+    match handle {
+        Some(handle) => {
+            let found = place_at(source, &handle, add, key, low, &mut opened);
+            (found, opened)
+        }
+        None => (Ok(None), opened),
+    }
+}
+
+/// Where the first entry of a key numbered below `seqno` is stored, its number with the global
+/// number added, and how many blocks were loaded for it. It loads what [`point_in`] loads, and
+/// shares nothing.
+///
+/// # Errors
+///
+/// The first fault of loading these blocks, as [`point_in`]. Where no block is loaded, it does not
+/// fail.
+pub fn place_in<A: Allocator + Clone>(
+    source: &BlockSource<A>,
+    inner: &Inner<A>,
+    key: &[u8],
+    seqno: SeqNo,
+    key_hash: u64,
+) -> (Result<Option<EntryPlace>, Error>, Opened)
+    requires { key_hash ≡ hash_of key.now }
+    ensures told { let parts = parts_of inner.now in
+        let read = answer (body_of source.now) inner.now.global_seqno parts key.now seqno in
+        Gives (option_map (entry_placed source.now)) result.0 read.told }
+    ensures early { let parts = parts_of inner.now in
+        let read = answer (body_of source.now) inner.now.global_seqno parts key.now seqno in
+        FaultsFirst result.0 read.early }
+    ensures calm { let parts = parts_of inner.now in
+        let read = answer (body_of source.now) inner.now.global_seqno parts key.now seqno in
+        read.loads ≡ [] → IsOk result.0 }
+    ensures opened { let parts = parts_of inner.now in
+        let read = answer (body_of source.now) inner.now.global_seqno parts key.now seqno in
+        Opens result.0 read.loads none_opened result.1 }
+    ensures few { LoadsFew (parts_of inner.now) none_opened result.1 }
+    // The entry is within the bytes.
+    ensures placed { IfOk result.0 (λ found. IfSome found (IsPlacedIn source.now)) }
+{
+    read_place(source, inner, key, seqno, key_hash)
+}

@@ -1,0 +1,72 @@
+//! Where the parts of a table lie.
+ghost use Rattle.std.specs.Prelude.{◌≡◌, Result, Option};
+ghost use Rattle.lsm_readers.specs.point.Regions.{region_told, optional_told, needed_told};
+ghost use Rattle.lsm_readers.specs.point.Regions.{regions_told};
+
+use sst_blocks::{BlockHandle, BlockOffset, Error, Section, SectionName, Toc};
+
+/// Where the parts of a table lie. The data blocks begin at the file's start.
+#[derive(Clone, Copy, Debug, Default)]
+pub struct ParsedRegions {
+    /// The top level of the index, or the whole of a full one.
+    pub tli: BlockHandle,
+    /// The partitions of a partitioned index.
+    pub index: Option<BlockHandle>,
+    /// The top level of a partitioned filter.
+    pub filter_tli: Option<BlockHandle>,
+    /// A full filter, or the partitions of a partitioned one.
+    pub filter: Option<BlockHandle>,
+    /// The meta block.
+    pub metadata: BlockHandle,
+}
+
+fn region(section: Section) -> Result<BlockHandle, Error>
+    ensures { result ≡ region_told section }
+{
+    match u32::try_from(section.len) {
+        Ok(size) => Ok(BlockHandle::new(BlockOffset(section.position), size)),
+        Err(_) => Err(Error::SectionTooLarge),
+    }
+}
+
+fn optional_region(section: Option<Section>) -> Result<Option<BlockHandle>, Error>
+    ensures { result ≡ optional_told section }
+{
+    match section {
+        None => Ok(None),
+        Some(section) => Ok(Some(region(section)?)),
+    }
+}
+
+fn needed_region(section: Option<Section>) -> Result<BlockHandle, Error>
+    ensures { result ≡ needed_told section }
+{
+    match section {
+        None => Err(Error::MissingSection),
+        Some(section) => region(section),
+    }
+}
+
+impl ParsedRegions {
+    /// The parts that a trailer names. Refused with the first fault in the order of the filter's
+    /// top level, the index's, the index partitions, the filter and the meta block:
+    /// [`Error::MissingSection`] where an index or a meta block is absent,
+    /// [`Error::SectionTooLarge`] where a section has 2^32 bytes or more.
+    #[tactic(auto, unfolding(crate::specs::point::Regions::regions_told))]
+    pub fn parse_from_toc(toc: &Toc) -> Result<ParsedRegions, Error>
+        ensures { result ≡ regions_told toc.now }
+    {
+        let filter_tli = optional_region(toc.section(SectionName::FilterTli))?;
+        let tli = needed_region(toc.section(SectionName::Tli))?;
+        let index = optional_region(toc.section(SectionName::Index))?;
+        let filter = optional_region(toc.section(SectionName::Filter))?;
+        let metadata = needed_region(toc.section(SectionName::Meta))?;
+        Ok(ParsedRegions {
+            tli,
+            index,
+            filter_tli,
+            filter,
+            metadata,
+        })
+    }
+}

@@ -1,0 +1,10 @@
+use Rattle.sst_entries.specs.Stream.{nowhere}
+use Rattle.lsm_runs.specs.SeveralRuns.{union_in}
+use Rattle.lsm_runs.proofs.Scanners.{kept_lent, merged_together}
+use Rattle.lsm_runs.proofs.compaction.compact.kept_from.Goals as goal
+
+pub returns-clause-list : goal.returns-clause-list
+returns-clause-list g c lists together =
+    let m = c.in_ok-merger.merger in
+    kept_lent _ _ m c.args.rules (union_in lists) c.new-2.result c.new-2.ensures.kept
+    (merged_together g.L.Lending.advances nowhere _ nowhere lists c.args.sources.items m together c.in_ok-merger.ensures.deals)

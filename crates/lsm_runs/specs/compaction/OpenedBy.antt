@@ -1,0 +1,54 @@
+-- Finished tables that are opened with given options; the finished tables are not changed.
+use Rattle.std.specs.Prelude.{◌≡◌, ◌≢◌, ℕ, true, List, [], Option, None, Ok, MatchOption}
+use Rattle.std.specs.List.{AllZip}
+use Rattle.std.specs.Option.{option_or}
+use Rattle.sst_entries.specs.declared.error.Error.{Error}
+use Rattle.sst_entries.specs.Entry.{Entry}
+use Rattle.lsm_writers.specs.declared.writer.FinishedTable.{FinishedTable}
+use Rattle.lsm_writers.specs.Tables.{TablesWriting}
+use Rattle.lsm_readers.specs.point.Parts.{recovered_told}
+use Rattle.lsm_readers.specs.point.Table.{IsOpen, OpenTable}
+use Rattle.lsm_runs.specs.compaction.Chain.{writes_fault}
+use Rattle.lsm_runs.specs.compaction.Written.{opens_fault}
+use Rattle.lsm_runs.specs.declared.compaction.any_runs.CompactionOutcome.{CompactionOutcome}
+use Rattle.lsm_runs.specs.declared.compaction.any_runs.CompactionOutcome.TheVariants.{OutOfOrder}
+use Rattle.lsm_runs.specs.declared.compaction.any_runs.CompactionOutcome.TheVariants.{Stopped}
+use Rattle.lsm_runs.specs.declared.compaction.any_runs.CompactionOutcome.TheVariants.{Tables}
+use Rattle.lsm_runs.specs.declared.compaction.open_options.OpenOptions.{OpenOptions}
+
+-- no global seqno, tree 0, and what can be pinned is
+abbrev pub default_opening : OpenOptions
+default_opening =
+    record { global_seqno = 0; tree_id = 0; pin_filter = true; pin_index = true }
+
+-- a finished table that was opened with these options
+pub record IsOpenedBy {A : Type 0} (how : OpenOptions) (f : FinishedTable A) (t : OpenTable)
+    : Type 0 where
+  pub bytes_are : t.bytes ≡ f.bytes
+  pub checksum_is : t.checksum ≡ f.checksum.0
+  pub number_is : t.global_seqno ≡ how.global_seqno
+  pub tree_is : t.tree_id ≡ how.tree_id
+  pub told : recovered_told t.bytes how.global_seqno how.pin_filter how.pin_index ≡ Ok t.parts
+  pub opened : IsOpen t
+
+-- the same of several tables, in their order
+abbrev pub AreOpenedBy : {A : Type 0} → OpenOptions → List (FinishedTable A) → List OpenTable
+    → Type 0
+AreOpenedBy how fs ts = AllZip (IsOpenedBy how) fs ts
+
+-- a run of them; none if there is no table
+abbrev pub IsRunBy : {A : Type 0} → OpenOptions → List (FinishedTable A) → Option (List OpenTable)
+    → Type 0
+IsRunBy how fs r = MatchOption r (fs ≡ []) (λ run. (fs ≢ []) × AreOpenedBy how fs run)
+
+-- the same of a compaction's outcome: none if it has no tables
+abbrev pub HasRunBy : {A : Type 0} → OpenOptions → CompactionOutcome A → Option (List OpenTable)
+    → Type 0
+HasRunBy how (Tables tables left) r = IsRunBy how tables.items r
+HasRunBy how OutOfOrder r = r ≡ None
+HasRunBy how Stopped r = r ≡ None
+
+-- the error of writing a list, or else of opening its tables: an index restart interval other than
+-- 1, or a seqno too large with the global one applied
+abbrev pub run_with_fault : TablesWriting → List Entry → ℕ → Option Error
+run_with_fault w es g = option_or (writes_fault w es) (opens_fault w.present.options es g)

@@ -1,0 +1,64 @@
+-- The definitions for contracts of runs that are made, with those of the crates below, so that a
+-- file imports them from one module.
+pub use Rattle.sst_entries.specs.Entry.{Entry}
+pub use Rattle.sst_entries.specs.Error.{Faults, Gives, is_memory}
+pub use Rattle.sst_entries.specs.Stream.{CanDeal, first, nowhere, ok_results}
+pub use Rattle.sst_blocks.specs.table.Chunks.{joined}
+pub use Rattle.sst_blocks.specs.table.Facts.{highest_seqno}
+pub use Rattle.sst_blocks.specs.table.Options.{default_options}
+pub use Rattle.lsm_writers.specs.Tables.{AreFinished, IsFreshRun, TablesWriting, all_written, took}
+pub use Rattle.lsm_writers.specs.Tables.{took_fault}
+pub use Rattle.lsm_writers.specs.Writing.{IsTableOf, IsTableWith, IsWritable, may_be_written}
+pub use Rattle.lsm_readers.specs.point.Answer.{lift}
+pub use Rattle.lsm_readers.specs.point.Parts.{recovered_told}
+pub use Rattle.lsm_readers.specs.Stored.{StoresList}
+pub use Rattle.lsm_readers.specs.point.Table.{OpenTable}
+pub use Rattle.lsm_runs.specs.RunLists.{DealTogether, DealsList, HoldLists, RunsHoldLists}
+pub use Rattle.lsm_runs.specs.SeveralRuns.{union_in}
+pub use Rattle.lsm_runs.specs.compaction.AnyRuns.{AreTablesBy, BeginsWith, CameInOrder, CameOf}
+pub use Rattle.lsm_runs.specs.compaction.AnyRuns.{DealsResults, GoesThrough, HasMade, RefusesOf}
+pub use Rattle.lsm_runs.specs.compaction.AnyRuns.{TookList, first_block_fault, first_blocks_fault}
+pub use Rattle.lsm_runs.specs.compaction.AnyRuns.{scans_of}
+pub use Rattle.lsm_runs.specs.compaction.Chain.{AreCutOf, AreOpened, AreWritten, FitsAsTables}
+pub use Rattle.lsm_runs.specs.compaction.Chain.{IsOpenedOf, IsRunOfList, chain_fault, ids_behind}
+pub use Rattle.lsm_runs.specs.compaction.Chain.{run_label, tables_fault, writes_fault}
+pub use Rattle.lsm_runs.specs.compaction.Compacted.{AreCompactable, AreMergeable, AreWrittenBy}
+pub use Rattle.lsm_runs.specs.compaction.Compacted.{DealsWritable, FitsBy, HaveEntries, RunsOn}
+pub use Rattle.lsm_runs.specs.compaction.Compacted.{kept_in}
+pub use Rattle.lsm_runs.specs.compaction.Compacted.{rules_by}
+pub use Rattle.lsm_runs.specs.compaction.Filtered.{CameTo, CameUntil, CameUpTo, CompactsAs}
+pub use Rattle.lsm_runs.specs.compaction.Filtered.{FitsKept}
+pub use Rattle.lsm_runs.specs.compaction.Filtered.{FitsThroughout, IsWritten, RefusesBy}
+pub use Rattle.lsm_runs.specs.compaction.Filtered.{RefusesForMemory, RefusesWritten, WroteUntil}
+pub use Rattle.lsm_runs.specs.compaction.Observed.{HasBegun, IsCounted, TellsNext, WasTold}
+pub use Rattle.lsm_runs.specs.compaction.Observed.{WasToldUntil}
+pub use Rattle.lsm_runs.specs.compaction.OpenedBy.{AreOpenedBy, HasRunBy, IsOpenedBy, IsRunBy}
+pub use Rattle.lsm_runs.specs.compaction.OpenedBy.{run_with_fault}
+pub use Rattle.lsm_runs.specs.compaction.Written.{number_fault, opens_fault}
+pub use Rattle.std.specs.Arc.{arc_value}
+pub use Rattle.std.specs.List.{AllByRecursion, AllZip}
+pub use Rattle.std.specs.Option.{option_map_or}
+pub use Rattle.sst_entries.specs.Lending.{entry_of_ref}
+pub use Rattle.sst_entries.specs.declared.error.Error.{Error}
+pub use Rattle.sst_entries.specs.declared.error.Error.TheVariants.{OutOfMemory}
+pub use Rattle.lsm_sorted.specs.version.Packing.{AreInOrder, ArePacked, ArePlaced, IsLeastSize}
+pub use Rattle.lsm_sorted.specs.version.Packing.{SameHolders}
+pub use Rattle.lsm_sorted.specs.version.Packing.{SameTables, tables_in}
+pub use Rattle.lsm_sorted.specs.merge.Ends.{R}
+pub use Rattle.lsm_sorted.specs.merge.InPlace.{merge_of}
+pub use Rattle.lsm_sorted.specs.merge.Union.{Ascends, entries_among}
+pub use Rattle.lsm_sorted.specs.lending.LentCompaction.{lent_callback, lent_filter, lent_outs}
+pub use Rattle.sst_blocks.specs.declared.table.label.Label.{Label}
+pub use Rattle.sst_blocks.specs.declared.table.options.Options.{Options}
+pub use Rattle.lsm_run_parts.specs.RunParts.{range_of}
+pub use Rattle.lsm_runs.specs.RunScan.{tables_scan}
+pub use Rattle.lsm_runs.specs.compaction.Packed.{HeldLaw, HoldUnion, KeptLaw, PackedLaw, has_table}
+pub use Rattle.lsm_runs.specs.compaction.ReadsCompacted.{PointsStay, RangesStay, SideBySide}
+pub use Rattle.lsm_runs.specs.compaction.ReadsCompacted.{StayStrict}
+pub use Rattle.lsm_runs.specs.compaction.ReadsCompacted.{StayWritable}
+pub use Rattle.lsm_runs.specs.declared.compaction.any_runs.CompactionOutcome.TheVariants.{OutOfOrder}
+pub use Rattle.lsm_runs.specs.declared.compaction.any_runs.CompactionOutcome.TheVariants.{Stopped}
+pub use Rattle.lsm_runs.specs.declared.compaction.any_runs_with.Ending.TheVariants.{AtDisorder}
+pub use Rattle.lsm_runs.specs.declared.compaction.any_runs_with.Ending.TheVariants.{AtEnd}
+pub use Rattle.lsm_runs.specs.declared.compaction.any_runs_with.Ending.TheVariants.{AtStop}
+pub use Rattle.lsm_runs.specs.declared.compaction.observer.CompactionProgress.{CompactionProgress}

@@ -1,0 +1,21 @@
+//! Making runs of tables: of a list, of several runs that are compacted, and of the tables of
+//! several runs that are packed.
+mod any_runs;
+mod any_runs_with;
+mod compact;
+mod compacted_run;
+mod observer;
+mod open_options;
+mod pack;
+mod runs_with;
+mod written_run;
+
+pub use any_runs::{CompactionOutcome, compact_any_runs};
+pub use any_runs_with::compact_any_runs_with;
+pub use compact::{compact_runs, compaction_law};
+pub use compacted_run::compact_to_run;
+pub use observer::{CompactionObserver, CompactionProgress, NoObserver};
+pub use open_options::OpenOptions;
+pub use pack::{pack_runs, packing_law};
+pub use runs_with::{compact_to_run_with, write_run_with};
+pub use written_run::write_run;

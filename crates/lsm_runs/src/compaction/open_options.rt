@@ -1,0 +1,104 @@
+//! Opening finished tables.
+ghost use Rattle.std.specs.Prelude.{IfOk, List};
+ghost use Rattle.lsm_runs.specs.compaction.Words as spec;
+
+use lsm_readers::Table;
+use lsm_writers::FinishedTable;
+use sst_blocks::{Error, SeqNo, TreeId};
+use std::alloc::Allocator;
+
+/// Options for opening finished tables.
+#[derive(Clone, Copy, Debug, PartialEq, Eq)]
+pub struct OpenOptions {
+    /// The sequence number that is added to every stored one.
+    pub global_seqno: SeqNo,
+    /// The id of the tree that the table belongs to.
+    pub tree_id: TreeId,
+    /// Whether the one block of a full filter is pinned.
+    pub pin_filter: bool,
+    /// Whether the block of a full index is pinned.
+    pub pin_index: bool,
+}
+
+impl Default for OpenOptions {
+    ghost use Rattle.std.specs.Prelude.{◌≡◌};
+    ghost use Rattle.lsm_runs.specs.compaction.OpenedBy.{default_opening};
+
+    /// Returns the options without a global seqno, for tree 0, with both filter and index pinned.
+    fn default() -> OpenOptions
+        ensures { result ≡ default_opening }
+    {
+        OpenOptions {
+            global_seqno: 0,
+            tree_id: 0,
+            pin_filter: true,
+            pin_index: true,
+        }
+    }
+}
+
+impl OpenOptions {
+    /// Opens a finished table and shares its bytes; the finished table is not changed.
+    ///
+    /// # Errors
+    ///
+    /// Those of [`Table::recover`] of the bytes. For a table that was written from a list these are
+    /// only:
+    ///
+    /// - [`Error::UnsupportedIndexInterval`] if its index has a restart interval other than 1;
+    /// - [`Error::GlobalSeqNoTooLarge`] if the highest seqno plus the global one passes `u64`;
+    /// - [`Error::OutOfMemory`].
+    pub fn open<A: Allocator + Clone>(
+        &self,
+        alloc: A,
+        table: &FinishedTable<A>,
+    ) -> Result<Table<A>, Error>
+        ensures told { spec.Gives (λ (t : spec.OpenTable). t.parts) result
+            (spec.recovered_told table.now.bytes self.now.global_seqno self.now.pin_filter
+            self.now.pin_index) }
+        // It has the bytes and the checksum, and was opened with these options.
+        ensures opened { IfOk result (spec.IsOpenedBy self.now table.now) }
+        // A table that was written from a list stores it, so the contracts of reads hold.
+        ensures stored { (label : spec.Label) (options : spec.Options) (es : List spec.Entry) →
+            spec.IsTableWith label options es table.now.id table.now.checksum.0 table.now.bytes →
+            IfOk result (λ t. spec.StoresList t.bytes es) }
+        ensures refused { (label : spec.Label) (options : spec.Options) (es : List spec.Entry) →
+            spec.IsTableWith label options es table.now.id table.now.checksum.0 table.now.bytes →
+            spec.Faults result (spec.opens_fault options es self.now.global_seqno) }
+    {
+        let bytes = table.bytes.clone()?;
+        // Its length is that of a slice.
+        let _len = bytes.len();
+        let opened = Table::recover(
+            alloc,
+            bytes,
+            table.checksum,
+            self.global_seqno,
+            self.tree_id,
+            self.pin_filter,
+            self.pin_index,
+        )?;
+        // It is open.
+        opened.tells_its_list();
+        Ok(opened)
+    }
+}
+
+// Opens finished tables, which are not changed.
+pub(crate) fn open_all<A: Allocator + Clone>(
+    alloc: A,
+    tables: &[FinishedTable<A>],
+    how: &OpenOptions,
+) -> Result<Vec<Table<A>, A>, Error>
+    ensures opened { IfOk result (λ v. spec.AreOpenedBy how.now tables.now v.items) }
+    ensures refused { (options : spec.Options) (label : spec.Label)
+        (lists : List (List spec.Entry)) → spec.AreFinished options label lists tables.now →
+        spec.Faults result (spec.opens_fault options (spec.joined lists) how.now.global_seqno) }
+{
+    let how = *how;
+    let mut opened = Vec::new(alloc.clone()?);
+    for table in tables {
+        opened.push(how.open(alloc.clone()?, table)?)?;
+    }
+    Ok(opened)
+}

@@ -1,0 +1,107 @@
+//! Packing runs of tables, and the entries that packed runs hold.
+ghost use Rattle.std.specs.Prelude.{◌≡◌, ◌<◌, ◌≤◌, IfErr, IfOk, List, filter, length, map};
+ghost use Rattle.lsm_runs.specs.compaction.Words as spec;
+
+use lsm_readers::Table;
+use lsm_sorted::{Run, optimize_runs};
+use sst_blocks::Error;
+use std::alloc::Allocator;
+use std::sync::Arc;
+
+/// States that the same tables in other runs, each in order, hold the same entries.
+///
+/// If runs in order hold together a strict list, in which no key has one seqno twice, any runs in
+/// order of their tables hold that list. So a point read and a range yield the same of them.
+///
+/// A list that is not strict is still held by runs in which each key has its tables in the same
+/// order. The tables of runs hold one list each: two clauses about their lists are about the same
+/// ones.
+///
+/// The call does nothing: its contract states the law.
+pub fn packing_law()
+    ensures reads { spec.PackedLaw }
+    ensures kept { spec.KeptLaw }
+    ensures held { spec.HeldLaw }
+{}
+
+// The tables of a run, shared.
+fn share_tables<A: Allocator + Clone>(
+    alloc: A,
+    run: &Run<Table<A>, A>,
+) -> Result<Vec<Table<A>, A>, Error>
+    ensures tables { IfOk result (λ tables. tables.items ≡ run.now) }
+    ensures err { IfErr result (λ e. e ≡ spec.OutOfMemory) }
+{
+    let mut tables = Vec::new(alloc);
+    for table in run.as_slice() {
+        tables.push(table.clone()?)?;
+    }
+    Ok(tables)
+}
+
+// The runs that have a table, their tables shared.
+fn share_runs<A: Allocator + Clone>(
+    alloc: A,
+    runs: &[Arc<Run<Table<A>, A>, A>],
+) -> Result<Vec<Run<Table<A>, A>, A>, Error>
+    ensures runs { IfOk result (λ shared.
+        shared.items ≡ filter spec.has_table (map spec.arc_value runs.now)) }
+    ensures err { IfErr result (λ e. e ≡ spec.OutOfMemory) }
+{
+    let mut shared = Vec::new(alloc.clone()?);
+    for run in runs {
+        if let Some(run) = Run::new(share_tables(alloc.clone()?, run)?) {
+            shared.push(run)?;
+        }
+    }
+    Ok(shared)
+}
+
+/// Packs the tables of some runs in as few runs as possible, as [`optimize_runs`] does.
+///
+/// Runs without a table are left out. The tables are shared handles: no bytes are copied. The given
+/// runs are not changed.
+///
+/// # Errors
+///
+/// [`Error::OutOfMemory`] only.
+pub fn pack_runs<A: Allocator + Clone>(
+    alloc: A,
+    runs: &[Arc<Run<Table<A>, A>, A>],
+) -> Result<Vec<Run<Table<A>, A>, A>, Error>
+    // For tables of lists in runs in order, the packed runs hold the same lists' entries, so each
+    // read returns the same.
+    ensures list { (lists : List (List (List spec.Entry))) →
+        spec.RunsHoldLists (map spec.arc_value runs.now) lists →
+        IfOk result (λ packed. spec.HoldUnion packed.items (spec.union_in lists)) }
+    // If the runs may be compacted, so may the packed ones.
+    ensures able { spec.AreCompactable (map spec.arc_value runs.now) →
+        IfOk result (λ packed. spec.AreCompactable packed.items) }
+    // A single run is returned unchanged, in order or not.
+    ensures one { let given = filter spec.has_table (map spec.arc_value runs.now) in
+        length given ≤ 1 → IfOk result (λ packed. packed.items ≡ given) }
+    // The tables are the same, each as often.
+    ensures tables { IfOk result (λ packed.
+        spec.SameTables (map spec.arc_value runs.now) packed.items) }
+    // For runs in order, each key has the tables whose range has it in the same order.
+    ensures holders { IfOk result
+        (λ packed. spec.AreInOrder spec.range_of (map spec.arc_value runs.now) →
+        spec.SameHolders spec.range_of (map spec.arc_value runs.now) packed.items) }
+    // For runs in order, more than one with a table: each table is one run after the last run of an
+    // earlier table that it overlaps, or in the first.
+    ensures placed { let given = map spec.arc_value runs.now in IfOk result (λ packed.
+        spec.AreInOrder spec.range_of given → 1 < length (filter spec.has_table given) →
+        spec.ArePlaced spec.range_of (spec.tables_in given) packed.items) }
+    // For runs in order, each packed run is in order and has a table.
+    ensures ordered { IfOk result
+        (λ packed. spec.AreInOrder spec.range_of (map spec.arc_value runs.now) →
+        spec.ArePacked spec.range_of packed.items) }
+    // For runs in order, no fewer runs are possible.
+    ensures least { IfOk result
+        (λ packed. spec.AreInOrder spec.range_of (map spec.arc_value runs.now) →
+        spec.IsLeastSize spec.range_of (map spec.arc_value runs.now) (length packed.items)) }
+    ensures err { IfErr result (λ e. e ≡ spec.OutOfMemory) }
+{
+    let shared = share_runs(alloc.clone()?, runs)?;
+    optimize_runs(alloc, shared)
+}

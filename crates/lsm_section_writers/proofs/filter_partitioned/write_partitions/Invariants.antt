@@ -1,6 +1,0 @@
--- The parts so far are written.
-use Rattle.lsm_section_writers.proofs.Sections.{PartsWritten}
-use Rattle.lsm_section_writers.proofs.filter_partitioned.write_partitions.Given as goal
-
-abbrev pub invariant-loop-partition : goal.invariant-loop-partition
-invariant-loop-partition g l = PartsWritten l.initial.writer l.writer l.yielded l.handles.items

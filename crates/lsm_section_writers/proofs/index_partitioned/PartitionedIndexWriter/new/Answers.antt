@@ -1,6 +1,0 @@
--- No handles are strict.
-use Rattle.lsm_section_writers.proofs.Strict.{strict_none}
-use Rattle.lsm_section_writers.proofs.index_partitioned.PartitionedIndexWriter.new.Goals as goal
-
-pub of-requires : goal.of-requires
-of-requires g c = rw c.new.ensures.handles strict_none

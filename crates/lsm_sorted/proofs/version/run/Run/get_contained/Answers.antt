@@ -1,0 +1,11 @@
+-- Of the tables that do not start before the range, those that end within it.
+use Rattle.std.proofs.Common.{◌∙◌}
+use Rattle.lsm_sorted.proofs.RunLemmas.{contained}
+use Rattle.lsm_sorted.proofs.version.run.Run.get_contained.Goals as goal
+
+pub returns-clause-found : goal.returns-clause-found
+returns-clause-found g c =
+    contained g.T.Ranged.range c.args.key_range.now c.args.self.now c.as_slice-tables.result.now c.split_at.result.1.now c.split_at-2.result.0.now
+    c.as_slice.result.now c.as_slice-2.result.now c.count_starts_before.result c.count_ends_within.result (c.as_slice-tables.ensures.value ∙ c.self.view_is)
+    (c.as_slice.ensures ∙ c.min.ensures) (c.as_slice-2.ensures ∙ c.max.ensures)
+    c.count_starts_before.ensures.exact c.split_at.ensures.back c.count_ends_within.ensures.exact c.split_at-2.ensures.front

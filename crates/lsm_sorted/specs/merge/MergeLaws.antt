@@ -1,0 +1,105 @@
+-- What is promised of runs of calls of a merger of sources.
+use Rattle.std.specs.Prelude.{◌≡◌, ℕ, ◌<◌, ◌≤◌, Bool, true, List, [], ◌∷◌, ◌++◌, length, All}
+use Rattle.std.specs.Prelude.{count_by, slice_index_or, Option, Some, None, Ok, Err}
+use Rattle.std.specs.List.{AllZip, AllByRecursion}
+use Rattle.std.specs.Iterator.{Count, IsFinite}
+use Rattle.sst_entries.specs.Stream.{Deals, CanDeal, answer_stops, ok_results, but_first, but_last}
+use Rattle.sst_entries.specs.Stream.{Runs, NoneStops, nowhere}
+use Rattle.sst_entries.specs.Entry.{Entry}
+use Rattle.sst_entries.specs.declared.stream.Direction.{Direction}
+use Rattle.sst_entries.specs.declared.stream.Direction.TheVariants.{Front, Back}
+use Rattle.sst_entries.specs.declared.error.Error.{Error}
+use Rattle.lsm_sorted.specs.merge.Ends.{R}
+use Rattle.lsm_sorted.specs.merge.Union.{Ascends, entries_among, all_errors, union_of}
+use Rattle.lsm_sorted.specs.merge.InPlace.{merge_of}
+use Rattle.lsm_sorted.specs.merge.Merge.{DealsUntil}
+
+-- each entry is at most as often in xs as in ys
+pub record IsWithinBag {A : Type 0} (xs ys : List A) : Type 0 where
+  pub count : (p : A → Bool) → count_by p xs ≤ count_by p ys
+
+-- two parts of a list, the first of them the nearer to this end
+abbrev pub join_at : {A : Type 0} → Direction → List A → List A → List A
+join_at Front near far = near ++ far
+join_at Back near far = far ++ near
+
+-- all but the one that is farthest from this end
+abbrev pub but_farthest : {A : Type 0} → Direction → List A → List A
+but_farthest Front = but_last
+but_farthest Back = but_first
+
+-- in the list of some source, seen from this end, the error stands behind entries that were given,
+-- all but the farthest of them
+pub record ComesLate (end : Direction) (lists : List (List R)) (given : List Entry)
+    (e : Error) : Type 0 where
+  pub place : ℕ
+  pub within : place < length lists
+  pub passed : List Entry
+  pub beyond : List R
+  pub stands : slice_index_or lists place [] ≡ join_at end (ok_results passed)
+      (join_at end (Err e ∷ []) beyond)
+  pub gave : IsWithinBag (but_farthest end passed) given
+
+-- so does each error among answers, of which these entries were given earlier
+abbrev pub ErrorsComeLate : Direction → List (List R) → List Entry → List (Option R) → Type 0
+ErrorsComeLate end lists given [] = Unit {0}
+ErrorsComeLate end lists given (None ∷ rs) = ErrorsComeLate end lists given rs
+ErrorsComeLate end lists given (Some (Ok x) ∷ rs) = ErrorsComeLate end lists (x ∷ given) rs
+ErrorsComeLate end lists given (Some (Err e) ∷ rs) = ComesLate end lists given e
+
+-- calls at one end alone
+abbrev pub RunsAt : {T A : Type 0} → Direction → (T → Option A → T → Type 0) → T → List Direction
+    → List (Option A) → T → Type 0
+RunsAt Front call = Runs call nowhere
+RunsAt Back call = Runs nowhere call
+
+-- whatever error is answered, a list is no longer followed
+abbrev pub every_error : Error → Bool
+every_error e = true
+
+module _ {S : Type 0} (front back : S → Option R → S → Type 0) where
+  -- each source deals one of these lists, which are sorted
+  pub record DealSorted (stops : Error → Bool) (its : List S) (lists : List (List R)) : Type 0 where
+    pub deal : AllZip (Deals (answer_stops stops) front back) its lists
+    pub ascend : AllByRecursion (λ rs. Ascends (entries_among rs)) lists
+
+  -- what sorted sources have together is dealt in order, where they have no errors
+  pub record DealsMerged {T : Type 0} (its : List S) (next next_back : T → Option R → T → Type 0)
+      (m : T) : Type 0 where
+    pub deals : (stops : Error → Bool) (lists : List (List R)) → DealSorted stops its lists
+        → all_errors lists ≡ []
+        → Deals (answer_stops stops) next next_back m (ok_results (union_of lists))
+
+  -- whatever errors are among it, as long as none of them is the answer
+  pub record DealsBeforeErrors {T : Type 0} (its : List S)
+      (next next_back : T → Option R → T → Type 0) (m : T) : Type 0 where
+    pub deals : (stops : Error → Bool) (lists : List (List R)) → DealSorted stops its lists
+        → Deals (answer_stops every_error) next next_back m (ok_results (union_of lists))
+
+  -- with errors among it, up to one of them
+  pub record DealsUntilError {T : Type 0} (its : List S)
+      (next next_back : T → Option R → T → Type 0) (m : T) : Type 0 where
+    pub deals : (stops : Error → Bool) (lists : List (List R)) → DealSorted stops its lists
+        → DealsUntil stops next next_back m (union_of lists) (all_errors lists)
+
+  -- calls at one end alone meet an error only once all entries before it, seen from there, were
+  -- given, but for the farthest
+  pub record MeetsErrorsLate {T : Type 0} (its : List S) (end : Direction)
+      (call : T → Option R → T → Type 0) (m : T) : Type 0 where
+    pub meets : (stops : Error → Bool) (lists : List (List R)) → DealSorted stops its lists
+        → (ends : List Direction) (rs : List (Option R)) (t : T) → RunsAt end call m ends rs t
+        → NoneStops (answer_stops stops) rs → ErrorsComeLate end lists [] rs
+
+  -- what sorted sources have together is dealt in order up to the first error, which stands right
+  -- behind the entry before it in its source, and with it
+  pub record DealsInPlace {T : Type 0} (its : List S) (next next_back : T → Option R → T → Type 0)
+      (m : T) : Type 0 where
+    pub deals : (stops : Error → Bool) (lists : List (List R)) → DealSorted stops its lists
+        → Deals (answer_stops stops) next next_back m (merge_of lists)
+
+  -- where the sources may be asked and end, so may the merger be asked
+  pub record CanMerge {T : Type 0} (can can_back : S → Type 0) (left : S → Count) (its : List S)
+      (next next_back : T → Option R → T → Type 0) (can_next can_next_back : T → Type 0)
+      (m : T) : Type 0 where
+    pub asks : All (CanDeal front back can can_back) its → All (λ s. IsFinite (left s)) its
+        → CanDeal next next_back can_next can_next_back m

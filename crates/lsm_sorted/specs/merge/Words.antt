@@ -1,0 +1,15 @@
+-- The words of the contracts of a merger, those of the crate below among them, so that a file asks
+-- for them once.
+pub use Rattle.sst_entries.specs.Entry.{Entry}
+pub use Rattle.sst_entries.specs.Stream.{Steps, nowhere, EndsAtError}
+pub use Rattle.sst_entries.specs.Strict.{IsStrict}
+pub use Rattle.lsm_sorted.specs.merge.Ends.{R, new_ends, Goes}
+pub use Rattle.lsm_sorted.specs.merge.Union.{IsUnion, union_of}
+pub use Rattle.lsm_sorted.specs.merge.Merge.{HoldsAtMost, Adds, SameRoom, HasPlaces, MayMerge}
+pub use Rattle.lsm_sorted.specs.merge.Merge.{LowersTotal}
+pub use Rattle.lsm_sorted.specs.merge.Merge.{merge_size, entry_of, is_ready, turn_cmp, turn_total}
+pub use Rattle.lsm_sorted.specs.merge.Asks.{AsksSource, Fills, Calls, IsMergerOf, HoldsNone, Pops}
+pub use Rattle.lsm_sorted.specs.merge.Asks.{made_ready}
+pub use Rattle.lsm_sorted.specs.merge.MergeLaws.{DealsBeforeErrors, DealsInPlace, DealsMerged}
+pub use Rattle.lsm_sorted.specs.merge.MergeLaws.{DealsUntilError}
+pub use Rattle.lsm_sorted.specs.merge.MergeLaws.{MeetsErrorsLate, CanMerge}

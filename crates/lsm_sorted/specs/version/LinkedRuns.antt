@@ -1,0 +1,43 @@
+-- Links: tables of an input that are packed beside their places.
+use Rattle.std.specs.Prelude.{◌≡◌, ◌<◌, true, List, [], map, Contains, IsPermutation, Some}
+use Rattle.std.specs.List.{AllByRecursion}
+use Rattle.lsm_sorted.specs.version.KeyRange.{Interval, overlaps}
+use Rattle.lsm_sorted.specs.version.Packing.{tables_in, table_at, put_all, AreTablesWellFormed}
+use Rattle.lsm_sorted.specs.version.Packing.{AreNotEmpty}
+use Rattle.lsm_sorted.specs.version.Links.{TableWithPlace, table_with_place}
+use Rattle.lsm_sorted.specs.declared.version.optimize.Link.{Link}
+
+module _ {T : Type 0} where
+  -- the table of a link, with its place
+  abbrev pub table_of_link : Link T → TableWithPlace T
+  table_of_link link = table_with_place link.table.now link.run link.index
+
+  -- each link's table stands at its place
+  abbrev pub AreAtPlaces : List (List T) → List (Link T) → Type 0
+  AreAtPlaces runs links =
+      AllByRecursion (λ link. table_at runs link.run link.index ≡ Some link.table.now) links
+
+  -- runs of links to some tables, packed one table after the other
+  pub record ArePackedLinks (range : T → Interval) (ts : List (TableWithPlace T))
+      (packed : List (List (Link T))) : Type 0 where
+    pub links : List (Link T)
+    pub tables_are : map table_of_link links ≡ ts
+    pub same : IsPermutation links (tables_in packed)
+    pub put : AreTablesWellFormed (λ x. range x.table) ts →
+        packed ≡ put_all (λ link. range link.table.now) links []
+    pub some : AreNotEmpty packed
+
+  -- the range of a link's table
+  abbrev pub link_range : (T → Interval) → Link T → Interval
+  link_range range link = range link.table.now
+
+  -- those of some links that overlap a link are from earlier runs
+  abbrev pub AreEarlier : (T → Interval) → List (Link T) → Link T → Type 0
+  AreEarlier range links above =
+      (x : Link T) → Contains links x →
+      overlaps (link_range range x) (link_range range above) ≡ true → x.run < above.run
+
+  -- a link is from an earlier run than another, and overlaps it
+  abbrev pub IsBelow : (T → Interval) → Link T → Link T → Type 0
+  IsBelow range link above =
+      (link.run < above.run) × (overlaps (range link.table.now) (range above.table.now) ≡ true)

@@ -1,0 +1,643 @@
+//! Compaction by reference: entries stay in their place in memory, and versions and tombstones that
+//! no reader needs are left out.
+ghost use Rattle.std.specs.Prelude.{◌≡◌, ◌<◌, ◌≤◌, ◌&&◌, true, false, cond, if◌then◌else◌};
+ghost use Rattle.std.specs.Prelude.{Bool, List, Result, nat_lt};
+ghost use Rattle.std.specs.Prelude.{IfErr, IfOk, IsSome, None, Ok, OnErr, Some, is_some};
+ghost use Rattle.sst_entries.specs.Entry.{Entry, entry};
+ghost use Rattle.sst_entries.specs.Key.{same_key};
+ghost use Rattle.sst_entries.specs.Kind.{is_tombstone_kind};
+ghost use Rattle.sst_entries.specs.Lending.{came, entry_of_ref};
+ghost use Rattle.sst_entries.specs.Stream.{CanDeal, Lowers, nowhere};
+ghost use Rattle.sst_entries.specs.declared.error.Error.{Error};
+ghost use Rattle.sst_entries.specs.declared.error.Error.TheVariants.{OutOfMemory};
+ghost use Rattle.lsm_sorted.specs.Compaction.{Verdict, is_value, keep, reports_by};
+ghost use Rattle.lsm_sorted.specs.Compacting.{Asks, GetsAll};
+ghost use Rattle.lsm_sorted.specs.CompactionState.{answer_of, failure};
+ghost use Rattle.lsm_sorted.specs.Verdicts.{said};
+ghost use Rattle.lsm_sorted.specs.lending.LentCompaction.{AdvancesCompacted, CompactsLent};
+ghost use Rattle.lsm_sorted.specs.lending.LentCompaction.{CompactsLentResults};
+ghost use Rattle.lsm_sorted.specs.lending.LentCompaction.{DealsCompactedEntries};
+ghost use Rattle.lsm_sorted.specs.lending.LentCompaction.{DealsCompactedResults, FetchesCompacted};
+ghost use Rattle.lsm_sorted.specs.lending.LentCompaction.{MayLendCompacted, SettlesCompacted};
+ghost use Rattle.lsm_sorted.specs.lending.LentCompaction.{StepsCompacted, compacted_left, fresh_of};
+ghost use Rattle.lsm_sorted.specs.lending.LentCompaction.{has_to_wait, lender, lent_callback};
+ghost use Rattle.lsm_sorted.specs.lending.LentCompaction.{lent_compacted, lent_filter, one_more_if};
+ghost use Rattle.lsm_sorted.specs.lending.LentCompaction.{put_into};
+ghost use Rattle.lsm_sorted.specs.lending.LentFaults.{AlwaysTells, FilterSays, PassesAll};
+ghost use Rattle.lsm_sorted.specs.lending.LentFaults.{PassesAllOr};
+ghost use Rattle.lsm_sorted.specs.lending.LentFaults.{StaysOver, StaysOverOr};
+ghost use Rattle.lsm_sorted.specs.lending.LentNewest.{is_given};
+ghost use Rattle.lsm_sorted.specs.declared.compaction.lending.Lends.TheVariants.{Nothing};
+
+use crate::compaction::Rules;
+use crate::compaction::stream::{NoCallback, NoFilter, StreamFilterVerdict};
+use sst_entries::{EntryRef, Error, Lending, SeqNo, ValueType};
+use std::alloc::{Allocator, Global};
+
+/// A filter that may change or leave out the entries of a compaction, each lent from where it lies.
+pub trait LentFilter<A: Allocator> {
+    // The filter says this of an entry, and is then as said.
+    ghost gives: { Self → Entry → Result Verdict Error → Self → Type 0 };
+
+    /// Says what becomes of an entry. Any error is passed on by the compaction.
+    fn filter_ref(&mut self, entry: &EntryRef<'_>) -> Result<StreamFilterVerdict<A>, Error>
+        ensures { gives self.old (entry_of_ref entry.now) (said result) self.new };
+}
+
+/// A callback that receives every entry that a compaction drops or replaces, lent from where it
+/// lies.
+pub trait LentCallback {
+    // The callback takes an entry, and is then as said.
+    ghost gets: { Self → Entry → Self → Type 0 };
+
+    /// Receives an entry, as it was before any filter.
+    fn on_dropped_ref(&mut self, kv: &EntryRef<'_>)
+        ensures { gets self.old (entry_of_ref kv.now) self.new };
+}
+
+impl<A: Allocator> LentFilter<A> for NoFilter {
+    ghost gives = { λ f x v g. v ≡ Ok keep };
+
+    fn filter_ref(&mut self, _entry: &EntryRef<'_>) -> Result<StreamFilterVerdict<A>, Error> {
+        Ok(StreamFilterVerdict::Keep)
+    }
+}
+
+impl LentCallback for NoCallback {
+    ghost gets = { λ c x d. Unit {0} };
+
+    fn on_dropped_ref(&mut self, _kv: &EntryRef<'_>) {}
+}
+
+// Where the entry lies that is lent.
+#[derive(Clone, Copy)]
+enum Lends {
+    // None is lent.
+    Nothing,
+    // The source lends it.
+    Source,
+    // Its key and value lie in the buffers; its number and its kind.
+    Held(SeqNo, ValueType),
+}
+
+/// Lends what a compaction keeps of a source that lends its entries in order, by the rules of
+/// [`CompactionStream`](crate::compaction::stream::CompactionStream). Of each key the newest
+/// version below the watermark hides the older ones, tombstones may go, and numbers may become 0.
+/// A filter may change or drop each entry that is neither a tombstone nor hidden; a dropped entry
+/// hides nothing. A callback gets each entry that is dropped, changed or hidden, as it was before
+/// the filter, at the moment when the compaction passes it.
+///
+/// Most entries are lent from the source, before it is called for the next one. Two kinds wait for
+/// the entry that follows them: a weak tombstone below the watermark, and, at or above it, each
+/// tombstone that may go. They are lent from two buffers, for key and value, and so is an entry that
+/// the filter changes. The buffer for keys also has the key of an entry below the watermark, whose
+/// older versions are hidden. Both buffers are reused, so memory is allocated only to grow them.
+///
+/// # Errors
+///
+/// An error of the source or of the filter is passed on in its place. An error of the source takes
+/// the place of an entry that waits, and it ends the hiding of older versions. An allocation failure
+/// of the compaction itself is [`Error::OutOfMemory`] in the place of the entry; the compaction is
+/// over then.
+#[derive(Drop)]
+pub struct LendingCompaction<L, F = NoFilter, C = NoCallback, A: Allocator = Global> {
+    source: L,
+    rules: Rules,
+    filter: F,
+    callback: C,
+    // The key of the entry that was kept last, and the value, where it had to wait or was changed.
+    key: Vec<u8, A>,
+    value: Vec<u8, A>,
+    lends: Lends,
+    // Whether the next versions of the key are hidden.
+    hides: bool,
+    // Whether what the source lends has still to be looked at.
+    is_pending: bool,
+    is_over: bool,
+}
+
+// Whether what follows an entry says whether it stays.
+#[inline(always)]
+fn has_to_wait(rules: &Rules, entry: &EntryRef<'_>) -> bool
+    ensures { result ≡ has_to_wait rules.now (entry_of_ref entry.now) }
+{
+    if entry.seqno < rules.watermark {
+        entry.value_type == ValueType::WeakTombstone
+    } else {
+        rules.evict && entry.is_tombstone()
+    }
+}
+
+// Whether an entry that need not wait goes.
+#[inline(always)]
+fn goes_at_once(rules: &Rules, entry: &EntryRef<'_>) -> bool
+    ensures { result ≡ (rules.now.evict && is_tombstone_kind (entry_of_ref entry.now).kind) }
+{
+    rules.evict && entry.is_tombstone()
+}
+
+// A number as it is given.
+#[inline(always)]
+fn zeroed(rules: &Rules, seqno: SeqNo) -> SeqNo
+    ensures { result ≡
+        (if rules.now.zeroing && nat_lt seqno rules.now.watermark then 0 else seqno) }
+{
+    if rules.zeroing && seqno < rules.watermark {
+        0
+    } else {
+        seqno
+    }
+}
+
+// Puts these bytes into a buffer in place of its own.
+#[inline(always)]
+fn remember<A: Allocator>(buffer: &mut Vec<u8, A>, bytes: &[u8]) -> Result<(), Error>
+    ensures bytes { IfOk result (λ _. buffer.new.items ≡ bytes.now) }
+    ensures err { IfErr result (λ e. e ≡ OutOfMemory) }
+{
+    buffer.clear();
+    buffer.extend_from_slice(bytes)?;
+    Ok(())
+}
+
+// Whether an entry is a version of a key.
+#[inline(always)]
+fn is_version<A: Allocator>(key: &Vec<u8, A>, entry: &EntryRef<'_>) -> bool
+    ensures { result ≡ same_key (entry_of_ref entry.now).user_key key.now.items }
+{
+    entry.user_key == key.as_slice()
+}
+
+// Whether an entry is a version of a key of which the next are hidden.
+#[inline(always)]
+fn is_given<A: Allocator>(hides: bool, key: &Vec<u8, A>, entry: &EntryRef<'_>) -> bool
+    ensures { result ≡
+        is_given (cond hides (Some key.now.items) None) (entry_of_ref entry.now) }
+{
+    hides && is_version(key, entry)
+}
+
+// Whether a kind is a value.
+#[inline(always)]
+fn is_value(kind: ValueType) -> bool
+    ensures { result ≡ is_value kind }
+{
+    matches!(kind, ValueType::Value)
+}
+
+// What the filter says of an entry; a tombstone is kept without asking it. An entry that it changes
+// or drops is reported.
+#[inline(always)]
+fn ask<F: LentFilter<A>, C: LentCallback, A: Allocator>(
+    filter: &mut F,
+    callback: &mut C,
+    entry: &EntryRef<'_>,
+) -> Result<StreamFilterVerdict<A>, Error>
+    ensures asks { Asks F.gives filter.old (entry_of_ref entry.now) (said result) filter.new }
+    ensures reports { GetsAll C.gets callback.old
+        (reports_by (entry_of_ref entry.now) (said result)) callback.new }
+{
+    if entry.is_tombstone() {
+        return Ok(StreamFilterVerdict::Keep);
+    }
+    let verdict = filter.filter_ref(entry)?;
+    if !matches!(verdict, StreamFilterVerdict::Keep) {
+        callback.on_dropped_ref(entry);
+    }
+    Ok(verdict)
+}
+
+impl<L: Lending, A: Allocator> LendingCompaction<L, NoFilter, NoCallback, A> {
+    /// A compaction of all that the source still has, without a filter and a callback. It does not
+    /// call the source yet.
+    ///
+    /// # Errors
+    ///
+    /// [`Error::OutOfMemory`] where the allocator cannot be cloned for the second buffer.
+    pub fn new(alloc: A, source: L, rules: Rules) -> Result<Self, Error>
+    where
+        L: Drop,
+        A: Clone,
+        // Nothing is lent yet.
+        ensures none { IfOk result (λ c. ⟦<LendingCompaction<L, NoFilter, NoCallback, A> as Lending>⟧.lent c ≡ None) }
+        // Of a list without errors, the entries that a compaction keeps.
+        ensures kept { IfOk result (λ c. DealsCompactedEntries L.advances source
+            ⟦<LendingCompaction<L, NoFilter, NoCallback, A> as Lending>⟧.advances c rules) }
+        // With errors among it, what it keeps between them, and each error in its place.
+        ensures places { IfOk result (λ c. DealsCompactedResults L.advances source
+            ⟦<LendingCompaction<L, NoFilter, NoCallback, A> as Lending>⟧.advances c rules) }
+        // Over any source, each of its errors as it is, and no other but its own want of memory.
+        ensures faults { IfOk result (AlwaysTells PassesAll L.advances source lender
+            ⟦<LendingCompaction<L, NoFilter, NoCallback, A> as Lending>⟧.advances) }
+        // Behind its own want of memory nothing comes. Where nothing came, it asks the source
+        // again, and nothing comes while that gives nothing.
+        ensures over { IfOk result (AlwaysTells StaysOver L.advances source lender
+            ⟦<LendingCompaction<L, NoFilter, NoCallback, A> as Lending>⟧.advances) }
+        // Where the source may be asked for as long as wanted, so may it.
+        ensures can { CanDeal L.advances nowhere L.can_advance L.can_advance source →
+            IfOk result (CanDeal ⟦<LendingCompaction<L, NoFilter, NoCallback, A> as Lending>⟧.advances nowhere
+            ⟦<LendingCompaction<L, NoFilter, NoCallback, A> as Lending>⟧.can_advance
+            ⟦<LendingCompaction<L, NoFilter, NoCallback, A> as Lending>⟧.can_advance) }
+        ensures advance { CanDeal L.advances nowhere L.can_advance L.can_advance source →
+            IfOk result ⟦<LendingCompaction<L, NoFilter, NoCallback, A> as Lending>⟧.can_advance }
+        ensures err { IfErr result (λ e. e ≡ OutOfMemory) }
+    {
+        Self::fresh(alloc, source, rules, NoFilter, NoCallback)
+    }
+}
+
+impl<L: Lending, F: LentFilter<A> + Drop, C: LentCallback + Drop, A: Allocator> LendingCompaction<
+    L,
+    F,
+    C,
+    A,
+> {
+    /// A compaction of all that the source still has, as this filter leaves it; this callback gets
+    /// the rest. It calls none of the three yet.
+    ///
+    /// # Errors
+    ///
+    /// [`Error::OutOfMemory`] where the allocator cannot be cloned for the second buffer.
+    pub fn with(alloc: A, source: L, rules: Rules, filter: F, callback: C) -> Result<Self, Error>
+    where
+        L: Drop,
+        A: Clone,
+        // Nothing is lent yet.
+        ensures none { IfOk result (λ c.
+            ⟦<LendingCompaction<L, F, C, A> as Lending>⟧.lent c ≡ None) }
+        // Of a list without errors, what a compaction gives, asks and reports.
+        ensures whole { IfOk result (λ s. CompactsLent L.advances source
+            ⟦<LendingCompaction<L, F, C, A> as Lending>⟧.advances s rules F.gives C.gets
+            filter callback lent_filter lent_callback) }
+        // With errors among it, the same between them, and each error in its place.
+        ensures places { IfOk result (λ s. CompactsLentResults L.advances source
+            ⟦<LendingCompaction<L, F, C, A> as Lending>⟧.advances s rules F.gives C.gets
+            filter callback lender lent_filter lent_callback) }
+        // Over any source, each of its errors as it is, and no other but one that the filter says
+        // and its own want of memory.
+        ensures faults { IfOk result (AlwaysTells (PassesAllOr (FilterSays F.gives)) L.advances
+            source lender ⟦<LendingCompaction<L, F, C, A> as Lending>⟧.advances) }
+        // Behind its own want of memory nothing comes. Where nothing came, it asks the source
+        // again, and nothing comes while that gives nothing.
+        ensures over { IfOk result (AlwaysTells (StaysOverOr (FilterSays F.gives)) L.advances
+            source lender ⟦<LendingCompaction<L, F, C, A> as Lending>⟧.advances) }
+        // Where the source may be asked for as long as wanted, so may it.
+        ensures can { CanDeal L.advances nowhere L.can_advance L.can_advance source →
+            IfOk result (CanDeal ⟦<LendingCompaction<L, F, C, A> as Lending>⟧.advances
+            nowhere ⟦<LendingCompaction<L, F, C, A> as Lending>⟧.can_advance
+            ⟦<LendingCompaction<L, F, C, A> as Lending>⟧.can_advance) }
+        ensures advance { CanDeal L.advances nowhere L.can_advance L.can_advance source →
+            IfOk result ⟦<LendingCompaction<L, F, C, A> as Lending>⟧.can_advance }
+        ensures err { IfErr result (λ e. e ≡ OutOfMemory) }
+    {
+        Self::fresh(alloc, source, rules, filter, callback)
+    }
+
+    // A compaction that was not called yet.
+    fn fresh(alloc: A, source: L, rules: Rules, filter: F, callback: C) -> Result<Self, Error>
+    where
+        L: Drop,
+        A: Clone,
+        ensures fresh { IfOk result (λ s. s ≡ fresh_of source rules filter callback s) }
+        ensures err { IfErr result (λ e. e ≡ OutOfMemory) }
+    {
+        let key = Vec::new(alloc.clone()?);
+        Ok(LendingCompaction {
+            source,
+            rules,
+            filter,
+            callback,
+            key,
+            value: Vec::new(alloc),
+            lends: Lends::Nothing,
+            hides: false,
+            is_pending: false,
+            is_over: false,
+        })
+    }
+
+    /// The callback.
+    pub fn callback(&self) -> &C
+        ensures { result.now ≡ lent_callback self.now }
+    {
+        &self.callback
+    }
+
+    /// The callback, for which the compaction is given up.
+    pub fn into_callback(self) -> C
+    where
+        L: Drop,
+        ensures { result ≡ lent_callback self }
+    {
+        self.callback
+    }
+
+    // Sees that there is an entry to look at, and answers whether there is one.
+    #[inline(always)]
+    fn fetch(&mut self) -> Result<bool, Error>
+        requires may { MayLendCompacted L.advances L.can_advance self.old }
+        requires live { self.old.is_over ≡ false }
+        ensures may { MayLendCompacted L.advances L.can_advance self.new }
+        ensures fetches { FetchesCompacted F.gives C.gets L.advances L.lent self.old (failure result)
+            self.new }
+        ensures over { self.new.is_over ≡ self.old.is_over }
+        ensures lends { self.new.lends ≡ self.old.lends }
+        ensures pending { IfOk result (λ more. self.new.is_pending ≡ more) }
+        ensures ends { IfOk result (λ more. more ≡ false → compacted_left L.left self.new ≡ 0) }
+        ensures rests { OnErr result (self.new.is_pending ≡ false) }
+        ensures few { IfOk result (λ _.
+            compacted_left L.left self.new ≤ compacted_left L.left self.old) }
+        ensures fewer { IfErr result (λ _.
+            compacted_left L.left self.new < compacted_left L.left self.old) }
+    {
+        if self.is_pending {
+            return Ok(true);
+        }
+        match self.source.advance() {
+            Ok(more) => {
+                self.is_pending = more;
+                Ok(more)
+            }
+            Err(error) => {
+                self.hides = false;
+                Err(error)
+            }
+        }
+    }
+
+    // Asks the source for what follows a head whose key is kept, and says whether that goes.
+    fn lets_go(&mut self, seqno: SeqNo) -> Result<bool, Error>
+        requires may { MayLendCompacted L.advances L.can_advance self.old }
+        requires live { self.old.is_over ≡ false }
+        requires pending { self.old.is_pending ≡ false }
+        requires hides { self.old.hides ≡ false }
+        ensures may { MayLendCompacted L.advances L.can_advance self.new }
+        ensures rules { self.new.rules ≡ self.old.rules }
+        ensures over { self.new.is_over ≡ self.old.is_over }
+        ensures lends { self.new.lends ≡ self.old.lends }
+        ensures key { self.new.key ≡ self.old.key }
+        ensures value { self.new.value ≡ self.old.value }
+        ensures rests { OnErr result (self.new.is_pending ≡ false) }
+        ensures settles { (head : Entry) →
+            has_to_wait self.old.rules head ≡ true → head.user_key ≡ self.old.key.items →
+            head.seqno ≡ seqno → SettlesCompacted F.gives C.gets L.advances L.lent self.old head
+            (answer_of self.old.rules head result) self.new }
+        ensures few { one_more_if self.new.is_pending (L.left self.new.source) ≤
+            L.left self.old.source }
+    {
+        self.is_pending = self.source.advance()?;
+        let Some(next) = self.source.entry() else {
+            return Ok(self.rules.evict);
+        };
+        if !is_version(&self.key, &next) {
+            return Ok(self.rules.evict);
+        }
+        if seqno >= self.rules.watermark {
+            return Ok(false);
+        }
+        self.callback.on_dropped_ref(&next);
+        self.is_pending = false;
+        self.hides = true;
+        Ok(is_value(next.value_type))
+    }
+
+    // Lends the head that lies in the buffers, and which has to wait, or lets it go.
+    fn settle(&mut self, seqno: SeqNo, kind: ValueType) -> Result<bool, Error>
+        requires may { MayLendCompacted L.advances L.can_advance self.old }
+        requires live { self.old.is_over ≡ false }
+        requires pending { self.old.is_pending ≡ false }
+        requires hides { self.old.hides ≡ false }
+        requires empty { self.old.lends ≡ Nothing }
+        requires waits { has_to_wait self.old.rules
+            (entry self.old.key.items self.old.value.items seqno kind) ≡ true }
+        ensures may { MayLendCompacted L.advances L.can_advance self.new }
+        ensures settles { SettlesCompacted F.gives C.gets L.advances L.lent self.old
+            (entry self.old.key.items self.old.value.items seqno kind)
+            (came result (lent_compacted L.lent self.new)) self.new }
+        ensures rests { OnErr result (self.new.is_pending ≡ false) }
+        ensures more { IfOk result (λ more. more ≡ is_some (lent_compacted L.lent self.new)) }
+        ensures err { OnErr result (lent_compacted L.lent self.new ≡ None) }
+        ensures live { self.new.is_over ≡ false }
+        ensures empty { IfOk result (λ more. more ≡ false → self.new.lends ≡ Nothing) }
+        ensures few { compacted_left L.left self.new ≤ L.left self.old.source }
+    {
+        if self.lets_go(seqno)? {
+            return Ok(false);
+        }
+        self.lends = Lends::Held(seqno, kind);
+        Ok(true)
+    }
+
+    // Lends the head that is looked at, as it is, and which has to wait, or lets it go.
+    fn wait(&mut self) -> Result<bool, Error>
+        requires may { MayLendCompacted L.advances L.can_advance self.old }
+        requires live { self.old.is_over ≡ false }
+        requires pending { self.old.is_pending ≡ true }
+        requires hides { self.old.hides ≡ false }
+        requires empty { self.old.lends ≡ Nothing }
+        requires some { IsSome (L.lent self.old.source) }
+        requires waits { (head : Entry) → L.lent self.old.source ≡ Some head →
+            has_to_wait self.old.rules head ≡ true }
+        ensures may { MayLendCompacted L.advances L.can_advance self.new }
+        ensures settles { (head : Entry) → L.lent self.old.source ≡ Some head →
+            SettlesCompacted F.gives C.gets L.advances L.lent self.old head
+            (came result (lent_compacted L.lent self.new)) self.new }
+        ensures rests { OnErr result (self.new.is_pending ≡ false) }
+        ensures more { IfOk result (λ more. more ≡ is_some (lent_compacted L.lent self.new)) }
+        ensures err { OnErr result (lent_compacted L.lent self.new ≡ None) }
+        ensures live { IfOk result (λ _. self.new.is_over ≡ false) }
+        ensures empty { IfOk result (λ more. more ≡ false → self.new.lends ≡ Nothing) }
+        ensures fewer { compacted_left L.left self.new < compacted_left L.left self.old }
+    {
+        self.is_pending = false;
+        let Some(head) = self.source.entry() else {
+            return Ok(false);
+        };
+        let seqno = head.seqno;
+        let kind = head.value_type;
+        if let Err(error) = remember(&mut self.key, head.user_key) {
+            self.is_over = true;
+            return Err(error);
+        }
+        if let Err(error) = remember(&mut self.value, head.value) {
+            self.is_over = true;
+            return Err(error);
+        }
+        self.settle(seqno, kind)
+    }
+
+    // Lends the head that is looked at, of this kind and with this value, or lets it go.
+    fn replace(&mut self, kind: ValueType, value: &[u8]) -> Result<bool, Error>
+        requires may { MayLendCompacted L.advances L.can_advance self.old }
+        requires live { self.old.is_over ≡ false }
+        requires pending { self.old.is_pending ≡ true }
+        requires hides { self.old.hides ≡ false }
+        requires empty { self.old.lends ≡ Nothing }
+        requires some { IsSome (L.lent self.old.source) }
+        ensures may { MayLendCompacted L.advances L.can_advance self.new }
+        ensures settles { (head : Entry) → L.lent self.old.source ≡ Some head →
+            SettlesCompacted F.gives C.gets L.advances L.lent self.old
+            (put_into head kind value.now) (came result (lent_compacted L.lent self.new)) self.new }
+        ensures rests { OnErr result (self.new.is_pending ≡ false) }
+        ensures more { IfOk result (λ more. more ≡ is_some (lent_compacted L.lent self.new)) }
+        ensures err { OnErr result (lent_compacted L.lent self.new ≡ None) }
+        ensures live { IfOk result (λ _. self.new.is_over ≡ false) }
+        ensures empty { IfOk result (λ more. more ≡ false → self.new.lends ≡ Nothing) }
+        ensures fewer { compacted_left L.left self.new < compacted_left L.left self.old }
+    {
+        self.is_pending = false;
+        let Some(head) = self.source.entry() else {
+            return Ok(false);
+        };
+        let seqno = head.seqno;
+        let changed = EntryRef {
+            value_type: kind,
+            value,
+            ..head
+        };
+        let waits = has_to_wait(&self.rules, &changed);
+        let goes = goes_at_once(&self.rules, &changed);
+        if let Err(error) = remember(&mut self.key, head.user_key) {
+            self.is_over = true;
+            return Err(error);
+        }
+        if let Err(error) = remember(&mut self.value, value) {
+            self.is_over = true;
+            return Err(error);
+        }
+        if waits {
+            return self.settle(seqno, kind);
+        }
+        if seqno >= self.rules.watermark {
+            self.lends = Lends::Held(seqno, kind);
+            return Ok(true);
+        }
+        self.hides = true;
+        if goes {
+            return Ok(false);
+        }
+        self.lends = Lends::Held(seqno, kind);
+        Ok(true)
+    }
+
+    // Looks at the entry that the source lends, and answers whether one is lent for it.
+    #[inline(always)]
+    fn look(&mut self) -> Result<bool, Error>
+        requires may { MayLendCompacted L.advances L.can_advance self.old }
+        requires live { self.old.is_over ≡ false }
+        requires pending { self.old.is_pending ≡ true }
+        requires empty { self.old.lends ≡ Nothing }
+        ensures may { MayLendCompacted L.advances L.can_advance self.new }
+        ensures steps { StepsCompacted F.gives C.gets L.advances L.lent self.old
+            (came result (lent_compacted L.lent self.new)) self.new }
+        ensures rests { OnErr result (self.new.is_pending ≡ false) }
+        ensures more { IfOk result (λ more. more ≡ is_some (lent_compacted L.lent self.new)) }
+        ensures err { OnErr result (lent_compacted L.lent self.new ≡ None) }
+        ensures live { IfOk result (λ _. self.new.is_over ≡ false) }
+        ensures empty { IfOk result (λ more. more ≡ false → self.new.lends ≡ Nothing) }
+        ensures fewer { compacted_left L.left self.new < compacted_left L.left self.old }
+    {
+        let Some(head) = self.source.entry() else {
+            self.is_pending = false;
+            return Ok(false);
+        };
+        if is_given(self.hides, &self.key, &head) {
+            self.callback.on_dropped_ref(&head);
+            self.is_pending = false;
+            return Ok(false);
+        }
+        self.hides = false;
+        match ask(&mut self.filter, &mut self.callback, &head) {
+            Ok(StreamFilterVerdict::Keep) => {}
+            Ok(StreamFilterVerdict::Replace((kind, value))) => {
+                return self.replace(kind, value.as_slice());
+            }
+            Ok(StreamFilterVerdict::Drop) => {
+                self.is_pending = false;
+                return Ok(false);
+            }
+            Err(error) => {
+                self.is_pending = false;
+                return Err(error);
+            }
+        }
+        if has_to_wait(&self.rules, &head) {
+            return self.wait();
+        }
+        self.is_pending = false;
+        if head.seqno >= self.rules.watermark {
+            self.lends = Lends::Source;
+            return Ok(true);
+        }
+        let goes = goes_at_once(&self.rules, &head);
+        if let Err(error) = remember(&mut self.key, head.user_key) {
+            self.is_over = true;
+            return Err(error);
+        }
+        self.hides = true;
+        if goes {
+            return Ok(false);
+        }
+        self.lends = Lends::Source;
+        Ok(true)
+    }
+
+    // Goes on to the next entry that is kept.
+    fn go_on(&mut self) -> Result<bool, Error>
+        requires may { MayLendCompacted L.advances L.can_advance self.old }
+        requires live { self.old.is_over ≡ false }
+        requires empty { self.old.lends ≡ Nothing }
+        ensures goes { AdvancesCompacted L.advances L.lent L.can_advance F.gives C.gets self.old
+            (came result (lent_compacted L.lent self.new)) self.new }
+        ensures more { IfOk result (λ more. more ≡ is_some (lent_compacted L.lent self.new)) }
+        ensures err { OnErr result (lent_compacted L.lent self.new ≡ None) }
+        ensures lowers { Lowers (came result (lent_compacted L.lent self.new))
+            (compacted_left L.left self.old) (compacted_left L.left self.new) }
+    {
+        while self.fetch()? {
+            if self.look()? {
+                return Ok(true);
+            }
+        }
+        Ok(false)
+    }
+}
+
+impl<L: Lending, F: LentFilter<A> + Drop, C: LentCallback + Drop, A: Allocator> Lending
+    for LendingCompaction<L, F, C, A> {
+    ghost can_advance = { MayLendCompacted L.advances L.can_advance };
+
+    ghost advances = { AdvancesCompacted L.advances L.lent L.can_advance F.gives C.gets };
+
+    ghost lent = { lent_compacted L.lent };
+
+    ghost left = { compacted_left L.left };
+
+    fn advance(&mut self) -> Result<bool, Error> {
+        self.lends = Lends::Nothing;
+        if self.is_over {
+            return Ok(false);
+        }
+        self.go_on()
+    }
+
+    #[inline]
+    fn entry(&self) -> Option<EntryRef<'_>> {
+        match self.lends {
+            Lends::Nothing => None,
+            Lends::Source => match self.source.entry() {
+                Some(entry) => Some(EntryRef {
+                    seqno: zeroed(&self.rules, entry.seqno),
+                    ..entry
+                }),
+                None => None,
+            },
+            Lends::Held(seqno, value_type) => Some(EntryRef {
+                user_key: self.key.as_slice(),
+                seqno: zeroed(&self.rules, seqno),
+                value_type,
+                value: self.value.as_slice(),
+            }),
+        }
+    }
+}

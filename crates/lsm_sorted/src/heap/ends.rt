@@ -1,0 +1,152 @@
+//! An iterator that is not called again once it gave `None`, since it then promises nothing.
+ghost use Rattle.sst_entries.specs.declared.error.Error.{Error};
+ghost use Rattle.sst_entries.specs.declared.stream.Direction.{Direction};
+ghost use Rattle.sst_entries.specs.declared.stream.Direction.TheVariants.{Front, Back};
+ghost use Rattle.std.specs.Prelude.{Bool, ◌≡◌, false, Option};
+ghost use Rattle.std.specs.Iterator.{MakesProgress};
+ghost use Rattle.sst_entries.specs.Stream.{CanDeal, Steps, nowhere, DealsFirst, DealsLast, Lowers};
+ghost use Rattle.lsm_sorted.specs.merge.Ends.{Left, Goes, Asked, DealsAt, ends_size};
+
+use sst_entries::{Direction, IterItem};
+use std::alloc::Allocator;
+
+/// An end at which iterators are asked.
+pub trait End<I: Iterator> {
+    // What a call at the back gives, and where there may be one.
+    ghost back_gives: { I → Option I.Item → I → Type 0 };
+
+    ghost can_back: { I → Type 0 };
+
+    ghost end: { Direction };
+
+    // Which end it is.
+    fn end() -> Direction
+        ensures { result ≡ end };
+
+    // What stands there.
+    fn ask(iter: &mut I) -> Option<I::Item>
+        requires { CanDeal I.next_gives back_gives I.can_next can_back iter.old }
+        ensures steps { Steps I.next_gives back_gives end iter.old result iter.new }
+        ensures goes { MakesProgress (CanDeal I.next_gives back_gives I.can_next can_back)
+            I.remaining iter.old result iter.new };
+}
+
+/// The front, of iterators that may have no back.
+pub struct AtFront;
+
+/// The back.
+pub struct AtBack;
+
+impl<I: Iterator> End<I> for AtFront {
+    ghost back_gives = { nowhere };
+
+    ghost can_back = { I.can_next };
+
+    ghost end = { Front };
+
+    fn end() -> Direction {
+        Direction::Front
+    }
+
+    fn ask(iter: &mut I) -> Option<I::Item> {
+        iter.next()
+    }
+}
+
+impl<I: DoubleEndedIterator> End<I> for AtBack {
+    ghost back_gives = { I.next_back_gives };
+
+    ghost can_back = { I.can_next_back };
+
+    ghost end = { Back };
+
+    fn end() -> Direction {
+        Direction::Back
+    }
+
+    fn ask(iter: &mut I) -> Option<I::Item> {
+        iter.next_back()
+    }
+}
+
+/// An iterator that has ended at both ends once either end gave `None`.
+#[derive(Drop)]
+pub struct Ends<I> {
+    pub iter: I,
+    pub done: bool,
+}
+
+impl<I> Ends<I> {
+    pub fn new(iter: I) -> Self
+        ensures iter { result.iter ≡ iter }
+        ensures fresh { result.done ≡ false }
+    {
+        Ends { iter, done: false }
+    }
+}
+
+impl<I: Iterator<Item = IterItem<A>>, A: Allocator> Ends<I> {
+    // What stands at an end.
+    #[inline(always)]
+    pub fn ask<E: End<I>>(&mut self) -> Option<IterItem<A>>
+        requires { Goes I.next_gives E.back_gives I.can_next E.can_back I.remaining self.old }
+        ensures goes { Goes I.next_gives E.back_gives I.can_next E.can_back I.remaining self.new }
+        ensures deals { (stops : Error → Bool) →
+            DealsAt E.end stops (Left stops I.next_gives E.back_gives) self.old result self.new }
+        ensures asked { Asked (Steps I.next_gives E.back_gives E.end) self.old result self.new }
+        ensures lowers { Lowers result (ends_size I.remaining self.old)
+            (ends_size I.remaining self.new) }
+    {
+        if self.done {
+            return None;
+        }
+        let answer = E::ask(&mut self.iter);
+        self.done = answer.is_none();
+        answer
+    }
+
+    // The next item of an iterator that is taken from the front alone.
+    pub fn next_in_front(&mut self) -> Option<IterItem<A>>
+        requires { Goes I.next_gives nowhere I.can_next I.can_next I.remaining self.old }
+        ensures goes { Goes I.next_gives nowhere I.can_next I.can_next I.remaining self.new }
+        ensures deals { (stops : Error → Bool) →
+            DealsFirst stops (Left stops I.next_gives nowhere) self.old result self.new }
+        ensures asked { Asked I.next_gives self.old result self.new }
+        ensures lowers { Lowers result (ends_size I.remaining self.old)
+            (ends_size I.remaining self.new) }
+    {
+        self.ask::<AtFront>()
+    }
+}
+
+impl<I: DoubleEndedIterator<Item = IterItem<A>>, A: Allocator> Ends<I> {
+    // The first item, of an iterator that is taken from both ends.
+    pub fn next(&mut self) -> Option<IterItem<A>>
+        requires { Goes I.next_gives I.next_back_gives I.can_next I.can_next_back I.remaining
+            self.old }
+        ensures goes { Goes I.next_gives I.next_back_gives I.can_next I.can_next_back I.remaining
+            self.new }
+        ensures deals { (stops : Error → Bool) → DealsFirst stops
+            (Left stops I.next_gives I.next_back_gives) self.old result self.new }
+        ensures asked { Asked I.next_gives self.old result self.new }
+        ensures lowers { Lowers result (ends_size I.remaining self.old)
+            (ends_size I.remaining self.new) }
+    {
+        self.next_in_front()
+    }
+
+    // The last.
+    pub fn next_back(&mut self) -> Option<IterItem<A>>
+        requires { Goes I.next_gives I.next_back_gives I.can_next I.can_next_back I.remaining
+            self.old }
+        ensures goes { Goes I.next_gives I.next_back_gives I.can_next I.can_next_back I.remaining
+            self.new }
+        ensures deals { (stops : Error → Bool) → DealsLast stops
+            (Left stops I.next_gives I.next_back_gives) self.old result self.new }
+        ensures asked { Asked I.next_back_gives self.old result self.new }
+        ensures lowers { Lowers result (ends_size I.remaining self.old)
+            (ends_size I.remaining self.new) }
+    {
+        self.ask::<AtBack>()
+    }
+}

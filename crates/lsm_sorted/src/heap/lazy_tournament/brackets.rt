@@ -1,0 +1,273 @@
+// Two tournaments over the same slots, one that the least item wins and one that the greatest wins.
+ghost use Rattle.std.specs.Prelude.{◌≡◌, ◌⊎◌, ℕ, ◌+◌, ◌-◌, ◌^◌, ◌<◌, ◌≤◌, length, min, true, false};
+ghost use Rattle.std.specs.Prelude.{if◌then◌else◌, IfOk};
+ghost use Rattle.std.specs.Ordering.{is_gt};
+ghost use Rattle.sst_entries.specs.declared.stream.Direction.TheVariants.{Front, Back};
+ghost use Rattle.lsm_sorted.specs.merge.Order.{toward};
+ghost use Rattle.lsm_sorted.specs.merge.Slots.{slot_at};
+ghost use Rattle.lsm_sorted.specs.merge.Tournament.{total_height};
+ghost use Rattle.lsm_sorted.specs.merge.Brackets.{is_beaten, IsUnbeaten, IsBracket, IsUnplayed};
+ghost use Rattle.lsm_sorted.specs.merge.Brackets.{IsWon};
+ghost use Rattle.lsm_sorted.specs.merge.Brackets.{WasWon, IsKept, AreKept, PlaysEnd, is_played_at};
+
+use crate::heap::order::is_before;
+use sst_entries::Direction;
+use std::alloc::{AllocError, Allocator};
+
+// A full binary tree whose leaves are the slots, in which each inner node names the winner of its
+// two children. Node 1 is the root, and the children of node n are 2n and 2n + 1. Before the
+// matches are first played, it is open which slots the inner nodes name.
+#[derive(Drop)]
+pub struct Bracket<A: Allocator> {
+    pub(crate) end: Direction,
+    pub(crate) nodes: Vec<usize, A>,
+    pub(crate) is_played: bool,
+}
+
+#[derive(Drop)]
+pub struct Brackets<A: Allocator> {
+    pub(crate) front: Bracket<A>,
+    pub(crate) back: Bracket<A>,
+    // The slot that the last pop emptied, above which the matches are still to be played.
+    pub(crate) emptied: Option<usize>,
+    pub(crate) steps: u64,
+}
+
+impl<A: Allocator + Clone> Brackets<A> {
+    // Over as many empty slots.
+    pub(crate) fn new(alloc: A, leaves: usize, is_played: bool) -> Result<Self, AllocError>
+        requires { 0 < leaves }
+        ensures front { IfOk result (λ b. IsUnplayed leaves b.front) }
+        ensures back { IfOk result (λ b. IsUnplayed leaves b.back) }
+        ensures front_end { IfOk result (λ b. b.front.end ≡ Front) }
+        ensures back_end { IfOk result (λ b. b.back.end ≡ Back) }
+        ensures front_played { IfOk result (λ b. b.front.is_played ≡ is_played) }
+        ensures back_played { IfOk result (λ b. b.back.is_played ≡ is_played) }
+        ensures emptied { IfOk result (λ b. b.emptied ≡ None) }
+        ensures steps { IfOk result (λ b. b.steps ≡ 0) }
+    {
+        let front = Bracket::new(alloc.clone()?, Direction::Front, leaves, is_played)?;
+        Ok(Brackets {
+            front,
+            back: Bracket::new(alloc, Direction::Back, leaves, is_played)?,
+            emptied: None,
+            steps: 0,
+        })
+    }
+}
+
+impl<A: Allocator> Brackets<A> {
+    // The slot that wins at an end, once what is still to be played is played.
+    pub(crate) fn winner<T: Ord>(&mut self, slots: &[Option<T>], end: Direction) -> usize
+        requires some { 0 < length slots.now }
+        requires kept { AreKept self.old.emptied T.cmp slots.now self.old }
+        ensures within { result < length slots.now }
+        ensures wins { IsUnbeaten (toward end T.cmp) slots.now result }
+        ensures kept { AreKept None T.cmp slots.now self.new }
+        ensures emptied { self.new.emptied ≡ None }
+        ensures plays { PlaysEnd end self.old self.new }
+        ensures rises { self.old.steps ≤ self.new.steps }
+        ensures bound { let old = self.old in let leaves = length slots.now in
+            (h : ℕ) → leaves ≡ 2 ^ h →
+            self.new.steps ≤ old.steps + total_height old.front.is_played old.back.is_played h
+            + (if is_played_at end old then 0 else leaves - 1) }
+    {
+        self.settle(slots);
+        match end {
+            Direction::Front => self.front.winner(slots, &mut self.steps),
+            Direction::Back => self.back.winner(slots, &mut self.steps),
+        }
+    }
+
+    // Plays the matches above the slot that was emptied last.
+    fn settle<T: Ord>(&mut self, slots: &[Option<T>])
+        requires { AreKept self.old.emptied T.cmp slots.now self.old }
+        ensures kept { AreKept None T.cmp slots.now self.new }
+        ensures emptied { self.new.emptied ≡ None }
+        ensures front { self.new.front.is_played ≡ self.old.front.is_played }
+        ensures back { self.new.back.is_played ≡ self.old.back.is_played }
+        ensures rises { self.old.steps ≤ self.new.steps }
+        ensures bound { (h : ℕ) → length slots.now ≡ 2 ^ h → self.new.steps ≤ self.old.steps
+            + total_height self.old.front.is_played self.old.back.is_played h }
+    {
+        match self.emptied {
+            Some(slot) => {
+                self.emptied = None;
+                self.follow(slots, slot);
+            }
+            None => (),
+        }
+    }
+
+    // Plays the matches above a slot again, after what it holds has changed.
+    pub(crate) fn follow<T: Ord>(&mut self, slots: &[Option<T>], slot: usize)
+        requires { AreKept (Some slot) T.cmp slots.now self.old }
+        ensures kept { AreKept None T.cmp slots.now self.new }
+        ensures emptied { self.new.emptied ≡ self.old.emptied }
+        ensures front { self.new.front.is_played ≡ self.old.front.is_played }
+        ensures back { self.new.back.is_played ≡ self.old.back.is_played }
+        ensures rises { self.old.steps ≤ self.new.steps }
+        ensures bound { (h : ℕ) → length slots.now ≡ 2 ^ h → self.new.steps ≤ self.old.steps
+            + total_height self.old.front.is_played self.old.back.is_played h }
+    {
+        self.front.follow(slots, slot, &mut self.steps);
+        self.back.follow(slots, slot, &mut self.steps);
+    }
+}
+
+impl<A: Allocator> Bracket<A> {
+    // Over empty slots, of two of which the first wins.
+    fn new(alloc: A, end: Direction, leaves: usize, is_played: bool) -> Result<Self, AllocError>
+        requires { 0 < leaves }
+        ensures unplayed { IfOk result (λ b. IsUnplayed leaves b) }
+        ensures end { IfOk result (λ b. b.end ≡ end) }
+        ensures played { IfOk result (λ b. b.is_played ≡ is_played) }
+    {
+        let Some(size) = leaves.checked_mul(2) else {
+            return Err(AllocError);
+        };
+        let mut nodes = vec![in alloc; 0; size]?;
+        for node in (1..size).rev() {
+            nodes[node] = if node < leaves {
+                nodes[2 * node]
+            } else {
+                node - leaves
+            };
+        }
+        Ok(Bracket {
+            end,
+            nodes,
+            is_played,
+        })
+    }
+
+    // The slot that wins. Its matches are played from now on.
+    fn winner<T: Ord>(&mut self, slots: &[Option<T>], steps: &mut u64) -> usize
+        requires some { 0 < length slots.now }
+        requires kept { IsKept None T.cmp slots.now self.old }
+        ensures within { result < length slots.now }
+        ensures wins { IsUnbeaten (toward self.old.end T.cmp) slots.now result }
+        ensures kept { IsKept None T.cmp slots.now self.new }
+        ensures end { self.new.end ≡ self.old.end }
+        ensures played { self.new.is_played ≡ true }
+        ensures rises { steps.old ≤ steps.new }
+        ensures bound { steps.new ≤ steps.old
+            + (if self.old.is_played then 0 else length slots.now - 1) }
+    {
+        self.keep(slots, steps);
+        self.nodes[1]
+    }
+
+    // Plays the matches, if they were not played yet.
+    fn keep<T: Ord>(&mut self, slots: &[Option<T>], steps: &mut u64)
+        requires some { 0 < length slots.now }
+        requires kept { IsKept None T.cmp slots.now self.old }
+        ensures won { IsWon T.cmp slots.now self.new }
+        ensures end { self.new.end ≡ self.old.end }
+        ensures played { self.new.is_played ≡ true }
+        ensures rises { steps.old ≤ steps.new }
+        ensures bound { steps.new ≤ steps.old
+            + (if self.old.is_played then 0 else length slots.now - 1) }
+    {
+        if !self.is_played {
+            self.play(slots, steps);
+        }
+    }
+
+    // Plays each match, those of the leaves first.
+    fn play<T: Ord>(&mut self, slots: &[Option<T>], steps: &mut u64)
+        requires some { 0 < length slots.now }
+        requires nodes { IsBracket (length slots.now) self.old.nodes.items }
+        ensures won { IsWon T.cmp slots.now self.new }
+        ensures end { self.new.end ≡ self.old.end }
+        ensures played { self.new.is_played ≡ true }
+        ensures rises { steps.old ≤ steps.new }
+        ensures bound { steps.new + 1 ≤ steps.old + length slots.now }
+    {
+        for node in (1..slots.len()).rev() {
+            let (first, second) = (self.nodes[2 * node], self.nodes[2 * node + 1]);
+            self.nodes[node] = winner_of(slots, self.end, first, second, steps);
+        }
+        self.is_played = true;
+    }
+
+    // After what a slot holds has changed.
+    fn follow<T: Ord>(&mut self, slots: &[Option<T>], slot: usize, steps: &mut u64)
+        requires { IsKept (Some slot) T.cmp slots.now self.old }
+        ensures kept { IsKept None T.cmp slots.now self.new }
+        ensures end { self.new.end ≡ self.old.end }
+        ensures played { self.new.is_played ≡ self.old.is_played }
+        ensures rises { steps.old ≤ steps.new }
+        ensures bound { (h : ℕ) → length slots.now ≡ 2 ^ h →
+            steps.new ≤ steps.old + (if self.old.is_played then h else 0) }
+    {
+        if self.is_played {
+            self.replay(slots, slot, steps);
+        }
+    }
+
+    // Plays the matches above a slot again, up to one whose winner stays and is another slot: the
+    // matches above that are as they were.
+    fn replay<T: Ord>(&mut self, slots: &[Option<T>], slot: usize, steps: &mut u64)
+        requires { WasWon T.cmp slots.now slot self.old }
+        ensures won { IsWon T.cmp slots.now self.new }
+        ensures end { self.new.end ≡ self.old.end }
+        ensures played { self.new.is_played ≡ self.old.is_played }
+        ensures rises { steps.old ≤ steps.new }
+        ensures bound { (h : ℕ) → length slots.now ≡ 2 ^ h → steps.new ≤ steps.old + h }
+    {
+        let mut node = self.nodes.len() / 2 + slot;
+        while node > 1 {
+            node /= 2;
+            let (first, second) = (self.nodes[2 * node], self.nodes[2 * node + 1]);
+            let winner = winner_of(slots, self.end, first, second, steps);
+            if winner == self.nodes[node] && winner != slot {
+                return;
+            }
+            self.nodes[node] = winner;
+        }
+    }
+}
+
+// The winner of two slots. An empty slot loses, and of equal items the first wins.
+#[inline(always)]
+fn winner_of<T: Ord>(
+    slots: &[Option<T>],
+    end: Direction,
+    first: usize,
+    second: usize,
+    steps: &mut u64,
+) -> usize
+    requires first { first < length slots.now }
+    requires second { second < length slots.now }
+    ensures from { (result ≡ first) ⊎ (result ≡ second) }
+    ensures first { is_beaten (toward end T.cmp) (slot_at slots.now result)
+        (slot_at slots.now first) ≡ false }
+    ensures second { is_beaten (toward end T.cmp) (slot_at slots.now result)
+        (slot_at slots.now second) ≡ false }
+    ensures rises { steps.old ≤ steps.new }
+    ensures bound { steps.new ≤ steps.old + 1 }
+{
+    match (&slots[first], &slots[second]) {
+        (Some(x), Some(y)) => {
+            if beats(end, y, x, steps) {
+                second
+            } else {
+                first
+            }
+        }
+        (None, Some(_)) => second,
+        _ => first,
+    }
+}
+
+// Whether y comes before x at this end. Each comparison of two items is made here, and counted.
+#[inline(always)]
+fn beats<T: Ord>(end: Direction, y: &T, x: &T, steps: &mut u64) -> bool
+    ensures value { result ≡ is_gt (toward end T.cmp x.now y.now) }
+    ensures counted { steps.new ≡ min (steps.old + 1) (2 ^ 64 - 1) }
+    ensures rises { steps.old ≤ steps.new }
+{
+    *steps = steps.saturating_add(1);
+    is_before(end, y, x)
+}

@@ -1,0 +1,58 @@
+//! The order of keys, found from eight bytes at a time.
+ghost use Rattle.std.specs.Prelude.{◌≡◌};
+ghost use Rattle.std.specs.Ordering.{nat_cmp};
+ghost use Rattle.std.specs.Cmp.Lexicographic.{slice_cmp};
+ghost use Rattle.sst_entries.specs.Key.{key_cmp};
+ghost use Rattle.sst_entries.specs.Lending.{entry_of_ref};
+ghost use Rattle.lsm_sorted.specs.merge.Union.{item_cmp};
+
+use sst_entries::{EntryRef, InternalKey};
+use std::alloc::Allocator;
+use std::cmp::Ordering;
+
+// As slices are compared. Eight bytes are compared at once, as one number.
+#[inline(always)]
+fn compare_bytes(first: &[u8], second: &[u8]) -> Ordering
+    ensures { result ≡ slice_cmp nat_cmp first.now second.now }
+{
+    let mut x = first;
+    let mut y = second;
+    loop {
+        let Some((a, after_a)) = x.split_first_chunk::<8>() else {
+            return x.cmp(y);
+        };
+        let Some((b, after_b)) = y.split_first_chunk::<8>() else {
+            return x.cmp(y);
+        };
+        let found = u64::from_be_bytes(*a).cmp(&u64::from_be_bytes(*b));
+        if found.is_ne() {
+            return found;
+        }
+        x = after_a;
+        y = after_b;
+    }
+}
+
+// As `InternalKey::cmp`, for a merge the one comparison of which there are many.
+#[inline(always)]
+pub(crate) fn compare_keys<A: Allocator>(x: &InternalKey<A>, y: &InternalKey<A>) -> Ordering
+    ensures { result ≡ key_cmp x.now y.now }
+{
+    // The rest is looked at in a tie alone.
+    match compare_bytes(x.user_key.as_slice(), y.user_key.as_slice()) {
+        Ordering::Equal => y.seqno.cmp(&x.seqno).then(x.value_type.cmp(&y.value_type)),
+        found => found,
+    }
+}
+
+/// Compares the keys of borrowed entries, as a [`Merger`](crate::Merger) compares those of its own:
+/// by key up, number down and kind. Eight bytes of the keys are compared at once.
+#[inline(always)]
+pub fn compare_refs(x: &EntryRef<'_>, y: &EntryRef<'_>) -> Ordering
+    ensures { result ≡ item_cmp (entry_of_ref x.now) (entry_of_ref y.now) }
+{
+    match compare_bytes(x.user_key, y.user_key) {
+        Ordering::Equal => y.seqno.cmp(&x.seqno).then(x.value_type.cmp(&y.value_type)),
+        found => found,
+    }
+}

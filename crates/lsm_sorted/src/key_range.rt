@@ -1,0 +1,201 @@
+//! Closed intervals of keys.
+ghost use Rattle.std.specs.Prelude.{◌≡◌, ◌↔◌, if◌then◌else◌, false, IsTrue, IfOk, IfErr, Ok, []};
+ghost use Rattle.std.specs.List.{list_any};
+ghost use Rattle.sst_entries.specs.Key.{key_lt};
+ghost use Rattle.sst_entries.specs.Point.{is_from, is_to};
+ghost use Rattle.sst_entries.specs.declared.error.Error.TheVariants.{OutOfMemory};
+ghost use Rattle.lsm_sorted.specs.version.KeyRange.{key_bound, are_disjoint, has_key, has_range};
+ghost use Rattle.lsm_sorted.specs.version.KeyRange.{interval};
+ghost use Rattle.lsm_sorted.specs.version.KeyRange.{intervals, key_le, overlaps, overlaps_bounds};
+ghost use Rattle.lsm_sorted.specs.version.KeyRange.{is_well_formed, IsAggregate, IsOutside};
+ghost use Rattle.lsm_sorted.specs.version.KeyRange.{ShareKey};
+
+use sst_entries::{Error, Slice, UserKey};
+use std::alloc::{AllocError, Allocator, Global};
+use std::marker::Model;
+use std::ops::Bound;
+
+/// The keys from a least one to a greatest one, both included. A contract sees the two keys.
+#[derive(Drop)]
+#[derive_where(Debug, PartialEq, Eq)]
+pub struct KeyRange<A: Allocator = Global>(UserKey<A>, UserKey<A>);
+
+impl<A: Allocator> Model for KeyRange<A> {
+    ghost use Rattle.lsm_sorted.specs.version.KeyRange.{Interval, interval};
+
+    ghost Value = { Interval };
+
+    ghost view = { λ r. interval r.0 r.1 };
+
+    ghost inverse = { λ r. record { 0 = r.min; 1 = r.max } };
+}
+
+impl<A: Allocator> Clone for KeyRange<A> {
+    ghost use Rattle.std.specs.Prelude.{◌≡◌};
+
+    ghost is_clone = { λ range copy. copy ≡ range };
+
+    fn clone(&self) -> Result<KeyRange<A>, AllocError> {
+        Ok(KeyRange(self.0.clone()?, self.1.clone()?))
+    }
+}
+
+impl<A: Allocator> KeyRange<A> {
+    /// The range between two keys. Nothing tests that the first is not above the second, see
+    /// [`KeyRange::is_well_formed`].
+    pub fn new(ends: (UserKey<A>, UserKey<A>)) -> KeyRange<A>
+        ensures { result ≡ interval ends.0 ends.1 }
+    {
+        let (min, max) = ends;
+        KeyRange(min, max)
+    }
+
+    /// The range from the empty key to the empty key, which has that key alone.
+    pub fn empty() -> KeyRange<A>
+        ensures { result ≡ interval [] [] }
+    {
+        KeyRange(Slice::empty(), Slice::empty())
+    }
+
+    /// The least key.
+    #[inline]
+    pub fn min(&self) -> &UserKey<A>
+        ensures { result.now ≡ self.now.min }
+    {
+        &self.0
+    }
+
+    /// The greatest key.
+    #[inline]
+    pub fn max(&self) -> &UserKey<A>
+        ensures { result.now ≡ self.now.max }
+    {
+        &self.1
+    }
+
+    /// Whether the least key is not above the greatest, so that the range has a key.
+    pub fn is_well_formed(&self) -> bool
+        ensures { result ≡ is_well_formed self.now }
+    {
+        is_at_most(self.0.as_slice(), self.1.as_slice())
+    }
+
+    /// Whether no two of the ranges overlap. Each is compared with each later one.
+    pub fn is_disjoint(ranges: &[&KeyRange<A>]) -> bool
+        ensures { result ≡ are_disjoint (intervals ranges.now) }
+    {
+        for (place, range) in ranges.iter().enumerate() {
+            let (_, later) = ranges.split_at(place + 1);
+            if overlaps_any(range, later) {
+                return false;
+            }
+        }
+        true
+    }
+
+    /// The range from the least minimum to the greatest maximum of some ranges, and
+    /// [`KeyRange::empty`] of none, which is never refused. Refused [`Error::OutOfMemory`] where a
+    /// count of sharers is refused.
+    pub fn aggregate(ranges: &[&KeyRange<A>]) -> Result<KeyRange<A>, Error>
+        ensures ok { IfOk result (λ range. IsAggregate (intervals ranges.now) range) }
+        ensures none { ranges.now ≡ [] → result ≡ Ok (interval [] []) }
+        ensures err { IfErr result (λ e. e ≡ OutOfMemory) }
+    {
+        let Some((first, others)) = ranges.split_first() else {
+            return Ok(KeyRange::empty());
+        };
+        let (mut min, mut max) = (first.min(), first.max());
+        for other in others {
+            min = lesser(min, other.min());
+            max = greater(max, other.max());
+        }
+        Ok(KeyRange(min.clone()?, max.clone()?))
+    }
+
+    /// Whether the key lies in the range.
+    pub fn contains_key(&self, key: &[u8]) -> bool
+        ensures { result ≡ has_key self.now key.now }
+    {
+        is_at_most(self.0.as_slice(), key) && is_at_most(key, self.1.as_slice())
+    }
+
+    /// Whether the other range lies inside this one.
+    pub fn contains_range(&self, other: &KeyRange<A>) -> bool
+        ensures { result ≡ has_range self.now other.now }
+    {
+        is_at_most(self.0.as_slice(), other.0.as_slice())
+            && is_at_most(other.1.as_slice(), self.1.as_slice())
+    }
+
+    /// Whether neither range ends before the other one starts. For well-formed ranges that is
+    /// whether some key lies in both.
+    pub fn overlaps_with_key_range(&self, other: &KeyRange<A>) -> bool
+        ensures value { result ≡ overlaps self.now other.now }
+        ensures shared { IsTrue (is_well_formed self.now) → IsTrue (is_well_formed other.now) →
+            (IsTrue result ↔ ShareKey self.now other.now) }
+    {
+        is_at_most(other.0.as_slice(), self.1.as_slice())
+            && is_at_most(self.0.as_slice(), other.1.as_slice())
+    }
+
+    /// Whether the range reaches past both bounds: its greatest key is not before the lower one,
+    /// and its least key is not past the upper one. Where it does not, no key of the range lies
+    /// within the bounds. Bounds that are reversed can both be met.
+    pub fn overlaps_with_bounds(&self, bounds: &(Bound<&[u8]>, Bound<&[u8]>)) -> bool
+        ensures value { result ≡
+            overlaps_bounds (key_bound bounds.now.0) (key_bound bounds.now.1) self.now }
+        ensures outside { result ≡ false →
+            IsOutside (key_bound bounds.now.0) (key_bound bounds.now.1) self.now }
+    {
+        let (lower, upper) = bounds;
+        is_from_lower(lower, self.1.as_slice()) && is_up_to_upper(upper, self.0.as_slice())
+    }
+}
+
+// Whether a key is not above another.
+#[tactic(auto, using(crate::proofs::IntervalLemmas::ge_is))]
+pub(crate) fn is_at_most(key: &[u8], other: &[u8]) -> bool
+    ensures { result ≡ key_le key.now other.now }
+{
+    other.cmp(key).is_ge()
+}
+
+fn overlaps_any<A: Allocator>(range: &KeyRange<A>, others: &[&KeyRange<A>]) -> bool
+    ensures { result ≡ list_any (λ other. overlaps range.now other.now) others.now }
+{
+    others
+        .iter()
+        .any(|other| range.overlaps_with_key_range(other))
+}
+
+fn lesser<'a, A: Allocator>(a: &'a UserKey<A>, b: &'a UserKey<A>) -> &'a UserKey<A>
+    ensures { result.now ≡ (if key_lt b.now a.now then b.now else a.now) }
+{
+    if b < a { b } else { a }
+}
+
+fn greater<'a, A: Allocator>(a: &'a UserKey<A>, b: &'a UserKey<A>) -> &'a UserKey<A>
+    ensures { result.now ≡ (if key_lt a.now b.now then b.now else a.now) }
+{
+    if a < b { b } else { a }
+}
+
+pub(crate) fn is_from_lower(lower: &Bound<&[u8]>, key: &[u8]) -> bool
+    ensures { result ≡ is_from (key_bound lower.now) key.now }
+{
+    match lower {
+        Bound::Included(low) => is_at_most(low, key),
+        Bound::Excluded(low) => low.cmp(key).is_lt(),
+        Bound::Unbounded => true,
+    }
+}
+
+pub(crate) fn is_up_to_upper(upper: &Bound<&[u8]>, key: &[u8]) -> bool
+    ensures { result ≡ is_to (key_bound upper.now) key.now }
+{
+    match upper {
+        Bound::Included(high) => is_at_most(key, high),
+        Bound::Excluded(high) => key.cmp(high).is_lt(),
+        Bound::Unbounded => true,
+    }
+}

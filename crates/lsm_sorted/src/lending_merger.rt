@@ -1,0 +1,294 @@
+//! Several sorted sources that lend their entries, as one that lends.
+ghost use Rattle.std.specs.Prelude.{◌≡◌, ℕ, ◌+◌, ◌<◌, ◌≤◌, true, false, [], length, All, IfOk};
+ghost use Rattle.std.specs.Prelude.{Bool, IfErr, IsOk, Some, None};
+ghost use Rattle.std.specs.Option.{option_map};
+ghost use Rattle.std.specs.Vec.{vec_capacity};
+ghost use Rattle.std.specs.List.{insert};
+ghost use Rattle.sst_entries.specs.Lending.{entry_of_ref};
+ghost use Rattle.sst_entries.specs.Stream.{CanDeal, EndsAtError, nowhere};
+ghost use Rattle.sst_entries.specs.declared.error.Error.{Error};
+ghost use Rattle.sst_entries.specs.declared.error.Error.TheVariants.{OutOfMemory};
+ghost use Rattle.lsm_sorted.specs.lending.Lent.{AsksOne, IsPrefix, IsReady, MayLend, StepsOn};
+ghost use Rattle.lsm_sorted.specs.lending.Lent.{goes_before};
+ghost use Rattle.lsm_sorted.specs.lending.Lent.{head_before, is_queued, is_turn, lent_at};
+ghost use Rattle.lsm_sorted.specs.lending.Lent.{lent_first};
+ghost use Rattle.lsm_sorted.specs.lending.Lent.{AdvancesLent, Belongs, IsHead, LendsNoMore};
+ghost use Rattle.lsm_sorted.specs.lending.Lent.{StartsLent};
+ghost use Rattle.lsm_sorted.specs.lending.Lent.{StepLowers, lent_size, lent_total, queued};
+ghost use Rattle.lsm_sorted.specs.merge.MergeLaws.{DealsInPlace, DealsMerged};
+
+use crate::compare_refs;
+use sst_entries::{EntryRef, Error, Lending};
+use std::alloc::{Allocator, Global};
+use std::cmp::Ordering;
+
+/// Lends the entries of several sorted sources that lend, in order. Entries with the same key,
+/// number and kind come source by source. Entries are neither moved nor shared. A comparison takes
+/// copies of the first sixteen bytes of both keys, and reads the entries only where these are equal.
+/// The first call of [`Lending::advance`] asks each source for its first entry, and each later one
+/// asks only the source whose entry was lent.
+///
+/// An error of a source is the answer of the call that met it: it stands right behind the entry
+/// before it in its source. Nothing comes after it.
+#[derive(Drop)]
+pub struct LendingMerger<L, A: Allocator = Global> {
+    sources: Vec<L, A>,
+    // One head for each source with a current entry. The head of the first entry is the last
+    // element: while its source stays ahead, it is popped and pushed back without a move.
+    queue: Vec<Head, A>,
+    is_started: bool,
+    // Whether the source that went on last stayed ahead of all others.
+    stayed_ahead: bool,
+}
+
+// A source with a current entry, by its index, and the prefix of that entry's key. Two different
+// prefixes order their heads without a read of the entries.
+#[derive(Clone, Copy)]
+struct Head {
+    prefix: u128,
+    source: usize,
+}
+
+// The first sixteen bytes of a key as one number, the first byte the highest. Zeros follow a shorter
+// key. Eight bytes would decide less: keys that count up often have the first eight in common.
+#[inline(always)]
+fn prefix_of(key: &[u8]) -> u128
+    ensures { IsPrefix result key.now }
+{
+    match key.first_chunk::<16>() {
+        Some(bytes) => u128::from_be_bytes(*bytes),
+        None => short_prefix(key),
+    }
+}
+
+// The prefix of a key of fewer than sixteen bytes: the bytes that it lacks are zero.
+fn short_prefix(key: &[u8]) -> u128
+    requires { length key.now < 16 }
+    ensures { IsPrefix result key.now }
+{
+    let mut bytes = [0; 16];
+    bytes[..key.len()].copy_from_slice(key);
+    u128::from_be_bytes(bytes)
+}
+
+// Whether an entry comes before another: by key, number and kind, and where these tie by the places
+// of their sources.
+#[inline(always)]
+fn is_before(entry: &EntryRef<'_>, place: usize, other: &EntryRef<'_>, other_place: usize) -> bool
+    ensures { result ≡ is_turn (entry_of_ref entry.now) place (entry_of_ref other.now) other_place }
+{
+    match compare_refs(entry, other) {
+        Ordering::Equal => place < other_place,
+        found => found.is_lt(),
+    }
+}
+
+impl<L: Lending + Drop, A: Allocator> LendingMerger<L, A> {
+    /// Merges sources that each lend their entries in order. Reserves a place for each source; no
+    /// step takes memory. Refused [`Error::OutOfMemory`] alone.
+    pub fn new(alloc: A, sources: Vec<L, A>) -> Result<Self, Error>
+        // Nothing is lent yet.
+        ensures none { IfOk result (λ m. ⟦<LendingMerger<L, A> as Lending>⟧.lent m ≡ None) }
+        // What sorted sources have together is dealt in order.
+        ensures deals { IfOk result (λ m. DealsMerged L.advances nowhere sources.items
+            ⟦<LendingMerger<L, A> as Lending>⟧.advances nowhere m) }
+        // With errors among it, up to the first, in its place.
+        ensures places { IfOk result (λ m. DealsInPlace L.advances nowhere sources.items
+            ⟦<LendingMerger<L, A> as Lending>⟧.advances nowhere m) }
+        // Nothing follows an error, whatever the sources give.
+        ensures ends { IfOk result (λ m. EndsAtError
+            ⟦<LendingMerger<L, A> as Lending>⟧.advances nowhere m) }
+        // Where the sources may be asked for as long as wanted, so may it.
+        ensures can { All (CanDeal L.advances nowhere L.can_advance L.can_advance) sources.items →
+            IfOk result (CanDeal ⟦<LendingMerger<L, A> as Lending>⟧.advances nowhere
+            ⟦<LendingMerger<L, A> as Lending>⟧.can_advance
+            ⟦<LendingMerger<L, A> as Lending>⟧.can_advance) }
+        ensures advance { All (CanDeal L.advances nowhere L.can_advance L.can_advance)
+            sources.items → IfOk result ⟦<LendingMerger<L, A> as Lending>⟧.can_advance }
+        ensures err { IfErr result (λ e. e ≡ OutOfMemory) }
+    {
+        let queue = Vec::with_capacity(alloc, sources.len())?;
+        Ok(LendingMerger {
+            sources,
+            queue,
+            is_started: false,
+            stayed_ahead: false,
+        })
+    }
+}
+
+impl<L: Lending, A: Allocator> LendingMerger<L, A> {
+    // What a source lends.
+    #[inline(always)]
+    fn lent_by(&self, source: usize) -> Option<EntryRef<'_>>
+        ensures { option_map entry_of_ref result ≡
+            lent_at L.lent self.now.sources.items source }
+    {
+        match self.sources.get(source) {
+            Some(lender) => lender.entry(),
+            None => None,
+        }
+    }
+
+    // Whether an entry of one source comes before what another lends. Called only where the prefixes
+    // are equal, and kept out of the search that calls it, which is short without it.
+    #[inline(never)]
+    fn comes_before(&self, entry: &EntryRef<'_>, source: usize, other: usize) -> bool
+        ensures { result ≡ goes_before (Some (entry_of_ref entry.now)) source
+            (lent_at L.lent self.now.sources.items other) other }
+    {
+        match self.lent_by(other) {
+            Some(other_entry) => is_before(entry, source, &other_entry, other),
+            None => false,
+        }
+    }
+
+    // Whether the entry of one head comes before that of another. The other entry is read only if
+    // the prefixes are equal.
+    #[inline(always)]
+    fn is_ahead(&self, entry: &EntryRef<'_>, head: Head, other: Head) -> bool
+        ensures { result ≡ head_before (Some (entry_of_ref entry.now)) head
+            (lent_at L.lent self.now.sources.items other.source) other }
+    {
+        if head.prefix == other.prefix {
+            return self.comes_before(entry, head.source, other.source);
+        }
+        head.prefix < other.prefix
+    }
+
+    // The index at which a head belongs in a queue that does not have its source.
+    #[inline(always)]
+    fn index_of(&self, entry: &EntryRef<'_>, head: Head) -> usize
+        requires heads { All (IsHead (lent_at L.lent self.now.sources.items)) self.now.queue.items }
+        requires head { IsHead (lent_at L.lent self.now.sources.items) head }
+        requires entry { lent_at L.lent self.now.sources.items head.source ≡
+            Some (entry_of_ref entry.now) }
+        ensures within { result ≤ length self.now.queue.items }
+        ensures belongs { Belongs (lent_at L.lent self.now.sources.items) head.source
+            (queued self.now) result }
+    {
+        match self.queue.last() {
+            // One comparison where a source stays ahead for long. Where sources take turns, it
+            // would be in vain most times.
+            Some(&next) if self.stayed_ahead && self.is_ahead(entry, head, next) => {
+                self.queue.len()
+            }
+            _ => self
+                .queue
+                .partition_point(|&other| self.is_ahead(entry, head, other)),
+        }
+    }
+
+    // The index at which a source with a current entry belongs in a queue that does not have it, and
+    // its head.
+    fn head_of(&self, source: usize) -> (usize, Head)
+        requires heads { All (IsHead (lent_at L.lent self.now.sources.items)) self.now.queue.items }
+        ensures within { result.0 ≤ length self.now.queue.items }
+        ensures source { result.1.source ≡ source }
+        ensures head { IsHead (lent_at L.lent self.now.sources.items) result.1 }
+        ensures belongs { Belongs (lent_at L.lent self.now.sources.items) source
+            (queued self.now) result.0 }
+    {
+        let Some(entry) = self.lent_by(source) else {
+            return (0, Head { prefix: 0, source });
+        };
+        let prefix = prefix_of(entry.user_key);
+        let head = Head { prefix, source };
+        (self.index_of(&entry, head), head)
+    }
+
+    // Asks a source that is not in the queue for its next entry. Where it lends one, it goes to its
+    // place in the queue.
+    fn go_on(&mut self, source: usize) -> Result<(), Error>
+        requires place { source < length self.old.sources.items }
+        requires ready { IsReady L.advances L.can_advance L.lent self.old }
+        requires apart { is_queued source (queued self.old) ≡ false }
+        requires space { length self.old.queue.items < vec_capacity self.old.queue }
+        ensures ready { IsReady L.advances L.can_advance L.lent self.new }
+        ensures count { length self.new.sources.items ≡ length self.old.sources.items }
+        ensures same { self.new.is_started ≡ self.old.is_started }
+        ensures few { length self.new.queue.items ≤ length self.old.queue.items + 1 }
+        ensures known { (bound : ℕ) → source < bound →
+            All (λ q. q < bound) (queued self.old) → All (λ q. q < bound) (queued self.new) }
+        ensures lowers { IfOk result (λ _.
+            lent_total L.left self.new ≤ lent_total L.left self.old) }
+        ensures goes { (stops : Error → Bool) →
+            AsksOne stops L.advances L.lent source self.old result self.new }
+    {
+        if self.sources[source].advance()? {
+            let (index, head) = self.head_of(source);
+            self.stayed_ahead = index == self.queue.len();
+            // There is room for each source.
+            let _ = self.queue.insert(index, head);
+        }
+        Ok(())
+    }
+
+    // Asks each source for its first entry.
+    #[inline(never)]
+    fn start(&mut self) -> Result<(), Error>
+        requires ready { IsReady L.advances L.can_advance L.lent self.old }
+        requires fresh { self.old.queue.items ≡ [] }
+        ensures ready { IsReady L.advances L.can_advance L.lent self.new }
+        ensures same { self.new.is_started ≡ self.old.is_started }
+        ensures lowers { IfOk result (λ _.
+            lent_total L.left self.new ≤ lent_total L.left self.old) }
+        ensures starts { (stops : Error → Bool) →
+            StartsLent stops L.advances L.lent self.old result self.new }
+    {
+        for source in 0..self.sources.len() {
+            self.go_on(source)?;
+        }
+        Ok(())
+    }
+
+    // Asks the source whose entry is lent for its next, and before the first entry all sources.
+    #[inline(always)]
+    fn step(&mut self) -> Result<(), Error>
+        requires { MayLend L.advances L.can_advance L.lent self.old }
+        ensures ready { IsReady L.advances L.can_advance L.lent self.new }
+        ensures started { self.new.is_started ≡ true }
+        ensures lowers { IfOk result (λ _. StepLowers L.left self.old self.new) }
+        ensures over { LendsNoMore self.old → IsOk result × LendsNoMore self.new }
+        ensures fault { IfErr result (λ _. 0 < lent_size L.left self.old) }
+        ensures steps { (stops : Error → Bool) →
+            StepsOn stops L.advances L.lent self.old result self.new }
+    {
+        if !self.is_started {
+            self.is_started = true;
+            return self.start();
+        }
+        match self.queue.pop() {
+            Some(head) => self.go_on(head.source),
+            None => Ok(()),
+        }
+    }
+}
+
+impl<L: Lending, A: Allocator> Lending for LendingMerger<L, A> {
+    ghost can_advance = { MayLend L.advances L.can_advance L.lent };
+
+    ghost advances = { AdvancesLent L.advances L.can_advance L.lent };
+
+    ghost lent = { lent_first L.lent };
+
+    ghost left = { lent_size L.left };
+
+    fn advance(&mut self) -> Result<bool, Error> {
+        match self.step() {
+            Ok(()) => Ok(!self.queue.is_empty()),
+            Err(error) => {
+                self.queue.clear();
+                Err(error)
+            }
+        }
+    }
+
+    #[inline]
+    fn entry(&self) -> Option<EntryRef<'_>> {
+        match self.queue.last() {
+            Some(head) => self.lent_by(head.source),
+            None => None,
+        }
+    }
+}

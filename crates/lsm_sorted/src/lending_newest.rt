@@ -1,0 +1,144 @@
+//! The newest version of each key of a source that lends.
+ghost use Rattle.std.specs.Prelude.{◌≡◌, ◌<◌, true, false, IfOk, IfErr, Some};
+ghost use Rattle.std.specs.Prelude.{None, OnErr, is_some};
+ghost use Rattle.sst_entries.specs.Lending.{came};
+ghost use Rattle.sst_entries.specs.Entry.{Entry};
+ghost use Rattle.sst_entries.specs.Stream.{CanDeal, Lowers, nowhere};
+ghost use Rattle.sst_entries.specs.declared.error.Error.{Error};
+ghost use Rattle.sst_entries.specs.declared.error.Error.TheVariants.{OutOfMemory};
+ghost use Rattle.lsm_sorted.specs.lending.LentFaults.{AlwaysTells, PassesAll, StaysOver};
+ghost use Rattle.lsm_sorted.specs.lending.LentNewest.{AdvancesNewest, DealsNewestEntries};
+ghost use Rattle.lsm_sorted.specs.lending.LentNewest.{DealsNewestResults, MayNewest, is_other};
+ghost use Rattle.lsm_sorted.specs.lending.LentNewest.{given_key};
+ghost use Rattle.lsm_sorted.specs.lending.LentNewest.{lent_newest, newest_left, newest_lender};
+
+use sst_entries::{EntryRef, Error, Lending};
+use std::alloc::{Allocator, Global};
+
+/// Lends the newest version of each key of a source that lends its entries in order: of each key
+/// the first entry. The others are skipped when it is asked to go on.
+///
+/// An error of the source is passed on in its place, and it goes on behind it. The key of the entry
+/// that is lent is kept in one buffer that stays; where memory for it is refused, the answer is
+/// [`Error::OutOfMemory`] in the place of the entry, and nothing comes after it.
+#[derive(Drop)]
+pub struct LendingNewest<L, A: Allocator = Global> {
+    source: L,
+    // The key that was lent last, once there was one.
+    key: Vec<u8, A>,
+    has_key: bool,
+    is_over: bool,
+}
+
+impl<L: Lending, A: Allocator> LendingNewest<L, A> {
+    /// The newest versions of what the source has still to lend. Nothing is asked of it yet, and no
+    /// memory is taken.
+    pub fn new(alloc: A, source: L) -> Self
+        // Nothing is lent yet.
+        ensures none { ⟦<LendingNewest<L, A> as Lending>⟧.lent result ≡ None }
+        // Of a sorted list, the newest version of each key.
+        ensures newest { DealsNewestEntries L.advances source
+            ⟦<LendingNewest<L, A> as Lending>⟧.advances result }
+        // With errors among it, the same, and each error in its place.
+        ensures places { DealsNewestResults L.advances source
+            ⟦<LendingNewest<L, A> as Lending>⟧.advances result }
+        // Over any source, each of its errors as it is, and no other but its own want of memory.
+        ensures faults { AlwaysTells PassesAll L.advances source newest_lender
+            ⟦<LendingNewest<L, A> as Lending>⟧.advances result }
+        // Behind its own want of memory nothing comes. Where nothing came, it asks the source
+        // again, and nothing comes while that gives nothing.
+        ensures over { AlwaysTells StaysOver L.advances source newest_lender
+            ⟦<LendingNewest<L, A> as Lending>⟧.advances result }
+        // Where the source may be asked for as long as wanted, so may it.
+        ensures can { CanDeal L.advances nowhere L.can_advance L.can_advance source →
+            CanDeal ⟦<LendingNewest<L, A> as Lending>⟧.advances nowhere
+            ⟦<LendingNewest<L, A> as Lending>⟧.can_advance
+            ⟦<LendingNewest<L, A> as Lending>⟧.can_advance result }
+        ensures advance { CanDeal L.advances nowhere L.can_advance L.can_advance source →
+            ⟦<LendingNewest<L, A> as Lending>⟧.can_advance result }
+    {
+        LendingNewest {
+            source,
+            key: Vec::new(alloc),
+            has_key: false,
+            is_over: false,
+        }
+    }
+
+    // Whether what the source lends is of another key than what was lent last.
+    #[inline(always)]
+    fn is_other(&self) -> bool
+        ensures { result ≡ is_other (given_key self.now) (L.lent self.now.source) }
+    {
+        match self.source.entry() {
+            Some(entry) => !self.has_key || entry.user_key != self.key.as_slice(),
+            None => true,
+        }
+    }
+
+    // Keeps the key of what the source lends.
+    #[inline(always)]
+    fn remember(&mut self) -> Result<(), Error>
+        ensures source { self.new.source ≡ self.old.source }
+        ensures over { self.new.is_over ≡ self.old.is_over }
+        ensures has { IfOk result (λ _. self.new.has_key ≡ true) }
+        ensures key { IfOk result (λ _. (x : Entry) → L.lent self.old.source ≡ Some x →
+            self.new.key.items ≡ x.user_key) }
+        ensures err { IfErr result (λ e. e ≡ OutOfMemory) }
+    {
+        self.key.clear();
+        if let Some(entry) = self.source.entry() {
+            self.key.extend_from_slice(entry.user_key)?;
+        }
+        self.has_key = true;
+        Ok(())
+    }
+
+    // Goes on to the next entry of another key, and keeps that.
+    fn go_on(&mut self) -> Result<bool, Error>
+        requires may { MayNewest L.advances L.can_advance self.old }
+        requires live { self.old.is_over ≡ false }
+        ensures goes { AdvancesNewest L.advances L.can_advance self.old
+            (came result (lent_newest L.lent self.new)) self.new }
+        ensures more { IfOk result (λ more. more ≡ is_some (lent_newest L.lent self.new)) }
+        ensures err { OnErr result (lent_newest L.lent self.new ≡ None) }
+        ensures lowers { Lowers (came result (lent_newest L.lent self.new))
+            (newest_left L.left self.old) (newest_left L.left self.new) }
+    {
+        while self.source.advance()? {
+            if self.is_other() {
+                if let Err(error) = self.remember() {
+                    self.is_over = true;
+                    return Err(error);
+                }
+                return Ok(true);
+            }
+        }
+        Ok(false)
+    }
+}
+
+impl<L: Lending, A: Allocator> Lending for LendingNewest<L, A> {
+    ghost can_advance = { MayNewest L.advances L.can_advance };
+
+    ghost advances = { AdvancesNewest L.advances L.can_advance };
+
+    ghost lent = { lent_newest L.lent };
+
+    ghost left = { newest_left L.left };
+
+    fn advance(&mut self) -> Result<bool, Error> {
+        if self.is_over {
+            return Ok(false);
+        }
+        self.go_on()
+    }
+
+    #[inline]
+    fn entry(&self) -> Option<EntryRef<'_>> {
+        if self.is_over || !self.has_key {
+            return None;
+        }
+        self.source.entry()
+    }
+}

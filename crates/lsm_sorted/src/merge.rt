@@ -1,0 +1,409 @@
+//! Several sorted sources as one.
+ghost use Rattle.std.specs.Prelude.{◌≡◌, ℕ, ◌+◌, ◌*◌, ◌<◌, ◌≤◌, true, false, List, [], length, map};
+ghost use Rattle.std.specs.Prelude.{All, IfOk, IfErr, IfSome, IfNone};
+ghost use Rattle.std.specs.Iterator.{at_most, MakesProgress};
+ghost use Rattle.sst_entries.specs.declared.stream.Direction.TheVariants.{Front, Back};
+ghost use Rattle.sst_entries.specs.declared.error.Error.TheVariants.{OutOfMemory};
+ghost use Rattle.lsm_sorted.specs.merge.Words.{Adds, AsksSource, Calls, CanMerge};
+ghost use Rattle.lsm_sorted.specs.merge.Words.{DealsBeforeErrors};
+ghost use Rattle.lsm_sorted.specs.merge.Words.{DealsMerged};
+ghost use Rattle.lsm_sorted.specs.merge.Words.{DealsUntilError, EndsAtError, Entry, Fills, Goes};
+ghost use Rattle.lsm_sorted.specs.merge.Words.{HasPlaces};
+ghost use Rattle.lsm_sorted.specs.merge.Words.{HoldsAtMost, HoldsNone, IsMergerOf, IsStrict};
+ghost use Rattle.lsm_sorted.specs.merge.Words.{IsUnion};
+ghost use Rattle.lsm_sorted.specs.merge.Words.{LowersTotal};
+ghost use Rattle.lsm_sorted.specs.merge.Words.{MayMerge, MeetsErrorsLate, Pops, R, SameRoom, Steps};
+ghost use Rattle.lsm_sorted.specs.merge.Words.{entry_of};
+ghost use Rattle.lsm_sorted.specs.merge.Words.{is_ready, made_ready, merge_size, new_ends, nowhere};
+ghost use Rattle.lsm_sorted.specs.merge.Words.{turn_cmp, turn_total, union_of};
+ghost use Rattle.std.proofs.Common.{refl};
+ghost use Rattle.std.specs.Cmp.{partial_order_from_total, partial_equiv_from_equiv};
+ghost use Rattle.std.specs.Cmp.{eq_by_cmp_equiv};
+ghost use Rattle.std.specs.Ordering.{as_partial_cmp, eq_by_cmp};
+
+use crate::LazyTournament;
+use crate::heap::ends::{AtBack, AtFront, End, Ends};
+use crate::heap::words::compare_keys;
+use sst_entries::{Direction, Error, InternalKey, InternalValue, IterItem, UserValue};
+use std::alloc::{Allocator, Global};
+use std::cmp::Ordering;
+
+// An entry on its way through the heap. Where keys tie, entries of earlier sources come first,
+// and those of one source in its order: the one from its front before the one from its back.
+#[derive(Drop)]
+struct HeapItem<A: Allocator> {
+    // The key and the value stand as in an `InternalValue`, so that an entry is moved in one piece.
+    key: InternalKey<A>,
+    value: UserValue<A>,
+    source: usize,
+    end: Direction,
+}
+
+impl<A: Allocator> Ord for HeapItem<A> {
+    ghost cmp = { turn_cmp };
+
+    ghost total = { turn_total };
+
+    ghost matches_partial_cmp = { λ x y. refl };
+
+    ghost matches_eq = { λ x y. refl };
+
+    #[inline(always)]
+    fn cmp(&self, other: &HeapItem<A>) -> Ordering {
+        match compare_keys(&self.key, &other.key) {
+            Ordering::Equal => self
+                .source
+                .cmp(&other.source)
+                .then(self.end.cmp(&other.end)),
+            found => found,
+        }
+    }
+}
+
+impl<A: Allocator> PartialOrd for HeapItem<A> {
+    ghost partial_cmp = { as_partial_cmp turn_cmp };
+
+    ghost laws = { partial_order_from_total turn_total };
+
+    fn partial_cmp(&self, other: &HeapItem<A>) -> Option<Ordering> {
+        Some(self.cmp(other))
+    }
+}
+
+impl<A: Allocator> PartialEq for HeapItem<A> {
+    ghost eq = { eq_by_cmp turn_cmp };
+
+    ghost laws = { partial_equiv_from_equiv (eq_by_cmp_equiv turn_total) };
+
+    fn eq(&self, other: &HeapItem<A>) -> bool {
+        self.cmp(other).is_eq()
+    }
+}
+
+impl<A: Allocator> Eq for HeapItem<A> {
+    ghost laws = { eq_by_cmp_equiv turn_total };
+}
+
+impl<A: Allocator> HeapItem<A> {
+    fn new(item: InternalValue<A>, source: usize, end: Direction) -> Self
+        ensures entry { entry_of result ≡ item }
+        ensures source { result.source ≡ source }
+        ensures end { result.end ≡ end }
+    {
+        HeapItem {
+            key: item.key,
+            value: item.value,
+            source,
+            end,
+        }
+    }
+
+    fn into_item(self) -> InternalValue<A>
+        ensures { result ≡ entry_of self }
+    {
+        InternalValue {
+            key: self.key,
+            value: self.value,
+        }
+    }
+}
+
+// Lets go of an entry. It is a call of its own, since a place in which an entry may be let go is
+// moved in many small pieces.
+#[cold]
+#[inline(never)]
+fn give_up<A: Allocator>(item: HeapItem<A>) {
+    let _ = item;
+}
+
+/// Gives the entries of several sorted sources in order, from the front, and from both ends where
+/// the sources have two. A call asks the sources at its own end alone. Entries with the same key,
+/// number and kind come source by source. An error of a source is the answer of the call that met
+/// it; the entry that was taken in that call is given up, and nothing comes after it from either
+/// end.
+#[derive(Drop)]
+pub struct Merger<I, A: Allocator = Global> {
+    sources: Vec<Ends<I>, A>,
+    heap: LazyTournament<HeapItem<A>, A>,
+    front_ready: bool,
+    back_ready: bool,
+    failed: bool,
+}
+
+// The sources before any call.
+fn fused<I: Iterator<Item = IterItem<A>>, A: Allocator>(
+    alloc: A,
+    iterators: Vec<I, A>,
+) -> Result<Vec<Ends<I>, A>, Error>
+    ensures ok { IfOk result (λ v. v.items ≡ map new_ends iterators.items) }
+    ensures err { IfErr result (λ e. e ≡ OutOfMemory) }
+{
+    let sources = iterators
+        .into_iter()
+        .map(|iter| Ends { iter, done: false })
+        .collect(alloc)?;
+    Ok(sources)
+}
+
+impl<I: Iterator<Item = IterItem<A>>, A: Allocator + Clone> Merger<I, A> {
+    /// Merges sources that each deal their entries in order. Reserves two places for each source;
+    /// no step takes memory. Refused [`Error::OutOfMemory`] alone.
+    ///
+    /// What holds where the back is asked too is said by [`from_both_ends`].
+    pub fn new(alloc: A, iterators: Vec<I, A>) -> Result<Self, Error>
+        ensures fresh { IfOk result (λ m. IsMergerOf iterators.items m) }
+        ensures places { IfOk result (λ m. m.heap.room ≡ 2 * length iterators.items) }
+        // What sorted sources have together is dealt in order from the front.
+        ensures deals { IfOk result (λ m. DealsMerged I.next_gives nowhere iterators.items
+            ⟦<Merger<I, A> as Iterator>⟧.next_gives nowhere m) }
+        // Whatever errors are among it, the same as long as none of them is the answer.
+        ensures before { IfOk result (λ m. DealsBeforeErrors I.next_gives nowhere iterators.items
+            ⟦<Merger<I, A> as Iterator>⟧.next_gives nowhere m) }
+        // With errors among it, up to the call in which a source answers one: that is its answer.
+        ensures until { IfOk result (λ m. DealsUntilError I.next_gives nowhere iterators.items
+            ⟦<Merger<I, A> as Iterator>⟧.next_gives nowhere m) }
+        // No error is met before the entries that stand before it, but for the last of them.
+        ensures late { IfOk result (λ m. MeetsErrorsLate I.next_gives nowhere iterators.items Front
+            ⟦<Merger<I, A> as Iterator>⟧.next_gives m) }
+        // Nothing follows an error, whatever the sources give.
+        ensures ends { IfOk result (λ m. EndsAtError ⟦<Merger<I, A> as Iterator>⟧.next_gives nowhere
+            m) }
+        // What is dealt is a union, and where no two entries share a key and number the only one.
+        ensures union { IfOk result (λ _. (lists : List (List R)) →
+            IsUnion lists (union_of lists)) }
+        ensures only { IfOk result (λ _. (lists : List (List R)) (xs : List Entry) →
+            IsUnion lists xs → IsStrict xs → xs ≡ union_of lists) }
+        ensures can { IfOk result (λ m.
+            CanMerge I.next_gives nowhere I.can_next I.can_next I.remaining iterators.items
+            ⟦<Merger<I, A> as Iterator>⟧.next_gives nowhere ⟦<Merger<I, A> as Iterator>⟧.can_next
+            ⟦<Merger<I, A> as Iterator>⟧.can_next m) }
+        ensures few { IfOk result (λ m. HoldsAtMost 1 ⟦<Merger<I, A> as Iterator>⟧.next_gives
+            nowhere m) }
+        ensures err { IfErr result (λ e. e ≡ OutOfMemory) }
+    {
+        let Some(places) = iterators.len().checked_mul(2) else {
+            return Err(Error::OutOfMemory);
+        };
+        let heap = LazyTournament::with_capacity(alloc.clone()?, places)?;
+        let sources = fused(alloc, iterators)?;
+        Ok(Merger {
+            sources,
+            heap,
+            front_ready: false,
+            back_ready: false,
+            failed: false,
+        })
+    }
+}
+
+/// A law of mergers of sources with two ends, for every list of ends. The call does nothing.
+pub fn from_both_ends<I: DoubleEndedIterator<Item = IterItem<A>>, A: Allocator>(
+    merger: &Merger<I, A>,
+)
+    // What sorted sources have together is dealt in order, whatever the ends.
+    ensures deals { (its : List I) → IsMergerOf its merger.now →
+        DealsMerged I.next_gives I.next_back_gives its
+        ⟦<Merger<I, A> as Iterator>⟧.next_gives
+        ⟦<Merger<I, A> as DoubleEndedIterator>⟧.next_back_gives merger.now }
+    // Whatever errors are among it, the same as long as none of them is the answer.
+    ensures before { (its : List I) → IsMergerOf its merger.now →
+        DealsBeforeErrors I.next_gives I.next_back_gives its
+        ⟦<Merger<I, A> as Iterator>⟧.next_gives
+        ⟦<Merger<I, A> as DoubleEndedIterator>⟧.next_back_gives merger.now }
+    // With errors among it, up to the call in which a source answers one: that is its answer.
+    ensures until { (its : List I) → IsMergerOf its merger.now →
+        DealsUntilError I.next_gives I.next_back_gives its
+        ⟦<Merger<I, A> as Iterator>⟧.next_gives
+        ⟦<Merger<I, A> as DoubleEndedIterator>⟧.next_back_gives merger.now }
+    // Calls at the front alone meet no error before the entries that stand before it, but for the
+    // last of them.
+    ensures late { (its : List I) → IsMergerOf its merger.now →
+        MeetsErrorsLate I.next_gives I.next_back_gives its Front
+        ⟦<Merger<I, A> as Iterator>⟧.next_gives merger.now }
+    // Calls at the back alone meet no error before the entries that stand behind it, but for the
+    // first of them.
+    ensures late_back { (its : List I) → IsMergerOf its merger.now →
+        MeetsErrorsLate I.next_gives I.next_back_gives its Back
+        ⟦<Merger<I, A> as DoubleEndedIterator>⟧.next_back_gives merger.now }
+    // Nothing follows an error, whatever the sources give.
+    ensures ends { EndsAtError ⟦<Merger<I, A> as Iterator>⟧.next_gives
+        ⟦<Merger<I, A> as DoubleEndedIterator>⟧.next_back_gives merger.now }
+    ensures can { (its : List I) → IsMergerOf its merger.now →
+        CanMerge I.next_gives I.next_back_gives I.can_next I.can_next_back I.remaining its
+        ⟦<Merger<I, A> as Iterator>⟧.next_gives
+        ⟦<Merger<I, A> as DoubleEndedIterator>⟧.next_back_gives
+        ⟦<Merger<I, A> as Iterator>⟧.can_next ⟦<Merger<I, A> as DoubleEndedIterator>⟧.can_next_back
+        merger.now }
+    ensures few { (its : List I) → IsMergerOf its merger.now →
+        HoldsAtMost 2 ⟦<Merger<I, A> as Iterator>⟧.next_gives
+        ⟦<Merger<I, A> as DoubleEndedIterator>⟧.next_back_gives merger.now }
+{
+    let _ = merger;
+}
+
+impl<I, A: Allocator> Merger<I, A> {
+    // Whether the sources were asked at this end.
+    fn is_ready(&self, end: Direction) -> bool
+        ensures { result ≡ is_ready end self.now }
+    {
+        match end {
+            Direction::Front => self.front_ready,
+            Direction::Back => self.back_ready,
+        }
+    }
+
+    fn make_ready(&mut self, end: Direction)
+        ensures { self.new ≡ made_ready end self.old }
+    {
+        match end {
+            Direction::Front => self.front_ready = true,
+            Direction::Back => self.back_ready = true,
+        }
+    }
+
+    // Takes out the first of what is held, seen from an end.
+    #[inline(always)]
+    fn pop(&mut self, end: Direction) -> Option<HeapItem<A>>
+        ensures none { IfNone result (HoldsNone self.old self.new) }
+        ensures some { IfSome result (λ h. Pops end self.old h self.new) }
+    {
+        match end {
+            Direction::Front => self.heap.pop_min(),
+            Direction::Back => self.heap.pop_max(),
+        }
+    }
+
+    // An error ends the merge for good.
+    #[cold]
+    #[inline(never)]
+    fn fail(&mut self, error: Error) -> Option<IterItem<A>>
+        ensures answer { result ≡ Some (Err error) }
+        ensures state { self.new ≡ record self.old { failed = true } }
+    {
+        self.failed = true;
+        Some(Err(error))
+    }
+}
+
+impl<I: Iterator<Item = IterItem<A>>, A: Allocator> Merger<I, A> {
+    // Moves what stands at an end of source `i` into the heap.
+    #[inline(always)]
+    fn take<E: End<I>>(&mut self, i: usize) -> Result<(), Error>
+        requires place { i < length self.old.sources.items }
+        requires goes { All (Goes I.next_gives E.back_gives I.can_next E.can_back I.remaining)
+            self.old.sources.items }
+        requires space { length self.old.heap.items < self.old.heap.room }
+        ensures goes { All (Goes I.next_gives E.back_gives I.can_next E.can_back I.remaining)
+            self.new.sources.items }
+        ensures same { SameRoom self.old self.new }
+        ensures adds { Adds E.end i self.old.heap.items self.new.heap.items }
+        ensures lowers { LowersTotal I.remaining self.old result self.new }
+        ensures asks { AsksSource (Steps I.next_gives E.back_gives E.end) E.end i self.old result
+            self.new }
+    {
+        let source = &mut self.sources[i];
+        match source.ask::<E>() {
+            Some(Ok(item)) => {
+                self.heap.push(HeapItem::new(item, i, E::end()));
+                Ok(())
+            }
+            Some(Err(error)) => Err(error),
+            None => Ok(()),
+        }
+    }
+
+    // Moves what stands at an end of each source into the heap.
+    #[inline(never)]
+    fn fill<E: End<I>>(&mut self) -> Result<(), Error>
+        requires places { HasPlaces I.next_gives E.back_gives I.can_next E.can_back I.remaining
+            self.old }
+        requires first { is_ready E.end self.old ≡ false }
+        ensures places { IfOk result (λ _.
+            HasPlaces I.next_gives E.back_gives I.can_next E.can_back I.remaining self.new) }
+        ensures failed { self.new.failed ≡ self.old.failed }
+        ensures lowers { LowersTotal I.remaining self.old result self.new }
+        ensures fills { Fills (Steps I.next_gives E.back_gives E.end) E.end self.old result
+            self.new }
+    {
+        for i in 0..self.sources.len() {
+            self.take::<E>(i)?;
+        }
+        self.make_ready(E::end());
+        Ok(())
+    }
+
+    // Fills the heap, once for each end.
+    #[inline(always)]
+    fn fill_once<E: End<I>>(&mut self) -> Result<(), Error>
+        requires { HasPlaces I.next_gives E.back_gives I.can_next E.can_back I.remaining self.old }
+        ensures places { IfOk result (λ _.
+            HasPlaces I.next_gives E.back_gives I.can_next E.can_back I.remaining self.new) }
+        ensures failed { self.new.failed ≡ self.old.failed }
+        ensures lowers { LowersTotal I.remaining self.old result self.new }
+        ensures fills { Fills (Steps I.next_gives E.back_gives E.end) E.end self.old result
+            self.new }
+    {
+        if self.is_ready(E::end()) {
+            return Ok(());
+        }
+        self.fill::<E>()
+    }
+
+    // The answer at an end: the entry of this end of all sources, while the next of its source goes
+    // into the heap.
+    #[inline(always)]
+    fn call<E: End<I>>(&mut self) -> Option<IterItem<A>>
+        requires { MayMerge I.next_gives E.back_gives I.can_next E.can_back I.remaining self.old }
+        ensures calls { Calls (Steps I.next_gives E.back_gives E.end) E.end
+            (MayMerge I.next_gives E.back_gives I.can_next E.can_back I.remaining) self.old result
+            self.new }
+        ensures goes { MakesProgress
+            (MayMerge I.next_gives E.back_gives I.can_next E.can_back I.remaining)
+            (λ m. at_most (merge_size I.remaining m)) self.old result self.new }
+    {
+        if self.failed {
+            return None;
+        }
+        if let Err(error) = self.fill_once::<E>() {
+            return self.fail(error);
+        }
+        let Some(lead) = self.pop(E::end()) else {
+            return None;
+        };
+        match self.take::<E>(lead.source) {
+            Ok(()) => Some(Ok(lead.into_item())),
+            Err(error) => {
+                give_up(lead);
+                self.fail(error)
+            }
+        }
+    }
+}
+
+impl<I: Iterator<Item = IterItem<A>>, A: Allocator> Iterator for Merger<I, A> {
+    type Item = IterItem<A>;
+
+    ghost can_next = { MayMerge I.next_gives nowhere I.can_next I.can_next I.remaining };
+
+    ghost next_gives = { Calls I.next_gives Front (MayMerge I.next_gives nowhere I.can_next
+        I.can_next I.remaining) };
+
+    ghost remaining = { λ m. at_most (merge_size I.remaining m) };
+
+    fn next(&mut self) -> Option<IterItem<A>> {
+        self.call::<AtFront>()
+    }
+}
+
+impl<I: DoubleEndedIterator<Item = IterItem<A>>, A: Allocator> DoubleEndedIterator
+    for Merger<I, A> {
+    ghost can_next_back = { MayMerge I.next_gives I.next_back_gives I.can_next I.can_next_back
+        I.remaining };
+
+    ghost next_back_gives = { Calls I.next_back_gives Back (MayMerge I.next_gives I.next_back_gives
+        I.can_next I.can_next_back I.remaining) };
+
+    fn next_back(&mut self) -> Option<IterItem<A>> {
+        self.call::<AtBack>()
+    }
+}

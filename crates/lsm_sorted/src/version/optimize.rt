@@ -1,0 +1,275 @@
+//! Packing runs into as few as there can be.
+ghost use Rattle.std.specs.Prelude.{◌≡◌, ◌≢◌, ◌<◌, ◌≤◌, ◌∷◌, ◌++◌, ⊤, true, List, [], length};
+ghost use Rattle.std.specs.Prelude.{reverse, Contains, IsSome, IfOk, IfErr, IfSome, MatchOption};
+ghost use Rattle.std.specs.Prelude.{OnOk, None, Ok, Some};
+ghost use Rattle.std.specs.Option.{option_copied};
+ghost use Rattle.sst_entries.specs.declared.error.Error.TheVariants.{OutOfMemory};
+ghost use Rattle.lsm_sorted.specs.version.Links.{runs_with_places, run_with_places, IsStack};
+ghost use Rattle.lsm_sorted.specs.version.Links.{TableWithPlace};
+ghost use Rattle.lsm_sorted.specs.version.LinkedRuns.{link_range, AreAtPlaces, AreEarlier};
+ghost use Rattle.lsm_sorted.specs.version.LinkedRuns.{ArePackedLinks};
+ghost use Rattle.lsm_sorted.specs.version.LinkedRuns.{IsBelow};
+ghost use Rattle.lsm_sorted.specs.declared.version.optimize.Link.{Link};
+ghost use Rattle.lsm_sorted.specs.version.Packing.{count_to_last, put, put_all, tables_in, touches};
+ghost use Rattle.lsm_sorted.specs.version.Packing.{AddsTables, AreDisjointRuns};
+ghost use Rattle.lsm_sorted.specs.version.Packing.{AreTablesWellFormed};
+ghost use Rattle.lsm_sorted.specs.version.Packing.{AreInOrder, AreNotEmpty, ArePacked, ArePlaced};
+ghost use Rattle.lsm_sorted.specs.version.Packing.{AreWellFormed, IsChain, IsLeastSize};
+ghost use Rattle.lsm_sorted.specs.version.Packing.{SameHolders};
+ghost use Rattle.lsm_sorted.specs.version.Packing.{SameTables};
+ghost use Rattle.lsm_sorted.specs.version.Run.{IsInOrder};
+
+use crate::{KeyRange, Ranged, Run};
+use sst_entries::Error;
+use std::alloc::Allocator;
+
+/// Packs the tables of some runs into as few runs as there can be, so that each key keeps the order
+/// of its tables. At most one run comes back as it is. Else each table, in run order, goes behind
+/// the last new run that has a table which overlaps it, or into the first; tables are moved, none
+/// is cloned.
+///
+/// A table is tried against each new run from the last one down, by two binary searches among the
+/// run's tables, so n tables in r new runs take at most about n times r times log n comparisons of
+/// keys. Refused [`Error::OutOfMemory`] alone; the runs are given up then.
+pub fn optimize_runs<T: Clone + Ranged + Drop, A: Allocator + Clone>(
+    alloc: A,
+    runs: Vec<Run<T, A>, A>,
+) -> Result<Vec<Run<T, A>, A>, Error>
+    ensures one { length runs.items ≤ 1 → result ≡ Ok runs }
+    ensures tables { IfOk result (λ packed. SameTables runs.items packed.items) }
+    ensures holders { IfOk result (λ packed. AreWellFormed T.range runs.items →
+        SameHolders T.range runs.items packed.items) }
+    ensures ordered { IfOk result (λ packed. AreWellFormed T.range runs.items →
+        1 < length runs.items → ArePacked T.range packed.items) }
+    ensures placed { IfOk result (λ packed. AreWellFormed T.range runs.items →
+        1 < length runs.items → ArePlaced T.range (tables_in runs.items) packed.items) }
+    ensures least { IfOk result (λ packed. AreDisjointRuns T.range runs.items →
+        IsLeastSize T.range runs.items (length packed.items)) }
+    ensures err { IfErr result (λ e. e ≡ OutOfMemory) }
+{
+    if runs.len() <= 1 {
+        Ok(runs)
+    } else {
+        pack(&alloc, runs)
+    }
+}
+
+// Puts the tables of some runs in, one after the other.
+fn pack<T: Ranged + Drop, A: Allocator + Clone>(
+    alloc: &A,
+    runs: Vec<Run<T, A>, A>,
+) -> Result<Vec<Run<T, A>, A>, Error>
+    ensures ok { IfOk result (λ packed. AreWellFormed T.range runs.items →
+        packed.items ≡ put_all T.range (tables_in runs.items) []) }
+    ensures permutation { IfOk result (λ packed. SameTables runs.items packed.items) }
+    ensures err { IfErr result (λ e. e ≡ OutOfMemory) }
+{
+    let mut packed = Vec::new(alloc.clone()?);
+    for run in runs {
+        place_all(alloc, &mut packed, run.into_vec())?;
+    }
+    Ok(packed)
+}
+
+// Puts tables in, one after the other.
+fn place_all<T: Ranged + Drop, A: Allocator + Clone>(
+    alloc: &A,
+    packed: &mut Vec<Run<T, A>, A>,
+    tables: Vec<T, A>,
+) -> Result<(), Error>
+    ensures ok { OnOk result (AreTablesWellFormed T.range tables.items →
+        ArePacked T.range packed.old.items →
+        packed.new.items ≡ put_all T.range tables.items packed.old.items) }
+    ensures permutation { OnOk result (AddsTables packed.old.items tables.items packed.new.items) }
+    ensures err { IfErr result (λ e. e ≡ OutOfMemory) }
+{
+    for table in tables {
+        place(alloc, packed, table)?;
+    }
+    Ok(())
+}
+
+/// A chain: places, as run and place in it, of tables each of which overlaps the next one, which is
+/// in a later run. Where no ranges in a run overlap and all are well-formed, it is as long as the
+/// number of runs that [`optimize_runs`] gives, so that no fewer can do. There is a place for some
+/// table where there is one. Refused [`Error::OutOfMemory`] alone.
+pub fn overlap_chain<T: Ranged, A: Allocator + Clone, B: Allocator>(
+    alloc: A,
+    runs: &[Run<T, B>],
+) -> Result<Vec<(usize, usize), A>, Error>
+    ensures chain { IfOk result (λ chain. IsChain T.range runs.now chain.items) }
+    ensures least { IfOk result (λ chain. AreDisjointRuns T.range runs.now →
+        IsLeastSize T.range runs.now (length chain.items)) }
+    ensures some { IfOk result (λ chain. chain.items ≡ [] → tables_in runs.now ≡ []) }
+    ensures err { IfErr result (λ e. e ≡ OutOfMemory) }
+{
+    let mut packed = Vec::new(alloc.clone()?);
+    pack_links(&alloc, &mut packed, runs)?;
+    let mut chain = Vec::new(alloc);
+    walk_down(&packed, &mut chain)?;
+    chain.reverse();
+    Ok(chain)
+}
+
+// A table of the runs that a chain goes through, with its place.
+#[derive(Drop)]
+struct Link<'a, T> {
+    table: &'a T,
+    run: usize,
+    index: usize,
+}
+
+impl<'a, T: Ranged> Ranged for Link<'a, T> {
+    type Alloc = T::Alloc;
+
+    ghost Meaning = { T.Meaning };
+
+    ghost meaning = { λ link. T.meaning link.table.now };
+
+    ghost range = { λ link. T.range link.table.now };
+
+    fn key_range(&self) -> &KeyRange<T::Alloc> {
+        self.table.key_range()
+    }
+
+    ghost steady = { λ x y same. T.steady x.table.now y.table.now same };
+}
+
+fn pack_links<'a, T: Ranged, A: Allocator + Clone, B: Allocator>(
+    alloc: &A,
+    packed: &mut Vec<Run<Link<'a, T>, A>, A>,
+    runs: &'a [Run<T, B>],
+) -> Result<(), Error>
+    requires { packed.old.items ≡ [] }
+    ensures ok { OnOk result
+        (ArePackedLinks T.range (runs_with_places 0 runs.now) packed.new.items) }
+    ensures err { IfErr result (λ e. e ≡ OutOfMemory) }
+{
+    for (run, tables) in runs.iter().enumerate() {
+        place_links(alloc, packed, run, tables.as_slice())?;
+    }
+    Ok(())
+}
+
+fn place_links<'a, T: Ranged, A: Allocator + Clone>(
+    alloc: &A,
+    packed: &mut Vec<Run<Link<'a, T>, A>, A>,
+    run: usize,
+    tables: &'a [T],
+) -> Result<(), Error>
+    ensures ok { OnOk result ((ts : List (TableWithPlace T)) →
+        ArePackedLinks T.range ts packed.old.items →
+        ArePackedLinks T.range (ts ++ run_with_places run 0 tables.now) packed.new.items) }
+    ensures err { IfErr result (λ e. e ≡ OutOfMemory) }
+{
+    for (index, table) in tables.iter().enumerate() {
+        place(alloc, packed, Link { table, run, index })?;
+    }
+    Ok(())
+}
+
+// One table of each run, from the last run on, each of which overlaps the one before it.
+fn walk_down<'a, T: Ranged, A: Allocator>(
+    packed: &[Run<Link<'a, T>, A>],
+    chain: &mut Vec<(usize, usize), A>,
+) -> Result<(), Error>
+    requires { chain.old.items ≡ [] }
+    ensures chain { OnOk result ((runs : List (List T)) → AreAtPlaces runs (tables_in packed.now) →
+        IsChain T.range runs (reverse chain.new.items)) }
+    ensures whole { OnOk result (IsStack (link_range T.range) (λ link. link.run) packed.now →
+        length chain.new.items ≡ length packed.now) }
+    ensures some { OnOk result (AreNotEmpty packed.now →
+        chain.new.items ≡ [] → packed.now ≡ []) }
+    ensures err { IfErr result (λ e. e ≡ OutOfMemory) }
+{
+    let mut above: Option<&Link<'a, T>> = None;
+    for level in (0..packed.len()).rev() {
+        let Some(link) = link_below(&packed[level], above) else {
+            return Ok(());
+        };
+        chain.push((link.run, link.index))?;
+        above = Some(link);
+    }
+    Ok(())
+}
+
+// Any table of a run, or where there is a table to be linked to one below it, if there is one.
+fn link_below<'r, 'a, T: Ranged, A: Allocator>(
+    run: &'r Run<Link<'a, T>, A>,
+    above: Option<&Link<'a, T>>,
+) -> Option<&'r Link<'a, T>>
+    ensures found { IfSome result (λ link. Contains run.now link.now ×
+        MatchOption (option_copied above.entry) ⊤ (λ a. IsBelow T.range link.now a)) }
+    ensures first { option_copied above.entry ≡ None → run.now ≢ [] → IsSome result }
+    ensures next { let range = link_range T.range in
+        (a : Link T) → option_copied above.entry ≡ Some a →
+        IsInOrder range run.now → AreEarlier T.range run.now a →
+        touches range (range a) run.now ≡ true → IsSome result }
+{
+    match above {
+        Some(above) => link_to(run, above),
+        None => run.as_slice().first(),
+    }
+}
+
+fn link_to<'r, 'a, T: Ranged, A: Allocator>(
+    run: &'r Run<Link<'a, T>, A>,
+    above: &Link<'a, T>,
+) -> Option<&'r Link<'a, T>>
+    ensures found { IfSome result (λ link.
+        Contains run.now link.now × IsBelow T.range link.now above.now) }
+    ensures next { IsInOrder (link_range T.range) run.now → AreEarlier T.range run.now above.now →
+        touches (link_range T.range) (link_range T.range above.now) run.now ≡ true → IsSome result }
+{
+    let link = run.get_overlapping(above.key_range()).first()?;
+    if link.run < above.run && link.key_range().overlaps_with_key_range(above.key_range()) {
+        Some(link)
+    } else {
+        None
+    }
+}
+
+// Puts a table behind the last run that has one which overlaps it, or into the first.
+fn place<T: Ranged + Drop, A: Allocator + Clone>(
+    alloc: &A,
+    packed: &mut Vec<Run<T, A>, A>,
+    table: T,
+) -> Result<(), Error>
+    ensures ok { OnOk result (AreInOrder T.range packed.old.items →
+        packed.new.items ≡ put T.range table packed.old.items) }
+    ensures permutation { OnOk result (AddsTables packed.old.items (table ∷ []) packed.new.items) }
+    ensures some { OnOk result (AreNotEmpty packed.old.items → AreNotEmpty packed.new.items) }
+    ensures err { IfErr result (λ e. e ≡ OutOfMemory) }
+{
+    let level = count_to_last_touched(packed, table.key_range());
+    if level < packed.len() {
+        packed[level].insert_in_order(table)?;
+    } else {
+        let mut tables = Vec::new(alloc.clone()?);
+        tables.push(table)?;
+        packed.push(Run::of_tables(tables))?;
+    }
+    Ok(())
+}
+
+fn count_to_last_touched<T: Ranged, A: Allocator>(
+    packed: &[Run<T, A>],
+    range: &KeyRange<T::Alloc>,
+) -> usize
+    ensures value { AreInOrder T.range packed.now →
+        result ≡ count_to_last (touches T.range range.now) packed.now }
+    ensures within { result ≤ length packed.now }
+{
+    for level in (0..packed.len()).rev() {
+        if has_overlap(&packed[level], range) {
+            return level + 1;
+        }
+    }
+    0
+}
+
+fn has_overlap<T: Ranged, A: Allocator>(run: &Run<T, A>, range: &KeyRange<T::Alloc>) -> bool
+    ensures { IsInOrder T.range run.now → result ≡ touches T.range range.now run.now }
+{
+    !run.get_overlapping(range).is_empty()
+}

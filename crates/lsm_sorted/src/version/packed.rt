@@ -1,0 +1,114 @@
+//! Tables that are packed from runs of their own.
+ghost use Rattle.std.specs.Prelude.{◌≡◌, ◌∷◌, [], IfErr, IfOk};
+ghost use Rattle.sst_entries.specs.declared.error.Error.TheVariants.{OutOfMemory};
+ghost use Rattle.lsm_sorted.specs.version.Packing.{AreTablesWellFormed, IsChain, SameTables};
+ghost use Rattle.lsm_sorted.specs.version.Packed.{IsPackedOf, alone, placed};
+
+use crate::{KeyRange, Ranged, Run, optimize_runs, overlap_chain};
+use sst_entries::Error;
+use std::alloc::{AllocError, Allocator, Global};
+
+/// A table, and its place among those that it is packed with.
+#[derive(Drop)]
+pub struct Placed<T> {
+    /// The place, counted from 0.
+    pub place: usize,
+    /// The table.
+    pub table: T,
+}
+
+impl<T: Clone> Clone for Placed<T> {
+    ghost is_clone = { λ t copy. T.is_clone t.table copy.table };
+
+    fn clone(&self) -> Result<Placed<T>, AllocError> {
+        Ok(Placed {
+            place: self.place,
+            table: self.table.clone()?,
+        })
+    }
+}
+
+impl<T: Ranged> Ranged for Placed<T> {
+    type Alloc = T::Alloc;
+
+    ghost Meaning = { T.Meaning };
+
+    ghost meaning = { λ t. T.meaning t.table };
+
+    ghost range = { λ t. T.range t.table };
+
+    fn key_range(&self) -> &KeyRange<T::Alloc> {
+        self.table.key_range()
+    }
+
+    ghost steady = { λ x y same. T.steady x.table y.table same };
+}
+
+/// How tables are packed.
+#[derive(Drop)]
+pub struct Packed<T, A: Allocator = Global> {
+    /// The runs, as few as there can be.
+    pub runs: Vec<Run<Placed<T>, A>, A>,
+    /// Tables, each of which overlaps the next one: as many as there are runs, so that no fewer do.
+    /// Beside a table's place stands that in its own run, 0.
+    pub chain: Vec<(usize, usize), A>,
+}
+
+// A table as a run of its own.
+fn run_of<T: Ranged + Drop, A: Allocator>(
+    alloc: A,
+    place: usize,
+    table: T,
+) -> Result<Run<Placed<T>, A>, Error>
+    ensures ok { IfOk result (λ run. run ≡ placed place table ∷ []) }
+    ensures err { IfErr result (λ e. e ≡ OutOfMemory) }
+{
+    let mut alone = Vec::new(alloc);
+    alone.push(Placed { place, table })?;
+    // What has a table is a run.
+    Run::new(alone).ok_or(Error::OutOfMemory)
+}
+
+// Each table as a run of its own, with its place.
+fn runs_of<T: Ranged + Drop, A: Allocator + Copy>(
+    alloc: A,
+    tables: Vec<T, A>,
+) -> Result<Vec<Run<Placed<T>, A>, A>, Error>
+    ensures ok { IfOk result (λ runs. runs.items ≡ alone 0 tables.items) }
+    ensures err { IfErr result (λ e. e ≡ OutOfMemory) }
+{
+    let mut runs = Vec::new(alloc);
+    for table in tables {
+        let run = run_of(alloc, runs.len(), table)?;
+        runs.push(run)?;
+    }
+    Ok(runs)
+}
+
+/// Packs tables, each a run of its own, the newest first, into as few runs as possible. Each key
+/// keeps the order of its tables, and the chain shows why no fewer runs do. This holds if all
+/// ranges are well-formed ([`KeyRange::is_well_formed`]).
+///
+/// Whatever the ranges, each table comes back exactly once. In the chain each table overlaps the
+/// next one, and the chain is empty only if there are no tables.
+///
+/// # Errors
+///
+/// [`Error::OutOfMemory`] alone. The tables are dropped then.
+pub fn pack_each<T: Clone + Ranged + Drop, A: Allocator + Copy>(
+    alloc: A,
+    tables: Vec<T, A>,
+) -> Result<Packed<T, A>, Error>
+    ensures same { IfOk result (λ p. SameTables (alone 0 tables.items) p.runs.items) }
+    ensures chain { IfOk result (λ p.
+        IsChain (λ t. T.range t.table) (alone 0 tables.items) p.chain.items) }
+    ensures some { IfOk result (λ p. p.chain.items ≡ [] → tables.items ≡ []) }
+    ensures packed { IfOk result (λ p. AreTablesWellFormed T.range tables.items →
+        IsPackedOf T.range tables.items p) }
+    ensures err { IfErr result (λ e. e ≡ OutOfMemory) }
+{
+    let runs = runs_of(alloc, tables)?;
+    let chain = overlap_chain(alloc, &runs)?;
+    let runs = optimize_runs(alloc, runs)?;
+    Ok(Packed { runs, chain })
+}

@@ -1,0 +1,409 @@
+//! Runs: tables in key order.
+ghost use Rattle.std.specs.Prelude.{◌≡◌, ◌≢◌, ◌<◌, ◌≤◌, ◌∷◌, ◌++◌, IsTrue, List, Ok, Some, map};
+ghost use Rattle.std.specs.Prelude.{Contains, IfOk, IfSome, [], length, remove, slice_get};
+ghost use Rattle.std.specs.Prelude.{IsPermutation, MatchOption, OnOk, OnErr, IfErr};
+ghost use Rattle.std.specs.Borrow.{Lends, sem};
+ghost use Rattle.std.specs.Cmp.Lexicographic.{pointwise, lists_per, lists_equiv};
+ghost use Rattle.std.specs.Fn.{CalledAt};
+ghost use Rattle.std.specs.List.Retain.{IsFiltered};
+ghost use Rattle.std.specs.Option.{option_copied};
+ghost use Rattle.sst_entries.specs.declared.error.Error.TheVariants.{OutOfMemory};
+ghost use Rattle.lsm_sorted.specs.version.KeyRange.{key_bound, Interval};
+ghost use Rattle.lsm_sorted.specs.version.Packing.{with_table};
+ghost use Rattle.lsm_sorted.specs.version.Run.{ends_before, ends_within, first_to_last, how_many};
+ghost use Rattle.lsm_sorted.specs.version.Run.{are_in_order, may_come_next, overlap_indexes};
+ghost use Rattle.lsm_sorted.specs.version.Run.{starts_before};
+ghost use Rattle.lsm_sorted.specs.version.Run.{starts_within, tables_across, tables_inside};
+ghost use Rattle.lsm_sorted.specs.version.Run.{table_of_key};
+ghost use Rattle.lsm_sorted.specs.version.Run.{ArePlacesOf, IsInOrder, IsPartOf, IsSortedByMin};
+ghost use Rattle.lsm_sorted.specs.version.Run.{IsStableByMin};
+
+use crate::KeyRange;
+use crate::key_range::{is_at_most, is_from_lower, is_up_to_upper};
+use sst_entries::{Error, UserKey};
+use std::alloc::{AllocError, Allocator, Global};
+use std::marker::Model;
+use std::ops::{Bound, Deref};
+
+/// What has a range of keys, as a table has.
+pub trait Ranged {
+    /// What the memory of the range's keys comes from.
+    type Alloc: Allocator;
+
+    // What a value stands for, as a table stands for its bytes and its global number.
+    ghost Meaning: { Type 0 };
+
+    ghost meaning: { Self → Meaning };
+
+    // The range of the keys.
+    ghost range: { Self → Interval };
+
+    /// The least and the greatest key.
+    fn key_range(&self) -> &KeyRange<Self::Alloc>
+        ensures { result.now ≡ range self.now };
+
+    // Values that stand for the same have the same range.
+    ghost steady: { (x y : Self) → meaning x ≡ meaning y → range x ≡ range y };
+}
+
+/// A table of a run. A contract sees the table.
+#[derive(Drop)]
+pub struct Indexed<T: Ranged> {
+    inner: T,
+}
+
+impl<T: Ranged> Model for Indexed<T> {
+    ghost Value = { T };
+
+    ghost view = { λ t. t.inner };
+}
+
+impl<T: Ranged> Indexed<T> {
+    /// A table of a run.
+    pub fn new(inner: T) -> Indexed<T>
+        ensures { result ≡ inner }
+    {
+        Indexed { inner }
+    }
+}
+
+impl<T: Ranged> Ranged for Indexed<T> {
+    type Alloc = T::Alloc;
+
+    ghost Meaning = { T.Meaning };
+
+    ghost meaning = { λ t. T.meaning t };
+
+    ghost range = { λ t. T.range t };
+
+    fn key_range(&self) -> &KeyRange<T::Alloc> {
+        self.inner.key_range()
+    }
+
+    ghost steady = { λ x y same. T.steady x y same };
+}
+
+impl<T: Ranged> Deref for Indexed<T> {
+    type Target = T;
+
+    ghost deref_gives = { λ t inner. inner ≡ t };
+
+    fn deref(&self) -> &T {
+        &self.inner
+    }
+}
+
+/// Tables in the order in which a search goes through them. Those of a run that is in order, see
+/// [`Run::is_in_order`], have ranges that do not overlap and ascend, so a search is a binary one.
+/// A contract sees the list of the tables.
+#[derive(Drop)]
+#[derive_where(Debug; T)]
+pub struct Run<T, A: Allocator = Global>(Vec<T, A>);
+
+impl<T, A: Allocator> Model for Run<T, A> {
+    ghost Value = { List T };
+
+    ghost view = { λ run. run.0.items };
+}
+
+impl<T: PartialEq, A: Allocator> PartialEq for Run<T, A> {
+    ghost eq = { pointwise T.eq };
+
+    ghost laws = { lists_per T.laws };
+
+    fn eq(&self, other: &Self) -> bool {
+        self.0.as_slice() == other.0.as_slice()
+    }
+}
+
+impl<T: Eq, A: Allocator> Eq for Run<T, A> {
+    ghost laws = { lists_equiv T.Eq.laws };
+}
+
+impl<T: Ranged, A: Allocator> Run<T, A> {
+    ghost use Rattle.std.specs.contracts.vec.Vec as vec;
+    ghost use Rattle.lsm_sorted.specs.contracts.version.run.Run.{the_row};
+
+    /// The tables.
+    #[inline]
+    pub fn as_slice(&self) -> &[T]
+        ensures { result.now ≡ self.now }
+    {
+        self.0.as_slice()
+    }
+
+    /// Whether the ranges are well-formed, do not overlap and ascend; true for no tables.
+    pub fn is_in_order(&self) -> bool
+        ensures { result ≡ are_in_order (map T.range self.now) }
+    {
+        let mut last: Option<&UserKey<T::Alloc>> = None;
+        for table in &self.0 {
+            let range = table.key_range();
+            if !goes_on(last, range) {
+                return false;
+            }
+            last = Some(range.max());
+        }
+        true
+    }
+
+    /// The table whose range has the key, of a run that is in order. Of any other run, some table
+    /// or none.
+    pub fn get_for_key(&self, key: &[u8]) -> Option<&T>
+        ensures found { IsInOrder T.range self.now →
+            option_copied result ≡ table_of_key T.range key.now self.now }
+        ensures within { IfSome result (λ t. Contains self.now t.now) }
+    {
+        let tables = self.0.as_slice();
+        let (_, rest) = tables.split_at(count_ends_before(tables, Bound::Included(key)));
+        let table = rest.first()?;
+        if is_at_most(table.key_range().min().as_slice(), key) {
+            Some(table)
+        } else {
+            None
+        }
+    }
+
+    /// The first and the last place of the tables whose ranges reach past both bounds, of a run
+    /// that is in order. Of any other run, some first and last place or none.
+    pub fn range_overlap_indexes(
+        &self,
+        lower: Bound<&[u8]>,
+        upper: Bound<&[u8]>,
+    ) -> Option<(usize, usize)>
+        ensures found { IsInOrder T.range self.now →
+            result ≡ overlap_indexes (key_bound lower.entry) (key_bound upper.entry)
+            (map T.range self.now) }
+        ensures within { IfSome result (λ ends. ArePlacesOf self.now ends) }
+    {
+        let tables = self.0.as_slice();
+        let first = count_ends_before(tables, lower);
+        let (_, rest) = tables.split_at(first);
+        let count = count_starts_within(rest, upper);
+        if count == 0 {
+            None
+        } else {
+            Some((first, first + count - 1))
+        }
+    }
+
+    /// The tables whose ranges overlap a range, of a run that is in order. Of any other run, some
+    /// tables that stand together.
+    pub fn get_overlapping(&self, key_range: &KeyRange<T::Alloc>) -> &[T]
+        ensures found { IsInOrder T.range self.now →
+            result.now ≡ tables_across T.range key_range.now self.now }
+        ensures within { IsPartOf self.now result.now }
+    {
+        let tables = self.0.as_slice();
+        let (_, rest) = tables.split_at(count_ends_before(
+            tables,
+            Bound::Included(key_range.min().as_slice()),
+        ));
+        let (found, _) = rest.split_at(count_starts_within(
+            rest,
+            Bound::Included(key_range.max().as_slice()),
+        ));
+        found
+    }
+
+    /// The tables whose ranges lie wholly inside a range, of a run that is in order. Of any other
+    /// run, some tables that stand together.
+    pub fn get_contained(&self, key_range: &KeyRange<T::Alloc>) -> &[T]
+        ensures found { IsInOrder T.range self.now →
+            result.now ≡ tables_inside T.range key_range.now self.now }
+        ensures within { IsPartOf self.now result.now }
+    {
+        let tables = self.0.as_slice();
+        let (_, rest) = tables.split_at(count_starts_before(tables, key_range.min().as_slice()));
+        let (found, _) = rest.split_at(count_ends_within(rest, key_range.max().as_slice()));
+        found
+    }
+
+    /// The range from the first table's least key to the last table's greatest. Conditions: there
+    /// is a table. Refused [`Error::OutOfMemory`] where a count of sharers is refused.
+    pub fn aggregate_key_range(&self) -> Result<KeyRange<T::Alloc>, Error>
+        requires { 0 < length self.now }
+        ensures ok { IfOk result (λ range. first_to_last (map T.range self.now) ≡ Some range) }
+        ensures err { IfErr result (λ e. e ≡ OutOfMemory) }
+    {
+        let tables = self.0.as_slice();
+        let first = tables[0].key_range();
+        let last = tables[tables.len() - 1].key_range();
+        Ok(KeyRange::new((first.min().clone()?, last.max().clone()?)))
+    }
+
+    // The tables, given up by the run.
+    pub(crate) fn into_vec(self) -> Vec<T, A>
+        ensures { result.items ≡ self }
+    {
+        self.0
+    }
+
+    // A run of these tables, which may be none.
+    pub(crate) fn of_tables(tables: Vec<T, A>) -> Run<T, A>
+        ensures { result ≡ tables.items }
+    {
+        Run(tables)
+    }
+
+    // Puts a table into a run that is in order, behind those that start no later.
+    pub(crate) fn insert_in_order(&mut self, table: T) -> Result<(), Error>
+    where
+        T: Drop,
+        ensures sorted { OnOk result (IsInOrder T.range self.old →
+            self.new ≡ with_table T.range table self.old) }
+        ensures permutation { OnOk result (IsPermutation (self.old ++ table ∷ []) self.new) }
+        ensures err { IfErr result (λ e. e ≡ OutOfMemory) }
+    {
+        let start = table.key_range().min().as_slice();
+        let place = count_starts_within(self.0.as_slice(), Bound::Included(start));
+        self.0.insert(place, table)?;
+        Ok(())
+    }
+
+    /// Takes the table at a place out; those behind it move up. Conditions: the place is below the
+    /// number of tables. The run can be left empty.
+    pub fn remove(&mut self, place: usize) -> T
+        requires { place < length self.old }
+        ensures taken { slice_get self.old place ≡ Some result }
+        ensures left { self.new ≡ remove self.old place }
+    {
+        self.0.remove(place)
+    }
+
+    /// Puts tables behind those of the run, in their order: nothing is sorted. Refused
+    /// [`Error::OutOfMemory`] alone, and never for no tables; the run is unchanged then, and the
+    /// tables are given up.
+    pub fn extend(&mut self, items: Vec<T, A>) -> Result<(), Error>
+    where
+        T: Drop,
+        ensures ok { OnOk result (self.new ≡ self.old ++ items.items) }
+        // No tables want no memory.
+        ensures none { items.items ≡ [] → (result ≡ Ok tt) × (self.new ≡ self.old) }
+        ensures err { IfErr result (λ e. (e ≡ OutOfMemory) × (self.new ≡ self.old)) }
+    {
+        let mut items = items;
+        if !items.is_empty() {
+            self.0.append(&mut items)?;
+        }
+        Ok(())
+    }
+
+    /// Keeps the tables for which `keeps` answers true, in their order. The run can be left empty.
+    pub fn retain<F: Fn(&T) -> bool>(&mut self, keeps: F)
+    where
+        T: Drop,
+        requires { F.IsAlwaysCallable keeps }
+        ensures { IsFiltered (CalledAt F.FnMut) keeps self.old self.new }
+    {
+        self.0.retain(keeps)
+    }
+
+    /// The vector of the tables, to change it at will. The run can be left empty or out of order.
+    pub fn inner_mut(&mut self) -> &mut Vec<T, A>
+        ensures* writes_back { sem 𝓛 (Lends (the_row T.row A.row A.Allocator)
+            (vec.the_row T.row A.row A.Allocator) self.entry result (λ v. v.items)) }
+        ensures value { result.now.items ≡ self.old }
+    {
+        &mut self.0
+    }
+}
+
+impl<T: Ranged + Drop, A: Allocator> Run<T, A> {
+    /// Puts a table in and sorts the run by the tables' least keys; of two with the same least key
+    /// the earlier one stays in front. Refused [`Error::OutOfMemory`] alone; the run is unchanged
+    /// then, and the table is given up.
+    pub fn push(&mut self, item: T) -> Result<(), Error>
+        ensures permutation { OnOk result (IsPermutation (self.old ++ item ∷ []) self.new) }
+        ensures sorted { OnOk result (IsSortedByMin T.range self.new) }
+        ensures stable { OnOk result (IsStableByMin T.range (self.old ++ item ∷ []) self.new) }
+        ensures err { IfErr result (λ e. (e ≡ OutOfMemory) × (self.new ≡ self.old)) }
+    {
+        self.0.push(item)?;
+        if starts_ascend(self.0.as_slice()) {
+            return Ok(());
+        }
+        if let Err(refused) = sort_by_min(&mut self.0) {
+            self.0.pop();
+            return Err(refused.into());
+        }
+        Ok(())
+    }
+
+    /// A run of some tables, as they stand, and `None` exactly for no tables.
+    pub fn new(items: Vec<T, A>) -> Option<Run<T, A>>
+        ensures { MatchOption result (items.items ≡ [])
+            (λ run. (run ≡ items.items) × (items.items ≢ [])) }
+    {
+        if items.is_empty() {
+            None
+        } else {
+            Some(Run(items))
+        }
+    }
+}
+
+// Whether a range is well-formed and starts above the last key, where there is one.
+fn goes_on<B: Allocator>(last: Option<&UserKey<B>>, range: &KeyRange<B>) -> bool
+    ensures { result ≡ may_come_next (option_copied last.entry) range.now }
+{
+    let starts_above = match last {
+        Some(last) => last < range.min(),
+        None => true,
+    };
+    range.is_well_formed() && starts_above
+}
+
+// Whether no table starts before the one in front of it. The last two are compared first: a table
+// that was just put at the end and does not belong there is found at once.
+fn starts_ascend<T: Ranged>(tables: &[T]) -> bool
+    ensures { IsTrue result → IsSortedByMin T.range tables.now }
+{
+    for place in (1..tables.len()).rev() {
+        if tables[place].key_range().min() < tables[place - 1].key_range().min() {
+            return false;
+        }
+    }
+    true
+}
+
+fn sort_by_min<T: Ranged, A: Allocator>(tables: &mut Vec<T, A>) -> Result<(), AllocError>
+    ensures permutation { IsPermutation tables.old.items tables.new.items }
+    ensures sorted { OnOk result (IsSortedByMin T.range tables.new.items) }
+    ensures stable { IsStableByMin T.range tables.old.items tables.new.items }
+    ensures err { OnErr result (tables.new.items ≡ tables.old.items) }
+{
+    tables.sort_by(|a, b| a.key_range().min().cmp(b.key_range().min()))
+}
+
+fn count_ends_before<T: Ranged>(tables: &[T], lower: Bound<&[u8]>) -> usize
+    ensures exact { IsInOrder T.range tables.now →
+        result ≡ how_many (ends_before (key_bound lower.entry)) (map T.range tables.now) }
+    ensures within { result ≤ length tables.now }
+{
+    tables.partition_point(|table| !is_from_lower(&lower, table.key_range().max().as_slice()))
+}
+
+fn count_starts_within<T: Ranged>(tables: &[T], upper: Bound<&[u8]>) -> usize
+    ensures exact { IsInOrder T.range tables.now →
+        result ≡ how_many (starts_within (key_bound upper.entry)) (map T.range tables.now) }
+    ensures within { result ≤ length tables.now }
+{
+    tables.partition_point(|table| is_up_to_upper(&upper, table.key_range().min().as_slice()))
+}
+
+fn count_starts_before<T: Ranged>(tables: &[T], key: &[u8]) -> usize
+    ensures exact { IsInOrder T.range tables.now →
+        result ≡ how_many (starts_before key.now) (map T.range tables.now) }
+    ensures within { result ≤ length tables.now }
+{
+    tables.partition_point(|table| table.key_range().min().as_slice().cmp(key).is_lt())
+}
+
+fn count_ends_within<T: Ranged>(tables: &[T], key: &[u8]) -> usize
+    ensures exact { IsInOrder T.range tables.now →
+        result ≡ how_many (ends_within key.now) (map T.range tables.now) }
+    ensures within { result ≤ length tables.now }
+{
+    tables.partition_point(|table| is_at_most(table.key_range().max().as_slice(), key))
+}

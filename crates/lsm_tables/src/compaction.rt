@@ -1,0 +1,11 @@
+//! Compactions: several runs into fewer tables, by rules and filters, to tables or to a run.
+
+pub use lsm_runs::{
+    CompactionObserver, CompactionOutcome, CompactionProgress, NoObserver, compact_any_runs,
+    compact_any_runs_with, compact_runs, compact_to_run, compact_to_run_with,
+};
+pub use lsm_sorted::compaction::Rules;
+pub use lsm_sorted::compaction::lending::{LendingCompaction, LentCallback, LentFilter};
+pub use lsm_sorted::compaction::stream::{
+    CompactionStream, DroppedKvCallback, NoCallback, NoFilter, StreamFilter, StreamFilterVerdict,
+};

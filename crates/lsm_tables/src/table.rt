@@ -1,0 +1,17 @@
+//! Tables: written, opened, read from both ends, scanned and verified; their block indexes.
+
+pub use crate::written::write_and_open;
+pub use lsm_iters::{
+    BlockIndex, BlockIndexImpl, BlockIndexIter, BlockIndexIterImpl, Bound, FullBlockIndex, Iter,
+    OwnedDataBlockIter, OwnedIndexBlockIter, TwoLevelBlockIndex, VolatileBlockIndex,
+};
+pub use lsm_readers::{
+    Fault, Finding, Inner, ParsedMeta, ParsedRegions, PinnedBlockIndex, Query, Scanner, Table,
+    TableInner, Verification, Verified, VerifyError, get_many, point_in,
+};
+pub use lsm_runs::OpenOptions;
+pub use lsm_writers::{
+    BloomConstructionPolicy, FilterKind, FinishedTable, IndexKind, Metadata, MultiWriter, Options,
+    TableIds, Writer, is_writable, write_list,
+};
+pub use sst_blocks::{GlobalTableId, TableId, Timestamp, TreeId};

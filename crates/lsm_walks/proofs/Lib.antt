@@ -1,3 +1,0 @@
-pub mod AtEnds
-pub mod Instances
-pub mod Reaching

@@ -1,0 +1,94 @@
+-- What is inside is what the writer holds.
+use Rattle.std.proofs.Common.{◌≡◌, ℕ, [], ap, subst, length}
+use Rattle.sst_blocks.specs.table.Partitions.{partitioned_index}
+use Rattle.std.specs.Prelude.{OnOk, IfOk, Ok}
+use Rattle.sst_entries.proofs.StreamLemmas.{on_err}
+use Rattle.sst_entries.proofs.Refusals.{faults_memory}
+use Rattle.std.specs.List.{AllByRecursion}
+use Rattle.sst_blocks.specs.declared.version.TableVersion.TheVariants.{V4}
+use Rattle.sst_blocks.specs.table.Fits.{SectionFits}
+use Rattle.sst_blocks.specs.table.Kinds.{index_parts, index_sections}
+use Rattle.sst_blocks.specs.table.Layout.{appended}
+use Rattle.sst_blocks.specs.declared.table.options.IndexKind.TheVariants.{Partitioned}
+use Rattle.lsm_writers.specs.section.Registered.{Registered}
+use Rattle.lsm_writers.proofs.Empty.{empty_count, empty_fault, empty_fits, empty_front}
+use Rattle.lsm_writers.proofs.Empty.{empty_written, same_front, is_some_then}
+use Rattle.lsm_writers.proofs.SectionFinishing.{works_fault, works_first}
+use Rattle.lsm_writers.proofs.section.index_partitioned.PartitionedIndexWriterBlockIndexWriter.finish.Goals as goal
+
+pub returns-clause-ok : goal.returns-clause-ok
+returns-clause-ok g c =
+    subst (λ (w : Registered). OnOk c.write_sections.result (c.write_sections.new.writer ≡
+    appended c.args.writer.now (index_sections w.kind V4 (length c.args.writer.now.bytes) w.handles (index_parts w.kind w.handles))))
+    c.self.view_is c.write_sections.ensures.ok
+
+pub returns-clause-count : goal.returns-clause-count
+returns-clause-count g c =
+    subst (λ (w : Registered). IfOk c.write_sections.result (λ n. n ≡ length (index_parts w.kind w.handles))) c.self.view_is c.write_sections.ensures.count
+
+pub returns-clause-fits : goal.returns-clause-fits
+returns-clause-fits g c =
+    subst (λ (w : Registered). OnOk c.write_sections.result (AllByRecursion SectionFits
+    (index_sections w.kind V4 (length c.args.writer.now.bytes) w.handles (index_parts w.kind w.handles))))
+    c.self.view_is c.write_sections.ensures.fits
+
+pub returns-clause-refused : goal.returns-clause-refused
+returns-clause-refused g c =
+    works_fault c.write_sections.result c.args.self (Partitioned c.self.inside.partition_size) c.self.inside.held.handles c.self.inside.held.failed c.self.view_is c.if-self.false
+    c.write_sections.ensures.refused
+
+pub returns-clause-first : goal.returns-clause-first
+returns-clause-first g c =
+    works_first c.write_sections.result c.self.inside.held.failed c.args.self.failed (ap (λ (w : Registered). w.failed) c.self.view_is) c.if-self.false
+
+-- without handles
+pub returns-then-is_empty-clause-ok : goal.returns-then-is_empty-clause-ok
+returns-then-is_empty-clause-ok g c =
+    empty_written c.args.self (Partitioned c.self.inside.partition_size) c.self.inside.held.handles c.self.inside.held.failed c.args.writer.now c.write_no_partitions.new.writer c.self.view_is
+    (c.is_empty.ensures.0 c.if-is_empty.true)
+    c.in_ok-write_no_partitions.ensures.ok
+
+pub returns-then-is_empty-clause-count : goal.returns-then-is_empty-clause-count
+returns-then-is_empty-clause-count g c =
+    empty_count c.args.self (Partitioned c.self.inside.partition_size) c.self.inside.held.handles c.self.inside.held.failed c.args.writer.now c.write_no_partitions.new.writer c.self.view_is
+    (c.is_empty.ensures.0 c.if-is_empty.true)
+
+pub returns-then-is_empty-clause-fits : goal.returns-then-is_empty-clause-fits
+returns-then-is_empty-clause-fits g c =
+    empty_fits c.args.self (Partitioned c.self.inside.partition_size) c.self.inside.held.handles c.self.inside.held.failed c.args.writer.now c.write_no_partitions.new.writer c.self.view_is
+    (c.is_empty.ensures.0 c.if-is_empty.true)
+
+pub returns-then-is_empty-clause-refused : goal.returns-then-is_empty-clause-refused
+returns-then-is_empty-clause-refused g c =
+    empty_fault c.args.self (Partitioned c.self.inside.partition_size) c.self.inside.held.handles c.self.inside.held.failed c.args.writer.now c.write_no_partitions.new.writer c.self.view_is
+    (c.is_empty.ensures.0 c.if-is_empty.true)
+    c.if-self.false
+
+pub returns-then-is_empty-clause-first : goal.returns-then-is_empty-clause-first
+returns-then-is_empty-clause-first g c =
+    works_first {X = ℕ} (Ok 0) c.self.inside.held.failed c.args.self.failed (ap (λ (w : Registered). w.failed) c.self.view_is) c.if-self.false
+
+pub returns-then-is_empty-clause-before : goal.returns-then-is_empty-clause-before
+returns-then-is_empty-clause-before g c = empty_front c.args.writer.now c.write_no_partitions.new.writer (partitioned_index V4 (length c.args.writer.now.bytes) []) c.in_ok-write_no_partitions.ensures.ok
+
+pub returns-in_err-write_no_partitions-clause-refused : goal.returns-in_err-write_no_partitions-clause-refused
+returns-in_err-write_no_partitions-clause-refused g c =
+    faults_memory c.from_residual.result c.in_err-write_no_partitions.field-0.0 _ c.from_residual.ensures.1 c.in_err-write_no_partitions.ensures.err
+
+pub returns-in_err-write_no_partitions-clause-first : goal.returns-in_err-write_no_partitions-clause-first
+returns-in_err-write_no_partitions-clause-first g c =
+    works_first c.from_residual.result c.self.inside.held.failed c.args.self.failed (ap (λ (w : Registered). w.failed) c.self.view_is) c.if-self.false
+
+pub returns-in_err-write_no_partitions-clause-before : goal.returns-in_err-write_no_partitions-clause-before
+returns-in_err-write_no_partitions-clause-before g c = same_front c.args.writer.now c.write_no_partitions.new.writer c.in_err-write_no_partitions.ensures.bytes
+
+pub returns-in_err-write_no_partitions-clause-idle : goal.returns-in_err-write_no_partitions-clause-idle
+returns-in_err-write_no_partitions-clause-idle g c =
+    let same : c.args.self.handles ≡ [] → c.write_no_partitions.new.writer.bytes ≡ c.args.writer.now.bytes = λ _. c.in_err-write_no_partitions.ensures.bytes in
+    on_err c.from_residual.result same
+
+pub returns-clause-idle : goal.returns-clause-idle
+returns-clause-idle g c =
+    let none : c.args.self.handles ≡ [] → c.write_sections.new.writer.bytes ≡ c.args.writer.now.bytes = λ none.
+    absurd (is_some_then c.is_empty.result c.self.inside.held.handles c.args.self.handles (ap (λ (w : Registered). w.handles) c.self.view_is) c.is_empty.ensures c.if-is_empty.false none) in
+    on_err c.write_sections.result none

@@ -1,0 +1,266 @@
+//! The writer of a partitioned index.
+ghost use Rattle.std.specs.Prelude.{◌≡◌, ◌+◌, ◌-◌, ◌<◌, ◌≤◌, ◌^◌, ◌++◌, ◌∷◌, [], false, length};
+ghost use Rattle.std.specs.Prelude.{take};
+ghost use Rattle.std.specs.Prelude.{IfOk, IfErr, OnOk, OnErr};
+ghost use Rattle.std.specs.List.{AllByRecursion, flat_map};
+ghost use Rattle.lsm_writers.specs.section.IndexWords.{AreStrictHandles, Faults, HasNoIndex};
+ghost use Rattle.lsm_writers.specs.section.IndexWords.{SectionFits};
+ghost use Rattle.lsm_writers.specs.section.IndexWords.{appended};
+ghost use Rattle.lsm_writers.specs.section.IndexWords.{capped, handle_size, handles_block};
+ghost use Rattle.lsm_writers.specs.section.IndexWords.{index_block_bound_of};
+ghost use Rattle.lsm_writers.specs.section.IndexWords.{index_tops, is_full_index, kind_fault};
+ghost use Rattle.lsm_writers.specs.section.IndexWords.{part_fault};
+ghost use Rattle.lsm_writers.specs.section.IndexWords.{partitioned_index, parts_by, parts_fault};
+ghost use Rattle.sst_blocks.specs.declared.table.options.IndexKind.TheVariants.{Partitioned};
+ghost use Rattle.sst_entries.specs.declared.error.Error.TheVariants.{OutOfMemory};
+ghost use Rattle.sst_blocks.specs.declared.version.TableVersion.TheVariants.{V4};
+
+use crate::section::block::{write_block, write_empty_top_level, write_top_level};
+use crate::section::held::HeldHandles;
+use crate::section::index_writer::BlockIndexWriter;
+use crate::section::kept::KeptHandles;
+use sst_blocks::{
+    BlockHandle, CompressionType, Error, KeyedBlockHandle, SectionName, SectionWriter, SeqNo,
+};
+use std::alloc::{Allocator, Global};
+use std::marker::Model;
+
+/// Bytes that a handle adds to the size of its partition, besides its end key.
+const HANDLE_SIZE: u64 = 48;
+
+/// Writes a partitioned index: partitions cut at a size in bytes, and a top level of their handles.
+///
+/// Keeps the handles of all data blocks until [`BlockIndexWriter::finish`]. Contracts see these
+/// handles.
+#[derive(Drop)]
+pub struct PartitionedIndexWriter<A: Allocator = Global> {
+    compression: CompressionType,
+    partition_size: u32,
+    held: HeldHandles<A>,
+}
+
+impl<A: Allocator> Model for PartitionedIndexWriter<A> {
+    ghost use Rattle.sst_blocks.specs.Handles.{AreStrictHandles};
+    ghost use Rattle.sst_blocks.specs.declared.table.options.IndexKind.TheVariants.{Partitioned};
+    ghost use Rattle.lsm_writers.specs.section.Registered.{Registered};
+
+    ghost Value = { Registered };
+
+    ghost view = { λ w. record {
+      handles = w.held.handles;
+      kind = Partitioned w.partition_size;
+      failed = w.held.failed;
+    } };
+
+    ghost invariant = { λ w. AreStrictHandles w.held.handles };
+}
+
+impl<A: Allocator> PartitionedIndexWriter<A> {
+    /// Creates a writer without handles, with partitions of 4,096 bytes.
+    pub fn new(alloc: A) -> PartitionedIndexWriter<A>
+        ensures { result ≡ record { handles = []; kind = Partitioned 4096; failed = false } }
+    {
+        PartitionedIndexWriter::of(CompressionType::None, 4_096, HeldHandles::new(alloc))
+    }
+
+    /// Creates a writer of these handles, with partitions of `partition_size` bytes.
+    pub(crate) fn of(
+        compression: CompressionType,
+        partition_size: u32,
+        held: HeldHandles<A>,
+    ) -> PartitionedIndexWriter<A>
+        requires { AreStrictHandles held.handles }
+        ensures { result ≡ record {
+          handles = held.handles;
+          kind = Partitioned partition_size;
+          failed = held.failed;
+        } }
+    {
+        PartitionedIndexWriter {
+            compression,
+            partition_size,
+            held,
+        }
+    }
+}
+
+impl<A: Allocator + Clone> BlockIndexWriter<A> for PartitionedIndexWriter<A> {
+    ghost kind = { λ w. w.kind };
+
+    ghost registered = { λ w. w.handles };
+
+    ghost has_failed = { λ w. w.failed };
+
+    fn register_ref(
+        &mut self,
+        end_key: &[u8],
+        seqno: SeqNo,
+        block: BlockHandle,
+    ) -> Result<(), Error> {
+        self.held.register_ref(end_key, seqno, block)
+    }
+
+    fn finish(self, writer: &mut SectionWriter<A>) -> Result<usize, Error> {
+        if self.held.failed {
+            return Err(Error::WriterFailed); // nothing is written
+        }
+        if self.held.handles.is_empty() {
+            write_no_partitions(writer, self.compression)?;
+            return Ok(0);
+        }
+        write_sections(
+            writer,
+            self.held.handles,
+            self.partition_size,
+            self.compression,
+        )
+    }
+
+    fn use_compression(mut self, compression: CompressionType) -> PartitionedIndexWriter<A> {
+        self.compression = compression;
+        self
+    }
+
+    fn use_partition_size(mut self, size: u32) -> PartitionedIndexWriter<A> {
+        self.partition_size = size;
+        self
+    }
+}
+
+/// Writes an empty section of partitions, and the section of a top level without handles. Only the
+/// section writer allocates. Fails only with [`Error::OutOfMemory`]; no byte is written then.
+fn write_no_partitions<A: Allocator + Clone>(
+    writer: &mut SectionWriter<A>,
+    compression: CompressionType,
+) -> Result<(), Error>
+    requires { HasNoIndex writer.old }
+    ensures ok { let at = length writer.old.bytes in
+        OnOk result (writer.new ≡ appended writer.old (partitioned_index V4 at [])) }
+    ensures bytes { OnErr result (writer.new.bytes ≡ writer.old.bytes) }
+    ensures err { IfErr result (λ e. e ≡ OutOfMemory) }
+{
+    writer.start(SectionName::Index)?;
+    write_empty_top_level(writer, compression)
+}
+
+/// Writes the section of the partitions and that of their top level, and returns the number of
+/// partitions. Fails if a block or the section is too large, or with [`Error::OutOfMemory`].
+fn write_sections<A: Allocator + Clone>(
+    writer: &mut SectionWriter<A>,
+    kept: KeptHandles<A>,
+    partition_size: u32,
+    compression: CompressionType,
+) -> Result<usize, Error>
+    requires unwritten { HasNoIndex writer.old }
+    requires strict { AreStrictHandles kept }
+    ensures ok { let parts = parts_by (is_full_index partition_size) kept in
+        let at = length writer.old.bytes in
+        OnOk result (writer.new ≡ appended writer.old (partitioned_index V4 at parts)) }
+    ensures count { let parts = parts_by (is_full_index partition_size) kept in
+        IfOk result (λ n. n ≡ length parts) }
+    ensures fits { let parts = parts_by (is_full_index partition_size) kept in
+        let at = length writer.old.bytes in
+        OnOk result (AllByRecursion SectionFits (partitioned_index V4 at parts)) }
+    ensures before { take (length writer.old.bytes) writer.new.bytes ≡ writer.old.bytes }
+    ensures refused { Faults result (kind_fault (Partitioned partition_size) kept) }
+{
+    let handles = kept.into_handles()?;
+    writer.start(SectionName::Index)?;
+    let mut buffer = Vec::new(handles.allocator().clone()?);
+    let mut tops = Vec::new(handles.allocator().clone()?);
+    write_partitions(
+        writer,
+        &handles,
+        partition_size,
+        &mut tops,
+        &mut buffer,
+        compression,
+    )?;
+    write_top_level(writer, &tops, &mut buffer, compression)?;
+    Ok(tops.len())
+}
+
+/// Cuts the handles into partitions, writes their blocks one after another, and puts the top
+/// level's handles of them into `tops`, which is empty. Fails if a block or the section is too
+/// large, or with [`Error::OutOfMemory`].
+fn write_partitions<A: Allocator + Clone>(
+    writer: &mut SectionWriter<A>,
+    handles: &[KeyedBlockHandle<A>],
+    partition_size: u32,
+    tops: &mut Vec<KeyedBlockHandle<A>, A>,
+    buffer: &mut Vec<u8, A>,
+    compression: CompressionType,
+) -> Result<(), Error>
+    requires strict { AreStrictHandles handles.now }
+    requires empty { tops.old.items ≡ [] }
+    ensures ok { let parts = parts_by (is_full_index partition_size) handles.now in
+        let bytes = writer.old.bytes ++ flat_map (handles_block V4) parts in
+        OnOk result (writer.new ≡ record writer.old { bytes = bytes }) }
+    ensures tops { let parts = parts_by (is_full_index partition_size) handles.now in
+        OnOk result (tops.new.items ≡ index_tops V4 (length writer.old.bytes) parts) }
+    ensures short { let parts = parts_by (is_full_index partition_size) handles.now in
+        OnOk result (length (flat_map (handles_block V4) parts) < 2 ^ 32) }
+    ensures before { take (length writer.old.bytes) writer.new.bytes ≡ writer.old.bytes }
+    ensures refused { let parts = parts_by (is_full_index partition_size) handles.now in
+        Faults result (parts_fault 0 parts) }
+{
+    let base = writer.position();
+    let mut start = 0;
+    let mut size = 0;
+    for (i, handle) in handles.iter().enumerate() {
+        size = with_handle(size, handle);
+        if size >= u64::from(partition_size) {
+            let part = &handles[start..i + 1];
+            write_partition(writer, base, part, tops, buffer, compression)?;
+            start = i + 1;
+            size = 0;
+        }
+    }
+    if start < handles.len() {
+        let part = &handles[start..];
+        write_partition(writer, base, part, tops, buffer, compression)?;
+    }
+    Ok(())
+}
+
+/// Returns the size of a partition of `size` bytes with one more handle. The sum saturates.
+fn with_handle<A: Allocator>(size: u64, handle: &KeyedBlockHandle<A>) -> u64
+    ensures { result ≡ capped (size + handle_size handle.now) }
+{
+    let size = size.saturating_add(handle.end_key().len() as u64);
+    size.saturating_add(HANDLE_SIZE)
+}
+
+/// Appends the block of a partition, and adds its handle to `tops`. The blocks of the section start
+/// at `base`. Fails if the block or the section so far is too large, or with
+/// [`Error::OutOfMemory`].
+fn write_partition<A: Allocator + Clone>(
+    writer: &mut SectionWriter<A>,
+    base: u64,
+    part: &[KeyedBlockHandle<A>],
+    tops: &mut Vec<KeyedBlockHandle<A>, A>,
+    buffer: &mut Vec<u8, A>,
+    compression: CompressionType,
+) -> Result<(), Error>
+    requires some { 0 < length part.now }
+    requires strict { AreStrictHandles part.now }
+    requires behind { base ≤ length writer.old.bytes }
+    ensures ok { let bytes = writer.old.bytes ++ handles_block V4 part.now in
+        OnOk result (writer.new ≡ record writer.old { bytes = bytes }) }
+    ensures top { let top = index_tops V4 (length writer.old.bytes) (part.now ∷ []) in
+        OnOk result (tops.new.items ≡ tops.old.items ++ top) }
+    ensures bound { let size = length (handles_block V4 part.now) in
+        OnOk result (size ≡ index_block_bound_of part.now) }
+    ensures short { OnOk result (length writer.new.bytes - base < 2 ^ 32) }
+    ensures before { take (length writer.old.bytes) writer.new.bytes ≡ writer.old.bytes }
+    ensures refused { Faults result (part_fault (length writer.old.bytes - base) part.now) }
+{
+    let block = write_block(writer, part, buffer, compression)?;
+    if writer.position() - base > u64::from(u32::MAX) {
+        return Err(Error::SectionTooLarge);
+    }
+    let last = &part[part.len() - 1];
+    let end_key = last.end_key().clone()?;
+    tops.push(KeyedBlockHandle::new(end_key, last.seqno(), block))?;
+    Ok(())
+}

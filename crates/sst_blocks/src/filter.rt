@@ -1,0 +1,8 @@
+//! Bloom filters: which keys a table may have.
+mod bit_array;
+mod builder;
+mod policy;
+
+pub use bit_array::contains_hash;
+pub use builder::Builder;
+pub use policy::{BloomConstructionPolicy, filter_bound};

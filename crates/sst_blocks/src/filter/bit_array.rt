@@ -1,0 +1,121 @@
+//! Bits in bytes, and the probes of a hash.
+ghost use Rattle.std.specs.Prelude.{◌≡◌, ◌+◌, ◌*◌, ◌%◌, ◌^◌, ◌==◌, ◌||◌, ◌<◌, length, true};
+ghost use Rattle.std.specs.Prelude.{List, ℕ};
+ghost use Rattle.std.specs.List.{list_all};
+ghost use Rattle.sst_blocks.specs.filter.Filter.{admits, filter_in, IsFilterOf, is_in, is_set};
+ghost use Rattle.sst_blocks.specs.filter.Filter.{probes};
+ghost use Rattle.sst_blocks.specs.filter.Filter.{stride};
+
+// How far apart a hash's probes lie.
+#[inline(always)]
+fn stride(hash: u64) -> u64
+    ensures { result ≡ stride hash }
+{
+    (hash >> 32) | 1
+}
+
+#[inline(always)]
+fn has_bit(bits: &[u8], place: u64) -> bool
+    requires { place < 8 * length bits.now }
+    ensures { result ≡ is_set bits.now place }
+{
+    (bits[(place / 8) as usize] >> (place % 8)) & 1 == 1
+}
+
+#[inline(always)]
+fn set_bit(bits: &mut [u8], place: u64)
+    requires { place < 8 * length bits.old }
+    ensures length { length bits.new ≡ length bits.old }
+    ensures bits { (p : ℕ) → p < 8 * length bits.old →
+        is_set bits.new p ≡ (is_set bits.old p || (place == p)) }
+{
+    bits[(place / 8) as usize] |= 1 << (place % 8);
+}
+
+// The probe that comes after one, and its place among the bits: a step on, or from the front again.
+// A division, which costs more than all the rest, is made only where the sum passes `u64::MAX`.
+#[inline(always)]
+fn next_probe(probe: u64, place: u64, stride: u64, step: u64, len: u64) -> (u64, u64)
+    requires some { 0 < len }
+    requires short { len < 2 ^ 63 }
+    requires place { place ≡ probe % len }
+    requires step { step ≡ stride % len }
+    ensures probe { result.0 ≡ (probe + stride) % 2 ^ 64 }
+    ensures place { result.1 ≡ result.0 % len }
+{
+    let (next, wraps) = probe.overflowing_add(stride);
+    if wraps {
+        return (next, next % len);
+    }
+    let place = place + step;
+    if place < len {
+        (next, place)
+    } else {
+        (next, place - len)
+    }
+}
+
+/// Sets the bits of a hash.
+pub(crate) fn set_probes(bits: &mut [u8], count: u8, hash: u64)
+    requires some { 0 < length bits.old }
+    requires short { length bits.old < 2 ^ 60 }
+    ensures length { length bits.new ≡ length bits.old }
+    ensures bits { (p : ℕ) → p < 8 * length bits.old →
+        is_set bits.new p ≡
+        (is_set bits.old p || is_in p (probes (8 * length bits.old) hash count)) }
+{
+    let len = bits.len() as u64 * 8;
+    let stride = stride(hash);
+    let step = stride % len;
+    let mut probe = hash;
+    let mut place = hash % len;
+    for _ in 0..count {
+        set_bit(bits, place);
+        (probe, place) = next_probe(probe, place, stride, step, len);
+    }
+}
+
+/// Whether all bits of a hash are set.
+fn has_probes(bits: &[u8], count: u8, hash: u64) -> bool
+    requires some { 0 < length bits.now }
+    requires short { length bits.now < 2 ^ 60 }
+    ensures { result ≡ list_all (is_set bits.now) (probes (8 * length bits.now) hash count) }
+{
+    let len = bits.len() as u64 * 8;
+    let stride = stride(hash);
+    let step = stride % len;
+    let mut probe = hash;
+    let mut place = hash % len;
+    for _ in 0..count {
+        if !has_bit(bits, place) {
+            return false;
+        }
+        (probe, place) = next_probe(probe, place, stride, step, len);
+    }
+    true
+}
+
+#[inline(always)]
+fn admits(payload: &[u8], hash: u64) -> bool
+    requires some { 1 < length payload.now }
+    requires short { length payload.now < 2 ^ 60 }
+    ensures { result ≡ admits (filter_in payload.now) hash }
+{
+    has_probes(&payload[1..], payload[0], hash)
+}
+
+/// Whether the filter of a payload admits a hash: all bits of the hash are set. It takes no memory.
+///
+/// The payload is one byte that says how many probes a hash has, then the bits: two bytes or more,
+/// and fewer than 2^60.
+#[inline]
+pub fn contains_hash(payload: &[u8], hash: u64) -> bool
+    requires some { 1 < length payload.now }
+    requires short { length payload.now < 2 ^ 60 }
+    ensures admits { result ≡ admits (filter_in payload.now) hash }
+    // A hash that was set is admitted.
+    ensures yes { (hashes : List ℕ) → IsFilterOf (filter_in payload.now) hashes →
+        is_in hash hashes ≡ true → result ≡ true }
+{
+    admits(payload, hash)
+}

@@ -1,0 +1,72 @@
+//! Building a filter.
+ghost use Rattle.std.specs.Prelude.{◌≡◌, ◌<◌, ◌++◌, ◌∷◌, [], length, List, ℕ};
+ghost use Rattle.sst_blocks.specs.filter.Filter.{Gains, IsBuilt, IsFilterOf, filter_in, payload_of};
+ghost use Rattle.sst_blocks.specs.filter.KeyHash.{hash_of};
+
+use crate::filter::bit_array::set_probes;
+use crate::hash;
+use std::alloc::{Allocator, Global};
+use std::marker::Model;
+
+/// A Bloom filter that is being built (Bloom, "Space/time trade-offs in hash coding with allowable
+/// errors", Communications of the ACM 13, 1970). A contract sees how many probes a hash has, and
+/// the bytes of the bits.
+#[derive(Drop)]
+pub struct Builder<A: Allocator = Global> {
+    // The number of probes, then the bits.
+    payload: Vec<u8, A>,
+}
+
+impl<A: Allocator> Model for Builder<A> {
+    ghost use Rattle.std.specs.Prelude.{◌<◌, length};
+    ghost use Rattle.sst_blocks.specs.filter.Filter.{BloomFilter, IsBuilt, filter_in};
+
+    ghost Value = { BloomFilter };
+
+    ghost view = { λ b. filter_in b.payload.items };
+
+    ghost invariant = { λ b. (0 < length b.payload.items) × IsBuilt (filter_in b.payload.items) };
+}
+
+impl<A: Allocator> Builder<A> {
+    // The filter of a payload.
+    pub(crate) fn of(payload: Vec<u8, A>) -> Builder<A>
+        requires some { 0 < length payload.items }
+        requires built { IsBuilt (filter_in payload.items) }
+        ensures { result ≡ filter_in payload.items }
+    {
+        Builder { payload }
+    }
+
+    /// The hash of a key, which a filter is built and asked by.
+    pub fn get_hash(key: &[u8]) -> u64
+        ensures { result ≡ hash_of key.now }
+    {
+        hash(key)
+    }
+
+    /// Sets the bits of a hash.
+    pub fn set_with_hash(&mut self, hash: u64)
+        ensures gains { Gains self.old hash self.new }
+        ensures hashes { (hashes : List ℕ) → IsFilterOf self.old hashes →
+            IsFilterOf self.new (hashes ++ hash ∷ []) }
+    {
+        self.gain(hash);
+    }
+
+    fn gain(&mut self, hash: u64)
+        ensures { Gains self.old hash self.new }
+    {
+        let count = self.payload[0];
+        set_probes(&mut self.payload[1..], count, hash);
+    }
+
+    /// The payload of the filter's block: the number of probes in one byte, then the bits.
+    pub fn build(self) -> Vec<u8, A>
+        ensures payload { result.items ≡ payload_of self }
+        // The block of this payload is in its grammar, and shorter than 2^32.
+        ensures built { IsBuilt self }
+    {
+        self.payload
+    }
+}

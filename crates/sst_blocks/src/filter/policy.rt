@@ -1,0 +1,94 @@
+//! How filters are made.
+ghost use Rattle.std.specs.Prelude.{◌≡◌, ◌<◌, ◌^◌, nat_lt, IfOk, IfErr, Some, []};
+ghost use Rattle.sst_blocks.specs.filter.Filter.{IsFilterOf};
+ghost use Rattle.sst_entries.specs.Error.{Faults, FaultsFirst};
+ghost use Rattle.sst_blocks.specs.filter.Policy.{bound_for, empty_filter, fault_for, probe_count};
+ghost use Rattle.sst_blocks.specs.filter.Policy.{size_for, tenths_of};
+
+use crate::Builder;
+use sst_entries::Error;
+use std::alloc::Allocator;
+
+/// How large a filter is made.
+#[derive(Clone, Copy, Debug, PartialEq, Eq)]
+pub enum BloomConstructionPolicy {
+    /// So many bits for each key, in tenths of a bit.
+    BitsPerKey(u32),
+}
+
+impl Default for BloomConstructionPolicy {
+    ghost use Rattle.std.specs.Prelude.{◌≡◌};
+    ghost use Rattle.sst_blocks.specs.filter.Policy.{tenths_of};
+
+    /// Ten bits for each key.
+    fn default() -> BloomConstructionPolicy
+        ensures { tenths_of result ≡ 100 }
+    {
+        BloomConstructionPolicy::BitsPerKey(100)
+    }
+}
+
+// Whether the block of a filter stays below 2^32 bytes.
+fn fits(bound: u64) -> bool
+    ensures { result ≡ nat_lt bound (2 ^ 32) }
+{
+    bound <= u64::from(u32::MAX)
+}
+
+impl BloomConstructionPolicy {
+    fn tenths(&self) -> u32
+        ensures { result ≡ tenths_of self.now }
+    {
+        let BloomConstructionPolicy::BitsPerKey(tenths) = self;
+        *tenths
+    }
+
+    /// Whether filters are written at all: the bits for a key are not 0.
+    pub fn is_active(&self) -> bool
+        ensures { result ≡ nat_lt 0 (tenths_of self.now) }
+    {
+        self.tenths() > 0
+    }
+
+    /// How many bytes of bits a filter of `n` keys has: 8 or more.
+    pub fn estimated_filter_size(&self, n: usize) -> usize
+        ensures { result ≡ size_for (tenths_of self.now) n }
+    {
+        let bits = n as u128 * u128::from(self.tenths());
+        let size = bits.div_ceil(80).max(8);
+        usize::try_from(size).unwrap_or(usize::MAX)
+    }
+
+    // How many probes a hash has.
+    fn probe_count(&self) -> u8
+        ensures { result ≡ probe_count (tenths_of self.now) }
+    {
+        let count = u64::from(self.tenths()) * 69 / 1_000;
+        count.clamp(1, 30) as u8
+    }
+
+    /// A filter for `n` keys, in which no bit is set. Refused [`Error::BlockTooLarge`] where
+    /// [`filter_bound`] is 2^32 or more, whatever memory there is, and [`Error::OutOfMemory`].
+    pub fn init<A: Allocator>(&self, alloc: A, n: usize) -> Result<Builder<A>, Error>
+        ensures empty { IfOk result (λ b. b ≡ empty_filter (tenths_of self.now) n) }
+        ensures hashes { IfOk result (λ b. IsFilterOf b []) }
+        ensures refused { Faults result (fault_for (tenths_of self.now) n) }
+        ensures first { FaultsFirst result (fault_for (tenths_of self.now) n) }
+    {
+        if !fits(filter_bound(self, n)) {
+            return Err(Error::BlockTooLarge);
+        }
+        let size = self.estimated_filter_size(n);
+        let mut payload = Vec::with_capacity(alloc, size + 1)?;
+        payload.push(self.probe_count())?;
+        payload.resize(size + 1, 0)?;
+        Ok(Builder::of(payload))
+    }
+}
+
+/// How long the block of a filter of `n` keys is, in bytes, staying at the largest value.
+pub fn filter_bound(policy: &BloomConstructionPolicy, n: usize) -> u64
+    ensures { result ≡ bound_for (tenths_of policy.now) n }
+{
+    (policy.estimated_filter_size(n) as u64).saturating_add(25)
+}

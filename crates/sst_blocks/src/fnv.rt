@@ -1,0 +1,177 @@
+//! FNV-1a in 64 bits: <http://www.isthe.com/chongo/tech/comp/fnv/>.
+//!
+//! Each byte waits for the one before it, so a hash costs a byte the latency of an exclusive or and
+//! a multiplication. Two hashes in one loop cost no more than one, and four little more:
+//! [`update_both`], [`hash_four`]. Where a hash is only compared, its bytes are walked over from
+//! both ends at once, in half the time: [`has_hash`], [`have_hashes`].
+ghost use Rattle.std.specs.Prelude.{◌≡◌, ◌↔◌, IsTrue};
+ghost use Rattle.sst_blocks.specs.Fnv.{fnv1a, fnv_back, fnv_basis, fnv_from, fnv_step};
+
+const BASIS: u64 = 0xcbf2_9ce4_8422_2325;
+
+const PRIME: u64 = 0x0100_0000_01b3;
+
+// PRIME * INVERSE is 1 modulo 2^64.
+const INVERSE: u64 = 0xce96_5057_aff6_957b;
+
+/// A running hash.
+#[derive(Clone, Copy, Debug, PartialEq, Eq)]
+pub struct Fnv1a(u64);
+
+impl Fnv1a {
+    /// The hash of no bytes.
+    pub fn new() -> Fnv1a
+        ensures { result.0 ≡ fnv_basis }
+    {
+        Fnv1a(BASIS)
+    }
+
+    /// Hashes some more bytes.
+    pub fn update(&mut self, bytes: &[u8])
+        ensures { self.new.0 ≡ fnv_from self.old.0 bytes.now }
+    {
+        let mut hash = self.0;
+        for byte in bytes {
+            hash = step(hash, *byte);
+        }
+        self.0 = hash;
+    }
+
+    /// The hash of the bytes so far.
+    pub fn finish(self) -> u64
+        ensures { result ≡ self.0 }
+    {
+        self.0
+    }
+}
+
+/// As [`Fnv1a::update`] of each, in one loop as far as the shorter of the two reaches.
+pub fn update_both(first: &mut Fnv1a, first_bytes: &[u8], second: &mut Fnv1a, second_bytes: &[u8])
+    ensures first { first.new.0 ≡ fnv_from first.old.0 first_bytes.now }
+    ensures second { second.new.0 ≡ fnv_from second.old.0 second_bytes.now }
+{
+    let both = first_bytes.len().min(second_bytes.len());
+    let mut one = first.0;
+    let mut other = second.0;
+    for i in 0..both {
+        one = step(one, first_bytes[i]);
+        other = step(other, second_bytes[i]);
+    }
+    *first = Fnv1a(one);
+    *second = Fnv1a(other);
+    first.update(&first_bytes[both..]);
+    second.update(&second_bytes[both..]);
+}
+
+/// The FNV-1a hashes of four runs of bytes, in one loop as far as the shortest reaches.
+pub fn hash_four(first: &[u8], second: &[u8], third: &[u8], fourth: &[u8]) -> (u64, u64, u64, u64)
+    ensures first { result.0 ≡ fnv_from fnv_basis first.now }
+    ensures second { result.1 ≡ fnv_from fnv_basis second.now }
+    ensures third { result.2 ≡ fnv_from fnv_basis third.now }
+    ensures fourth { result.3 ≡ fnv_from fnv_basis fourth.now }
+{
+    let two = first.len().min(second.len());
+    let others = third.len().min(fourth.len());
+    let all = two.min(others);
+    let mut a = BASIS;
+    let mut b = BASIS;
+    let mut c = BASIS;
+    let mut d = BASIS;
+    for i in 0..all {
+        a = step(a, first[i]);
+        b = step(b, second[i]);
+        c = step(c, third[i]);
+        d = step(d, fourth[i]);
+    }
+    (
+        hash_on(a, &first[all..]),
+        hash_on(b, &second[all..]),
+        hash_on(c, &third[all..]),
+        hash_on(d, &fourth[all..]),
+    )
+}
+
+// The hash of some bytes behind those of a hash.
+fn hash_on(hash: u64, bytes: &[u8]) -> u64
+    ensures { result ≡ fnv_from hash bytes.now }
+{
+    let mut hash = Fnv1a(hash);
+    hash.update(bytes);
+    hash.finish()
+}
+
+#[inline(always)]
+fn step(hash: u64, byte: u8) -> u64
+    ensures { result ≡ fnv_step hash byte }
+{
+    (hash ^ u64::from(byte)).wrapping_mul(PRIME)
+}
+
+#[inline(always)]
+fn step_back(hash: u64, byte: u8) -> u64
+    ensures { result ≡ fnv_back hash byte }
+{
+    hash.wrapping_mul(INVERSE) ^ u64::from(byte)
+}
+
+/// Whether some bytes have this FNV-1a hash. A byte's step can be undone, so the front half is
+/// hashed and the back half taken off the hash that they should have, in one loop: they meet in the
+/// middle where it is theirs.
+pub fn has_hash(bytes: &[u8], sum: u64) -> bool
+    ensures { IsTrue result ↔ (fnv1a bytes.now ≡ sum) }
+{
+    leads(BASIS, bytes, sum)
+}
+
+/// As [`has_hash`] of each of two, in one loop as far as the shorter of the two reaches.
+pub fn have_hashes(first: &[u8], first_sum: u64, second: &[u8], second_sum: u64) -> (bool, bool)
+    ensures first { IsTrue result.0 ↔ (fnv1a first.now ≡ first_sum) }
+    ensures second { IsTrue result.1 ↔ (fnv1a second.now ≡ second_sum) }
+{
+    // Two bytes of each end at a time: with one, the loop's own steps would hold up the
+    // multiplications.
+    let twos = first.len().min(second.len()) / 4;
+    let mut front = BASIS;
+    let mut back = first_sum;
+    let mut other_front = BASIS;
+    let mut other_back = second_sum;
+    for i in 0..twos {
+        let at = 2 * i;
+        front = step(front, first[at]);
+        front = step(front, first[at + 1]);
+        back = step_back(back, first[first.len() - 1 - at]);
+        back = step_back(back, first[first.len() - 2 - at]);
+        other_front = step(other_front, second[at]);
+        other_front = step(other_front, second[at + 1]);
+        other_back = step_back(other_back, second[second.len() - 1 - at]);
+        other_back = step_back(other_back, second[second.len() - 2 - at]);
+    }
+    let both = 2 * twos;
+    (
+        leads(front, &first[both..first.len() - both], back),
+        leads(other_front, &second[both..second.len() - both], other_back),
+    )
+}
+
+// Whether hashing some bytes behind those of a hash comes to another hash.
+fn leads(from: u64, bytes: &[u8], to: u64) -> bool
+    ensures { IsTrue result ↔ (fnv_from from bytes.now ≡ to) }
+{
+    let half = bytes.len() / 2;
+    let mut front = from;
+    let mut back = to;
+    for i in 0..half {
+        front = step(front, bytes[i]);
+        back = step_back(back, bytes[bytes.len() - 1 - i]);
+    }
+    hash_on(front, &bytes[half..bytes.len() - half]) == back
+}
+
+/// The FNV-1a hash of some bytes: of a key, as filters store it.
+pub fn hash(bytes: &[u8]) -> u64
+    ensures { result ≡ fnv_from fnv_basis bytes.now }
+{
+    let mut hash = Fnv1a::new();
+    hash.update(bytes);
+    hash.finish()
+}

@@ -1,0 +1,80 @@
+//! Numbers as bytes, the low byte first.
+ghost use Rattle.std.specs.Prelude.{◌≡◌, ◌++◌, ◌<◌, ◌≤◌, ◌^◌, length, OnOk, OnErr, IfErr};
+ghost use Rattle.sst_blocks.specs.Number.{le4, le8, num2, num4, num8};
+ghost use Rattle.sst_blocks.specs.Version.{key_len_at, key_width};
+ghost use Rattle.sst_entries.specs.declared.error.Error.TheVariants.{OutOfMemory};
+
+use crate::TableVersion;
+use byteorder::{ByteOrder, LittleEndian};
+use sst_entries::Error;
+use std::alloc::Allocator;
+
+#[inline]
+#[tactic(auto, unfolding(crate::specs::Number::num2))]
+pub fn u16_at(bytes: &[u8]) -> u16
+    requires { 2 ≤ length bytes.now }
+    ensures { result ≡ num2 bytes.now }
+{
+    LittleEndian::read_u16(bytes)
+}
+
+#[inline]
+#[tactic(auto, unfolding(crate::specs::Number::num4))]
+pub fn u32_at(bytes: &[u8]) -> u32
+    requires { 4 ≤ length bytes.now }
+    ensures { result ≡ num4 bytes.now }
+{
+    LittleEndian::read_u32(bytes)
+}
+
+#[inline]
+#[tactic(auto, unfolding(crate::specs::Number::num8))]
+pub fn u64_at(bytes: &[u8]) -> u64
+    requires { 8 ≤ length bytes.now }
+    ensures { result ≡ num8 bytes.now }
+{
+    LittleEndian::read_u64(bytes)
+}
+
+/// How many bytes a key length takes.
+#[inline]
+pub fn key_width(version: TableVersion) -> usize
+    ensures { result ≡ key_width version }
+{
+    match version {
+        TableVersion::V3 => 2,
+        TableVersion::V4 => 4,
+    }
+}
+
+#[inline]
+pub fn key_len_at(version: TableVersion, bytes: &[u8]) -> usize
+    requires { key_width version ≤ length bytes.now }
+    ensures value { result ≡ key_len_at version bytes.now }
+    ensures short { result < 2 ^ 32 }
+{
+    match version {
+        TableVersion::V3 => usize::from(u16_at(bytes)),
+        TableVersion::V4 => u32_at(bytes) as usize,
+    }
+}
+
+#[tactic(auto, unfolding(crate::specs::Number::le4))]
+pub fn put_u32<A: Allocator>(buf: &mut Vec<u8, A>, n: u32) -> Result<(), Error>
+    ensures ok { OnOk result (buf.new.items ≡ buf.old.items ++ le4 n) }
+    ensures unchanged { OnErr result (buf.new.items ≡ buf.old.items) }
+    ensures err { IfErr result (λ e. e ≡ OutOfMemory) }
+{
+    buf.extend_from_slice(&n.to_le_bytes())?;
+    Ok(())
+}
+
+#[tactic(auto, unfolding(crate::specs::Number::le8))]
+pub fn put_u64<A: Allocator>(buf: &mut Vec<u8, A>, n: u64) -> Result<(), Error>
+    ensures ok { OnOk result (buf.new.items ≡ buf.old.items ++ le8 n) }
+    ensures unchanged { OnErr result (buf.new.items ≡ buf.old.items) }
+    ensures err { IfErr result (λ e. e ≡ OutOfMemory) }
+{
+    buf.extend_from_slice(&n.to_le_bytes())?;
+    Ok(())
+}

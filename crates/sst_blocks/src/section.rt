@@ -1,0 +1,254 @@
+//! The sections of a table's bytes, and the trailer that says where they lie.
+ghost use Rattle.std.specs.Prelude.{◌≡◌, ◌++◌, ◌∷◌, [], ℕ, ◌<◌, ◌^◌, length, IfOk, IfErr, OnOk};
+ghost use Rattle.std.specs.Prelude.{OnErr, All};
+ghost use Rattle.std.specs.List.{flat_map};
+ghost use Rattle.sst_blocks.specs.Fnv.{fnv1a};
+ghost use Rattle.sst_blocks.specs.Number.{le8};
+ghost use Rattle.sst_blocks.specs.Sections.{AreAscending, ReadsBack, Written, finished};
+ghost use Rattle.sst_blocks.specs.Sections.{slot_index, section_names, section_of, slot};
+ghost use Rattle.sst_blocks.specs.Sections.{trailer_mark};
+ghost use Rattle.sst_entries.specs.declared.error.Error.TheVariants.{OutOfMemory};
+
+use crate::Checksum;
+use crate::fnv::{Fnv1a, update_both};
+use crate::number::put_u64;
+use sst_entries::{Error, Slice};
+use std::alloc::{Allocator, Global};
+use std::marker::Model;
+
+/// A section of a table's bytes.
+#[derive(Clone, Copy, Debug, PartialEq, Eq)]
+pub enum SectionName {
+    /// The data blocks.
+    Data,
+    /// The partitions of a partitioned index.
+    Index,
+    /// The top level of the index, or the whole of it.
+    Tli,
+    /// The full filter, or the partitions of a partitioned one.
+    Filter,
+    /// The top level of a partitioned filter.
+    FilterTli,
+    /// The version of the table, in one byte.
+    TableVersion,
+    /// The meta block.
+    Meta,
+}
+
+impl SectionName {
+    /// The section's place in the trailer.
+    pub fn place(self) -> usize
+        ensures { result ≡ slot_index self }
+    {
+        self as usize
+    }
+}
+
+/// Where a section lies: its position and its length, both in bytes.
+#[derive(Clone, Copy, Debug, PartialEq, Eq)]
+pub struct Section {
+    /// Where it begins.
+    pub position: u64,
+    /// How long it is.
+    pub len: u64,
+}
+
+/// The names in the order of the trailer.
+const NAMES: [SectionName; 7] = [
+    SectionName::Data,
+    SectionName::Index,
+    SectionName::Tli,
+    SectionName::Filter,
+    SectionName::FilterTli,
+    SectionName::TableVersion,
+    SectionName::Meta,
+];
+
+/// What a trailer ends with.
+pub const TRAILER_MARK: [u8; 8] = *b"LSMTSEC1";
+
+/// The length of a trailer in bytes: seven slots of sixteen, and the mark.
+pub const TRAILER_LEN: usize = 120;
+
+/// Writes the sections of a table one after another, and the trailer behind them.
+#[derive(Drop)]
+pub struct SectionWriter<A: Allocator = Global> {
+    bytes: Vec<u8, A>,
+    started: Vec<(SectionName, u64), A>,
+    // The table's checksum lags behind the bytes: those of a block are hashed in the loop that
+    // hashes the next block's payload, where they cost nothing.
+    hash: Fnv1a,
+    hashed: usize,
+}
+
+impl<A: Allocator> Model for SectionWriter<A> {
+    ghost use Rattle.std.specs.Prelude.{◌≡◌, ◌≤◌, length, take, vec_len};
+    ghost use Rattle.sst_blocks.specs.Fnv.{fnv1a};
+    ghost use Rattle.sst_blocks.specs.Sections.{AreAscending, Written};
+
+    ghost Value = { Written };
+
+    ghost view = { λ w. record { bytes = w.bytes.items; started = w.started.items } };
+
+    ghost invariant = { λ w. (w.hashed ≤ vec_len w.bytes)
+        × (w.hash.0 ≡ fnv1a (take w.hashed w.bytes.items))
+        × AreAscending (length w.bytes.items) w.started.items };
+}
+
+impl<A: Allocator + Clone> SectionWriter<A> {
+    /// No bytes, and no section. Refused [`Error::OutOfMemory`] where the allocator does not clone.
+    pub fn new(alloc: A) -> Result<SectionWriter<A>, Error>
+        ensures ok { IfOk result (λ w. w ≡ record { bytes = []; started = [] }) }
+        ensures err { IfErr result (λ e. e ≡ OutOfMemory) }
+    {
+        let started = Vec::new(alloc.clone()?);
+        Ok(SectionWriter {
+            bytes: Vec::new(alloc),
+            started,
+            hash: Fnv1a::new(),
+            hashed: 0,
+        })
+    }
+
+    /// Begins a section at the position reached. Refused [`Error::OutOfMemory`]; nothing changes
+    /// then.
+    #[tactic(auto, using(crate::proofs::SectionLaws::ascending_start))]
+    pub fn start(&mut self, name: SectionName) -> Result<(), Error>
+        requires { All (λ s. slot_index s.0 ≡ slot_index name → ⊥) self.old.started }
+        ensures ok { let started = self.old.started ++ (name, length self.old.bytes) ∷ [] in
+            OnOk result (self.new ≡ record self.old { started = started }) }
+        ensures unchanged { OnErr result (self.new ≡ self.old) }
+        ensures err { IfErr result (λ e. e ≡ OutOfMemory) }
+    {
+        let position = self.position();
+        self.started.push((name, position))?;
+        Ok(())
+    }
+
+    /// Writes bytes at the end. Refused [`Error::OutOfMemory`]; nothing changes then.
+    pub fn append(&mut self, bytes: &[u8]) -> Result<(), Error>
+        ensures ok { let longer = self.old.bytes ++ bytes.now in
+            OnOk result (self.new ≡ record self.old { bytes = longer }) }
+        ensures unchanged { OnErr result (self.new ≡ self.old) }
+        ensures err { IfErr result (λ e. e ≡ OutOfMemory) }
+    {
+        self.bytes.extend_from_slice(bytes)?;
+        Ok(())
+    }
+
+    /// How many bytes were written.
+    pub fn position(&self) -> u64
+        ensures { result ≡ length self.now.bytes }
+    {
+        self.bytes.len() as u64
+    }
+
+    /// The bytes with their trailer, and the checksum of them all. Refused [`Error::OutOfMemory`]
+    /// alone.
+    pub fn finish(self) -> Result<(Slice<A>, Checksum), Error>
+        ensures bytes { IfOk result (λ x. x.0 ≡ finished self) }
+        ensures checksum { IfOk result (λ x. x.1.0 ≡ fnv1a (finished self)) }
+        ensures reads { IfOk result (λ x. ReadsBack self x.0) }
+        ensures err { IfErr result (λ e. e ≡ OutOfMemory) }
+    {
+        let mut bytes = self.bytes;
+        let mut hash = self.hash;
+        let end = bytes.len() as u64;
+        put_trailer(&mut bytes, end, &self.started)?;
+        hash.update(&bytes[self.hashed..]);
+        let checksum = Checksum(u128::from(hash.finish()));
+        Ok((Slice::from_vec(bytes)?, checksum))
+    }
+
+    /// Writes two runs of bytes at the end, one after the other. Refused [`Error::OutOfMemory`];
+    /// nothing changes then.
+    pub fn append_both(&mut self, front: &[u8], back: &[u8]) -> Result<(), Error>
+        ensures ok { let bytes = self.old.bytes ++ front.now ++ back.now in
+            OnOk result (self.new ≡ record self.old { bytes = bytes }) }
+        ensures unchanged { OnErr result (self.new ≡ self.old) }
+        ensures err { IfErr result (λ e. e ≡ OutOfMemory) }
+    {
+        self.bytes.reserve(front.len() + back.len())?;
+        self.bytes.extend_from_slice(front)?;
+        self.bytes.extend_from_slice(back)?;
+        Ok(())
+    }
+
+    /// The checksum of some bytes. The table's own checksum takes in, in the same loop, the bytes
+    /// that it lags behind.
+    pub fn checksum_of(&mut self, bytes: &[u8]) -> u64
+        ensures value { result ≡ fnv1a bytes.now }
+        ensures unchanged { self.new ≡ self.old }
+    {
+        let mut checksum = Fnv1a::new();
+        update_both(
+            &mut self.hash,
+            &self.bytes[self.hashed..],
+            &mut checksum,
+            bytes,
+        );
+        self.hashed = self.bytes.len();
+        checksum.finish()
+    }
+}
+
+/// A law of tables' bytes: the sections that a writer began, each behind the one before it, are
+/// read back from what it finished. The call does nothing.
+pub fn finished_sections_read()
+    ensures { (w : Written) → AreAscending (length w.bytes) w.started → length w.bytes < 2 ^ 64 →
+        ReadsBack w (finished w) }
+{}
+
+/// Where a section lies among those that were started, of which the last reaches up to `end`.
+fn section_of(end: u64, started: &[(SectionName, u64)], name: SectionName) -> Option<Section>
+    ensures { result ≡ section_of end started.now name }
+{
+    for (i, (begun, position)) in started.iter().enumerate() {
+        if begun.place() == name.place() {
+            let next = if i + 1 < started.len() {
+                started[i + 1].1
+            } else {
+                end
+            };
+            return Some(Section {
+                position: *position,
+                // Sections begin one behind the other, so that nothing is cut off here.
+                len: next.saturating_sub(*position),
+            });
+        }
+    }
+    None
+}
+
+/// Writes what the trailer says of a section.
+fn put_slot<A: Allocator>(bytes: &mut Vec<u8, A>, section: Option<Section>) -> Result<(), Error>
+    ensures ok { OnOk result (bytes.new.items ≡ bytes.old.items ++ slot section) }
+    ensures err { IfErr result (λ e. e ≡ OutOfMemory) }
+{
+    match section {
+        None => bytes.extend_from_slice(&[0xff; 16])?,
+        Some(section) => {
+            put_u64(bytes, section.position)?;
+            put_u64(bytes, section.len)?;
+        }
+    }
+    Ok(())
+}
+
+/// Writes the trailer of a body of `end` bytes.
+fn put_trailer<A: Allocator>(
+    bytes: &mut Vec<u8, A>,
+    end: u64,
+    started: &[(SectionName, u64)],
+) -> Result<(), Error>
+    ensures ok { let at = section_of end started.now in
+        let slots = flat_map (λ name. slot (at name)) section_names in
+        OnOk result (bytes.new.items ≡ bytes.old.items ++ (slots ++ trailer_mark)) }
+    ensures err { IfErr result (λ e. e ≡ OutOfMemory) }
+{
+    for name in NAMES {
+        put_slot(bytes, section_of(end, started, name))?;
+    }
+    bytes.extend_from_slice(&TRAILER_MARK)?;
+    Ok(())
+}

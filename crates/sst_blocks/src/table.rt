@@ -1,0 +1,13 @@
+//! What a table is: its id, its label and options, and the items of its meta block. Writers and
+//! readers stand on it.
+mod id;
+mod item_name;
+mod label;
+mod options;
+mod timestamp;
+
+pub use id::{GlobalTableId, TableId, TreeId};
+pub use item_name::{FILTER_HASH_TYPE, ItemName};
+pub use label::Label;
+pub use options::{FilterKind, IndexKind, Options};
+pub use timestamp::Timestamp;

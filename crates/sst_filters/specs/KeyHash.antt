@@ -1,7 +1,0 @@
--- The hash of keys that filters are built and asked by.
-use Rattle.std.specs.Prelude.{ℕ, List}
-use Rattle.sst_sections.specs.Fnv.{fnv1a}
-
--- FNV-1a in 64 bits
-abbrev pub hash_of : List ℕ → ℕ
-hash_of key = fnv1a key

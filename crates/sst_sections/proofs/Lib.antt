@@ -1,4 +1,0 @@
-pub mod Numbers
-pub mod FnvLemmas
-pub mod TrailerLemmas
-pub mod SectionLaws

@@ -1,7 +1,0 @@
-use Rattle.std.proofs.Common.{◌≡◌, drop}
-use Rattle.sst_sections.specs.Sections.{section_of}
-use Rattle.sst_sections.proofs.section.section_of.Given as goal
-
-abbrev pub invariant-loop-i : goal.invariant-loop-i
-invariant-loop-i l =
-    section_of l.end l.started l.name ≡ section_of l.end (drop l.i l.started) l.name

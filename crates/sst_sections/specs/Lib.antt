@@ -1,4 +1,0 @@
-pub mod Number
-pub mod Version
-pub mod Fnv
-pub mod Sections

@@ -1,4 +1,0 @@
-use Rattle.test_lent.proofs.lists.lent_list.Goals as goal
-
-pub returns : goal.returns
-returns c = record { can = record { at = λ ends rs t runs. (tt, tt) } }
