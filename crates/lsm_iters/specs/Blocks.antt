@@ -1,4 +1,4 @@
--- The data blocks of a range that are not loaded, as parts of a walk.
+-- The unloaded data blocks of a range, as parts of a double-ended iteration.
 use Rattle.std.specs.Prelude.{◌≡◌, true, List, [], ◌∷◌, map, Option, Result, Ok, Err}
 use Rattle.sst_blocks.specs.declared.block_type.BlockType.TheVariants.{Data}
 use Rattle.sst_blocks.specs.declared.opened.Opened.{Opened}
@@ -21,23 +21,22 @@ use Rattle.lsm_iters.specs.Lending.{behind_in, lent_in}
 use Rattle.lsm_iters.specs.Lift.{lifted}
 use Rattle.lsm_iters.specs.Steps.{all_over}
 
--- what is read within which bounds, what the index still deals, and how many blocks were loaded
+-- The range's bytes and bounds, its handles left, and its load counts.
 pub record Blocks (A : Type 0) : Type 0 where
   pub of : Bounded
   pub handles : Handles A
   pub opened : Opened
 
--- the entries of a loaded block that lie within the bounds, as they are stored; or the one error of
--- loading it
+-- The entries of a loaded block within the bounds, as stored, or the one error of loading it.
 abbrev pub stored_in : Bounded → Result Loaded Error → List (Result Entry Error)
 stored_in b (Ok block) = ok_results (within b.low b.high (entries_of block))
 stored_in b (Err e) = Err e ∷ []
 
--- those of the block that a handle names
+-- The entries of the block that a handle names.
 abbrev pub stored_rows : Bounded → Handle → List (Result Entry Error)
 stored_rows b h = stored_in b (load_told b.body h.offset h.size Data)
 
--- that block, or the error that the index has in a handle's place
+-- The block of a handle, or the index's error instead.
 abbrev pub block_named : Bounded → Result Handle Error → Result (Loading Entry) Error
 block_named b (Ok h) = Ok (record {
   results = stored_rows b h;
@@ -45,14 +44,14 @@ block_named b (Ok h) = Ok (record {
 })
 block_named b (Err e) = Err e
 
--- the blocks that are to come
+-- The blocks that are not loaded yet.
 abbrev pub coming_blocks : {A : Type 0} → Blocks A → Coming Entry
 coming_blocks b = record {
   parts = map (block_named b.of) (left_in b.handles).results;
   loads = (left_in b.handles).loads;
 }
 
--- what one load keeps: it is counted, and so are those of the index
+-- One load counts itself and the index loads, and keeps the bytes, the bounds and the index.
 pub record KeepsBlocks {A : Type 0} (s : Blocks A) (named : Option (Result (Loading Entry) Error))
     (t : Blocks A) : Type 0 where
   pub of : t.of ≡ s.of
@@ -61,11 +60,11 @@ pub record KeepsBlocks {A : Type 0} (s : Blocks A) (named : Option (Result (Load
   pub counts : t.opened ≡ data_loaded (loads_in (named ∷ [])) s.opened
   pub loads : CountsLoads (left_in s.handles) (left_in t.handles)
 
--- none is to come any more
+-- No block is left to load.
 abbrev pub EndsBlocks : {A : Type 0} → Blocks A → Blocks A → Type 0
 EndsBlocks s t = t ≡ record s { handles = all_over s.handles }
 
--- a walk over them is a range, by the entry that it lends
+-- An iteration over blocks is a range, given the entry that it lends.
 abbrev pub range_lending : {A : Type 0} → Walk (Blocks A) Cursor → Option Entry → Range A
 range_lending w lent = record {
   of = w.parts.of;
@@ -76,14 +75,14 @@ range_lending w lent = record {
   lent = lent;
 }
 
--- that of the block at an end, its number lifted
+-- The current entry of the block at an end, global seqno applied.
 abbrev pub lent_at : {A : Type 0} → Direction → Walk (Blocks A) Cursor → Option Entry
 lent_at at w = option_map (lifted w.parts.of.global_seqno) (lent_in (near at w))
 
--- the range that an end of a walk lends of
+-- The range that lends from one end of an iteration.
 abbrev pub range_at : {A : Type 0} → Direction → Walk (Blocks A) Cursor → Range A
 range_at at w = range_lending w (lent_at at w)
 
--- a walk with the blocks that are loaded at its ends swapped
+-- An iteration with its two loaded blocks swapped.
 abbrev pub swapped : {A : Type 0} → Walk (Blocks A) Cursor → Walk (Blocks A) Cursor
 swapped w = record { parts = w.parts; front = w.back; back = w.front }

@@ -12,11 +12,11 @@ use Rattle.lsm_iters.specs.Range.{Range, RangeGives, next_at}
 
 -- ---- a loaded block
 
--- what is left of it, for which nothing is loaded
+-- The entries left of a loaded block, without loads.
 abbrev pub cursor_remains : Cursor → Remains Entry
 cursor_remains c = record { results = ok_results c.behind; loads = 0 }
 
--- where a block is loaded, the entry that is lent of it, and those that are left
+-- The current entry of an optional block, and the entries left of it.
 abbrev pub lent_in : Option Cursor → Option Entry
 lent_in None = None
 lent_in (Some c) = c.lent
@@ -25,14 +25,14 @@ abbrev pub behind_in : Option Cursor → List Entry
 behind_in None = []
 behind_in (Some c) = c.behind
 
--- one step of it at an end: what stands there is lent, and the others are left
+-- One step at an end of a block: the entry there becomes current, and the others are left.
 abbrev pub LendsAt : Direction → Option Cursor → Option Cursor → Type 0
 LendsAt at s t = (lent_in t, behind_in t) ≡ taken_at at (behind_in s)
 
 -- ---- the range
 
--- one step at an end: as one call there; and once the edges were sought, the next entry of the
--- block that is loaded there comes, or its fault, whatever memory there is
+-- One lending step at an end, with the result of an iterator step. Once the edges are sought, an
+-- entry left of the block loaded there always comes, or its overflow error.
 pub record RangeLendsAt {A : Type 0} (at : Direction) (s : Range A)
     (r : Option (Result Entry Error)) (t : Range A) : Type 0 where
   pub gives : RangeGives (taken_at at) (next_at at) s r t
@@ -40,6 +40,6 @@ pub record RangeLendsAt {A : Type 0} (at : Direction) (s : Range A)
       → (taken_at at (next_at at s).entries).0 ≡ Some e
       → r ≡ Some (lifted_told s.of.global_seqno e)
 
--- at the front
+-- A lending step at the front.
 abbrev pub RangeLends : {A : Type 0} → Range A → Option (Result Entry Error) → Range A → Type 0
 RangeLends s r t = RangeLendsAt Front s r t

@@ -1,24 +1,24 @@
--- Entries with the global number of their table added.
+-- Applying a table's global sequence number to entries.
 use Rattle.std.specs.Prelude.{ℕ, ◌+◌, ◌-◌, ◌^◌, nat_lt, List, map, Result, Ok, Err, if◌then◌else◌}
 use Rattle.sst_entries.specs.declared.error.Error.{Error}
 use Rattle.sst_entries.specs.declared.error.Error.TheVariants.{SeqNoOverflow}
 use Rattle.sst_entries.specs.Entry.{Entry}
 
--- an entry, and a list, with the global number added to each stored number
+-- An entry, and a list, with the global seqno added to each stored one.
 abbrev pub lifted : ℕ → Entry → Entry
 lifted g e = record e { seqno = e.seqno + g }
 
 abbrev pub lift : List Entry → ℕ → List Entry
 lift es g = map (lifted g) es
 
--- a stored number with the global number added, where the sum fits
+-- A stored seqno with the global one added, or `SeqNoOverflow`.
 abbrev pub number_told : ℕ → ℕ → Result ℕ Error
 number_told g n = if nat_lt (2 ^ 64 - 1) (n + g) then Err SeqNoOverflow else Ok (n + g)
 
--- the same of an entry
+-- An entry with the global seqno added, or `SeqNoOverflow`.
 abbrev pub lifted_told : ℕ → Entry → Result Entry Error
 lifted_told g e = if nat_lt (2 ^ 64 - 1) (e.seqno + g) then Err SeqNoOverflow else Ok (lifted g e)
 
--- a list of them
+-- A list of entries with the global seqno added to each.
 abbrev pub lift_told : ℕ → List Entry → List (Result Entry Error)
 lift_told g es = map (lifted_told g) es

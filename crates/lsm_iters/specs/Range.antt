@@ -1,4 +1,4 @@
--- What an iterator over a range of a table still deals, and one call of it.
+-- The results left of a range iterator, and one step of it.
 use Rattle.std.specs.Prelude.{◌≡◌, ℕ, zero, suc, ◌+◌, ◌≤◌, Bool, true, false, List, [], ◌∷◌, ◌++◌}
 use Rattle.std.specs.Prelude.{length, reverse, Option, Some, None, Result, Ok, Err, MatchOption}
 use Rattle.std.specs.Prelude.{MatchResult, if◌then◌else◌}
@@ -23,13 +23,13 @@ use Rattle.lsm_iters.specs.Bounds.{lower_edge, upper_edge}
 use Rattle.lsm_iters.specs.Lift.{lift_told}
 use Rattle.lsm_iters.specs.Rows.{Bounded, block_rows, handle_rows, rows}
 
--- the iterator of an index, whether its edges were sought, and whether all is over
+-- An index iterator, whether its edges were sought, and whether it was ended.
 pub record Handles (A : Type 0) : Type 0 where
   pub iter : BlockIndexIterImpl A
   pub sought : Bool
   pub ended : Bool
 
--- what it still deals: nothing once all is over
+-- The handles that it still yields: none once it was ended.
 abbrev pub none_left : Left → Left
 none_left l = record l { results = []; loads = 0 }
 
@@ -40,9 +40,8 @@ left_unless false l = l
 abbrev pub left_in : {A : Type 0} → Handles A → Left
 left_in h = left_unless h.ended (left_of h.iter)
 
--- what it reads within which bounds, what its index still deals, the entries within the bounds that
--- are left of the blocks loaded at the front and at the back, how many blocks it loaded beside its
--- index, and the entry that it lends
+-- A range: its bytes and bounds, the handles left, and the entries left of the blocks loaded at
+-- each end. Also its counts of data loads, and the entry that it lends.
 pub record Range (A : Type 0) : Type 0 where
   pub of : Bounded
   pub handles : Handles A
@@ -51,7 +50,7 @@ pub record Range (A : Type 0) : Type 0 where
   pub opened : Opened
   pub lent : Option Entry
 
--- before a bound is set
+-- A range before any bound is set.
 abbrev pub new_range : {A : Type 0} → List ℕ → ℕ → BlockIndexIterImpl A → Range A
 new_range body g iter = record {
   of = record { body = body; global_seqno = g; low = Unbounded; high = Unbounded };
@@ -62,12 +61,11 @@ new_range body g iter = record {
   lent = None;
 }
 
--- whether the edges of its index were sought
+-- The range with the flag that the edges were sought.
 abbrev pub with_sought : {A : Type 0} → Bool → Range A → Range A
 with_sought sought s = record s { handles = record s.handles { sought = sought } }
 
--- the handles of the blocks that are not loaded; before the first step those that the index has
--- between two edges
+-- The handles of the unloaded blocks; before the first step, those between the bounds' edges.
 abbrev pub to_seek : {A : Type 0} → Handles A → Option (List ℕ × ℕ) → Option (List ℕ)
     → List (Result Handle Error)
 to_seek h low high = if h.sought then (left_in h).results else (left_in h).index.told low high
@@ -75,46 +73,42 @@ to_seek h low high = if h.sought then (left_in h).results else (left_in h).index
 abbrev pub to_come : {A : Type 0} → Range A → List (Result Handle Error)
 to_come s = to_seek s.handles (lower_edge s.of.low) (upper_edge s.of.high)
 
--- and how many blocks of the index are loaded for them at most
+-- A bound on the index blocks loaded for them.
 abbrev pub index_to_seek : {A : Type 0} → Handles A → Option (List ℕ × ℕ) → Option (List ℕ) → ℕ
 index_to_seek h low high = if h.sought then (left_in h).loads else (left_in h).index.loads low high
 
 abbrev pub index_to_come : {A : Type 0} → Range A → ℕ
 index_to_come s = index_to_seek s.handles (lower_edge s.of.low) (upper_edge s.of.high)
 
--- the results still to be dealt
+-- The results left: entries of the front block, of the unloaded blocks and of the back block.
 abbrev pub range_left : {A : Type 0} → Range A → List (Result Entry Error)
 range_left s =
     let g = s.of.global_seqno in
     lift_told g s.front ++ (rows s.of (to_come s) ++ lift_told g s.back)
 
--- how many loads may be made for them: of data blocks, of the index, and one for the search of its
--- edges
+-- A bound on the loads left: data blocks, index blocks, and one for seeking the edges.
 abbrev pub range_loads : {A : Type 0} → Range A → ℕ
 range_loads s = length (to_come s) + index_to_come s + (if s.handles.sought then 0 else 1)
 
--- a bound on the answers that are left
+-- A bound on the results and loads left.
 abbrev pub range_size : {A : Type 0} → Range A → ℕ
 range_size s = length (range_left s) + range_loads s
 
--- the results still to be dealt, and how many loads may be made for them, as what is left of a part
--- of a walk
+-- The results and loads left, as those of a part.
 abbrev pub range_remains : {A : Type 0} → Range A → Remains Entry
 range_remains s = record { results = range_left s; loads = range_loads s }
 
--- nothing more comes, and nothing is loaded
+-- No result and no load is left.
 abbrev pub IsEndedRange : {A : Type 0} → Range A → Type 0
 IsEndedRange s = range_size s ≡ 0
 
--- how many of the blocks of these handles, the next one first, an end loads for its answer: those
--- up to the first that has an item
+-- The number of blocks an end loads for its next result: those up to the first with an item.
 abbrev pub blocks_needed : Bounded → List (Result Handle Error) → ℕ
 blocks_needed b [] = 0
 blocks_needed b (Ok h ∷ hs) = suc (none_behind (block_rows b h) (blocks_needed b hs))
 blocks_needed b (Err e ∷ hs) = 0
 
--- the fault of a block that is found before memory is taken, and of the first of some blocks that
--- has an item
+-- A block's error that precedes allocation, and that of the first blocks up to one with an item.
 abbrev pub handle_early : Bounded → Result Handle Error → Option Error
 handle_early b (Ok h) = place_fault b.body h.offset h.size Data
 handle_early b (Err e) = None
@@ -124,8 +118,7 @@ blocks_early b [] = None
 blocks_early b (x ∷ hs) = option_or (handle_early b x)
     (early_behind (handle_rows b x) (blocks_early b hs))
 
--- what stands next at an end: the entries of the block that is loaded there, and then the handles
--- to come, the next one first
+-- The next items of an end: the entries of the block loaded there, then the handles in that order.
 pub record Next : Type 0 where
   pub entries : List Entry
   pub handles : List (Result Handle Error)
@@ -140,25 +133,25 @@ abbrev pub next_at : {A : Type 0} → Direction → Range A → Next
 next_at Front s = front_next s
 next_at Back s = back_next s
 
--- how many blocks an answer needs there: none where an entry of a loaded block stands there
+-- The number of blocks that a step at an end needs: none if the block loaded there has an entry.
 abbrev pub blocks_for : Bounded → Next → ℕ
 blocks_for b n = none_behind n.entries (blocks_needed b n.handles)
 
--- the fault that stands there and is found before memory is taken
+-- The error at an end that precedes allocation.
 abbrev pub early_for : Bounded → Next → Option Error
 early_for b n = early_behind n.entries (blocks_early b n.handles)
 
--- the counts after so many loads of data blocks
+-- The counts after a number of data block loads.
 abbrev pub data_loaded : ℕ → Opened → Opened
 data_loaded zero o = o
 data_loaded (suc n) o = with_load Data (data_loaded n o)
 
--- how many blocks of each kind were loaded
+-- The counts of loaded blocks of each kind.
 abbrev pub opened_in : {A : Type 0} → Range A → Opened
 opened_in s = record (left_in s.handles).opened { data_loads = s.opened.data_loads }
 
--- an answer at an end: the result that stands there, and the others are left; nothing, where
--- nothing is left; want of memory stands in the place of any answer, except once all is over
+-- One result at an end: the item there, or `None` if nothing is left. An allocation failure may
+-- replace any result, unless everything is over.
 abbrev pub RangeAnswer : {A : Type 0} → (List (Result Entry Error)
     → Option (Result Entry Error) × List (Result Entry Error)) → Range A
     → Option (Result Entry Error) → Range A → Type 0
@@ -167,7 +160,7 @@ RangeAnswer end s (Some (Ok e)) t = end (range_left s) ≡ (Some (Ok e), range_l
 RangeAnswer end s (Some (Err e)) t =
     (is_memory e ≡ false → (end (range_left s)).0 ≡ Some (Err e)) × (IsEndedRange s → ⊥)
 
--- each block that a call loads is counted, is among those to come, and is needed for the answer
+-- A step counts each block that it loads. It loads only blocks that are left and needed.
 pub record CountsBlocks {A : Type 0} (needed : ℕ) (s t : Range A) : Type 0 where
   pub blocks : ℕ
   pub counts : t.opened ≡ data_loaded blocks s.opened
@@ -177,13 +170,12 @@ pub record CountsBlocks {A : Type 0} (needed : ℕ) (s t : Range A) : Type 0 whe
   pub index_counts : (left_in t.handles).opened ≡ with_index_loads index (left_in s.handles).opened
   pub index_within : index + index_to_come t ≤ index_to_come s
 
--- an entry that is lent after a call is the one that the call gave
+-- An entry lent after a call is the one that the call returned.
 abbrev pub LendsOn : Option (Result Entry Error) → Option Entry → Type 0
 LendsOn r lent = (e : Entry) → lent ≡ Some e → r ≡ Some (Ok e)
 
--- one call at an end; an error ends the iterator; it loads the blocks that it needs, and no more
--- where it wants memory; where all of them were loaded, a fault that needs no memory to be found
--- comes before any want of it
+-- One step at an end, which an error ends. It loads the blocks that it needs, or fewer on an
+-- allocation failure. Once all are loaded, an error that precedes allocation is returned.
 pub record RangeGives {A : Type 0} (end : List (Result Entry Error)
     → Option (Result Entry Error) × List (Result Entry Error)) (next : Range A → Next) (s : Range A)
     (r : Option (Result Entry Error)) (t : Range A) : Type 0 where

@@ -1,4 +1,4 @@
--- The words of the contracts of ranges, from one place.
+-- The definitions that contracts of ranges cite.
 pub use Rattle.sst_entries.specs.Point.{lower_place, upper_place, within}
 pub use Rattle.sst_entries.specs.Span.{SpanGives, rest_in}
 pub use Rattle.sst_entries.specs.Lending.{came}

@@ -12,7 +12,8 @@ use sst_entries::Direction;
 use std::alloc::Allocator;
 use std::marker::Model;
 
-/// The entries of a loaded block within bounds, from both ends, as a part of a walk.
+/// A double-ended cursor over the entries of a loaded block within bounds; a part of a
+/// [`crate::Walk`].
 #[derive(Drop)]
 pub struct BlockCursor<A: Allocator> {
     cursor: DataBlockCursor<A>,
@@ -27,7 +28,9 @@ impl<A: Allocator> Model for BlockCursor<A> {
 }
 
 impl<A: Allocator> BlockCursor<A> {
-    /// The entries of a block between two places.
+    /// Returns a cursor over the entries from index `from` to before index `to`.
+    ///
+    /// `to` must not exceed the number of entries.
     pub fn new(block: DataBlock<A>, from: usize, to: usize) -> BlockCursor<A>
         requires { to ≤ length block }
         ensures { result ≡ cursor_of (slice_range block from to) }
@@ -37,7 +40,7 @@ impl<A: Allocator> BlockCursor<A> {
         }
     }
 
-    /// Moves to the entry at an end of what is left, and answers whether there is one.
+    /// Moves to the next entry at an end and returns whether there is one.
     #[inline(always)]
     pub fn move_to(&mut self, at: Direction) -> bool
         ensures taken { (self.new.lent, self.new.behind) ≡ taken_at at self.old.behind }
@@ -49,7 +52,7 @@ impl<A: Allocator> BlockCursor<A> {
         }
     }
 
-    /// The entry that is lent.
+    /// Returns the current entry, borrowed from the block.
     #[inline(always)]
     pub fn entry(&self) -> Option<EntryRef<'_>>
         ensures { option_map entry_of_ref result ≡ self.now.lent }
@@ -57,8 +60,13 @@ impl<A: Allocator> BlockCursor<A> {
         self.cursor.entry()
     }
 
-    /// The entry that is lent, whose key and value share the block's memory. Refused
-    /// [`Error::OutOfMemory`] alone.
+    /// Returns the current entry; its key and value share the block's memory.
+    ///
+    /// There must be a current entry.
+    ///
+    /// # Errors
+    ///
+    /// [`Error::OutOfMemory`] only.
     #[inline(always)]
     pub fn share(&self) -> Result<InternalValue<A>, Error>
         requires { is_some self.now.lent ≡ true }
@@ -68,7 +76,7 @@ impl<A: Allocator> BlockCursor<A> {
         self.cursor.share()
     }
 
-    /// Lends nothing until it moves.
+    /// Clears the current entry until the next move.
     #[inline(always)]
     pub fn unlend(&mut self)
         ensures { self.new ≡ unlent self.old }

@@ -1,4 +1,4 @@
-//! Block indexes of sorted tables: from keys to the handles of data blocks, over any bytes.
+//! Block indexes of sorted tables: from keys to the handles of data blocks, for any bytes.
 mod edges;
 mod full;
 mod iter;

@@ -1,4 +1,4 @@
-//! The data blocks of a table that are not loaded.
+//! The data blocks of a table that are not loaded yet.
 ghost use Rattle.std.specs.Prelude.{◌≡◌, ◌∷◌, [], Err, IfErr, IfOk, OnErr, OnOk, false, true};
 ghost use Rattle.sst_entries.specs.Error.{is_memory};
 ghost use Rattle.sst_entries.specs.Stream.{ok_results};
@@ -17,7 +17,7 @@ use sst_entries::Direction;
 use std::alloc::Allocator;
 use std::marker::Model;
 
-/// The data blocks that an index still names, each cut to two bounds when it is loaded.
+/// The data blocks whose handles an index still yields; each is cut to two bounds when loaded.
 #[derive(Drop)]
 pub struct Blocks<A: Allocator> {
     pub source: BlockSource<A>,
@@ -47,8 +47,11 @@ impl<A: Allocator> Model for Blocks<A> {
 }
 
 impl<A: Allocator + Clone> Blocks<A> {
-    /// Seeks the edges of the bounds, where they were not sought yet. Refused
-    /// [`Error::OutOfMemory`] alone.
+    /// Seeks the bounds in the index, unless they were sought before.
+    ///
+    /// # Errors
+    ///
+    /// [`Error::OutOfMemory`] only.
     #[inline(always)]
     pub fn initialize(&mut self) -> Result<(), Error>
         ensures ok { let low = lower_edge self.old.of.low in
@@ -63,7 +66,7 @@ impl<A: Allocator + Clone> Blocks<A> {
         self.index.seek(&self.range.0, &self.range.1)
     }
 
-    /// How many blocks of each kind were loaded, those of the index among them.
+    /// Returns how many blocks of each kind were loaded, index blocks included.
     pub fn all_opened(&self) -> Opened
         ensures { let index = (left_in self.now.handles).opened in
             result ≡ record index { data_loads = self.now.opened.data_loads } }
@@ -73,7 +76,7 @@ impl<A: Allocator + Clone> Blocks<A> {
         opened
     }
 
-    /// The entries within the bounds of the block that a handle names.
+    /// Loads the block of a handle and returns its entries within the bounds.
     fn read(&mut self, handle: KeyedBlockHandle<A>) -> Result<BlockCursor<A>, Error>
         ensures ok { let of = self.old.of in
             IfOk result (λ c. ok_results c.behind ≡ stored_rows of handle) }
@@ -91,9 +94,9 @@ impl<A: Allocator + Clone> Blocks<A> {
         Ok(cut.into_cursor())
     }
 
-    /// Has the checksums of a block at the front and of the one behind it compared together, which
-    /// costs little more than its own alone; from the fifth block on, of the three behind it:
-    /// whoever took four blocks whole is likely to go on. No answer depends on it.
+    /// Compares the checksums of a front block and of the block after it together. This costs
+    /// little more than one comparison. From the fifth block on it compares three blocks ahead,
+    /// since a long scan is likely to continue. No result depends on it.
     fn look_ahead(&self, handle: &KeyedBlockHandle<A>, at: Direction) {
         if at == Direction::Front {
             let most = if self.opened.data_loads < 4 { 2 } else { 4 };

@@ -5,17 +5,17 @@ ghost use Rattle.lsm_iters.specs.Words.{key_of};
 use sst_blocks::UserKey;
 use std::alloc::{Allocator, Global};
 
-/// Where a range begins or ends, at a key.
+/// A key at which a range begins or ends.
 #[derive(Drop)]
 pub enum Bound<A: Allocator = Global> {
-    /// The key's entries lie in the range.
+    /// The range includes the key's entries.
     Included(UserKey<A>),
-    /// The key's entries lie beside the range.
+    /// The range excludes the key's entries.
     Excluded(UserKey<A>),
 }
 
 impl<A: Allocator> Bound<A> {
-    /// The key, which an index is sought with.
+    /// Returns the key, for a seek in the index.
     pub(crate) fn key(&self) -> &[u8]
         ensures { result.now ≡ key_of self.now }
     {

@@ -1,4 +1,4 @@
-//! The entries of a loaded block within bounds.
+//! Cutting a loaded block to bounds.
 ghost use Rattle.std.specs.Prelude.{◌≡◌};
 ghost use Rattle.std.specs.declared.ops.Bound.TheVariants.{Unbounded};
 ghost use Rattle.lsm_iters.specs.Words.{edge_in, rest_in, within};
@@ -7,7 +7,7 @@ use crate::{Bound, OwnedDataBlockIter};
 use sst_blocks::{DataBlock, SeqNo};
 use std::alloc::Allocator;
 
-/// The entries of a block from a lower bound on.
+/// Returns the entries of a block from a lower bound on.
 fn from_lower<A: Allocator>(block: DataBlock<A>, lower: &Option<Bound<A>>) -> OwnedDataBlockIter<A>
     ensures { rest_in result ≡ within (edge_in lower.now) Unbounded block }
 {
@@ -21,7 +21,7 @@ fn from_lower<A: Allocator>(block: DataBlock<A>, lower: &Option<Bound<A>>) -> Ow
     }
 }
 
-/// The entries of a block within two bounds.
+/// Returns the entries of a block within two bounds.
 pub fn cut<A: Allocator>(
     block: DataBlock<A>,
     lower: &Option<Bound<A>>,

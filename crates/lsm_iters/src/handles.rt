@@ -1,4 +1,4 @@
-//! The handles of the blocks that are not loaded.
+//! The handles of the blocks that are not loaded yet.
 ghost use Rattle.std.specs.Prelude.{◌≡◌, ◌↔◌, None, true, false, OnOk, OnErr, IfErr, List, ℕ};
 ghost use Rattle.std.specs.Prelude.{Option};
 ghost use Rattle.sst_entries.specs.declared.error.Error.TheVariants.{OutOfMemory};
@@ -13,8 +13,10 @@ use sst_entries::Direction;
 use std::alloc::Allocator;
 use std::marker::Model;
 
-/// The handles that an index still yields. Its edges are sought once, before its first step, unless
-/// an edge was sought or a step made before: then its handles are taken as they are.
+/// The handles that an index iterator still yields.
+///
+/// Its bounds are sought once, before the first step. An iterator that was already sought or
+/// advanced is used as it is.
 #[derive(Drop)]
 pub struct Handles<A: Allocator> {
     iter: BlockIndexIterImpl<A>,
@@ -35,7 +37,9 @@ impl<A: Allocator> Model for Handles<A> {
 }
 
 impl<A: Allocator + Clone> Handles<A> {
-    /// Of any index iterator. Its edges are to be sought where none was, and no step was made.
+    /// Takes over an index iterator in any state.
+    ///
+    /// Its bounds are still to be sought exactly if no bound was sought and no step was made.
     pub fn new(iter: BlockIndexIterImpl<A>) -> Handles<A>
         ensures is { result ≡ record { iter = iter; sought = result.sought; ended = false } }
         ensures unsought { (result.sought ≡ false) ↔ IsSought iter None None }
@@ -48,8 +52,13 @@ impl<A: Allocator + Clone> Handles<A> {
         }
     }
 
-    /// Seeks the edges of two bounds, where they were not sought yet. Refused
-    /// [`Error::OutOfMemory`] alone. Each step asks for it, and only the first seeks.
+    /// Seeks two bounds in the index, unless they were sought before.
+    ///
+    /// Each step calls it; only the first call seeks.
+    ///
+    /// # Errors
+    ///
+    /// [`Error::OutOfMemory`] only, and never with a pinned full index.
     #[inline(always)]
     pub fn seek(&mut self, lower: &Option<Bound<A>>, upper: &Option<Bound<A>>) -> Result<(), Error>
         ensures ok { let low = lower_edge (edge_in lower.now) in
@@ -58,7 +67,7 @@ impl<A: Allocator + Clone> Handles<A> {
         ensures none { LoadsNone (left_in self.old) (left_in self.new) }
         ensures sought { self.new.sought ≡ true }
         ensures once { OnErr result (self.old.sought ≡ false) }
-        // Over an index that stays loaded nothing is refused.
+        // A pinned full index never fails.
         ensures refused { OnErr result (TakesMemory self.old.iter) }
         ensures err { IfErr result (λ e. e ≡ OutOfMemory) }
     {
@@ -68,7 +77,7 @@ impl<A: Allocator + Clone> Handles<A> {
         self.seek_edges(lower, upper)
     }
 
-    // Seeks them, which were not sought yet.
+    // Out of line, since only the first step of a range seeks.
     #[inline(never)]
     fn seek_edges(
         &mut self,
@@ -89,7 +98,7 @@ impl<A: Allocator + Clone> Handles<A> {
         seek_upper(&mut self.iter, upper)
     }
 
-    /// Takes the handle at an end.
+    /// Takes the next handle at an end.
     pub fn take(&mut self, at: Direction) -> Option<Result<KeyedBlockHandle<A>, Error>>
         ensures gives { LeftGives (taken_at at) (left_in self.old) result (left_in self.new) }
         ensures sought { self.new.sought ≡ true }
@@ -104,7 +113,7 @@ impl<A: Allocator + Clone> Handles<A> {
         }
     }
 
-    /// Lets go what is left.
+    /// Drops the handles that are left.
     pub fn end(&mut self)
         ensures { self.new ≡ all_over self.old }
     {
@@ -112,7 +121,7 @@ impl<A: Allocator + Clone> Handles<A> {
         self.ended = true;
     }
 
-    /// How many blocks of each kind the index loaded.
+    /// Returns how many blocks of each kind the index iterator loaded.
     pub fn opened(&self) -> Opened
         ensures { result ≡ (left_in self.now).opened }
     {
@@ -120,7 +129,7 @@ impl<A: Allocator + Clone> Handles<A> {
     }
 }
 
-/// Seeks the edge of a lower bound, where there is one.
+/// Seeks a lower bound, if there is one.
 fn seek_lower<A: Allocator + Clone>(
     iter: &mut BlockIndexIterImpl<A>,
     lower: &Option<Bound<A>>,
@@ -138,7 +147,7 @@ fn seek_lower<A: Allocator + Clone>(
     }
 }
 
-/// Seeks the edge of an upper bound, where there is one.
+/// Seeks an upper bound, if there is one.
 fn seek_upper<A: Allocator + Clone>(
     iter: &mut BlockIndexIterImpl<A>,
     upper: &Option<Bound<A>>,

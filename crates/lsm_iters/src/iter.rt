@@ -21,24 +21,26 @@ use sst_entries::Direction;
 use std::alloc::{Allocator, Global};
 use std::marker::Model;
 
-/// The entries of a table that lie within two bounds, from both ends, their numbers with the global
-/// number added. It owns what it reads: a share of the table's bytes.
+/// A double-ended iterator over the entries of a table within two bounds.
 ///
-/// As an iterator it gives entries that share the table's bytes. It also lends them from there,
-/// from the front ([`Lending::advance`]) and from the back ([`Iter::advance_back`]). Then only
-/// seeking and loading a block take memory: the next entry of the block that is loaded at that
-/// end comes whatever memory there is. All go on from where the others stopped. An entry is lent
-/// until the next call at either end. Any entry that is lent is the one that the last call gave.
+/// It yields sequence numbers with the global sequence number added. It owns a share of the table's
+/// bytes.
 ///
-/// A data block is loaded where a step first needs it, once, and the index is sought by the first
-/// step. Where a block cannot be loaded its fault comes in the place of its entries, and
-/// [`Error::SeqNoOverflow`] in the place of an entry whose number passes `u64` with the global
-/// number added. After an error, [`Error::OutOfMemory`] among them, nothing more comes, from either
-/// end.
+/// As an iterator it yields entries that share the table's bytes. It also lends them, from the
+/// front ([`Lending::advance`]) and from the back ([`Iter::advance_back`]). Lending allocates only
+/// to seek and to load a block: within a loaded block the next entry never fails with
+/// [`Error::OutOfMemory`]. All methods continue from the same position. A lent entry is valid until
+/// the next call at either end. It is always the entry that the last call returned.
+///
+/// The first step seeks the bounds in the index. Each data block is loaded once, when a step first
+/// needs it. If a block cannot be loaded, it yields the error instead of the block's entries. If an
+/// entry's sequence number plus the global one exceeds `u64::MAX`, it yields
+/// [`Error::SeqNoOverflow`] instead. After an error, [`Error::OutOfMemory`] included, it is
+/// exhausted at both ends.
 #[derive(Drop)]
 pub struct Iter<A: Allocator = Global> {
     walk: RangeWalk<A>,
-    // The end that lends.
+    // The end of the current entry.
     end: Direction,
 }
 
@@ -53,18 +55,18 @@ impl<A: Allocator> Model for Iter<A> {
 
     ghost view = { λ i. range_at i.end i.walk };
 
-    // The number of the entry that is lent fits once it is lifted.
+    // The current entry's sequence number does not overflow with the global one added.
     ghost invariant = { λ i. MatchOption (lent_in (near i.end i.walk)) (Unit {0})
         (λ e. e.seqno + i.walk.parts.of.global_seqno < 2 ^ 64) };
 }
 
 impl<A: Allocator + Clone> Iter<A> {
-    /// The entries of the blocks that an index iterator yields, without bounds.
+    /// Returns an unbounded iterator over the entries of the blocks that an index iterator yields.
     ///
     /// The first step seeks the bounds in the index. An index iterator that was already sought or
-    /// advanced is not sought again: each block that it still yields is loaded, and entries outside
-    /// of the bounds are left out. Over an index that stays loaded, a seek that left no handle out
-    /// counts as none. Nothing is loaded yet.
+    /// advanced is not sought again. Then each block that it still yields is loaded, and entries
+    /// outside of the bounds are left out. With a pinned full index, a seek that dropped no handle
+    /// does not count. Nothing is loaded yet.
     ///
     /// # Errors
     ///
@@ -75,15 +77,15 @@ impl<A: Allocator + Clone> Iter<A> {
         index_iter: BlockIndexIterImpl<A>,
         compression: CompressionType,
     ) -> Result<Iter<A>, Error>
-        // Nothing is loaded and no bound is set, whatever was done to the index iterator.
+        // Nothing is loaded and no bound is set, in any state of the index iterator.
         ensures is { let range = new_range (body_of source.now) global_seqno index_iter in
             IfOk result (λ i. i ≡ with_sought i.handles.sought range) }
-        // It is to be sought exactly where no edge was sought and no step was made.
+        // The bounds are still to be sought exactly if no bound was sought and no step was made.
         ensures unsought { IfOk result
             (λ i. (i.handles.sought ≡ false) ↔ IsSought index_iter None None) }
         ensures whole { let range = new_range (body_of source.now) global_seqno index_iter in
             IsSought index_iter None None → IfOk result (λ i. i ≡ range) }
-        // Else its handles are those that the index iterator still yields.
+        // Otherwise its handles are those that the index iterator still yields.
         ensures rest { let range = new_range (body_of source.now) global_seqno index_iter in
             (IsSought index_iter None None → ⊥) → IfOk result (λ i. i ≡ with_sought true range) }
         ensures deals { let gives = ⟦<Iter<A> as Iterator>⟧.next_gives in
@@ -109,7 +111,9 @@ impl<A: Allocator + Clone> Iter<A> {
         })
     }
 
-    /// Leaves out what stands before a bound. It is to be set before the first step.
+    /// Leaves out the entries before a bound.
+    ///
+    /// It replaces an earlier lower bound. Call it before the first step.
     pub fn set_lower_bound(&mut self, bound: Bound<A>)
         ensures set { let of = record self.old.of { low = edge_of bound } in
             self.new ≡ record self.old { of = of } }
@@ -121,7 +125,9 @@ impl<A: Allocator + Clone> Iter<A> {
         drop(self.walk.parts.range.0.replace(bound));
     }
 
-    /// Leaves out what stands behind a bound. It is to be set before the first step.
+    /// Leaves out the entries after a bound.
+    ///
+    /// It replaces an earlier upper bound. Call it before the first step.
     pub fn set_upper_bound(&mut self, bound: Bound<A>)
         ensures set { let of = record self.old.of { high = edge_of bound } in
             self.new ≡ record self.old { of = of } }
@@ -133,15 +139,16 @@ impl<A: Allocator + Clone> Iter<A> {
         drop(self.walk.parts.range.1.replace(bound));
     }
 
-    /// How many blocks of each kind were loaded.
+    /// Returns how many blocks of each kind were loaded.
     pub fn opened(&self) -> Opened
         ensures { result ≡ opened_in self.now }
     {
         self.walk.parts.all_opened()
     }
 
-    /// Goes on to the next entry at the back and lends it, and returns whether there is one. It is
-    /// to the back what [`Lending::advance`] is to the front.
+    /// Advances to the next entry at the back, lends it, and returns whether there is one.
+    ///
+    /// It is the counterpart of [`Lending::advance`] at the back.
     ///
     /// # Errors
     ///
@@ -155,7 +162,7 @@ impl<A: Allocator + Clone> Iter<A> {
         self.go_on(Direction::Back)
     }
 
-    /// Lends nothing until the next call.
+    /// Clears the lent entry until the next call.
     pub fn unlend(&mut self)
         ensures { self.new ≡ without_lent self.old }
     {
@@ -165,7 +172,7 @@ impl<A: Allocator + Clone> Iter<A> {
         }
     }
 
-    /// Goes on to the next entry at an end, and returns whether there is one.
+    /// Advances to the next entry at an end and returns whether there is one.
     #[inline(always)]
     fn go_on(&mut self, at: Direction) -> Result<bool, Error>
         ensures goes { RangeLendsAt at self.old (came result self.new.lent) self.new }
@@ -182,8 +189,8 @@ impl<A: Allocator + Clone> Iter<A> {
         }
     }
 
-    /// The entry that is lent, whose key and value share the table's bytes. Refused
-    /// [`Error::OutOfMemory`] alone.
+    /// Returns the lent entry; its key and value share the table's bytes. Fails with
+    /// [`Error::OutOfMemory`] only.
     #[inline(always)]
     fn share(&self) -> IterItem<A>
         requires { is_some self.now.lent ≡ true }
@@ -195,7 +202,7 @@ impl<A: Allocator + Clone> Iter<A> {
         Ok(item)
     }
 
-    /// The answer at an end.
+    /// Returns the next item at an end.
     #[inline(always)]
     fn answer(&mut self, at: Direction) -> Option<IterItem<A>>
         ensures { RangeGives (taken_at at) (next_at at) self.old result self.new }
@@ -252,7 +259,7 @@ impl<A: Allocator + Clone> Lending for Iter<A> {
         self.go_on(Direction::Front)
     }
 
-    // Always inlined, as all that it calls: a merger asks for it at each comparison.
+    // Always inlined, with all that it calls: a merger calls it at each comparison.
     #[inline(always)]
     fn entry(&self) -> Option<EntryRef<'_>> {
         match entry_in(near(&self.walk, self.end)) {

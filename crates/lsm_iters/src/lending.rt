@@ -1,4 +1,4 @@
-//! One step of a range of a table that lends its entries, at either end.
+//! One step of a lending range of a table, at either end.
 ghost use Rattle.std.specs.Prelude.{◌≡◌, ◌+◌, ◌<◌, ◌^◌, Ok, Err, IfErr, IfOk, MatchOption, None};
 ghost use Rattle.std.specs.Prelude.{Option, Some, is_some, true};
 ghost use Rattle.std.specs.Option.{option_map};
@@ -21,7 +21,7 @@ use std::mem;
 /// The data blocks of a table that hold a range.
 pub(crate) type RangeWalk<A> = Walk<Blocks<A>, BlockCursor<A>>;
 
-// Moves to the entry at an end of a block, where one is loaded, and returns whether there is one.
+// Moves to the next entry at an end of a loaded block and returns whether there is one.
 #[inline(always)]
 fn move_in<A: Allocator>(part: &mut Option<BlockCursor<A>>, at: Direction) -> bool
     ensures moved { LendsAt at part.old part.new }
@@ -33,7 +33,7 @@ fn move_in<A: Allocator>(part: &mut Option<BlockCursor<A>>, at: Direction) -> bo
     }
 }
 
-// Moves to the next entry of the block that is loaded at an end, and returns whether there is one.
+// Moves to the next entry of the block loaded at an end and returns whether there is one.
 #[inline(always)]
 fn move_near<A: Allocator>(walk: &mut RangeWalk<A>, at: Direction) -> bool
     ensures is { walk.new ≡ with_near at walk.old (near at walk.new) }
@@ -46,7 +46,7 @@ fn move_near<A: Allocator>(walk: &mut RangeWalk<A>, at: Direction) -> bool
     }
 }
 
-// Puts a block that was loaded at an end, and lets go the one that was there.
+// Replaces the block loaded at an end.
 #[inline(always)]
 fn put<A: Allocator>(walk: &mut RangeWalk<A>, part: BlockCursor<A>, at: Direction)
     ensures { walk.new ≡ with_near at walk.old (Some part) }
@@ -57,8 +57,8 @@ fn put<A: Allocator>(walk: &mut RangeWalk<A>, part: BlockCursor<A>, at: Directio
     }
 }
 
-// Moves to the next entry of the block at the other end, where no other is left, and returns whether
-// there is one. The block comes to this end, since an end lends of its own block alone.
+// Moves to the next entry of the block at the other end and returns whether there is one. The
+// blocks are swapped, since an end lends only from its own block.
 fn move_far<A: Allocator>(walk: &mut RangeWalk<A>, at: Direction) -> bool
     ensures is { walk.new ≡ with_near at (swapped walk.old) (near at walk.new) }
     ensures moved { LendsAt at (far at walk.old) (near at walk.new) }
@@ -68,7 +68,7 @@ fn move_far<A: Allocator>(walk: &mut RangeWalk<A>, at: Direction) -> bool
     move_near(walk, at)
 }
 
-/// The entry that is lent of a block, where one is loaded, as it is stored.
+/// Returns the current entry of a loaded block, as stored.
 #[inline(always)]
 pub(crate) fn entry_in<A: Allocator>(part: &Option<BlockCursor<A>>) -> Option<EntryRef<'_>>
     ensures { option_map entry_of_ref result ≡ lent_in part.now }
@@ -79,7 +79,7 @@ pub(crate) fn entry_in<A: Allocator>(part: &Option<BlockCursor<A>>) -> Option<En
     }
 }
 
-/// That entry, whose key and value share the block's memory. Refused [`Error::OutOfMemory`] alone.
+/// Returns the current entry, sharing the block's memory. Fails with [`Error::OutOfMemory`] only.
 #[inline(always)]
 pub(crate) fn share_in<A: Allocator>(
     part: &Option<BlockCursor<A>>,
@@ -92,7 +92,7 @@ pub(crate) fn share_in<A: Allocator>(
     part.share()
 }
 
-/// Lends nothing of a block, where one is loaded, until it moves.
+/// Clears the current entry of a loaded block until it moves.
 #[inline(always)]
 pub(crate) fn unlend_in<A: Allocator>(part: &mut Option<BlockCursor<A>>)
     ensures none { lent_in part.new ≡ None }
@@ -103,8 +103,8 @@ pub(crate) fn unlend_in<A: Allocator>(part: &mut Option<BlockCursor<A>>)
     }
 }
 
-// Goes on to the next entry at an end, as it is stored, and returns whether there is one. A block is
-// let go where the next is loaded, and with it the entry that was lent of it.
+// Advances to the next entry at an end, as stored, and returns whether there is one. Loading the
+// next block drops the loaded one with its current entry.
 #[inline(always)]
 fn step<A: Allocator + Clone>(walk: &mut RangeWalk<A>, at: Direction) -> Result<bool, Error>
     ensures takes { WalkTakes cursor_remains coming_blocks KeepsBlocks at walk.old
@@ -124,7 +124,7 @@ fn step<A: Allocator + Clone>(walk: &mut RangeWalk<A>, at: Direction) -> Result<
     }
 }
 
-/// The block that is loaded at an end.
+/// Returns the block that is loaded at an end.
 #[inline(always)]
 pub(crate) fn near<A: Allocator>(walk: &RangeWalk<A>, at: Direction) -> &Option<BlockCursor<A>>
     ensures { result.now ≡ near at walk.now }
@@ -135,8 +135,8 @@ pub(crate) fn near<A: Allocator>(walk: &RangeWalk<A>, at: Direction) -> &Option<
     }
 }
 
-// Whether an entry is lent of the block at an end. Fails with [`Error::SeqNoOverflow`] where its
-// number passes `u64` with the global number added.
+// Returns whether the block at an end has a current entry. Fails with [`Error::SeqNoOverflow`] if
+// its sequence number overflows with the global one added.
 #[inline(always)]
 fn lends<A: Allocator>(walk: &RangeWalk<A>, at: Direction) -> Result<bool, Error>
     ensures lifted { let stored = option_map (λ e. Ok e) (lent_in (near at walk.now)) in
@@ -155,8 +155,9 @@ fn lends<A: Allocator>(walk: &RangeWalk<A>, at: Direction) -> Result<bool, Error
     }
 }
 
-/// Goes on to the next entry at an end, and returns whether there is one; an error does not end the
-/// walk yet.
+/// Advances to the next entry at an end and returns whether there is one.
+///
+/// After an error the iteration is not exhausted yet; the caller must call [`end`].
 #[inline(always)]
 pub(crate) fn next_entry<A: Allocator + Clone>(
     walk: &mut RangeWalk<A>,
@@ -180,7 +181,7 @@ pub(crate) fn next_entry<A: Allocator + Clone>(
     lends(walk, at)
 }
 
-/// Lets go what is lent and what is left.
+/// Drops the current entry and everything that is left.
 pub(crate) fn end<A: Allocator + Clone>(walk: &mut RangeWalk<A>)
     ensures over { (at : Direction) → range_at at walk.new ≡ over (range_at at walk.old) }
     ensures none { (at : Direction) → lent_in (near at walk.new) ≡ None }

@@ -1,5 +1,4 @@
-//! Ranges of one sorted table, from both ends: block indexes, walks over parts that are loaded
-//! where a step first needs them, and the blocks that an index names, cut to bounds.
+//! Double-ended range iteration over one sorted table: block indexes and lazily loaded data blocks.
 #![tactic(auto)]
 
 mod block_cursor;

@@ -1,11 +1,16 @@
-//! Numbers with the global number of their table added.
+//! Applying a table's global sequence number.
 ghost use Rattle.std.specs.Prelude.{◌≡◌};
 ghost use Rattle.lsm_iters.specs.Words.{number_told};
 
 use sst_blocks::{Error, SeqNo};
 
-/// A stored number with the global number added. Refused [`Error::SeqNoOverflow`] where the sum
-/// passes `u64`. No memory is taken.
+/// Returns a stored sequence number with the table's global sequence number added.
+///
+/// It does not allocate.
+///
+/// # Errors
+///
+/// [`Error::SeqNoOverflow`] if the sum exceeds `u64::MAX`.
 #[inline]
 pub fn lift_seqno(seqno: SeqNo, global_seqno: SeqNo) -> Result<SeqNo, Error>
     ensures { result ≡ number_told global_seqno seqno }

@@ -1,4 +1,4 @@
-//! The entries of a data block, from both ends, by an iterator that holds the block.
+//! A double-ended iterator over the entries of a data block that it owns.
 ghost use Rattle.std.specs.Prelude.{◌≡◌, ◌-◌, ◌↔◌, [], IsTrue, length};
 ghost use Rattle.std.specs.Iterator.{at_most};
 ghost use Rattle.std.specs.declared.ops.Bound.TheVariants.{Unbounded};
@@ -13,9 +13,10 @@ use sst_blocks::{DataBlock, IterItem, SeqNo};
 use std::alloc::{Allocator, Global};
 use std::marker::Model;
 
-/// The entries of a data block that it holds, dealt from both ends. After a call that is refused
-/// [`sst_blocks::Error::OutOfMemory`] nothing more comes, from either end. A contract sees the
-/// block's entries and the places between which they are left.
+/// A double-ended iterator over the entries of a data block that it owns.
+///
+/// After [`sst_blocks::Error::OutOfMemory`] it is exhausted at both ends. Contracts see the block's
+/// entries and the index range that is left.
 #[derive(Drop)]
 pub struct OwnedDataBlockIter<A: Allocator = Global> {
     block: DataBlock<A>,
@@ -36,7 +37,7 @@ impl<A: Allocator> Model for OwnedDataBlockIter<A> {
 }
 
 impl<A: Allocator> OwnedDataBlockIter<A> {
-    /// All entries of a block.
+    /// Returns an iterator over all entries of a block.
     pub fn new(block: DataBlock<A>) -> OwnedDataBlockIter<A>
         ensures whole { result ≡ whole_span block }
         ensures deals { DealsLeft ⟦<OwnedDataBlockIter<A> as Iterator>⟧.next_gives
@@ -46,15 +47,16 @@ impl<A: Allocator> OwnedDataBlockIter<A> {
         OwnedDataBlockIter { block, from: 0, to }
     }
 
-    /// What is left, as a part of a walk.
+    /// Returns a cursor over the entries that are left.
     pub(crate) fn into_cursor(self) -> BlockCursor<A>
         ensures { result ≡ cursor_of (rest_in self) }
     {
         BlockCursor::new(self.block, self.from, self.to)
     }
 
-    /// Drops the entries before a bound. Answers whether an entry is left. The number is not looked
-    /// at.
+    /// Drops the entries before a lower bound and returns whether an entry is left.
+    ///
+    /// The sequence number is ignored.
     pub fn seek_lower_bound(&mut self, bound: &Bound<A>, _seqno: SeqNo) -> bool
         ensures narrowed { let place = lower_place (edge_of bound.now) self.old.list in
             self.new ≡ span_from place self.old }
@@ -68,8 +70,9 @@ impl<A: Allocator> OwnedDataBlockIter<A> {
         self.from < self.to
     }
 
-    /// Drops the entries behind a bound. Answers whether an entry is left. The number is not looked
-    /// at.
+    /// Drops the entries after an upper bound and returns whether an entry is left.
+    ///
+    /// The sequence number is ignored.
     pub fn seek_upper_bound(&mut self, bound: &Bound<A>, _seqno: SeqNo) -> bool
         ensures narrowed { let place = upper_place (edge_of bound.now) self.old.list in
             self.new ≡ span_to place self.old }
@@ -104,7 +107,7 @@ impl<A: Allocator> Iterator for OwnedDataBlockIter<A> {
                 Some(Ok(entry))
             }
             Err(refusal) => {
-                // Nothing more comes.
+                // Exhausted after an error.
                 self.from = self.to;
                 Some(Err(refusal))
             }
@@ -128,7 +131,7 @@ impl<A: Allocator> DoubleEndedIterator for OwnedDataBlockIter<A> {
                 Some(Ok(entry))
             }
             Err(refusal) => {
-                // Nothing more comes.
+                // Exhausted after an error.
                 self.to = self.from;
                 Some(Err(refusal))
             }
@@ -136,8 +139,8 @@ impl<A: Allocator> DoubleEndedIterator for OwnedDataBlockIter<A> {
     }
 }
 
-/// Whether a block begins within a lower bound: no entry stands before the bound then. One
-/// comparison tells.
+/// Returns whether no entry is before a lower bound, by one comparison. An empty block returns
+/// true.
 fn begins_within<A: Allocator>(block: &DataBlock<A>, bound: &Bound<A>) -> bool
     ensures place { IsTrue result → lower_place (edge_of bound.now) block.now ≡ 0 }
     ensures strict { IsStrict block.now }
@@ -152,7 +155,8 @@ fn begins_within<A: Allocator>(block: &DataBlock<A>, bound: &Bound<A>) -> bool
     }
 }
 
-/// Whether a block ends within an upper bound: no entry stands past the bound then.
+/// Returns whether no entry is after an upper bound, by one comparison. An empty block returns
+/// true.
 fn ends_within<A: Allocator>(block: &DataBlock<A>, bound: &Bound<A>) -> bool
     ensures place { IsTrue result → upper_place (edge_of bound.now) block.now ≡ length block.now }
     ensures strict { IsStrict block.now }
@@ -168,8 +172,7 @@ fn ends_within<A: Allocator>(block: &DataBlock<A>, bound: &Bound<A>) -> bool
     }
 }
 
-/// How many entries of a block stand before a lower bound. A search is made only where the bound
-/// cuts the block's front.
+/// Returns the number of entries before a lower bound. It searches only if the bound cuts off some.
 fn first_behind<A: Allocator>(block: &DataBlock<A>, bound: &Bound<A>) -> usize
     ensures place { result ≡ lower_place (edge_of bound.now) block.now }
     ensures strict { IsStrict block.now }
@@ -183,8 +186,7 @@ fn first_behind<A: Allocator>(block: &DataBlock<A>, bound: &Bound<A>) -> usize
     }
 }
 
-/// How many entries of a block stand up to an upper bound. A search is made only where the bound
-/// cuts the block's back.
+/// Returns the number of entries up to an upper bound. It searches only if the bound cuts off some.
 fn first_past<A: Allocator>(block: &DataBlock<A>, bound: &Bound<A>) -> usize
     ensures place { result ≡ upper_place (edge_of bound.now) block.now }
     ensures strict { IsStrict block.now }

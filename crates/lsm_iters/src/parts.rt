@@ -1,4 +1,4 @@
-//! Parts that are loaded from both ends.
+//! The trait for parts that are loaded from both ends.
 ghost use Rattle.std.specs.Prelude.{Option, Result};
 ghost use Rattle.sst_entries.specs.declared.error.Error.{Error};
 ghost use Rattle.lsm_iters.specs.walk.Words.{Coming, IsDone, LoadGives, Loading};
@@ -6,23 +6,23 @@ ghost use Rattle.lsm_iters.specs.walk.Words.{Coming, IsDone, LoadGives, Loading}
 use crate::Ends;
 use sst_entries::{Direction, Error};
 
-/// Parts, each of which is loaded once, from either end.
+/// A sequence of parts; each is loaded once, from either end.
 pub trait Parts {
     type Part: Ends;
 
-    // The parts that are to come.
+    // The parts that are not loaded yet.
     ghost coming: { Self → Coming Self.Part.Item };
 
-    // What one load keeps, by what stood at its end; and what ending keeps.
+    // The state that a load keeps, by the part it loads, and the state that ending keeps.
     ghost keeps: { Self → Option (Result (Loading Self.Part.Item) Error) → Self → Type 0 };
 
     ghost ends: { Self → Self → Type 0 };
 
-    /// Loads the part that comes next at an end.
+    /// Loads the next part at an end.
     fn load(&mut self, at: Direction) -> Option<Result<Self::Part, Error>>
         ensures { LoadGives Self.Part.left coming keeps at self.old result self.new };
 
-    /// Lets go what is to come.
+    /// Drops the parts that are not loaded yet.
     fn end(&mut self)
         ensures done { IsDone (coming self.new) }
         ensures kept { ends self.old self.new };

@@ -1,4 +1,4 @@
-//! The walk over parts.
+//! Double-ended iteration over the items of lazily loaded parts.
 ghost use Rattle.std.specs.Prelude.{◌≡◌, Some};
 ghost use Rattle.sst_entries.specs.declared.stream.Direction.{Direction};
 ghost use Rattle.lsm_iters.specs.walk.Words.{Ended, Remains, StepGives, WalkGives, WalkTakes, far};
@@ -9,12 +9,13 @@ use crate::{Ends, Parts};
 use sst_entries::{Direction, Error};
 use std::mem;
 
-/// The items of all parts, from both ends. A part is loaded where a step first needs it. Where none
-/// is to come an end takes from the part that is loaded at the other end. After an error nothing
-/// more comes, from either end.
+/// A double-ended iteration over the items of all parts.
+///
+/// It loads a part when a step first needs it. If no part is left to load, an end takes from the
+/// part loaded at the other end. As [`Ends`] it is exhausted at both ends after an error.
 #[derive(Drop)]
 pub struct Walk<P, T> {
-    /// The parts that are not loaded.
+    /// The parts that are not loaded yet.
     pub parts: P,
     /// The part that is loaded at the front.
     pub front: Option<T>,
@@ -26,7 +27,7 @@ impl<P: Parts> Walk<P, P::Part>
 where
     P::Part: Drop,
 {
-    /// Before anything is loaded.
+    /// Returns an iteration over parts; nothing is loaded yet.
     pub fn new(parts: P) -> Self
         ensures { result ≡ record { parts = parts; front = None; back = None } }
     {
@@ -37,7 +38,7 @@ where
         }
     }
 
-    /// Takes what stands at an end of the part that is loaded there.
+    /// Takes the next item of the part loaded at this end.
     #[inline(always)]
     fn step_near(&mut self, at: Direction) -> Option<Result<<P::Part as Ends>::Item, Error>>
         ensures gives { let old = remains_in P.Part.left (near at self.old) in
@@ -50,7 +51,7 @@ where
         }
     }
 
-    /// Takes what stands at an end of the part that is loaded at the other end.
+    /// Takes the next item of the part loaded at the other end.
     #[inline(always)]
     fn step_far(&mut self, at: Direction) -> Option<Result<<P::Part as Ends>::Item, Error>>
         ensures gives { let old = remains_in P.Part.left (far at self.old) in
@@ -63,7 +64,7 @@ where
         }
     }
 
-    /// Puts a part that was loaded at an end.
+    /// Replaces the part loaded at an end.
     #[inline(always)]
     fn put(&mut self, part: P::Part, at: Direction)
         ensures { self.new ≡ with_near at self.old (Some part) }
@@ -74,7 +75,9 @@ where
         }
     }
 
-    /// Takes what stands at an end. An error does not end the walk yet: whoever calls this ends it.
+    /// Takes the next item at an end.
+    ///
+    /// After an error it is not exhausted yet; the caller must call [`Self::end`].
     #[inline(always)]
     pub fn take(&mut self, at: Direction) -> Option<Result<<P::Part as Ends>::Item, Error>>
         ensures { WalkTakes P.Part.left P.coming P.keeps at self.old result self.new }
@@ -91,7 +94,7 @@ where
         }
     }
 
-    /// Lets go what is left.
+    /// Drops everything that is left, at both ends.
     pub fn end(&mut self)
         ensures { Ended P.coming P.ends self.old self.new }
     {

@@ -1,4 +1,4 @@
--- What is so of a table that was read up to some place, and what is found there first.
+-- The state of a verification up to some block, and the first fault found there.
 use Rattle.std.specs.Prelude.{◌≡◌, ℕ, ◌+◌, ◌-◌, ◌^◌, ◌<◌, List, [], ◌∷◌, ◌++◌, length, count_by}
 use Rattle.std.specs.Prelude.{max, min, sum_by, Option, Some, None, Ok, Err}
 use Rattle.std.specs.List.{AllByRecursion, AllZip}
@@ -20,17 +20,17 @@ use Rattle.lsm_readers.specs.Stored.{Admits, AreLaid, IndexHas, NamesChunk, Name
 use Rattle.lsm_readers.specs.Verify.{◌>>=◌, Unread, block_found, end_found, filters_found}
 use Rattle.lsm_readers.specs.Verify.{handles_found, top_named, unread_of}
 
--- an entry that is the first of all has the least key that the meta block names
+-- If this entry is the table's first, its key is the meta block's least key.
 abbrev pub IsFirst : Parts → Option Entry → Entry → Type 0
 IsFirst parts None e = parts.facts.key_range.min ≡ e.user_key
 IsFirst parts (Some last) e = Unit {0}
 
--- an entry that is the first of all has the least key that the meta block names
+-- If the first of these entries is the table's first, its key is the meta block's least key.
 abbrev pub StartsAt : Parts → Option Entry → List Entry → Type 0
 StartsAt parts last [] = Unit {0}
 StartsAt parts last (e ∷ es) = IsFirst parts last e
 
--- the counts before and after some entries
+-- The counts before and after reading some entries.
 pub record Spends (before : Option Entry) (old : Counts) (es : List Entry) (new : Counts)
     : Type 0 where
   pub items : old.items ≡ length es + new.items
@@ -40,7 +40,7 @@ pub record Spends (before : Option Entry) (old : Counts) (es : List Entry) (new 
   pub lowest : new.lowest ≡ min old.lowest (lowest_seqno es)
   pub highest : new.highest ≡ max old.highest (highest_seqno es)
 
--- some entries were read
+-- Some entries were read: they are in order, not excluded by the filter, and counted.
 pub record Reads (body : List ℕ) (parts : Parts) (old : Unread) (es : List Entry) (new : Unread)
     : Type 0 where
   pub strict : IsStrictAfter old.last es
@@ -51,8 +51,8 @@ pub record Reads (body : List ℕ) (parts : Parts) (old : Unread) (es : List Ent
   pub last : new.last ≡ last_of old.last es
   pub spends : Spends old.last old.counts es new.counts
 
--- the data blocks of some handles were read: they lie behind one another, and each handle names the
--- entries of its block
+-- The data blocks of some handles were read: they are contiguous, and each handle matches its
+-- block.
 pub record ReadsBlocks (body : List ℕ) (parts : Parts) (old : Unread) (hs : List Handle)
     (new : Unread) : Type 0 where
   pub chunks : List (List Entry)
@@ -64,8 +64,8 @@ pub record ReadsBlocks (body : List ℕ) (parts : Parts) (old : Unread) (hs : Li
 
 -- ---- the order of the index
 
--- at a place lies a top level that tells some handles, then this one; the partitions of those
--- before it have these handles together
+-- In a top level, this partition's handle follows those of partitions that together have these data
+-- block handles.
 pub record ComesBehindParts (body : List ℕ) (place : Place) (front : List Handle) (top : Handle)
     : Type 0 where
   pub tops : List Handle
@@ -75,8 +75,7 @@ pub record ComesBehindParts (body : List ℕ) (place : Place) (front : List Hand
   pub named : AllZip (NamesPart body) tops parts
   pub whole : joined_parts parts ≡ front
 
--- behind the partitions of a top level comes one that has some handles, then this one; those before
--- it are these
+-- A data block's handle is in some partition. These are all data block handles before it.
 pub record ComesWithin (body : List ℕ) (place : Place) (front : List Handle) (h : Handle)
     : Type 0 where
   pub before : List Handle
@@ -87,23 +86,21 @@ pub record ComesWithin (body : List ℕ) (place : Place) (front : List Handle) (
   pub named : NamesPart body top (within ++ h ∷ others)
   pub whole : before ++ within ≡ front
 
--- in the order of the index the handle of a data block comes directly behind these
+-- In the order of the index, a data block's handle comes directly after these.
 abbrev pub BlockComes : List ℕ → Option Place → Place → List Handle → Handle → Type 0
 BlockComes body None tli front h =
     (others : List Handle) × (handles_told body tli ≡ Ok (front ++ h ∷ others))
 BlockComes body (Some section) tli front h = ComesWithin body tli front h
 
--- in the order of the index the handle of a partition comes directly behind these of data blocks
+-- In the order of the index, a partition's handle comes directly after these data block handles.
 abbrev pub PartComes : List ℕ → Option Place → Place → List Handle → Handle → Type 0
 PartComes body None tli front top = ⊥
 PartComes body (Some section) tli front top = ComesBehindParts body tli front top
 
 -- ---- a finding
 
--- what is found first, and that all which is read before it is sound: in a block of the filter; in
--- the block of the index, or its top level; in a partition of the index, or in a data block, where
--- the data blocks of all handles before it in the index were read; or at the end, once those of the
--- whole index were
+-- This is the first fault, and everything read before it is valid. It is in a filter block, the
+-- index block, a partition, a data block, or at the end.
 pub data IsFirstFinding (body : List ℕ) (parts : Parts) (f : Finding) : Type 0 where
   in_filter : filters_found body parts ≡ Err f → IsFirstFinding body parts f
   in_index : filters_found body parts ≡ Ok tt

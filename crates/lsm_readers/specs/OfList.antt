@@ -1,4 +1,4 @@
--- What a table of a list is recovered to.
+-- The result of opening the table of a list.
 use Rattle.std.specs.Prelude.{◌≡◌, ℕ, ◌+◌, ◌-◌, ◌^◌, ◌==◌, nat_lt, Bool, List, [], ◌∷◌, ◌++◌}
 use Rattle.std.specs.Prelude.{length, Option, Some, None, unwrap_or, Result, Ok, Err, if◌then◌else◌}
 use Rattle.sst_blocks.specs.declared.section.SectionName.{SectionName}
@@ -34,11 +34,11 @@ use Rattle.lsm_readers.specs.point.IndexKinds.{index_said}
 use Rattle.lsm_readers.specs.point.Meta.{facts_said}
 use Rattle.lsm_readers.specs.point.Parts.{Parts, Pinned}
 
--- the first and the last key of a list
+-- The first and the last key of a list.
 abbrev pub ends_of : List Entry → Interval
 ends_of es = interval (facts es).min_key (facts es).max_key
 
--- where the section of a name lies among some, the first of them at a position
+-- The offset and size of a named section among contiguous sections that start at an offset.
 abbrev pub place_from : ℕ → Sections → SectionName → Option Place
 place_from at [] name = None
 place_from at (s ∷ ss) name =
@@ -48,7 +48,7 @@ place_from at (s ∷ ss) name =
 abbrev pub no_place : Place
 no_place = record { offset = 0; size = 0 }
 
--- the parts, where they are among some sections
+-- The table's regions among contiguous sections.
 abbrev pub regions_laid : ℕ → Sections → ParsedRegions
 regions_laid at ss = record {
   tli = unwrap_or (place_from at ss Tli) no_place;
@@ -58,7 +58,7 @@ regions_laid at ss = record {
   metadata = unwrap_or (place_from at ss Meta) no_place;
 }
 
--- the index, the filter, the version and the meta block lie behind the data blocks
+-- The table's regions: index, filter, version and meta block follow the data blocks.
 abbrev pub regions_said : TableVersion → Label → Options → Content → ParsedRegions
 regions_said v label options c =
     let behind = index_part v options c
@@ -66,7 +66,7 @@ regions_said v label options c =
     ++ closing_sections v label options c in
     regions_laid (length (data_section v c.blocks)) behind
 
--- the top level of a filter whose blocks begin at a position: that of one with partitions
+-- The handles of a partitioned filter's top level, for filter blocks that start at an offset.
 abbrev pub filter_tops_said : FilterKind → ℕ → List (List (List ℕ)) → List BloomFilter
     → Option (List Handle)
 filter_tops_said FullFilter at keys fs = None
@@ -74,7 +74,7 @@ filter_tops_said (PartitionedFilter size) at keys [] = None
 filter_tops_said (PartitionedFilter size) at keys (f ∷ fs) =
     Some (tops_from at (filter_partitions keys (f ∷ fs)))
 
--- the filter that stays loaded: a full one, where it is to
+-- The pinned filter: a full one, if it is to be pinned.
 abbrev pub filter_said : FilterKind → List BloomFilter → Bool → Option BloomFilter
 filter_said FullFilter fs pin = if pin then first fs else None
 filter_said (PartitionedFilter size) fs pin = None
@@ -100,15 +100,15 @@ parts_said {bytes} {es} t pin_filter pin_index =
       pinned = pinned_said v t.options c pin_filter pin_index;
     }
 
--- some parts are those of the table of a list, whichever blocks were to stay loaded
+-- These are the parts of the table of a list, for some choice of pinned blocks.
 pub record SaysList {bytes : List ℕ} {es : List Entry} (t : IsTable bytes es) (parts : Parts)
     : Type 0 where
   pub pin_filter : Bool
   pub pin_index : Bool
   pub is : parts ≡ parts_said t pin_filter pin_index
 
--- what opening the table of a list tells: its parts, where its highest number fits once it is
--- lifted
+-- The result of opening the table of a list: its parts, if its highest seqno fits with the global
+-- one added.
 abbrev pub list_told : {bytes : List ℕ} {es : List Entry} → IsTable bytes es → ℕ → Bool → Bool
     → Result Parts Error
 list_told {bytes} {es} t g pin_filter pin_index =

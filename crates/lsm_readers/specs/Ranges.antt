@@ -21,7 +21,7 @@ use Rattle.lsm_readers.specs.BlockIndexes.{table_index}
 use Rattle.lsm_readers.specs.Stored.{StoresList}
 use Rattle.lsm_readers.specs.point.Table.{OpenTable}
 
--- a table's bytes before the trailer, its global number, and two bounds
+-- A table's bytes before the trailer, its global seqno, and two bounds.
 abbrev pub bounded : OpenTable → Bound (List ℕ) → Bound (List ℕ) → Bounded
 bounded t low high = record {
   body = body_of t.bytes;
@@ -30,13 +30,13 @@ bounded t low high = record {
   high = high;
 }
 
--- the entries within the bounds, their numbers lifted, of the blocks that the table's index names
--- between their edges; and in the place of a block that cannot be loaded its fault
+-- The entries within the bounds, global seqno applied, of the blocks between the bounds' edges. A
+-- block that cannot be loaded contributes its error.
 abbrev pub range_told : OpenTable → Bound (List ℕ) → Bound (List ℕ) → List (Result Entry Error)
 range_told t low high =
     rows (bounded t low high) ((table_index t).told (lower_edge low) (upper_edge high))
 
--- an iterator over them: it has made no step, its index was not sought, and nothing was loaded
+-- A range iterator before its first step: nothing was sought or loaded.
 pub record IsRangeOf {A : Type 0} (t : OpenTable) (low high : Bound (List ℕ)) (s : Range A)
     : Type 0 where
   pub of : s.of ≡ bounded t low high
@@ -48,29 +48,29 @@ pub record IsRangeOf {A : Type 0} (t : OpenTable) (low high : Bound (List ℕ)) 
   pub opened : opened_in s ≡ none_opened
   pub lent : s.lent ≡ None
 
--- where want of memory stops its reader, it deals the entries of a list within the bounds, their
--- numbers lifted, to whatever ends
+-- If its reader stops at `OutOfMemory`, it yields a list's entries within the bounds at any ends,
+-- global seqno applied.
 abbrev pub DealsWithin : {S : Type 0} (front back : S → Option (Result Entry Error) → S → Type 0)
     → Bound (List ℕ) → Bound (List ℕ) → List Entry → ℕ → S → Type 0
 DealsWithin front back low high es g s =
     (stops : Error → Bool) → stops OutOfMemory ≡ true →
     Deals (answer_stops stops) front back s (ok_results (within low high (lift es g)))
 
--- the same of all entries of a list
+-- If its reader stops at `OutOfMemory`, it yields all entries of a list, global seqno applied.
 abbrev pub DealsAll : {S : Type 0} (front back : S → Option (Result Entry Error) → S → Type 0)
     → List Entry → ℕ → S → Type 0
 DealsAll front back es g s =
     (stops : Error → Bool) → stops OutOfMemory ≡ true →
     Deals (answer_stops stops) front back s (ok_results (lift es g))
 
--- no more data blocks and index blocks were loaded than so many, and no others
+-- At most this many data blocks and index blocks were loaded, and no others.
 pub record AreFew (blocks index : ℕ) (o : Opened) : Type 0 where
   pub data_few : o.data_loads ≤ blocks
   pub index_few : o.index_loads ≤ index
   pub no_filter : o.filter_loads ≡ 0
   pub no_meta : o.meta_loads ≡ 0
 
--- wherever calls lead
+-- This bound on loads holds after any sequence of calls.
 abbrev pub LoadsAtMost : {A : Type 0}
     (front back : Range A → Option (Result Entry Error) → Range A → Type 0)
     → ℕ → ℕ → Range A → Type 0
@@ -78,13 +78,13 @@ LoadsAtMost {A} front back blocks index s =
     (ends : List Direction) (rs : List (Option (Result Entry Error))) (t : Range A) →
     Runs front back s ends rs t → AreFew blocks index (opened_in t)
 
--- how many data blocks of bytes that store a list the bounds need: those from the first that may
--- hold the lower bound's key up to the first that ends above the upper bound's
+-- The number of data blocks that two bounds need. These run from the first that may hold the lower
+-- bound's key to the first that ends above the upper bound's.
 abbrev pub blocks_within : {bytes : List ℕ} {es : List Entry} → StoresList bytes es
     → Bound (List ℕ) → Bound (List ℕ) → ℕ
 blocks_within t low high = length (window t.handles (lower_edge low) (upper_edge high))
 
--- how many index blocks: none where the whole index stays loaded, its one block on demand, or of
--- two levels the partitions between the edges
+-- The number of index blocks they need: none if the index is pinned, one on demand, or the
+-- partitions between the edges.
 abbrev pub index_within : OpenTable → Bound (List ℕ) → Bound (List ℕ) → ℕ
 index_within t low high = (table_index t).loads (lower_edge low) (upper_edge high)

@@ -1,4 +1,4 @@
--- How many bytes the data blocks of a range take.
+-- The size in bytes of the data blocks of a range.
 use Rattle.std.specs.Prelude.{ℕ, ◌-◌, ◌^◌, min, List, [], ◌∷◌, sum_by, Result, Ok, Err}
 use Rattle.std.specs.declared.ops.Bound.{Bound}
 use Rattle.sst_entries.specs.declared.error.Error.{Error}
@@ -11,26 +11,25 @@ use Rattle.lsm_readers.specs.point.Read.{◌>>=◌}
 use Rattle.lsm_readers.specs.Stored.{StoresList}
 use Rattle.lsm_readers.specs.point.Table.{OpenTable}
 
--- the sizes of the blocks that some handles name, together
+-- The total size of the blocks that some handles name.
 abbrev pub size_of : List Handle → ℕ
 size_of hs = sum_by (λ (h : Handle). h.size) hs
 
--- the handles that an index deals, or its first error
+-- The handles that an index yields, or its first error.
 abbrev pub dealt : List (Result Handle Error) → Result (List Handle) Error
 dealt [] = Ok []
 dealt (Ok h ∷ rs) = dealt rs >>= λ hs. Ok (h ∷ hs)
 dealt (Err e ∷ rs) = Err e
 
--- the sizes of the blocks that these name, together, up to the largest number of 64 bits
+-- Their total size, saturated at `u64::MAX`, or the index's first error.
 abbrev pub sizes_told : List (Result Handle Error) → Result ℕ Error
 sizes_told rs = dealt rs >>= λ hs. Ok (min (size_of hs) (2 ^ 64 - 1))
 
--- those of the blocks that a table's index has between the edges of two bounds
+-- The total size of the blocks that a table's index has between two bounds' edges.
 abbrev pub size_told : OpenTable → Bound (List ℕ) → Bound (List ℕ) → Result ℕ Error
 size_told t low high = sizes_told ((table_index t).told (lower_edge low) (upper_edge high))
 
--- the sizes of the data blocks of bytes that store a list that two bounds need, together: of those
--- that `blocks_within` counts
+-- The total size of the data blocks that two bounds need, which `blocks_within` counts.
 abbrev pub size_within : {bytes : List ℕ} {es : List Entry} → StoresList bytes es
     → Bound (List ℕ) → Bound (List ℕ) → ℕ
 size_within t low high = size_of (window t.handles (lower_edge low) (upper_edge high))

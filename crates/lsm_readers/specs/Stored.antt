@@ -1,4 +1,4 @@
--- Bytes that store a list of entries, whoever wrote them: what loading their blocks tells.
+-- Bytes that store a list of entries, whoever wrote them.
 use Rattle.std.specs.Prelude.{◌≡◌, ℕ, ◌+◌, ◌-◌, ◌^◌, ◌<◌, nat_lt, true, List, [], ◌∷◌, length}
 use Rattle.std.specs.Prelude.{count_by, sum_by, Option, Some, None, Result, Ok, Err, if◌then◌else◌}
 use Rattle.std.specs.List.{AllByRecursion, AllZip}
@@ -29,7 +29,8 @@ use Rattle.lsm_readers.specs.point.Parts.{places_told, tops_told}
 
 -- ---- data blocks
 
--- at a handle lies the data block of some entries, the last of which it names
+-- A handle names a data block with these entries, at least one, and carries the last one's key and
+-- seqno.
 pub record NamesChunk (body : List ℕ) (h : Handle) (c : List Entry) : Type 0 where
   pub block : Loaded
   pub loads : load_told body h.offset h.size Data ≡ Ok block
@@ -38,21 +39,22 @@ pub record NamesChunk (body : List ℕ) (h : Handle) (c : List Entry) : Type 0 w
   pub end_key : h.end_key ≡ (last_entry c).user_key
   pub seqno : h.seqno ≡ (last_entry c).seqno
 
--- blocks lie one behind another, the first of them at a position
+-- The blocks of the handles are contiguous from an offset on.
 abbrev pub AreLaid : ℕ → List Handle → Type 0
 AreLaid at [] = Unit {0}
 AreLaid at (h ∷ hs) = (h.offset ≡ at) × AreLaid (at + h.size) hs
 
 -- ---- the index
 
--- at a handle of a top level lies the index block of some handles, the last of which it names
+-- A top-level handle names an index block with these handles, at least one, and carries the last
+-- one's end key and seqno.
 pub record NamesPart (body : List ℕ) (top : Handle) (part : List Handle) : Type 0 where
   pub handles : handles_told body (place_of top) ≡ Ok part
   pub some : 0 < length part
   pub end_key : top.end_key ≡ (last_end part).user_key
   pub seqno : top.seqno ≡ (last_end part).seqno
 
--- a top level that loads, and the partitions that it names, which have these handles together
+-- A top level loads, and its partitions together have these handles.
 pub record HasPartitions (body : List ℕ) (place : Place) (hs : List Handle) : Type 0 where
   pub tops : List Handle
   pub parts : List (List Handle)
@@ -60,31 +62,31 @@ pub record HasPartitions (body : List ℕ) (place : Place) (hs : List Handle) : 
   pub named : AllZip (NamesPart body) tops parts
   pub whole : joined_parts parts ≡ hs
 
--- the index has these handles: in one block, or where there is a section of partitions in those
+-- The index has these handles: in one block, or in partitions if there is a section of them.
 abbrev pub IndexHas : List ℕ → Option Place → Place → List Handle → Type 0
 IndexHas body None tli hs = handles_told body tli ≡ Ok hs
 IndexHas body (Some section) tli hs = HasPartitions body tli hs
 
 -- ---- the filter
 
--- a block of a kind loads at a place
+-- A block of this type loads at an offset.
 pub record LoadsAs (body : List ℕ) (place : Place) (kind : BlockType) : Type 0 where
   pub block : Loaded
   pub loads : load_told body place.offset place.size kind ≡ Ok block
 
--- each filter that a top level names loads; without a top level the one filter, where there is one
+-- Each filter partition loads; without a top level, the one filter block if there is one.
 abbrev pub FiltersLoad : List ℕ → Option (List Handle) → Option Place → Type 0
 FiltersLoad body (Some tops) place =
     AllByRecursion (λ (top : Handle). LoadsAs body (place_of top) Filter) tops
 FiltersLoad body None (Some place) = LoadsAs body place Filter
 FiltersLoad body None None = Unit {0}
 
--- a filter whose blocks are loaded by each read may have a key
+-- The filter, loaded for each read, does not exclude a key.
 abbrev pub Admits : List ℕ → Option (List Handle) → Option Place → List ℕ → Type 0
 Admits body tops place key =
     (filter_admits body tops None place key (hash_of key)).told ≡ Ok true
 
--- the top level of the filter loads, and so does each filter, and each of these keys is admitted
+-- The filter's top level and all its blocks load, and it excludes none of these keys.
 pub record FilterHas (body : List ℕ) (filter_tli place : Option Place) (keys : List (List ℕ))
     : Type 0 where
   pub tops : Option (List Handle)
@@ -94,10 +96,8 @@ pub record FilterHas (body : List ℕ) (filter_tli place : Option Place) (keys :
 
 -- ---- the table
 
--- what a table says of itself is so of a list of entries in the blocks of some handles. Nothing is
--- compared with its version, its id, its moment and its count of index blocks, nor with what is not
--- among the facts: how many filter blocks, keys and bytes of keys and values there are, the level,
--- and how blocks are built
+-- The meta block's facts match the entries and the handles of the data blocks. The version, id,
+-- timestamp, index block count and all items that are not among the facts are not compared.
 pub record BearsOut (said : Facts) (es : List Entry) (hs : List Handle) : Type 0 where
   pub data_block_count : said.data_block_count ≡ length hs
   pub key_range : said.key_range ≡ ends_of es
@@ -110,15 +110,14 @@ pub record BearsOut (said : Facts) (es : List Entry) (hs : List Handle) : Type 0
   pub weak_tombstone_reclaimable :
       said.weak_tombstone_reclaimable ≡ count_after is_reclaimable None es
 
--- no data block lies where the first of them would: its load is refused
+-- No data block loads at offset 0.
 pub record HasNoBlock (body : List ℕ) : Type 0 where
   pub fault : Error
   pub refused : load_at_told body 0 Data ≡ Err fault
 
--- the bytes store a list, whoever wrote them: the trailer, the sections and the meta block have no
--- fault; the data blocks that the index names lie one behind another from the first byte on, and
--- their entries are those of the list; the filter admits each of its keys; the list is strict, its
--- numbers leave room for a bound above them, and what the table says of itself is so
+-- The bytes store a list: every part of the file loads, and the data blocks are contiguous from
+-- offset 0. The list is strict with seqnos below `u64::MAX`, the filter excludes none of its keys,
+-- and the meta block matches it.
 pub record StoresList (bytes : List ℕ) (es : List Entry) : Type 0 where
   pub trailer : trailer_fault bytes ≡ None
   pub regions : ParsedRegions
@@ -135,10 +134,11 @@ pub record StoresList (bytes : List ℕ) (es : List Entry) : Type 0 where
   pub strict : IsStrict es
   pub numbers : AllByRecursion (λ (e : Entry). e.seqno < 2 ^ 64 - 1) es
   pub borne : BearsOut facts es handles
-  -- a table without entries has no data block
+  -- A table without entries has no data block.
   pub none : length es ≡ 0 → HasNoBlock (body_of bytes)
 
--- what opening bytes that store a list tells: their highest number has to fit once it is lifted
+-- The result of opening bytes that store a list: its highest seqno must fit with the global one
+-- added.
 abbrev pub fits_told : List Entry → ℕ → Result (Unit {0}) Error
 fits_told es g =
     if nat_lt (2 ^ 64 - 1) (highest_seqno es + g) then Err GlobalSeqNoTooLarge else Ok tt

@@ -1,5 +1,4 @@
--- Reading a whole table once: what each step of it finds wrong first, or what is then still to be
--- read of what the meta block says.
+-- Verifying a whole table in one pass: the first fault of each step, or the counts left after it.
 use Rattle.std.specs.Prelude.{◌≡◌, ℕ, ◌-◌, ◌^◌, ◌==◌, nat_lt, Bool, true, false}
 use Rattle.std.specs.Prelude.{List, [], ◌∷◌, map, max, min, Option, Some, None, Result, Ok, Err}
 use Rattle.std.specs.Prelude.{if◌then◌else◌}
@@ -41,43 +40,43 @@ pub use Rattle.lsm_readers.specs.point.Read.{◌>>=◌}
 abbrev pub finding : SectionName → ℕ → Fault → Finding
 finding section offset fault = record { section = section; offset = offset; fault = fault }
 
--- a refusal is want of memory, or the finding that is told
+-- An error is `OutOfMemory`, or the finding of this result.
 abbrev pub Misses : {Y : Type 0} → VerifyError → Result Y Finding → Type 0
 Misses e told = (f : Finding) → e ≡ Found f → told ≡ Err f
 
--- a refusal is no want of memory
+-- An error is a finding, not `OutOfMemory`.
 abbrev pub is_found : VerifyError → Bool
 is_found OutOfMemory = false
 is_found (Found f) = true
 
--- memory aside, a call finds what is told, its value seen by a view
+-- Except for `OutOfMemory`, a call returns this result, its value seen through a view.
 abbrev pub Finds : {X Y : Type 0} → (X → Y) → Result X VerifyError → Result Y Finding → Type 0
 Finds view (Ok x) told = told ≡ Ok (view x)
 Finds view (Err e) told = Misses e told
 
--- the refusal of a load at a place: want of memory where memory was refused, else it is found there
+-- The error of a failed load: `OutOfMemory`, or a finding at its offset.
 abbrev pub load_refusal : SectionName → ℕ → Error → VerifyError
 load_refusal section offset error =
     if is_memory error then OutOfMemory
     else Found (finding section offset (fault.Unloaded error))
 
--- what a load at a place tells
+-- The result of a load, its error as a finding at the offset.
 abbrev pub located : {X : Type 0} → SectionName → ℕ → Result X Error → Result X Finding
 located section offset (Ok x) = Ok x
 located section offset (Err e) = Err (finding section offset (fault.Unloaded e))
 
--- nothing is found where a test passes
+-- A passed test finds nothing; a failed one is this finding.
 abbrev pub tested : Bool → Finding → Result (Unit {0}) Finding
 tested passes f = if passes then Ok tt else Err f
 
--- ---- what is left
+-- ---- the counts left
 
--- what is still to be read of a table, and the entry that was read last
+-- The last entry read, and the counts left to read.
 pub record Unread : Type 0 where
   pub last : Option Entry
   pub counts : Counts
 
--- nothing was read yet of a table that says these facts
+-- A table with these facts, before anything is read.
 abbrev pub unread_of : Facts → Unread
 unread_of said = record {
   last = None;
@@ -93,27 +92,27 @@ unread_of said = record {
   };
 }
 
--- what is left of a count of the meta block at a position, once some of it is read
+-- The count left after some is read, or a meta mismatch if more is read than the meta block claims.
 abbrev pub spent : ℕ → ItemName → ℕ → ℕ → Result ℕ Finding
 spent meta item left by =
     if nat_lt left by then Err (finding section.Meta meta (fault.Unborne item)) else Ok (left - by)
 
--- ---- an entry, in the data block at a position, behind what may be the entry before it
+-- ---- an entry in a data block, after the previous entry
 
--- its number leaves room for a bound above it, and it follows
+-- Its seqno is below `u64::MAX`, and it follows the previous entry in order.
 abbrev pub order_found : ℕ → Option Entry → Entry → Result (Unit {0}) Finding
 order_found at last e =
     if nat_lt e.seqno (2 ^ 64 - 1)
     then tested (may_follow last e) (finding section.Data at fault.Unordered)
     else Err (finding section.Data at fault.TooHigh)
 
--- the first of all has the key that the meta block names as the least
+-- The table's first entry has the meta block's least key.
 abbrev pub first_found : Parts → Option Entry → Entry → Result (Unit {0}) Finding
 first_found parts (Some last) e = Ok tt
 first_found parts None e = tested (same_key parts.facts.key_range.min e.user_key)
     (finding section.Meta parts.regions.metadata.offset (fault.Unborne item.KeyMin))
 
--- whether the filter may have a key, by its blocks in the bytes
+-- Whether the filter admits a key, by its blocks in the bytes.
 abbrev pub admitted : List ℕ → Parts → List ℕ → Result Bool Error
 admitted body parts key = (filter_admits body parts.pinned.filter_tops None parts.regions.filter key
     (hash_of key)).told
@@ -122,12 +121,12 @@ abbrev pub asked_found : ℕ → Result Bool Error → Result (Unit {0}) Finding
 asked_found at (Ok admits) = tested admits (finding section.Data at fault.Denied)
 asked_found at (Err e) = Err (finding section.Data at (fault.Unfiltered e))
 
--- the filter admits the key of an entry that is the first of its key
+-- The filter admits an entry's key; this is tested once for each key.
 abbrev pub key_found : List ℕ → Parts → ℕ → Option Entry → Entry → Result (Unit {0}) Finding
 key_found body parts at last e =
     if starts_key last e then asked_found at (admitted body parts e.user_key) else Ok tt
 
--- what is left of the counts behind it
+-- The counts left after the entry.
 unfoldable pub entry_spent : ℕ → Option Entry → Entry → Counts → Result Counts Finding
 entry_spent meta last e counts =
     spent meta item.ItemCount counts.items 1 >>= λ items.
@@ -146,7 +145,7 @@ entry_spent meta last e counts =
       highest = max counts.highest e.seqno;
     })
 
--- the tests of an entry, and what is left of the counts behind it
+-- The tests of an entry, and the counts left after it.
 unfoldable pub entry_tested : List ℕ → Parts → ℕ → Unread → Entry → Result Counts Finding
 entry_tested body parts at left e =
     order_found at left.last e >>= λ _.
@@ -165,7 +164,7 @@ entries_found body parts at left (e ∷ es) =
 
 -- ---- a data block and its handle
 
--- the handle names the block at a position
+-- The handle's offset is where the block is expected.
 abbrev pub place_found : ℕ → ℕ → Result (Unit {0}) Finding
 place_found at offset =
     tested (offset == at) (finding section.Data offset fault.Misplaced)
@@ -176,37 +175,36 @@ block_spent meta size counts =
     spent meta item.FileSize counts.size size >>= λ size.
     Ok (record counts { blocks = blocks; size = size })
 
--- a block has an entry
+-- A block has an entry.
 abbrev pub some_found : ℕ → List Entry → Result (List Entry) Finding
 some_found at [] = Err (finding section.Data at fault.Hollow)
 some_found at (e ∷ es) = Ok (e ∷ es)
 
--- the entries of the data block at a place
+-- The entries of a data block.
 abbrev pub chunk_found : List ℕ → Place → Result (List Entry) Finding
 chunk_found body place =
     located section.Data place.offset (load_told body place.offset place.size Data) >>= λ block.
     some_found place.offset (entries_of block)
 
--- a handle of a block in a section names this key and this number
+-- A handle carries this end key and this seqno.
 abbrev pub end_named : SectionName → Handle → List ℕ → ℕ → Result (Unit {0}) Finding
 end_named section h key seqno =
     if same_key h.end_key key
     then tested (h.seqno == seqno) (finding section h.offset fault.OtherNumber)
     else Err (finding section h.offset fault.OtherKey)
 
--- it names the last entry of its block
+-- A handle carries the key and the seqno of its block's last entry.
 abbrev pub last_named : SectionName → Handle → Option Entry → Result (Unit {0}) Finding
 last_named section h None = Err (finding section h.offset fault.Hollow)
 last_named section h (Some e) = end_named section h e.user_key e.seqno
 
--- what is left of the counts behind the data block at a place, which begins where the block before
--- it ended
+-- The counts left after a data block, which starts where the previous one ended.
 unfoldable pub counted_found : Parts → Counts → Place → Result Counts Finding
 counted_found parts counts place =
     place_found (parts.facts.file_size - counts.size) place.offset >>= λ _.
     block_spent parts.regions.metadata.offset place.size counts
 
--- the entries of the data block of a handle, which names the last of them
+-- The entries of a handle's data block pass, and the handle matches the last of them.
 unfoldable pub contents_found : List ℕ → Parts → Unread → Handle → List Entry
     → Result Unread Finding
 contents_found body parts left h chunk =
@@ -214,7 +212,7 @@ contents_found body parts left h chunk =
     last_named section.Data h left.last >>= λ _.
     Ok left
 
--- the data block of a handle
+-- The data block of a handle passes all tests.
 unfoldable pub block_found : List ℕ → Parts → Unread → Handle → Result Unread Finding
 block_found body parts left h =
     counted_found parts left.counts (place_of h) >>= λ counts.
@@ -228,15 +226,15 @@ blocks_found body parts left (h ∷ hs) =
 
 -- ---- the index
 
--- the handles of the index block at a place in a section
+-- The handles of an index block, or a finding at its offset.
 abbrev pub handles_found : List ℕ → SectionName → Place → Result (List Handle) Finding
 handles_found body section place = located section place.offset (handles_told body place)
 
--- a handle of the top level names the last handle of its partition
+-- A top-level handle matches the last handle of its partition.
 abbrev pub top_named : Handle → List Handle → Result (Unit {0}) Finding
 top_named top hs = last_named section.Index top (last_of None (map end_of hs))
 
--- the partition of a handle of the top level, and the data blocks of its handles
+-- The partition of a top-level handle, and then the data blocks of its handles.
 unfoldable pub part_found : List ℕ → Parts → Unread → Handle → Result Unread Finding
 part_found body parts left top =
     handles_found body section.Index (place_of top) >>= λ hs.
@@ -248,7 +246,7 @@ parts_found body parts left [] = Ok left
 parts_found body parts left (top ∷ tops) =
     part_found body parts left top >>= λ left. parts_found body parts left tops
 
--- the data blocks of the handles of a full index, or those of the partitions below a top level
+-- The data blocks of a full index, or those of the partitions below a top level.
 abbrev pub named_found : List ℕ → Parts → Unread → Option Place → List Handle → Result Unread
     Finding
 named_found body parts left None hs = blocks_found body parts left hs
@@ -261,12 +259,12 @@ index_found body parts left =
 
 -- ---- the filter
 
--- nothing is kept of a block
+-- A result whose value is dropped.
 abbrev pub passed : {X : Type 0} → Result X Finding → Result (Unit {0}) Finding
 passed (Ok x) = Ok tt
 passed (Err f) = Err f
 
--- the filter's block at a place loads
+-- A filter block loads.
 abbrev pub filter_found : List ℕ → Place → Result (Unit {0}) Finding
 filter_found body place = passed
     (located section.Filter place.offset (load_told body place.offset place.size Filter))
@@ -276,7 +274,7 @@ tops_found body [] = Ok tt
 tops_found body (top ∷ tops) =
     filter_found body (place_of top) >>= λ _. tops_found body tops
 
--- each block of the filter loads
+-- Each filter block loads.
 abbrev pub filters_by : List ℕ → Option (List Handle) → Option Place → Result (Unit {0}) Finding
 filters_by body (Some tops) place = tops_found body tops
 filters_by body None (Some place) = filter_found body place
@@ -287,17 +285,17 @@ filters_found body parts = filters_by body parts.pinned.filter_tops parts.region
 
 -- ---- the end
 
--- a number of the meta block is the one that was read
+-- A number in the meta block equals the one that was read.
 abbrev pub same_found : ℕ → ItemName → ℕ → ℕ → Result (Unit {0}) Finding
 same_found meta item said read =
     tested (said == read) (finding section.Meta meta (fault.Unborne item))
 
--- a key of the meta block is the one that was read
+-- A key in the meta block equals the one that was read.
 abbrev pub key_same : ℕ → ItemName → List ℕ → List ℕ → Result (Unit {0}) Finding
 key_same meta item said read =
     tested (same_key said read) (finding section.Meta meta (fault.Unborne item))
 
--- nothing is left of the counts, and the lowest and the highest number are those that were read
+-- No count is left, and the lowest and highest seqno match those that were read.
 unfoldable pub counts_found : Parts → Counts → Result (Unit {0}) Finding
 counts_found parts counts =
     let meta = parts.regions.metadata.offset in
@@ -310,7 +308,7 @@ counts_found parts counts =
     same_found meta item.SeqnoMin parts.facts.seqno_min counts.lowest >>= λ _.
     same_found meta item.SeqnoMax parts.facts.seqno_max counts.highest
 
--- no data block lies where the first of them would
+-- No data block loads at offset 0.
 abbrev pub unnamed_by : {X : Type 0} → Result X Error → Result (Unit {0}) Finding
 unnamed_by (Ok block) = Err (finding section.Data 0 fault.Unnamed)
 unnamed_by (Err e) = Ok tt
@@ -318,8 +316,8 @@ unnamed_by (Err e) = Ok tt
 abbrev pub unnamed_found : List ℕ → Result (Unit {0}) Finding
 unnamed_found body = unnamed_by (load_at_told body 0 Data)
 
--- the last entry has the key that the meta block names as the greatest; where there is none, both
--- keys are empty, and there is no data block
+-- The last entry has the meta block's greatest key. Without entries, both keys are empty and there
+-- is no data block.
 abbrev pub range_found : List ℕ → Parts → Option Entry → Result (Unit {0}) Finding
 range_found body parts (Some e) =
     key_same parts.regions.metadata.offset item.KeyMax parts.facts.key_range.max e.user_key
@@ -334,59 +332,58 @@ end_found body parts left =
 
 -- ---- the whole
 
--- what a table says that it has
+-- The counts that a table claims.
 abbrev pub verified_of : Facts → Verified
 verified_of said = record {
   data_block_count = said.data_block_count;
   item_count = said.item_count;
 }
 
--- the index and the data blocks, and then the end
+-- The index and the data blocks, and then the end.
 unfoldable pub all_found : List ℕ → Parts → Result (Unit {0}) Finding
 all_found body parts =
     index_found body parts (unread_of parts.facts) >>= λ left. end_found body parts left
 
--- what is found first in the bytes before the trailer: in the filter, then in the index and the
--- data blocks, in their order, then at the end
+-- The first fault in the bytes: in the filter, then the index and the data blocks in order, then at
+-- the end.
 unfoldable pub table_found : List ℕ → Parts → Result Verified Finding
 table_found body parts =
     filters_found body parts >>= λ _.
     all_found body parts >>= λ _.
     Ok (verified_of parts.facts)
 
--- the file's bytes have another checksum, which is found at the first of them
+-- The finding that the file checksum does not match, reported at offset 0.
 abbrev pub other_checksum : Finding
 other_checksum = finding section.Data 0 fault.OtherChecksum
 
--- ---- before memory is taken
+-- ---- before allocation
 
--- what is found so is the refusal, whatever memory there is
+-- Such a finding is always returned, even where an allocation could fail.
 abbrev pub FindsFirst : {X : Type 0} → Result X VerifyError → Option Finding → Type 0
 FindsFirst result early = (f : Finding) → early ≡ Some f → IsErrAnd result (λ e. e ≡ Found f)
 
--- what a load's fault that needs no memory is found to be
+-- A load's error that precedes allocation, as a finding.
 abbrev pub early_from : SectionName → ℕ → Option Error → Option Finding
 early_from section offset None = None
 early_from section offset (Some e) = Some (finding section offset (fault.Unloaded e))
 
--- what is found so of the block of a kind at a place in a section
+-- The finding of a block that precedes allocation.
 abbrev pub early_at : List ℕ → SectionName → Place → BlockType → Option Finding
 early_at body section place kind =
     early_from section place.offset (place_fault body place.offset place.size kind)
 
--- where the filter's blocks lie
+-- The offsets and sizes of the filter blocks.
 abbrev pub filter_places : Option (List Handle) → Option Place → List Place
 filter_places (Some tops) place = map place_of tops
 filter_places None (Some place) = place ∷ []
 filter_places None None = []
 
--- what is found so at the first of the filter's blocks, or, where there are none, at the block
--- behind them
+-- The early finding of the first filter block, or else of the block after the filter.
 abbrev pub early_filters : List ℕ → List Place → Option Finding → Option Finding
 early_filters body [] behind = behind
 early_filters body (place ∷ places) behind = early_at body section.Filter place Filter
 
--- what is found so at the first block of all: the filter's, or, where there is none, the index's
+-- The early finding of the first block read: of the filter, or else of the index.
 abbrev pub table_early : List ℕ → Parts → Option Finding
 table_early body parts =
     early_filters body (filter_places parts.pinned.filter_tops parts.regions.filter)

@@ -1,4 +1,4 @@
--- The words of clauses, from one place.
+-- The definitions that contracts of readers cite.
 pub use Rattle.sst_entries.specs.Entry.{Entry}
 pub use Rattle.sst_entries.specs.Error.{Faults, FaultsFirst, Gives}
 pub use Rattle.sst_entries.specs.Point.{point, within}

@@ -1,4 +1,4 @@
-//! Point reads for some queries in key order, over whatever blocks can be loaded from.
+//! Point reads for a batch of queries in key order, over any block source.
 ghost use Rattle.std.specs.Prelude.{◌≡◌, ◌-◌, ◌<◌, ◌≤◌, Option, Ok, IfOk, IfSome, false};
 ghost use Rattle.std.specs.Prelude.{length, replicate, slice_set};
 ghost use Rattle.std.specs.List.{All};
@@ -13,19 +13,18 @@ use crate::{Inner, Query};
 use sst_blocks::{BlockHandle, BlockType, Builder, Error, InternalValue, LoadBlocks};
 use std::alloc::{AllocError, Allocator, Global};
 
-/// How many data blocks are compared ahead of the reads that rest on them: as many of 4 KiB as a
-/// processor's nearest cache has room for until they are read.
+/// How many data blocks are compared ahead of the reads that need them. So many blocks of 4 KiB fit
+/// in a processor's nearest cache until they are read.
 pub(crate) const AHEAD: usize = 8;
 
-/// A lookup of a query, by its place in a list: where the data block lies that a read for it rests
-/// on, if on any.
+/// The index of a query, and the handle of the data block that its read needs, if any.
 #[derive(Clone, Copy)]
 pub(crate) struct Lookup {
     pub(crate) at: usize,
     pub(crate) handle: Option<BlockHandle>,
 }
 
-/// What was found for some queries, in their order, and for which of them that is known.
+/// The results of some queries, in their order, and which of them are known.
 #[derive(Drop)]
 pub(crate) struct Batch<A: Allocator = Global> {
     pub(crate) found: Vec<Option<InternalValue<A>>, A>,
@@ -33,7 +32,7 @@ pub(crate) struct Batch<A: Allocator = Global> {
 }
 
 impl<A: Allocator + Clone> Batch<A> {
-    /// Nothing is known yet of so many queries.
+    /// Returns a batch of `count` queries without any known result.
     pub(crate) fn new(alloc: &A, count: usize) -> Result<Batch<A>, AllocError>
         ensures found { IfOk result (λ b. length b.found.items ≡ count) }
         ensures done { IfOk result (λ b. b.done.items ≡ replicate count false) }
@@ -47,8 +46,7 @@ impl<A: Allocator + Clone> Batch<A> {
     }
 }
 
-/// Puts an item in the place of another. It is generic in the items, so that no part of a large one
-/// is looked at.
+/// Replaces an item. Generic, so that a proof does not unfold the parts of a large item.
 pub(crate) fn put<T: Drop, A: Allocator>(items: &mut Vec<T, A>, at: usize, item: T)
     requires { at < length items.old.items }
     ensures { items.new.items ≡ slice_set items.old.items at item }
@@ -56,7 +54,7 @@ pub(crate) fn put<T: Drop, A: Allocator>(items: &mut Vec<T, A>, at: usize, item:
     items[at] = item;
 }
 
-/// The lookup of the query at a place. None where it is refused, or there is no such place.
+/// The lookup of the query at an index. `None` if the lookup fails or there is no such query.
 fn lookup_at<S: LoadBlocks>(
     source: &mut S,
     inner: &Inner<S::Alloc>,
@@ -77,8 +75,7 @@ fn lookup_at<S: LoadBlocks>(
     }
 }
 
-/// The lookups of the queries at some places, in the order of these places, up to the first that is
-/// refused.
+/// The lookups of the queries at some indexes, in that order, up to the first that fails.
 pub(crate) fn find_lookups<S: LoadBlocks>(
     source: &mut S,
     inner: &Inner<S::Alloc>,
@@ -101,8 +98,8 @@ pub(crate) fn find_lookups<S: LoadBlocks>(
     Ok(lookups)
 }
 
-/// What a read for a query gives that rests on the data block of a handle. Refused as the load of
-/// that block, and [`Error::OutOfMemory`].
+/// Reads a query's key in the data block of a handle. Fails as the load of that block does, or with
+/// [`Error::OutOfMemory`].
 fn answer_lookup<S: LoadBlocks>(
     source: &mut S,
     inner: &Inner<S::Alloc>,
@@ -130,9 +127,9 @@ fn answer_lookup<S: LoadBlocks>(
     }
 }
 
-/// Gathers the data blocks that lookups at the front of some name, [`AHEAD`] of them at most and
-/// none that was named just before. Gives how many lookups these are: at least one, where there is
-/// any. Refused for want of memory alone.
+/// Collects the data blocks of the first lookups, at most [`AHEAD`], without immediate repeats.
+/// Returns how many lookups these are: at least one, if there is any. Fails only if an allocation
+/// fails.
 pub(crate) fn gather_blocks<A: Allocator>(
     lookups: &[Lookup],
     blocks: &mut Vec<(BlockHandle, BlockType), A>,
@@ -156,12 +153,12 @@ pub(crate) fn gather_blocks<A: Allocator>(
     Ok(lookups.len())
 }
 
-/// The data block that the read of a lookup rests on, where there is such a lookup.
+/// The data block that the read of a lookup needs. `None` past the end.
 fn handle_of(lookups: &[Lookup], index: usize) -> Option<BlockHandle> {
     lookups.get(index)?.handle
 }
 
-/// Whether the read of a lookup is the first of several that rest on one data block.
+/// Whether the read of a lookup is the first of several that need the same data block.
 fn begins_several(lookups: &[Lookup], index: usize) -> bool {
     let handle = handle_of(lookups, index);
     handle.is_some()
@@ -169,9 +166,9 @@ fn begins_several(lookups: &[Lookup], index: usize) -> bool {
         && handle != handle_of(lookups, index.wrapping_sub(1))
 }
 
-/// Loads the data block of a handle, which a source that keeps blocks then has for the reads to
-/// come. A fault of the block is met by the first of these; where memory is wanted for its entries'
-/// places, each of them walks over the block.
+/// Loads a data block, which a caching source then has for the next reads. Errors are ignored: the
+/// first of these reads reports a fault of the block. If memory for the entry offsets is missing,
+/// each read searches the block entry by entry.
 fn load_for_several<S: LoadBlocks>(source: &mut S, handle: Option<BlockHandle>)
     ensures body { S.body source.new ≡ S.body source.old }
     ensures opened { IfSome handle (λ _. S.opened source.new ≡
@@ -182,8 +179,8 @@ fn load_for_several<S: LoadBlocks>(source: &mut S, handle: Option<BlockHandle>)
     }
 }
 
-/// Reads for the queries of some lookups, one behind another, up to the first that is refused.
-/// Answers whether none is.
+/// Reads the queries of some lookups in order, up to the first that fails. Returns whether none
+/// failed.
 pub(crate) fn read_lookups<S: LoadBlocks>(
     source: &mut S,
     inner: &Inner<S::Alloc>,

@@ -1,36 +1,38 @@
-//! What the handles of a table share, but for its bytes.
+//! The state that all handles of a table share, except for its bytes.
 use crate::{ParsedMeta, ParsedRegions, PinnedBlockIndex};
 use sst_blocks::{Checksum, FilterBlock, IndexBlock, SeqNo, TreeId};
 use std::alloc::{Allocator, Global};
 
-/// What a table was recovered to. There is no way from here to the table's bytes.
+/// The state of an open table, except for its bytes.
+///
+/// The bytes cannot be reached from it.
 #[derive(Drop)]
 pub struct Inner<A: Allocator = Global> {
-    /// The tree that the table belongs to.
+    /// The id of the tree that the table belongs to.
     pub tree_id: TreeId,
-    /// The number that is added to every stored number.
+    /// The sequence number that is added to every stored one.
     pub global_seqno: SeqNo,
-    /// The checksum that the table was recovered with. It is kept, and not compared.
+    /// The checksum that the table was opened with, which is not compared with the bytes.
     pub checksum: Checksum,
-    /// What the table says of itself.
+    /// The items of the meta block.
     pub metadata: ParsedMeta<A>,
-    /// Where the table's parts lie.
+    /// The handles of the table's sections.
     pub regions: ParsedRegions,
-    /// What of the index stays loaded.
+    /// The pinned part of the index.
     pub pinned_block_index: PinnedBlockIndex<A>,
-    /// The top level of a filter with partitions.
+    /// The top level of a partitioned filter.
     pub pinned_filter_index: Option<IndexBlock<A>>,
-    /// The one block of a full filter, where it was to stay loaded.
+    /// The block of a full filter, if it is pinned.
     pub pinned_filter_block: Option<FilterBlock<A>>,
 }
 
-/// The blocks that stay loaded while a table is open.
+/// The blocks that stay pinned while a table is open.
 #[derive(Drop)]
 pub struct PinnedBlocks<A: Allocator = Global> {
-    /// What of the index stays loaded.
+    /// The pinned part of the index.
     pub index: PinnedBlockIndex<A>,
-    /// The top level of a filter with partitions.
+    /// The top level of a partitioned filter.
     pub filter_index: Option<IndexBlock<A>>,
-    /// The one block of a full filter.
+    /// The block of a full filter, if it is pinned.
     pub filter_block: Option<FilterBlock<A>>,
 }

@@ -1,4 +1,4 @@
-//! A source that keeps what it loaded last.
+//! A block source that caches its last filter, index and entry block.
 ghost use Rattle.std.specs.Prelude.{◌≡◌, List, ℕ, IfErr, IfOk, IfSome};
 ghost use Rattle.sst_blocks.specs.Starts.{HoldsEntries};
 ghost use Rattle.sst_entries.specs.declared.error.Error.TheVariants.{OutOfMemory};
@@ -13,16 +13,15 @@ use sst_blocks::{
 use std::alloc::{Allocator, Global};
 use std::marker::Model;
 
-/// A block that was loaded, and from where.
+/// A cached block and its handle.
 #[derive(Drop)]
 pub(crate) struct Kept<A: Allocator = Global> {
     handle: BlockHandle,
     block: Block<A>,
 }
 
-/// A source that keeps the filter, the index block and the block of entries that it loaded last (a
-/// meta block has entries too), and gives such a block again where it is asked for it again. It
-/// counts what it is asked for.
+/// A source that caches the last filter, index and entry block that it loaded. Data and meta blocks
+/// are both entry blocks. `opened` counts all requests, including those answered from the cache.
 #[derive(Drop)]
 pub(crate) struct Keeping<'a, A: Allocator = Global> {
     source: &'a BlockSource<A>,
@@ -47,7 +46,7 @@ impl<'a, A: Allocator> Model for Keeping<'a, A> {
 }
 
 impl<'a, A: Allocator + Clone> Keeping<'a, A> {
-    /// Nothing was loaded yet.
+    /// Returns a source with nothing cached.
     pub(crate) fn new(source: &'a BlockSource<A>) -> Keeping<'a, A>
         ensures source { result.0 ≡ source.now }
         ensures none { result.1 ≡ none_opened }
@@ -82,7 +81,7 @@ impl<A: Allocator + Clone> LoadBlocks for Keeping<'_, A> {
         }
     }
 
-    // A block that is not kept is walked over, and is not kept by that.
+    // A point read of a block that is not cached does not cache it.
     fn point_read(
         &mut self,
         handle: &BlockHandle,
@@ -99,7 +98,7 @@ impl<A: Allocator + Clone> LoadBlocks for Keeping<'_, A> {
     }
 }
 
-/// The block that is kept, where it is the one of this kind that a handle names.
+/// The cached block, if it is the one of this kind at the handle.
 fn kept_at<'k, A: Allocator>(
     kept: &'k Option<Kept<A>>,
     handle: &BlockHandle,
@@ -114,8 +113,8 @@ fn kept_at<'k, A: Allocator>(
     }
 }
 
-/// The first entry of a key numbered below `seqno` in a block that is kept. Refused
-/// [`Error::OutOfMemory`] alone.
+/// Returns the newest version of `key` visible at `seqno` in a cached block. Fails with
+/// [`Error::OutOfMemory`] only.
 fn read_kept<A: Allocator>(
     block: &Block<A>,
     key: &[u8],
@@ -132,8 +131,8 @@ fn read_kept<A: Allocator>(
     found
 }
 
-/// The block of a kind that a handle names: the one that is kept, or one that is loaded, and kept
-/// from then on. Refused as [`BlockSource::load`].
+/// Returns the block of a kind at a handle from the cache, or loads and caches it. Fails as
+/// [`BlockSource::load`] does.
 fn load_kept<A: Allocator + Clone>(
     source: &BlockSource<A>,
     kept: &mut Option<Kept<A>>,

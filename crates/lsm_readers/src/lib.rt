@@ -1,5 +1,4 @@
-//! One sorted table: opening its bytes, point reads, one and many together, scans, ranges and
-//! verification.
+//! Reading one sorted table: opening, point reads, scans, ranges and verification.
 #![tactic(auto)]
 
 mod batch;

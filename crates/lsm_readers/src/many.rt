@@ -1,4 +1,4 @@
-//! Many point reads of one table.
+//! Point reads of many keys in one table.
 ghost use Rattle.std.specs.Prelude.{◌≡◌, IsOk, Option, []};
 ghost use Rattle.std.specs.List.{All};
 ghost use Rattle.lsm_readers.specs.point.Batch.{AreFound, IsLookup, query_told};
@@ -13,17 +13,17 @@ use crate::point::point_in;
 use sst_blocks::{BlockSource, Builder, Counted, Error, InternalValue, SeqNo, UserKey};
 use std::alloc::{AllocError, Allocator, Global};
 
-/// What [`many_in`] looks for: of one key the first entry that is numbered below a bound.
+/// A point read of one key at a snapshot, for [`many_in`].
 #[derive(Drop)]
 #[derive_where(Debug, PartialEq, Eq)]
 pub struct Query<A: Allocator = Global> {
     /// The key.
     pub key: UserKey<A>,
-    /// The bound, above each number that is found.
+    /// The snapshot: only versions with a smaller seqno are visible.
     pub seqno: SeqNo,
 }
 
-// What a read for one query answers.
+// Reads one query by itself.
 fn get_one<A: Allocator + Clone>(
     blocks: &BlockSource<A>,
     inner: &Inner<A>,
@@ -39,8 +39,8 @@ fn get_one<A: Allocator + Clone>(
     point_in(&mut source, inner, key, query.seqno, key_hash)
 }
 
-/// Reads for the queries of some lookups, whose blocks are compared several in one loop, each a
-/// little ahead of the reads that rest on it. Ends at the first refusal.
+/// Reads the queries of some lookups, up to the first that fails. The checksums of their blocks are
+/// compared several in one loop, shortly before the reads.
 fn read_ahead<A: Allocator + Clone>(
     blocks: &BlockSource<A>,
     inner: &Inner<A>,
@@ -73,8 +73,7 @@ fn read_ahead<A: Allocator + Clone>(
     Ok(())
 }
 
-/// Reads for the queries at some places, in the order of these places, up to the first that is
-/// refused.
+/// Reads the queries at some indexes, in that order, up to the first that fails.
 fn read_ordered<A: Allocator + Clone>(
     blocks: &BlockSource<A>,
     inner: &Inner<A>,
@@ -95,8 +94,8 @@ fn read_ordered<A: Allocator + Clone>(
     read_ahead(blocks, inner, source, queries, &lookups, batch)
 }
 
-/// Reads for some queries in the order of their keys, each block loaded once for all that stand
-/// behind one another in it, as far as there is memory, and up to the first that is refused.
+/// Reads some queries in key order, up to the first that fails. If memory allows, neighbours in one
+/// block share its load.
 fn read_batch<A: Allocator + Clone>(
     blocks: &BlockSource<A>,
     inner: &Inner<A>,
@@ -111,7 +110,7 @@ fn read_batch<A: Allocator + Clone>(
         AreFound told queries.now batch.new.found.items batch.new.done.items }
 {
     if queries.len() < 2 {
-        // A query that stands alone has no neighbours.
+        // A single query has no neighbour to share a load with.
         return Ok(());
     }
     let order = key_order(blocks.allocator().clone()?, queries)?;
@@ -125,8 +124,8 @@ fn read_batch<A: Allocator + Clone>(
     )
 }
 
-/// What was found, with the answers of reads for those queries that nothing is known of yet, in the
-/// queries' order. Refused as the first of these reads that is.
+/// Returns the results of all queries in order, and reads those that are not known yet. Fails as
+/// the first of these reads that fails.
 fn read_rest<A: Allocator + Clone>(
     blocks: &BlockSource<A>,
     inner: &Inner<A>,
@@ -149,14 +148,19 @@ fn read_rest<A: Allocator + Clone>(
     Ok(found)
 }
 
-/// What [`point_in`] answers to each of some queries over a table's bytes, in their order, each
-/// with its key's own hash. Queries may stand in any order and repeat. They are looked up in the
-/// order of their keys: the checksums of their data blocks are compared several in one loop, and a
-/// block in which several keys stand is loaded once for them where there is memory for its entries'
-/// places. Refused with the error of the earliest query that has one, and [`Error::OutOfMemory`];
-/// then there is no answer at all. The list takes memory first, so any refusal may be that, also
-/// where a read would find a fault before memory is taken or would load nothing. A list of no
-/// queries takes none, and is refused only where a clone of the allocator is.
+/// Returns the newest visible version of each query's key, in the order of the queries.
+///
+/// Each result is that of [`point_in`] with the hash of the query's key. Queries may be in any
+/// order and may repeat. They are looked up in key order. The checksums of their data blocks are
+/// compared several in one loop. A block that several keys need is loaded once, if memory for its
+/// entry offsets is available.
+///
+/// # Errors
+///
+/// The error of the earliest query that has one, or [`Error::OutOfMemory`]. No result is returned
+/// then. The list is allocated first, so `OutOfMemory` can replace any other error. It can also
+/// occur if the reads would load nothing. Without queries, the call fails only if a clone of the
+/// allocator does.
 pub fn many_in<A: Allocator + Clone>(
     blocks: &BlockSource<A>,
     inner: &Inner<A>,
@@ -165,7 +169,7 @@ pub fn many_in<A: Allocator + Clone>(
     ensures told { let parts = parts_of inner.now in
         let told = query_told (body_of blocks.now) inner.now.global_seqno parts in
         Gives (λ found. found.items) result (answers_to told queries.now) }
-    // A list of no queries is not refused, unless a clone of the allocator is.
+    // Without queries it fails only if a clone of the allocator does.
     ensures calm { queries.now ≡ [] → ((alloc : A) → A.is_infallible alloc) → IsOk result }
 {
     let alloc = blocks.allocator();
@@ -173,7 +177,7 @@ pub fn many_in<A: Allocator + Clone>(
         return Ok(Vec::new(alloc.clone()?));
     }
     let mut batch = Batch::new(alloc, queries.len())?;
-    // Without memory, or once a read was refused, each query that is left is read by itself.
+    // After an allocation failure or a failed read, each query that is left is read by itself.
     let _ = read_batch(blocks, inner, queries, &mut batch);
     read_rest(blocks, inner, queries, batch)
 }

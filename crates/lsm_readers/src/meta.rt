@@ -1,4 +1,4 @@
-//! What a table says of itself in its meta block.
+//! Parsing a table's meta block.
 ghost use Rattle.std.specs.Prelude.{◌≡◌, ◌-◌, List, ℕ, Result};
 ghost use Rattle.sst_entries.specs.Error.{FaultsFirst, Gives};
 ghost use Rattle.sst_blocks.specs.Block.{place_fault};
@@ -26,41 +26,41 @@ use sst_blocks::{
 use std::alloc::{Allocator, Global};
 use std::marker::Model;
 
-/// What a table says of itself.
+/// The items of a table's meta block.
 #[derive(Drop)]
 #[derive_where(Debug)]
 pub struct ParsedMeta<A: Allocator = Global> {
-    /// The version of the table, 3 or 4.
+    /// The format version of the table, 3 or 4.
     pub table_version: u8,
     /// The table's id.
     pub id: TableId,
-    /// When the table was written.
+    /// The time at which the table was written.
     pub created_at: Timestamp,
-    /// How many data blocks there are.
+    /// The number of data blocks.
     pub data_block_count: u64,
-    /// How many index blocks there are.
+    /// The number of index blocks.
     pub index_block_count: u64,
     /// The first and the last key.
     pub key_range: KeyRange<A>,
-    /// The lowest and the highest stored number.
+    /// The lowest and the highest stored sequence number, without the global one.
     pub seqnos: (SeqNo, SeqNo),
-    /// The length of the data blocks, in bytes.
+    /// The total size of the data blocks, in bytes.
     pub file_size: u64,
-    /// How many entries there are.
+    /// The number of entries.
     pub item_count: u64,
-    /// How many of them are tombstones of either kind.
+    /// The number of tombstones of either kind.
     pub tombstone_count: u64,
-    /// How many of them are weak tombstones.
+    /// The number of weak tombstones.
     pub weak_tombstone_count: u64,
-    /// How many values stand directly after a weak tombstone of their key.
+    /// The number of values directly after a weak tombstone of their key.
     pub weak_tombstone_reclaimable: u64,
-    /// How data blocks are compressed.
+    /// The compression of data blocks.
     pub data_block_compression: CompressionType,
-    /// How index blocks are compressed.
+    /// The compression of index blocks.
     pub index_block_compression: CompressionType,
 }
 
-/// The value of an item. Refused [`Error::MetaKeyMissing`] where there is none.
+/// The value of an item. Fails with [`Error::MetaKeyMissing`] if there is none.
 #[tactic(auto, unfolding(crate::specs::point::Meta::item_told))]
 fn item<A: Allocator>(block: &DataBlock<A>, name: ItemName) -> Result<Slice<A>, Error>
     ensures { Gives (λ (v : List ℕ). v) result (item_told block.now name) }
@@ -150,7 +150,6 @@ fn first_item<A: Allocator>(
     tested
 }
 
-// The version, one byte, 3 or 4.
 fn version(value: &[u8]) -> Result<u8, Error>
     ensures { result ≡ version_number_told value.now }
 {
@@ -223,8 +222,8 @@ fn created_item<A: Allocator>(block: &DataBlock<A>) -> Result<u128, Error>
     number
 }
 
-/// The numbers of a table that are read before its moment, in this order. The count of filter
-/// blocks is read behind that of index blocks, for its refusal alone, and is not kept.
+/// The numbers that are read before the creation time, in this order. The filter block count is
+/// read after the index block count, to report its fault, and is not stored.
 #[derive(Clone, Copy)]
 struct Numbers {
     id: TableId,
@@ -280,7 +279,7 @@ fn seqno_items<A: Allocator>(block: &DataBlock<A>) -> Result<(SeqNo, SeqNo), Err
     Ok((min, max))
 }
 
-/// What a table says of itself, where its version and its numbers were read: the rest is read here.
+/// Reads the items after the version and the numbers.
 fn read_rest<A: Allocator>(
     block: &DataBlock<A>,
     table_version: u8,
@@ -320,10 +319,19 @@ fn read_facts<A: Allocator>(block: &DataBlock<A>) -> Result<ParsedMeta<A>, Error
 }
 
 impl<A: Allocator + Clone> ParsedMeta<A> {
-    /// Loads a meta block and reads its items. Refused with the first fault: those of
-    /// [`BlockSource::load`], then, item after item, [`Error::MetaKeyMissing`] where one is not
-    /// there, [`Error::InvalidMetaValue`] where a value is too short, and the refusal of a version,
-    /// hash, checksum, index interval or compression that is not known; and [`Error::OutOfMemory`].
+    /// Loads a meta block and parses its items.
+    ///
+    /// # Errors
+    ///
+    /// The first fault: those of [`BlockSource::load`], then item after item:
+    ///
+    /// - [`Error::MetaKeyMissing`] if the item is missing.
+    /// - [`Error::InvalidMetaValue`] if the value is too short.
+    /// - [`Error::UnsupportedTableVersion`], [`Error::UnsupportedHashType`],
+    ///   [`Error::UnsupportedChecksumType`], [`Error::UnsupportedIndexInterval`] or
+    ///   [`Error::UnsupportedCompression`] if the value is unknown.
+    ///
+    /// It can also fail with [`Error::OutOfMemory`].
     pub fn load_with_handle(
         source: &BlockSource<A>,
         handle: &BlockHandle,
@@ -341,8 +349,12 @@ impl<A: Allocator + Clone> ParsedMeta<A> {
     }
 }
 
-/// The value of an item of the meta block at a place. Refused as [`BlockSource::load`], then
-/// [`Error::MetaKeyMissing`] where the block has no such item; and [`Error::OutOfMemory`].
+/// Loads the meta block at `handle`, and returns the value of one of its items.
+///
+/// # Errors
+///
+/// Fails as [`BlockSource::load`] does, then with [`Error::MetaKeyMissing`] if the block has no
+/// such item. It can also fail with [`Error::OutOfMemory`].
 pub fn load_item<A: Allocator + Clone>(
     source: &BlockSource<A>,
     handle: &BlockHandle,

@@ -6,16 +6,16 @@ use sst_entries::compare_versions;
 use std::alloc::{AllocError, Allocator};
 use std::cmp::Ordering;
 
-/// Where a query stands in its list, and the eight bytes of its key behind those that all keys of
-/// the list begin with, as a number: most keys are told apart by it, and no key's bytes are fetched
-/// for that.
+/// The index of a query in its list, with eight bytes of its key as a number. The bytes are those
+/// after the prefix that all keys of the list share. The number decides most comparisons without
+/// fetching a key.
 #[derive(Clone, Copy)]
 pub(crate) struct Headed {
     head: u64,
     pub(crate) at: usize,
 }
 
-/// How many bytes two keys have in common at their front, `most` at most.
+/// The length of the common prefix of two keys, at most `most`.
 fn common_len(key: &[u8], other: &[u8], most: usize) -> usize {
     for at in 0..most {
         match (key.get(at), other.get(at)) {
@@ -26,7 +26,7 @@ fn common_len(key: &[u8], other: &[u8], most: usize) -> usize {
     most
 }
 
-/// How many bytes the keys of some queries have in common at their front.
+/// The length of the prefix that the keys of all queries share.
 fn shared_len<A: Allocator>(queries: &[Query<A>]) -> usize {
     let Some(first) = queries.first() else {
         return 0;
@@ -38,8 +38,8 @@ fn shared_len<A: Allocator>(queries: &[Query<A>]) -> usize {
     shared
 }
 
-/// Eight bytes of a key from a place on as a number, the first in front; zeros stand past its end.
-/// So of two keys that agree up to there, one that is below the other has no greater number.
+/// Eight bytes of a key from an offset as a big-endian number, padded with zeros. If two keys agree
+/// up to the offset, the smaller key never has the greater number.
 fn head_at(key: &[u8], from: usize) -> u64 {
     if from <= key.len() && 8 <= key.len() - from {
         return BigEndian::read_u64(&key[from..]);
@@ -55,8 +55,8 @@ fn head_at(key: &[u8], from: usize) -> u64 {
     head
 }
 
-/// Queries by their keys upward, and those of one key by their bounds downward. A place behind the
-/// list is equal to any.
+/// Orders queries by key ascending, then by seqno descending. An index past the end is equal to
+/// any.
 fn compare_queries<A: Allocator>(queries: &[Query<A>], at: usize, other_at: usize) -> Ordering {
     match (queries.get(at), queries.get(other_at)) {
         (Some(query), Some(other)) => compare_versions(
@@ -69,8 +69,7 @@ fn compare_queries<A: Allocator>(queries: &[Query<A>], at: usize, other_at: usiz
     }
 }
 
-/// Queries in the order of [`compare_queries`], told by eight bytes of their keys where these
-/// differ.
+/// Orders queries as [`compare_queries`] does, by eight bytes of their keys if these differ.
 fn compare_headed<A: Allocator>(queries: &[Query<A>], a: &Headed, b: &Headed) -> Ordering {
     match a.head.cmp(&b.head) {
         Ordering::Equal => compare_queries(queries, a.at, b.at),
@@ -78,7 +77,7 @@ fn compare_headed<A: Allocator>(queries: &[Query<A>], a: &Headed, b: &Headed) ->
     }
 }
 
-/// The places of some queries in their list, in the order of their keys.
+/// The indexes of some queries, in the order of their keys.
 pub(crate) fn key_order<A: Allocator>(
     alloc: A,
     queries: &[Query<A>],

@@ -1,5 +1,4 @@
-//! What of a table's index stays loaded, and what depends on that: this is all that differs between
-//! the kinds of an index.
+//! The pinned part of a table's index, and all that depends on the kind of index.
 ghost use Rattle.std.specs.Prelude.{◌≡◌, List, IfOk, IfErr};
 ghost use Rattle.sst_blocks.specs.declared.block_type.BlockType.TheVariants.{Index};
 ghost use Rattle.sst_entries.specs.declared.error.Error.TheVariants.{OutOfMemory};
@@ -18,18 +17,22 @@ use sst_blocks::{
 };
 use std::alloc::{Allocator, Global};
 
-/// What of a table's index stays loaded.
+/// The pinned part of a table's index.
 #[derive(Drop)]
 pub enum PinnedBlockIndex<A: Allocator = Global> {
-    /// The one block of a full index.
+    /// The single block of a full index.
     Full(FullBlockIndex<A>),
-    /// Nothing: each read loads the one block of a full index.
+    /// Nothing: each read loads the single block of a full index.
     VolatileFull,
-    /// The top level of an index with partitions, whose handles lead to them.
+    /// The top level of a partitioned index, with the handles of the partitions.
     TwoLevel(IndexBlock<A>),
 }
 
-/// The handles of the index block at a place. Refused as [`BlockSource::load`].
+/// Loads the index block at `handle`, and returns its handles.
+///
+/// # Errors
+///
+/// Fails as [`BlockSource::load`] does.
 pub fn load_handles<A: Allocator + Clone>(
     source: &BlockSource<A>,
     handle: &BlockHandle,
@@ -44,7 +47,7 @@ pub fn load_handles<A: Allocator + Clone>(
     Ok(IndexBlock::new(block))
 }
 
-/// Where the handle leads that the index block at a place has for a key below a stored number.
+/// The handle that the index block at `handle` has for a key at a stored seqno.
 fn handle_at<S: LoadBlocks>(
     source: &mut S,
     handle: &BlockHandle,
@@ -58,7 +61,7 @@ fn handle_at<S: LoadBlocks>(
     source.find(handle, key, seqno)
 }
 
-/// An index whose one block, at a place, each iterator loads. Refused [`Error::OutOfMemory`] alone.
+/// A full index whose block each iterator loads. Fails with [`Error::OutOfMemory`] only.
 fn volatile_index<A: Allocator + Clone>(
     source: &BlockSource<A>,
     handle: BlockHandle,
@@ -73,7 +76,7 @@ fn volatile_index<A: Allocator + Clone>(
     Ok(BlockIndexImpl::VolatileFull(index))
 }
 
-/// An index of partitions below a top level. Refused [`Error::OutOfMemory`] alone.
+/// A partitioned index. Fails with [`Error::OutOfMemory`] only.
 fn two_level_index<A: Allocator + Clone>(
     source: &BlockSource<A>,
     tops: &IndexBlock<A>,
@@ -90,8 +93,14 @@ fn two_level_index<A: Allocator + Clone>(
 }
 
 impl<A: Allocator + Clone> PinnedBlockIndex<A> {
-    /// What of the index stays loaded: the top level where it has partitions, else the whole where
-    /// `pin_index` says so. Refused as [`BlockSource::load`].
+    /// Loads the part of an index that is pinned.
+    ///
+    /// A partitioned index pins its top level. A full index pins its block if `pin_index` is set,
+    /// else nothing.
+    ///
+    /// # Errors
+    ///
+    /// Fails as [`BlockSource::load`] does.
     pub fn load(
         source: &BlockSource<A>,
         regions: &ParsedRegions,
@@ -110,8 +119,14 @@ impl<A: Allocator + Clone> PinnedBlockIndex<A> {
         Ok(PinnedBlockIndex::Full(FullBlockIndex::new(handles)))
     }
 
-    /// The index over a table's bytes, whose one block or top level lies at a place. Nothing is
-    /// loaded. Refused [`Error::OutOfMemory`] alone.
+    /// Returns the block index over a table's bytes.
+    ///
+    /// `tli` is the handle of the top level, or of the single block of a full index. The call loads
+    /// nothing.
+    ///
+    /// # Errors
+    ///
+    /// [`Error::OutOfMemory`] only.
     pub fn over(
         &self,
         source: &BlockSource<A>,
@@ -136,15 +151,16 @@ impl<A: Allocator + Clone> PinnedBlockIndex<A> {
 }
 
 impl<A: Allocator> PinnedBlockIndex<A> {
-    /// The payload length of the index block that stays loaded, whose place is given, in bytes, or
-    /// 0 where none does.
+    /// Returns the payload length of the pinned index block in bytes, or 0 if none is pinned.
+    ///
+    /// `tli` is the handle of that block.
     #[inline]
     pub fn payload_len(&self, tli: &BlockHandle) -> usize
         ensures { result ≡ index_len (pinned_index_of self.now) tli.now }
     {
         match self {
             PinnedBlockIndex::VolatileFull => 0,
-            // Nothing is cut off: a block that was loaded is no shorter than its header.
+            // The subtraction does not saturate: a loaded block is at least as long as its header.
             PinnedBlockIndex::Full(_) | PinnedBlockIndex::TwoLevel(_) => {
                 (tli.size() as usize).saturating_sub(Header::serialized_len())
             }
@@ -152,10 +168,9 @@ impl<A: Allocator> PinnedBlockIndex<A> {
     }
 }
 
-/// Where the first data block lies that reaches a key below a stored number, by what stays loaded
-/// of the index, whose one block or top level lies at a place.
+/// The handle of the first data block that reaches a key at a stored seqno.
 ///
-/// It is no method of the index, which would need a bound: the source is to have its allocator.
+/// As a method of the index it would need a bound that ties its allocator to the source's.
 #[inline]
 pub(crate) fn handle_by<S: LoadBlocks>(
     source: &mut S,

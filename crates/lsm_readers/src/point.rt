@@ -1,4 +1,4 @@
-//! Point reads, over whatever blocks can be loaded from.
+//! Point reads over any block source.
 ghost use Rattle.std.specs.Prelude.{◌≡◌, ◌+◌, ◌<◌, ◌^◌, [], ℕ, List, Option, IfOk, IfSome, IsOk};
 ghost use Rattle.std.specs.Option.{option_map};
 ghost use Rattle.sst_blocks.specs.Asked.{told_map};
@@ -18,7 +18,7 @@ use sst_blocks::{
 };
 use std::alloc::Allocator;
 
-// The entry with the global number added, which the caller has tested to fit.
+// Applies the global seqno, which the caller has checked to fit.
 fn lift<A: Allocator>(item: InternalValue<A>, global_seqno: SeqNo) -> InternalValue<A>
     requires { item.seqno + global_seqno < 2 ^ 64 }
     ensures { result ≡ lifted global_seqno item }
@@ -28,7 +28,7 @@ fn lift<A: Allocator>(item: InternalValue<A>, global_seqno: SeqNo) -> InternalVa
     item
 }
 
-// Whether the filter block at a place may have a hash.
+// Whether the filter block at a handle may contain a hash.
 fn block_admits<S: LoadBlocks>(
     source: &mut S,
     handle: &BlockHandle,
@@ -41,7 +41,7 @@ fn block_admits<S: LoadBlocks>(
     source.maybe_contains_hash(handle, key_hash)
 }
 
-// Whether the filter may have a key of a hash.
+// Whether the filter may contain a key.
 fn filter_admits<S: LoadBlocks>(
     source: &mut S,
     inner: &Inner<S::Alloc>,
@@ -55,7 +55,7 @@ fn filter_admits<S: LoadBlocks>(
     ensures body { S.body source.new ≡ S.body source.old }
 {
     if let Some(tops) = &inner.pinned_filter_index {
-        // The partition that was given the key, whatever the read's bound is.
+        // Partitions are chosen by the key alone, whatever the seqno of the read.
         return match tops.find(key, SeqNo::MAX) {
             Some(handle) => block_admits(source, &handle, key_hash),
             None => Ok(false),
@@ -70,7 +70,7 @@ fn filter_admits<S: LoadBlocks>(
     }
 }
 
-// Whether a key may have an entry below a stored number.
+// Whether a key may have a version below a stored seqno.
 fn admission<S: LoadBlocks>(
     source: &mut S,
     inner: &Inner<S::Alloc>,
@@ -90,7 +90,7 @@ fn admission<S: LoadBlocks>(
     filter_admits(source, inner, key, key_hash)
 }
 
-// Where the one data block lies that a read of a key below a stored number rests on.
+// The handle of the one data block that a read of a key at a stored seqno needs.
 pub(crate) fn admitted_handle<S: LoadBlocks>(
     source: &mut S,
     inner: &Inner<S::Alloc>,
@@ -112,7 +112,7 @@ pub(crate) fn admitted_handle<S: LoadBlocks>(
     }
 }
 
-// What was found, with its lifted number, which is to fit.
+// Applies the global seqno to the entry found.
 fn lifted_found<A: Allocator>(
     found: Option<InternalValue<A>>,
     global_seqno: SeqNo,
@@ -126,7 +126,7 @@ fn lifted_found<A: Allocator>(
     }
 }
 
-// What the block of a handle answers.
+// Reads a key in the data block of a handle.
 pub(crate) fn read_in<S: LoadBlocks>(
     source: &mut S,
     handle: BlockHandle,
@@ -143,11 +143,17 @@ pub(crate) fn read_in<S: LoadBlocks>(
     Ok(lifted_found(found, global_seqno))
 }
 
-/// The first entry of a key numbered below `seqno`, its number with the global number added. The
-/// source is its only way to a block that is not pinned: at most one filter block is loaded, one
-/// index block, and one data block, the first whose end reaches the key at that number. Refused
-/// with the first fault of loading them, and [`Error::OutOfMemory`]; where none is loaded, as where
-/// a filter says no that is pinned or has no partition for the key, nothing is refused.
+/// Returns the newest version of `key` visible at `seqno`, global seqno applied.
+///
+/// `key_hash` must be the hash of `key`. Blocks that are not pinned are loaded from `source`. These
+/// are at most one filter block, one index block and one data block. The data block is the first
+/// whose end reaches the key at that seqno.
+///
+/// # Errors
+///
+/// The first fault of loading these blocks, or [`Error::OutOfMemory`]. If no block is loaded, the
+/// call does not fail. An example is a pinned filter that excludes the key, or that has no
+/// partition for it.
 pub fn point_in<S: LoadBlocks>(
     source: &mut S,
     inner: &Inner<S::Alloc>,
@@ -159,11 +165,11 @@ pub fn point_in<S: LoadBlocks>(
     ensures told { let parts = parts_of inner.now in
         let read = answer (S.body source.old) inner.now.global_seqno parts key.now seqno in
         Gives (λ (found : Option Entry). found) result read.told }
-    // What is found before memory is taken is the refusal, whatever memory there is.
+    // A fault that is found before any allocation takes precedence over `OutOfMemory`.
     ensures early { let parts = parts_of inner.now in
         let read = answer (S.body source.old) inner.now.global_seqno parts key.now seqno in
         FaultsFirst result read.early }
-    // Without a load nothing is refused: memory is taken only for a block.
+    // Without a load it does not fail: memory is allocated only for a block.
     ensures calm { let parts = parts_of inner.now in
         let read = answer (S.body source.old) inner.now.global_seqno parts key.now seqno in
         read.loads ≡ [] → IsOk result }
@@ -172,7 +178,7 @@ pub fn point_in<S: LoadBlocks>(
     ensures opened { let parts = parts_of inner.now in
         let read = answer (S.body source.old) inner.now.global_seqno parts key.now seqno in
         Opens result read.loads (S.opened source.old) (S.opened source.new) }
-    // These are few, also where memory is wanted.
+    // These are few, also if an allocation fails.
     ensures few { LoadsFew (parts_of inner.now) (S.opened source.old) (S.opened source.new) }
 {
     let low = seqno.saturating_sub(inner.global_seqno);
@@ -182,8 +188,7 @@ pub fn point_in<S: LoadBlocks>(
     }
 }
 
-// The place of an entry with the global number added to its number, which the caller has tested to
-// fit.
+// Applies the global seqno to a position, which the caller has checked to fit.
 fn lift_place(place: EntryPlace, global_seqno: SeqNo) -> EntryPlace
     requires { place.seqno + global_seqno < 2 ^ 64 }
     ensures entry { (bytes : List ℕ) →
@@ -195,7 +200,7 @@ fn lift_place(place: EntryPlace, global_seqno: SeqNo) -> EntryPlace
     place
 }
 
-// The place that was found, with its lifted number, which is to fit.
+// Applies the global seqno to the position found.
 fn lifted_place(found: Option<EntryPlace>, global_seqno: SeqNo) -> Option<EntryPlace>
     requires { IfSome found (λ place. place.seqno + global_seqno < 2 ^ 64) }
     ensures entry { (bytes : List ℕ) → option_map (entry_placed bytes) result
@@ -209,7 +214,7 @@ fn lifted_place(found: Option<EntryPlace>, global_seqno: SeqNo) -> Option<EntryP
     }
 }
 
-// Where the first match is stored that the block of a handle has.
+// The position of the newest visible version in the data block of a handle.
 fn place_at<A: Allocator + Clone>(
     source: &BlockSource<A>,
     handle: &BlockHandle,
@@ -228,7 +233,7 @@ fn place_at<A: Allocator + Clone>(
     Ok(lifted_place(found, global_seqno))
 }
 
-// Where the first match of a table is stored, with how many blocks were loaded for it.
+// The position of the newest visible version in a table, and the number of loads by kind.
 fn read_place<A: Allocator + Clone>(
     source: &BlockSource<A>,
     inner: &Inner<A>,
@@ -261,14 +266,14 @@ fn read_place<A: Allocator + Clone>(
     }
 }
 
-/// Where the first entry of a key numbered below `seqno` is stored, its number with the global
-/// number added, and how many blocks were loaded for it. It loads what [`point_in`] loads, and
-/// shares nothing.
+/// Returns the position of the newest version of `key` visible at `seqno`, and the loads by kind.
+///
+/// The position's seqno has the global seqno applied. `key_hash` must be the hash of `key`. The
+/// call loads the blocks that [`point_in`] loads. Its result shares no bytes.
 ///
 /// # Errors
 ///
-/// The first fault of loading these blocks, as [`point_in`]. Where no block is loaded, it does not
-/// fail.
+/// Those of [`point_in`]. If no block is loaded, the call does not fail.
 pub fn place_in<A: Allocator + Clone>(
     source: &BlockSource<A>,
     inner: &Inner<A>,

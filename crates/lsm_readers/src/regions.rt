@@ -1,20 +1,22 @@
-//! Where the parts of a table lie.
+//! The handles of a table's sections.
 ghost use Rattle.std.specs.Prelude.{◌≡◌, Result, Option};
 ghost use Rattle.lsm_readers.specs.point.Regions.{region_told, optional_told, needed_told};
 ghost use Rattle.lsm_readers.specs.point.Regions.{regions_told};
 
 use sst_blocks::{BlockHandle, BlockOffset, Error, Section, SectionName, Toc};
 
-/// Where the parts of a table lie. The data blocks begin at the file's start.
+/// The handles of a table's sections, as its trailer lists them.
+///
+/// The data blocks start at offset 0 of the file.
 #[derive(Clone, Copy, Debug, Default)]
 pub struct ParsedRegions {
-    /// The top level of the index, or the whole of a full one.
+    /// The top level of a partitioned index, or the single block of a full one.
     pub tli: BlockHandle,
     /// The partitions of a partitioned index.
     pub index: Option<BlockHandle>,
     /// The top level of a partitioned filter.
     pub filter_tli: Option<BlockHandle>,
-    /// A full filter, or the partitions of a partitioned one.
+    /// The block of a full filter, or the partitions of a partitioned one.
     pub filter: Option<BlockHandle>,
     /// The meta block.
     pub metadata: BlockHandle,
@@ -48,10 +50,15 @@ fn needed_region(section: Option<Section>) -> Result<BlockHandle, Error>
 }
 
 impl ParsedRegions {
-    /// The parts that a trailer names. Refused with the first fault in the order of the filter's
-    /// top level, the index's, the index partitions, the filter and the meta block:
-    /// [`Error::MissingSection`] where an index or a meta block is absent,
-    /// [`Error::SectionTooLarge`] where a section has 2^32 bytes or more.
+    /// Returns the handles of the sections that a trailer lists.
+    ///
+    /// # Errors
+    ///
+    /// The first fault, in this order: filter top level, index top level, index partitions, filter,
+    /// meta block.
+    ///
+    /// - [`Error::MissingSection`] if the index top level or the meta block is missing.
+    /// - [`Error::SectionTooLarge`] if a section has 2^32 bytes or more.
     #[tactic(auto, unfolding(crate::specs::point::Regions::regions_told))]
     pub fn parse_from_toc(toc: &Toc) -> Result<ParsedRegions, Error>
         ensures { result ≡ regions_told toc.now }

@@ -1,4 +1,4 @@
-//! Reading a whole table, block after block.
+//! Scanning a whole table, block by block.
 ghost use Rattle.std.specs.Prelude.{◌≡◌, ◌<◌, ◌-◌, ◌↔◌, ℕ, [], Bool, List, None, Some, Ok};
 ghost use Rattle.std.specs.Prelude.{Err, true, is_some, IsTrue, IfOk, IfErr};
 ghost use Rattle.std.specs.Iterator.{at_most};
@@ -20,20 +20,25 @@ use std::alloc::{Allocator, Global};
 use std::marker::Model;
 use std::mem;
 
-/// Reads a table's data blocks in file order, each once, and gives their entries, or lends them
-/// from the blocks where they lie. A contract sees what is lent and what is left to read.
+/// An iterator over all entries of a table, which reads each data block once, in file order.
 ///
-/// The first block is read when the scanner is made, each further one when a step first needs it.
-/// Where a block cannot be loaded its fault comes in the place of its entries, and
-/// [`Error::SeqNoOverflow`] in the place of an entry whose number passes `u64` with the global
-/// number added; of an entry that stands next in a loaded block that comes before any want of
-/// memory, and so does what the header of a step's first block says, its checksum and its count.
-/// After an error, [`Error::OutOfMemory`] among them, nothing more comes.
+/// As an iterator it yields entries that share the table's bytes. As a [`Lending`] it borrows them
+/// from the loaded block. [`Scanner::new`] loads the first block. A later block is loaded by the
+/// first step that needs it.
+///
+/// If a block cannot be loaded, the iterator yields that error. It yields [`Error::SeqNoOverflow`]
+/// if a seqno plus the global seqno exceeds `u64::MAX`. After any error, [`Error::OutOfMemory`]
+/// included, it is exhausted.
+///
+/// Two kinds of errors take precedence over `OutOfMemory`:
+///
+/// - The seqno overflow of the next entry in a loaded block.
+/// - A wrong header, checksum or count in the first block that a step loads.
 #[derive(Drop)]
 pub struct Scanner<A: Allocator = Global> {
     source: BlockSource<A>,
     block: DataBlockCursor<A>,
-    // where the next block begins
+    // The offset of the next block.
     position: u64,
     blocks_left: u64,
     global_seqno: SeqNo,
@@ -59,13 +64,13 @@ impl<A: Allocator> Model for Scanner<A> {
       opened = s.opened;
     } };
 
-    // The number of the entry that is lent fits once it is lifted.
+    // The seqno of the current entry fits in `u64` with the global seqno applied.
     ghost invariant = { λ s. MatchOption s.block.lent (Unit {0})
         (λ e. e.seqno + s.global_seqno < 2 ^ 64) };
 }
 
-/// The data block at a position, and where the next block begins. Refused as
-/// [`BlockSource::load_at`].
+/// The data block at an offset, and the offset of the next block. Fails as [`BlockSource::load_at`]
+/// does.
 fn block_at<A: Allocator + Clone>(
     source: &BlockSource<A>,
     position: u64,
@@ -76,7 +81,7 @@ fn block_at<A: Allocator + Clone>(
     ensures early { FaultsFirst result (position_fault (body_of source.now) position Data) }
     ensures counted { opened.new ≡ with_load Data opened.old }
 {
-    // The blocks behind it will be asked next: their checksums cost little more with this one's.
+    // The next blocks are needed soon. Comparing their checksums with this one's costs little more.
     source.compare_ahead(position, 4);
     let block = source.load_at(position, BlockType::Data, opened)?;
     let next = position + Header::serialized_len() as u64 + block.size() as u64;
@@ -84,8 +89,13 @@ fn block_at<A: Allocator + Clone>(
 }
 
 impl<A: Allocator + Clone> Scanner<A> {
-    /// A scanner of `block_count` data blocks, the first of which is read at once: 0 acts as 1.
-    /// Refused with the first fault of loading that block, and [`Error::OutOfMemory`].
+    /// Opens a scanner of `block_count` data blocks and loads the first of them.
+    ///
+    /// A `block_count` of 0 acts as 1.
+    ///
+    /// # Errors
+    ///
+    /// The first fault of loading that block, or [`Error::OutOfMemory`].
     pub fn new(
         source: &BlockSource<A>,
         block_count: u64,
@@ -93,12 +103,11 @@ impl<A: Allocator + Clone> Scanner<A> {
         global_seqno: SeqNo,
     ) -> Result<Scanner<A>, Error>
         ensures refused { Faults result (fault_of (load_at_told (body_of source.now) 0 Data)) }
-        // What the block's header says, its checksum and its count, comes before any want of
-        // memory.
+        // A fault of the block's header, checksum or count takes precedence over `OutOfMemory`.
         ensures early { FaultsFirst result (position_fault (body_of source.now) 0 Data) }
         ensures opened { IfOk result (λ s. s.opened ≡ with_load Data none_opened) }
         ensures left { IfOk result (IsNewScan (body_of source.now) block_count global_seqno) }
-        // Want of memory aside, it gives the entries of the blocks.
+        // Except for `OutOfMemory`, it yields the entries of the blocks.
         ensures deals { (stops : Error → Bool) → stops OutOfMemory ≡ true →
             let gives = ⟦<Scanner<A> as Iterator>⟧.next_gives in
             let left = scan_told (body_of source.now) block_count global_seqno in
@@ -106,11 +115,11 @@ impl<A: Allocator + Clone> Scanner<A> {
         ensures can { let gives = ⟦<Scanner<A> as Iterator>⟧.next_gives in
             let may = ⟦<Scanner<A> as Iterator>⟧.can_next in
             IfOk result (λ s. CanDeal gives nowhere may may s) }
-        // After an error nothing comes, whatever the error is.
+        // After any error it is exhausted.
         ensures ends { (stops : Error → Bool) (s t : Scan) (e : Error) →
             ⟦<Scanner<A> as Iterator>⟧.next_gives s (Some (Err e)) t →
             Deals (answer_stops stops) ⟦<Scanner<A> as Iterator>⟧.next_gives nowhere t [] }
-        // It lends what it gives.
+        // As a lending iterator it yields the same.
         ensures lends { (stops : Error → Bool) → stops OutOfMemory ≡ true →
             let advances = ⟦<Scanner<A> as Lending>⟧.advances in
             let left = scan_told (body_of source.now) block_count global_seqno in
@@ -138,21 +147,20 @@ impl<A: Allocator + Clone> Scanner<A> {
         })
     }
 
-    /// How many blocks of each kind were loaded.
+    /// Returns how many blocks of each kind were loaded.
     pub fn opened(&self) -> Opened
         ensures { result ≡ self.now.opened }
     {
         self.opened
     }
 
-    /// Whether another block is to be read.
     fn has_block(&self) -> bool
         ensures { IsTrue result ↔ (0 < self.now.blocks) }
     {
         self.blocks_left > 0
     }
 
-    /// Lets go what is lent and what is left.
+    /// Drops the current entry and all that is left.
     fn end(&mut self)
         ensures { self.new ≡ ended self.old }
     {
@@ -160,8 +168,8 @@ impl<A: Allocator + Clone> Scanner<A> {
         self.blocks_left = 0;
     }
 
-    /// Goes on to the next entry of the present block, and answers whether one was left. Refused
-    /// where its number passes `u64`, which ends the scan.
+    /// Advances to the next entry of the current block, and returns whether there was one. A seqno
+    /// that exceeds `u64::MAX` is an error, which ends the scan.
     #[inline]
     fn next_entry(&mut self) -> Result<bool, Error>
         ensures { (result, self.new) ≡ lend_next self.old self.old.entries }
@@ -180,7 +188,7 @@ impl<A: Allocator + Clone> Scanner<A> {
         }
     }
 
-    /// Goes on to the next block. An error ends the scan.
+    /// Loads the next block. An error ends the scan.
     fn next_block(&mut self) -> Result<(), Error>
         requires { 0 < self.old.blocks }
         ensures ok { IfOk result (λ _. (es : List Entry) × (next : ℕ) ×
@@ -211,8 +219,13 @@ impl<A: Allocator + Clone> Scanner<A> {
         }
     }
 
-    /// The entry that is lent, whose key and value share the table's memory. Refused
-    /// [`Error::OutOfMemory`] alone, and nothing more comes then. Condition: an entry is lent.
+    /// Returns the current entry, whose key and value share the table's bytes.
+    ///
+    /// An entry must be current, as after an `advance` that returned `true`.
+    ///
+    /// # Errors
+    ///
+    /// [`Error::OutOfMemory`] only. The scanner is exhausted after it.
     #[inline]
     pub fn share(&mut self) -> IterItem<A>
         requires { is_some self.old.lent ≡ true }

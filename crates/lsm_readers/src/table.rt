@@ -1,4 +1,4 @@
-//! Tables: opening a table's bytes, and reading from them.
+//! Opening a table's bytes, and reading from them.
 ghost use Rattle.std.specs.Prelude.{◌≡◌, ◌≢◌, ◌+◌, ℕ, Bool, List, [], Option, Some, Result, Ok};
 ghost use Rattle.std.specs.Prelude.{Err, false, true, length, IfOk, IfErr, IsOk, MatchResult};
 ghost use Rattle.std.specs.Prelude.{is_some};
@@ -52,11 +52,13 @@ use std::ops::{Bound, Deref};
 use std::sync::Arc;
 pub use verification::Verification;
 
-/// What the handles of a table share, but for its bytes.
+/// The state that all handles of a table share, except for its bytes.
 pub type TableInner<A = Global> = Inner<A>;
 
-/// A table that was opened: a shared handle. A contract sees its bytes, what it was opened with and
-/// what it was recovered to.
+/// A shared handle of an open table.
+///
+/// [`Table::recover`] opens it. Contracts see its bytes, the arguments it was opened with and what
+/// was read then.
 #[derive(Drop)]
 pub struct Table<A: Allocator = Global> {
     source: BlockSource<A>,
@@ -91,7 +93,7 @@ impl<A: Allocator> Deref for Table<A> {
 
     type Target = Inner<A>;
 
-    // The table is its bytes and this.
+    // The bytes and the inner state make up the table.
     ghost deref_gives = { λ t inner. table_of t.bytes inner ≡ t };
 
     fn deref(&self) -> &Inner<A> {
@@ -106,7 +108,7 @@ impl<A: Allocator> Ranged for Table<A> {
 
     type Alloc = A;
 
-    // The table's bytes and its global number.
+    // The table's bytes and its global seqno.
     ghost Meaning = { List ℕ × ℕ };
 
     ghost meaning = { λ t. (t.bytes, t.global_seqno) };
@@ -129,7 +131,7 @@ impl<A: Allocator> fmt::Debug for Table<A> {
     }
 }
 
-/// The top level of a filter, where it has one. Refused as [`BlockSource::load`].
+/// Loads the top level of a filter, if it has one. Fails as [`BlockSource::load`] does.
 fn load_filter_index<A: Allocator + Clone>(
     source: &BlockSource<A>,
     handle: Option<BlockHandle>,
@@ -143,7 +145,7 @@ fn load_filter_index<A: Allocator + Clone>(
     }
 }
 
-/// The filter of the block at a place, where there is one. Refused as [`BlockSource::load`].
+/// Loads the filter block at a handle, if there is one. Fails as [`BlockSource::load`] does.
 fn load_filter<A: Allocator + Clone>(
     source: &BlockSource<A>,
     handle: Option<BlockHandle>,
@@ -159,8 +161,7 @@ fn load_filter<A: Allocator + Clone>(
     Ok(Some(FilterBlock::new(block)))
 }
 
-/// Where the filter's block lies that is to stay loaded: that of a full filter, where `pin_filter`
-/// says so.
+/// The handle of the filter block to pin: that of a full filter, if `pin_filter` is set.
 fn filter_to_pin(regions: &ParsedRegions, pin_filter: bool) -> Option<BlockHandle>
     ensures { result ≡ pinned_filter regions.now pin_filter }
 {
@@ -171,8 +172,8 @@ fn filter_to_pin(regions: &ParsedRegions, pin_filter: bool) -> Option<BlockHandl
     }
 }
 
-/// The blocks that stay loaded. Refused with the first fault of the index, of the filter's top
-/// level, and of the one block of a full filter that is to stay.
+/// Loads the blocks to pin. Fails with the first fault of the index, the filter's top level and the
+/// full filter's block, in this order.
 fn load_pinned<A: Allocator + Clone>(
     source: &BlockSource<A>,
     regions: &ParsedRegions,
@@ -194,8 +195,8 @@ fn load_pinned<A: Allocator + Clone>(
     })
 }
 
-/// Refused [`Error::GlobalSeqNoTooLarge`] alone, where the highest number and the global number
-/// pass `u64`.
+/// Fails with [`Error::GlobalSeqNoTooLarge`] if the highest seqno plus the global seqno exceeds
+/// `u64::MAX`.
 fn test_number<A: Allocator>(metadata: &ParsedMeta<A>, global_seqno: SeqNo) -> Result<(), Error>
     ensures told { let facts = facts_of metadata.now in
         Gives (λ (_ : _). facts) result (facts_fitting facts global_seqno) }
@@ -207,8 +208,8 @@ fn test_number<A: Allocator>(metadata: &ParsedMeta<A>, global_seqno: SeqNo) -> R
     }
 }
 
-/// What the meta block says. Refused as [`ParsedMeta::load_with_handle`], then where the global
-/// number does not fit.
+/// Loads and parses the meta block. Fails as [`ParsedMeta::load_with_handle`] does, then if the
+/// global seqno does not fit.
 fn fitting_metadata<A: Allocator + Clone>(
     source: &BlockSource<A>,
     handle: &BlockHandle,
@@ -224,8 +225,8 @@ fn fitting_metadata<A: Allocator + Clone>(
     fits.and(Ok(metadata))
 }
 
-/// Compares the checksums of the index's block and the filter's that stay loaded in one loop, where
-/// there are both. Loading them answers what it would without.
+/// Compares the checksums of the pinned index and filter blocks in one loop, if there are both. The
+/// results of loading them do not change.
 fn compare_pinned<A: Allocator + Clone>(
     source: &BlockSource<A>,
     regions: &ParsedRegions,
@@ -275,9 +276,8 @@ fn recover_inner<A: Allocator + Clone>(
     })
 }
 
-/// A value behind a shared handle, where it was made. It is generic in the value, so that none of a
-/// large value's parts is looked at where it is let go. Refused as the value, then
-/// [`Error::OutOfMemory`].
+/// Moves a value into a shared handle. Generic, so that a proof does not unfold the parts of a
+/// large value. Fails with the error of the value, or with [`Error::OutOfMemory`].
 fn share<T: Drop, A: Allocator + Clone>(
     value: Result<T, Error>,
     alloc: &A,
@@ -290,15 +290,27 @@ fn share<T: Drop, A: Allocator + Clone>(
 }
 
 impl<A: Allocator + Clone> Table<A> {
-    /// Opens a table's bytes. Refused with the first fault, in this order: those of the trailer,
-    /// the regions, the meta block and its items, [`Error::GlobalSeqNoTooLarge`] where the highest
-    /// stored number plus `global_seqno` passes `u64`, and those of loading what stays loaded: the
-    /// index, the filter's top level, then the filter; and [`Error::OutOfMemory`]. The checksum is
-    /// kept, and not compared.
+    /// Opens a table from the bytes of its file.
     ///
-    /// A top level stays loaded whatever the flags say, the one block of a full filter where
-    /// `pin_filter` is set, and that of a full index where `pin_index` is. What does not stay
-    /// loaded is loaded by each read.
+    /// `checksum` is stored, and is not compared with the bytes. `global_seqno` is added to every
+    /// stored seqno.
+    ///
+    /// A top level of the index or the filter is always pinned. `pin_filter` also pins the block of
+    /// a full filter, `pin_index` that of a full index. Each read loads the blocks it needs that
+    /// are not pinned.
+    ///
+    /// # Errors
+    ///
+    /// The first fault, in this order:
+    ///
+    /// - The trailer.
+    /// - The section handles, as [`ParsedRegions::parse_from_toc`].
+    /// - The meta block and its items, as [`ParsedMeta::load_with_handle`].
+    /// - [`Error::GlobalSeqNoTooLarge`] if the highest stored seqno plus `global_seqno` exceeds
+    ///   `u64::MAX`.
+    /// - The loads of the pinned blocks: the index, the filter's top level, then the filter.
+    ///
+    /// It can also fail with [`Error::OutOfMemory`].
     pub fn recover(
         alloc: A,
         bytes: Slice<A>,
@@ -310,15 +322,15 @@ impl<A: Allocator + Clone> Table<A> {
     ) -> Result<Table<A>, Error>
         ensures told { Gives (λ (t : OpenTable). t.parts) result
             (recovered_told bytes global_seqno pin_filter pin_index) }
-        // What is found before memory is taken is the refusal, whatever memory there is.
+        // A fault that is found before any allocation takes precedence over `OutOfMemory`.
         ensures early { FaultsFirst result (early_fault bytes) }
-        // A table of a list that readers read is opened where the highest number fits, and says of
-        // itself what the list says.
+        // A table written from a list, with an index restart interval of 1, opens if the highest
+        // seqno fits. Its parts match the list.
         ensures list { (es : List Entry) (t : IsTable bytes es) →
             t.options.index_block_restart_interval ≡ 1 →
             Gives (λ (t : OpenTable). t.parts) result
             (list_told t global_seqno pin_filter pin_index) }
-        // Bytes that store a list, whoever wrote them, are opened where the highest number fits.
+        // Bytes that store a list, whoever wrote them, open if the highest seqno fits.
         ensures stores { (es : List Entry) → StoresList bytes es →
             Gives (λ (t : OpenTable). tt) result (fits_told es global_seqno) }
         ensures bytes { IfOk result (λ t. t.bytes ≡ bytes) }
@@ -340,15 +352,17 @@ impl<A: Allocator + Clone> Table<A> {
         Ok(Table { source, inner })
     }
 
-    /// The hash of a key, which a point read is given.
+    /// Returns the hash of a key, which point reads take as `key_hash`.
     pub fn key_hash(key: &[u8]) -> u64
         ensures { result ≡ hash_of key.now }
     {
         Builder::<A>::get_hash(key)
     }
 
-    /// The first entry of a key numbered below `seqno`, with how many blocks were loaded for it.
-    /// Answers as [`Table::get`].
+    /// Returns the newest version of `key` visible at `seqno`, and the number of blocks loaded by
+    /// kind.
+    ///
+    /// The version and the errors are those of [`Table::get`].
     pub fn get_counted(
         &self,
         key: &[u8],
@@ -358,15 +372,16 @@ impl<A: Allocator + Clone> Table<A> {
         requires { key_hash ≡ hash_of key.now }
         ensures told { Gives (λ (found : Option Entry). found) result.0
             (table_answer self.now key.now seqno).told }
-        // What is found before memory is taken is the refusal, whatever memory there is.
+        // A fault that is found before any allocation takes precedence over `OutOfMemory`.
         ensures early { FaultsFirst result.0 (table_answer self.now key.now seqno).early }
-        // Where no block is loaded nothing is refused.
+        // If no block is loaded, the read does not fail.
         ensures calm { (table_answer self.now key.now seqno).loads ≡ [] → IsOk result.0 }
         ensures opened { let loads = (table_answer self.now key.now seqno).loads in
             Opens result.0 loads none_opened result.1 }
         ensures few { LoadsFew self.now.parts none_opened result.1 }
         ensures open { IsOpen self.now }
-        // On bytes that store a list it is the first match in the list, its numbers lifted.
+        // On bytes that store a list it is the newest visible version in the list, global seqno
+        // applied.
         ensures list { (es : List Entry) → StoresList self.now.bytes es →
             let found = point (lift es self.now.global_seqno) key.now seqno in
             Gives (λ (x : Option Entry). x) result.0 (Ok found) }
@@ -377,11 +392,16 @@ impl<A: Allocator + Clone> Table<A> {
         (found, source.opened())
     }
 
-    /// The first entry of a key numbered below `seqno`, its number with the global number added.
-    /// `key_hash` is the key's [`Table::key_hash`]. Refused with the first fault of loading the
-    /// blocks that the read rests on, at most one of the filter, one of the index and one of data,
-    /// and [`Error::OutOfMemory`]; nothing changes then. Where none is loaded, as where a filter
-    /// says no that is pinned or has no partition for the key, nothing is refused.
+    /// Returns the newest version of `key` visible at `seqno`, global seqno applied.
+    ///
+    /// `key_hash` must be [`Table::key_hash`] of the key. The read loads at most one filter block,
+    /// one index block and one data block.
+    ///
+    /// # Errors
+    ///
+    /// The first fault of loading these blocks, or [`Error::OutOfMemory`]. The table does not
+    /// change. If no block is loaded, the read does not fail. An example is a pinned filter that
+    /// excludes the key, or that has no partition for it.
     pub fn get(
         &self,
         key: &[u8],
@@ -394,7 +414,8 @@ impl<A: Allocator + Clone> Table<A> {
         ensures early { FaultsFirst result (table_answer self.now key.now seqno).early }
         ensures calm { (table_answer self.now key.now seqno).loads ≡ [] → IsOk result }
         ensures recovered { IsRecovered self.now }
-        // On bytes that store a list it is the first match in the list, its numbers lifted.
+        // On bytes that store a list it is the newest visible version in the list, global seqno
+        // applied.
         ensures list { (es : List Entry) → StoresList self.now.bytes es →
             let found = point (lift es self.now.global_seqno) key.now seqno in
             Gives (λ (x : Option Entry). x) result (Ok found) }
@@ -402,16 +423,18 @@ impl<A: Allocator + Clone> Table<A> {
         self.get_counted(key, seqno, key_hash).0
     }
 
-    /// All entries in order, their numbers with the global number added. Each data block is read
-    /// once, in file order. Refused with the first fault of loading the first of them, and
-    /// [`Error::OutOfMemory`].
+    /// Opens a scanner of all entries in order, global seqno applied.
+    ///
+    /// It reads each data block once, in file order. The call loads the first of them.
+    ///
+    /// # Errors
+    ///
+    /// The first fault of loading that block, or [`Error::OutOfMemory`].
     pub fn scan(&self) -> Result<Scanner<A>, Error>
         ensures refused { Faults result (fault_of (load_at_told (body_of self.now.bytes) 0 Data)) }
-        // What the block's header says, its checksum and its count, comes before any want of
-        // memory.
+        // A fault of the block's header, checksum or count takes precedence over `OutOfMemory`.
         ensures early { FaultsFirst result (position_fault (body_of self.now.bytes) 0 Data) }
-        // Want of memory aside, it gives the entries of as many blocks as the table says that it
-        // has.
+        // Except for `OutOfMemory`, it yields the entries of `data_block_count` blocks.
         ensures deals { (stops : Error → Bool) → stops OutOfMemory ≡ true →
             let gives = ⟦<Scanner<A> as Iterator>⟧.next_gives in
             let count = self.now.parts.facts.data_block_count in
@@ -420,11 +443,11 @@ impl<A: Allocator + Clone> Table<A> {
         ensures can { let gives = ⟦<Scanner<A> as Iterator>⟧.next_gives in
             let may = ⟦<Scanner<A> as Iterator>⟧.can_next in
             IfOk result (λ s. CanDeal gives nowhere may may s) }
-        // After an error nothing comes, whatever the error is.
+        // After any error it is exhausted.
         ensures ends { (stops : Error → Bool) (s t : Scan) (e : Error) →
             ⟦<Scanner<A> as Iterator>⟧.next_gives s (Some (Err e)) t →
             Deals (answer_stops stops) ⟦<Scanner<A> as Iterator>⟧.next_gives nowhere t [] }
-        // It lends what it gives.
+        // As a lending iterator it yields the same.
         ensures lends { (stops : Error → Bool) → stops OutOfMemory ≡ true →
             let advances = ⟦<Scanner<A> as Lending>⟧.advances in
             let count = self.now.parts.facts.data_block_count in
@@ -439,8 +462,8 @@ impl<A: Allocator + Clone> Table<A> {
         ensures opened { IfOk result (λ s. s.opened ≡ with_load Data none_opened) }
         ensures left { let count = self.now.parts.facts.data_block_count in
             IfOk result (IsNewScan (body_of self.now.bytes) count self.now.global_seqno) }
-        // On bytes that store a list it is the list, its numbers lifted; where the list has an
-        // entry, nothing but want of memory refuses it.
+        // On bytes that store a list it yields the list, global seqno applied. If the list has an
+        // entry, the call fails with `OutOfMemory` only.
         ensures list { (es : List Entry) → StoresList self.now.bytes es →
             ScansList result es self.now.global_seqno }
         ensures lends_list { (es : List Entry) → StoresList self.now.bytes es →
@@ -458,13 +481,17 @@ impl<A: Allocator + Clone> Table<A> {
 }
 
 impl<A: Allocator + Clone> Table<A> {
-    /// The index that [`Table::recover`] chose, over the table's bytes: partitions below the top
-    /// level where the table has an `index` section, else the whole index that stays loaded where
-    /// it was to, else the one block that each iterator loads. Nothing is loaded. Refused
-    /// [`Error::OutOfMemory`] alone.
+    /// Returns the table's block index over its bytes.
+    ///
+    /// It is partitioned if the table has an `index` section. Otherwise it is the pinned block of a
+    /// full index, or a block that each iterator loads. The call loads nothing.
+    ///
+    /// # Errors
+    ///
+    /// [`Error::OutOfMemory`] only.
     pub fn block_index(&self) -> Result<BlockIndexImpl<A>, Error>
         ensures index { IfOk result (λ index. index_read index ≡ table_index self.now) }
-        // It is of the kind that the table's sections and the pin at opening say.
+        // Its kind follows from the table's sections and the pin at opening.
         ensures kind { (pin_filter pin_index : Bool) → OpenedWith self.now pin_filter pin_index →
             IfOk result (λ index.
             index_kind_of index ≡ kind_for (is_some self.now.parts.regions.index) pin_index) }
@@ -482,10 +509,13 @@ impl<A: Allocator + Clone> Table<A> {
 }
 
 impl<A: Allocator> Table<A> {
-    /// A law, which does nothing: a table whose bytes store a list says of itself what the list
-    /// says, and its key range is the list's ends; they store no other list; what writers make of a
-    /// list stores it, with a handle for each chunk into which they cut it; and any table was
-    /// recovered from its bytes, which are in memory.
+    /// States facts for proofs about a table whose bytes store a list, and does nothing when
+    /// called.
+    ///
+    /// - The metadata match the list, and the key range is the list's ends.
+    /// - The bytes store no other list.
+    /// - Bytes that writers make of a list store it, with a handle for each chunk they cut.
+    /// - Every table was opened from its bytes.
     pub fn tells_its_list(&self)
         ensures parts { (es : List Entry) (t : IsTable self.now.bytes es) →
             SaysList t self.now.parts }
@@ -502,16 +532,17 @@ impl<A: Allocator> Table<A> {
         let _source: &BlockSource<A> = &self.source;
     }
 
-    /// A law, which does nothing: two tables of one list, in one version, with data blocks of one
-    /// size and the same spills, have the same handles of data blocks between any two edges, and no
-    /// error, whatever kinds of index and of filter they were written with, and whichever of their
-    /// blocks stay loaded.
+    /// States for proofs that two tables of one list have the same handles of data blocks.
+    ///
+    /// The tables must have one version, one data block size and the same spills. Their indexes
+    /// then return the same handles between any two edges, and no error. Index kinds, filter kinds
+    /// and pinned blocks may differ. The call does nothing.
     pub fn names_blocks_as(&self, other: &Table<A>)
         ensures alike { (es : List Entry) (t : IsTable self.now.bytes es) →
             (u : IsTable other.now.bytes es) → AreCutAlike t u →
             TellAlike (table_index self.now) (table_index other.now) }
-        // They are those of the data blocks of the list that the one table's bytes store, and by
-        // the clause before of the other's.
+        // They are the handles of the data blocks of the list that this table stores. By the clause
+        // before they are those of the other table too.
         ensures names { (es : List Entry) (t : StoresList self.now.bytes es) →
             NamesBlocksOf t (table_index self.now) }
     {
@@ -519,57 +550,58 @@ impl<A: Allocator> Table<A> {
         let _other: &BlockSource<A> = &other.source;
     }
 
-    /// The table's id.
+    /// Returns the table's id.
     pub fn id(&self) -> TableId
         ensures { result ≡ self.now.parts.facts.id }
     {
         self.inner.metadata.id
     }
 
-    /// The number that is added to every stored number.
+    /// Returns the sequence number that is added to every stored one.
     pub fn global_seqno(&self) -> SeqNo
         ensures { result ≡ self.now.global_seqno }
     {
         self.inner.global_seqno
     }
 
-    /// The checksum that the table was opened with.
+    /// Returns the checksum that the table was opened with.
     pub fn checksum(&self) -> Checksum
         ensures { result.0 ≡ self.now.checksum }
     {
         self.inner.checksum
     }
 
-    /// The highest number: the stored one plus the global number.
+    /// Returns the highest sequence number, global seqno applied.
     pub fn get_highest_seqno(&self) -> SeqNo
         ensures { result ≡ self.now.parts.facts.seqno_max + self.now.global_seqno }
     {
         self.inner.metadata.seqnos.1 + self.inner.global_seqno
     }
 
-    /// How many entries are tombstones of either kind.
+    /// Returns the number of tombstones of either kind.
     pub fn tombstone_count(&self) -> u64
         ensures { result ≡ self.now.parts.facts.tombstone_count }
     {
         self.inner.metadata.tombstone_count
     }
 
-    /// How many entries are weak tombstones.
+    /// Returns the number of weak tombstones.
     pub fn weak_tombstone_count(&self) -> u64
         ensures { result ≡ self.now.parts.facts.weak_tombstone_count }
     {
         self.inner.metadata.weak_tombstone_count
     }
 
-    /// How many values stand directly after a weak tombstone of their key.
+    /// Returns the number of values directly after a weak tombstone of their key.
     pub fn weak_tombstone_reclaimable(&self) -> u64
         ensures { result ≡ self.now.parts.facts.weak_tombstone_reclaimable }
     {
         self.inner.metadata.weak_tombstone_reclaimable
     }
 
-    /// The payload length of the filter block that stays loaded, in bytes, or 0 where none does.
-    /// The top level of a filter with partitions does not count.
+    /// Returns the payload length of the pinned filter block in bytes, or 0 if none is pinned.
+    ///
+    /// The top level of a partitioned filter does not count.
     pub fn pinned_filter_size(&self) -> usize
         ensures { result ≡ filter_len self.now.parts.pinned.filter }
     {
@@ -579,8 +611,9 @@ impl<A: Allocator> Table<A> {
         }
     }
 
-    /// The payload length of the index block that stays loaded, the whole or the top level, in
-    /// bytes, or 0 where none does.
+    /// Returns the payload length of the pinned index block in bytes, or 0 if none is pinned.
+    ///
+    /// The block is that of a full index, or the top level of a partitioned one.
     pub fn pinned_block_index_size(&self) -> usize
         ensures size { let parts = self.now.parts in
             result ≡ index_len parts.pinned.index parts.regions.tli }
@@ -592,8 +625,9 @@ impl<A: Allocator> Table<A> {
         inner.pinned_block_index.payload_len(&inner.regions.tli)
     }
 
-    /// Whether the key range that the table says reaches past both bounds. On bytes that store a
-    /// list, where it does not, no key of the list lies within them.
+    /// Returns whether the key range in the meta block overlaps the bounds.
+    ///
+    /// On bytes that store a list, `false` means that no key of the list is within the bounds.
     pub fn check_key_range_overlap(&self, bounds: &(Bound<&[u8]>, Bound<&[u8]>)) -> bool
         ensures value { result ≡ overlaps_bounds (key_bound bounds.now.0) (key_bound bounds.now.1)
             self.now.parts.facts.key_range }
@@ -603,7 +637,7 @@ impl<A: Allocator> Table<A> {
         self.inner.metadata.key_range.overlaps_with_bounds(bounds)
     }
 
-    /// The length of the `filter` section in bytes, or 0 where there is none.
+    /// Returns the length of the `filter` section in bytes, or 0 if there is none.
     pub fn filter_size(&self) -> u32
         ensures { result ≡ place_size self.now.parts.regions.filter }
     {

@@ -1,4 +1,4 @@
-//! Reading a whole table once, to see whether its bytes store a list.
+//! Reading a whole table once, to check that its bytes store a list.
 ghost use Rattle.std.specs.Prelude.{◌≡◌, ◌≢◌, IfErr, IfOk};
 ghost use Rattle.sst_blocks.specs.Fnv.{fnv1a};
 ghost use Rattle.sst_blocks.specs.Sections.{body_of};
@@ -24,68 +24,68 @@ use std::alloc::{Allocator, Global};
 use std::marker::Model;
 pub(crate) use steps::{Stage, step_stage};
 
-/// What is wrong at a place of a table's bytes.
+/// A fault at a position of a table's bytes.
 #[derive(Debug, Drop, PartialEq, Eq)]
 pub enum Fault {
-    /// The block does not load.
+    /// The block cannot be loaded.
     Unloaded(Error),
     /// The block has no entry, or no handle.
     Hollow,
-    /// The block does not begin where the one before it ended.
+    /// The block does not start where the one before it ended.
     Misplaced,
-    /// An entry has the number `u64::MAX`.
+    /// An entry has the sequence number `u64::MAX`.
     TooHigh,
-    /// An entry does not follow on the one before it.
+    /// An entry is not in order after the one before it.
     Unordered,
-    /// A key is denied by the filter.
+    /// The filter excludes a key of the table: a false negative.
     Denied,
-    /// A key's block of the filter does not load.
+    /// The filter block for a key cannot be loaded.
     Unfiltered(Error),
-    /// The block does not end with the key that its handle names.
+    /// The block does not end with the key in its handle.
     OtherKey,
-    /// The block does not end with the number that its handle names.
+    /// The block does not end with the sequence number in its handle.
     OtherNumber,
-    /// The entries do not bear out an item of the meta block.
+    /// An item of the meta block does not match the entries.
     Unborne(ItemName),
-    /// A data block that no handle names.
+    /// A data block has no handle.
     Unnamed,
-    /// The file's bytes have another checksum than the one that was given.
+    /// The bytes of the file have another checksum than the given one.
     OtherChecksum,
 }
 
-/// What is wrong, and where: the section and the position of the block at which it is found. What a
-/// handle names wrong is found at the block that it names, and another checksum at the file's first
-/// byte.
+/// A fault and its position: the section and the offset of the block where it is found.
+///
+/// A wrong handle is reported at the block it names. Another checksum is reported at the first byte
+/// of the file.
 #[derive(Debug, Drop, PartialEq, Eq)]
 pub struct Finding {
-    /// The section.
+    /// The section of the block.
     pub section: SectionName,
-    /// Where the block begins.
+    /// The offset at which the block starts.
     pub offset: u64,
-    /// What is wrong there.
+    /// The fault at this position.
     pub fault: Fault,
 }
 
-/// Why a table was not verified.
+/// The reason why a table was not verified.
 #[derive(Debug, Drop, PartialEq, Eq)]
 pub enum VerifyError {
-    /// Memory is wanted: nothing is said of the table.
+    /// An allocation failed. Nothing is known about the table.
     OutOfMemory,
-    /// The bytes store no list.
+    /// A fault was found: the bytes store no list, or have another checksum than the given one.
     Found(Finding),
 }
 
-/// What a table was verified to have.
+/// The counts of a verified table.
 #[derive(Clone, Copy, Debug, PartialEq, Eq)]
 pub struct Verified {
-    /// How many data blocks there are.
+    /// The number of data blocks.
     pub data_block_count: u64,
-    /// How many entries there are.
+    /// The number of entries.
     pub item_count: u64,
 }
 
-/// What is still to be read of what a meta block says, and the lowest and the highest number that
-/// was read.
+/// The counts of a meta block that are left to read, and the lowest and highest seqno read.
 #[derive(Clone, Copy)]
 pub(crate) struct Counts {
     blocks: u64,
@@ -98,7 +98,7 @@ pub(crate) struct Counts {
     highest: SeqNo,
 }
 
-/// What is still to be read of a table, and the entry that was read last.
+/// The counts that are left to read, and the last entry read.
 #[derive(Drop)]
 pub(crate) struct Unread<A: Allocator = Global> {
     last: Option<InternalValue<A>>,
@@ -113,7 +113,6 @@ impl<A: Allocator> Model for Unread<A> {
     ghost view = { λ u. record { last = u.last; counts = u.counts } };
 }
 
-/// What is found at a place.
 fn found(section: SectionName, offset: u64, fault: Fault) -> VerifyError
     ensures { result ≡ Found (finding section offset fault) }
 {
@@ -124,7 +123,7 @@ fn found(section: SectionName, offset: u64, fault: Fault) -> VerifyError
     })
 }
 
-/// What a load's refusal is found to be: want of memory, or else a block that does not load.
+/// Maps a load error: any error except `OutOfMemory` is a block that cannot be loaded.
 fn unloaded(section: SectionName, offset: u64, error: Error) -> VerifyError
     ensures { result ≡ load_refusal section offset error }
 {
@@ -134,7 +133,7 @@ fn unloaded(section: SectionName, offset: u64, error: Error) -> VerifyError
     }
 }
 
-/// Tests that some bytes have a checksum.
+/// Checks that bytes have a checksum.
 pub(crate) fn test_checksum(bytes: &[u8], checksum: Checksum) -> Result<(), VerifyError>
     ensures same { IfOk result (λ _. fnv1a bytes.now ≡ checksum.0) }
     ensures other { IfErr result (λ e. fnv1a bytes.now ≢ checksum.0) }
@@ -147,7 +146,7 @@ pub(crate) fn test_checksum(bytes: &[u8], checksum: Checksum) -> Result<(), Veri
     }
 }
 
-/// A table of which nothing was read yet.
+/// The counts of a table before anything is read.
 pub(crate) fn unread_table<A: Allocator>(inner: &Inner<A>) -> Unread<A>
     ensures { result ≡ unread_of (parts_of inner.now).facts }
 {
@@ -167,7 +166,7 @@ pub(crate) fn unread_table<A: Allocator>(inner: &Inner<A>) -> Unread<A>
     }
 }
 
-/// Reads the index and the data blocks, and tests what is left then.
+/// Reads the index and the data blocks, then checks the counts that are left.
 #[tactic(auto, unfolding(crate::specs::Verify::all_found))]
 fn read_all<A: Allocator + Clone>(
     source: &BlockSource<A>,
@@ -175,7 +174,7 @@ fn read_all<A: Allocator + Clone>(
 ) -> Result<(), VerifyError>
     ensures told { Finds (λ (_ : _). tt) result
         (all_found (body_of source.now) (parts_of inner.now)) }
-    // What is found before memory is taken is the refusal, whatever memory there is.
+    // A fault that is found before any allocation takes precedence over `OutOfMemory`.
     ensures early { let tli = (parts_of inner.now).regions.tli in
         FindsFirst result (early_at (body_of source.now) Tli tli Index) }
 {
@@ -184,8 +183,8 @@ fn read_all<A: Allocator + Clone>(
     test_left(source, inner, &left)
 }
 
-/// Reads a whole table: the filter's blocks, then the blocks of the index, and behind the handle of
-/// each data block that block. Refused with what is wrong first, or for want of memory.
+/// Reads a whole table: the filter blocks, then the index blocks, and after each handle its data
+/// block. Fails with the first fault, or with `OutOfMemory`.
 #[tactic(auto, unfolding(crate::specs::Verify::table_found))]
 pub(crate) fn verify_table<A: Allocator + Clone>(
     source: &BlockSource<A>,
@@ -193,7 +192,7 @@ pub(crate) fn verify_table<A: Allocator + Clone>(
 ) -> Result<Verified, VerifyError>
     ensures told { Finds (λ (v : Verification). v) result
         (table_found (body_of source.now) (parts_of inner.now)) }
-    // What is found before memory is taken is the refusal, whatever memory there is.
+    // A fault that is found before any allocation takes precedence over `OutOfMemory`.
     ensures early { FindsFirst result (table_early (body_of source.now) (parts_of inner.now)) }
 {
     test_filters(source, inner)?;

@@ -1,4 +1,4 @@
--- An iterator that is taken from the front alone, with a place for one entry before it.
+-- An iterator with one entry read ahead, consumed from the front only.
 use Rattle.std.specs.Prelude.{◌≡◌, ℕ, Bool, ◌+◌, List, [], ◌++◌, Option}
 use Rattle.std.specs.Iterator.{Count}
 use Rattle.sst_entries.specs.declared.error.Error.{Error}
@@ -8,11 +8,11 @@ use Rattle.lsm_sorted.specs.merge.Ends.{R, Left, ends_size}
 use Rattle.lsm_sorted.specs.Outlook.{Outlook}
 use Rattle.lsm_sorted.specs.Peeked.{content, content_count}
 
--- the iterator, and what its place holds
+-- the iterator, with the entry read ahead
 abbrev pub ahead_outlook : {S : Type 0} → Ahead S R → Outlook S
 ahead_outlook s = record { source = s.source; ahead = content s.front; behind = [] }
 
--- the list that is still to come
+-- the remaining list
 pub record HoldsAhead {S : Type 0} (stops : Error → Bool) (front : S → Option R → S → Type 0)
     (s : Ahead S R) (xs : List R) : Type 0 where
   pub rest : List R

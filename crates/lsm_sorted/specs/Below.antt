@@ -1,4 +1,4 @@
--- Of a source the entries numbered below a bound, and its errors.
+-- The entries of a source with a seqno below a bound, and its errors.
 use Rattle.std.specs.Prelude.{◌≡◌, ℕ, Bool, true, false, nat_lt, filter, List, Option, MatchOption}
 use Rattle.std.specs.Prelude.{Ok, Err}
 use Rattle.std.specs.List.{AllByRecursion}
@@ -9,11 +9,11 @@ use Rattle.sst_entries.specs.Stream.{CanDeal, Deals, answer_stops}
 use Rattle.lsm_sorted.specs.merge.Ends.{R}
 use Rattle.lsm_sorted.specs.declared.below.Below.{Below}
 
--- the entries numbered below a bound
+-- the entries with a seqno below a bound
 abbrev pub numbered_below : ℕ → List Entry → List Entry
 numbered_below bound es = filter (λ e. nat_lt e.seqno bound) es
 
--- an entry passes where it is numbered below the bound, and an error in any case
+-- an entry passes if its seqno is below the bound; an error always passes
 abbrev pub passes : ℕ → R → Bool
 passes bound (Ok e) = nat_lt e.seqno bound
 passes bound (Err e) = true
@@ -22,24 +22,24 @@ passes bound (Err e) = true
 abbrev pub below_told : ℕ → List R → List R
 below_told bound rs = filter (passes bound) rs
 
--- a source below a bound
+-- a source with a bound
 abbrev pub below_of : {S : Type 0} → ℕ → S → Below S
 below_of bound source = record { iter = source; seqno = bound }
 
--- the source may be asked, and ends
+-- the source may be called, and is finite
 pub record MayAsk {S : Type 0} (front back : S → Option R → S → Type 0) (can can_back : S → Type 0)
     (left : S → Count) (s : Below S) : Type 0 where
   pub asks : CanDeal front back can can_back s.iter
   pub ends : IsFinite (left s.iter)
 
--- calls of the source that led from s to t gave results, none of which passes
+-- calls of the source from s to t returned only results that do not pass
 pub record LetsGo {S : Type 0} (bound : ℕ) (ask : S → Option R → S → Type 0) (s t : S) : Type 0
   where
     pub gone : List R
     pub gave : Yields ask s gone t
     pub high : AllByRecursion (λ x. passes bound x ≡ false) gone
 
--- one call: it may be called again, and the answer is the source's first that passes
+-- one call: it may be called again, and it returns the source's first result that passes
 pub record GivesBelow {S : Type 0} (May : Below S → Type 0) (ask : S → Option R → S → Type 0)
     (s : Below S) (r : Option R) (t : Below S) : Type 0 where
   pub may : May t
@@ -49,7 +49,7 @@ pub record GivesBelow {S : Type 0} (May : Below S → Type 0) (ask : S → Optio
   pub gives : ask led r t.iter
   pub low : MatchOption r (Unit {0}) (λ x. passes s.seqno x ≡ true)
 
--- of a list that the source deals, what passes is dealt, up to an error that stops the source
+-- of a list that the source yields, the results that pass are yielded, up to an error in `stops`
 pub record DealsBelow {S T : Type 0} (front back : S → Option R → S → Type 0) (source : S)
     (bound : ℕ) (next next_back : T → Option R → T → Type 0) (t : T) : Type 0 where
   pub deals : (stops : Error → Bool) (xs : List R) → Deals (answer_stops stops) front back source xs

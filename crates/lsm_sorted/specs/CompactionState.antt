@@ -1,4 +1,4 @@
--- What a compaction stream stands for, and its calls.
+-- The state of a compaction stream, and its calls.
 use Rattle.std.specs.Prelude.{◌≡◌, ℕ, Bool, false, List, [], ◌∷◌, Option, Some, None, Result, Ok}
 use Rattle.std.specs.Prelude.{Err}
 use Rattle.std.specs.List.{AllByRecursion}
@@ -20,13 +20,13 @@ use Rattle.lsm_sorted.specs.Compaction.{unfiltered}
 use Rattle.lsm_sorted.specs.Compacting.{of_key, head_answer, settled, Asks, GetsAll, Calls}
 use Rattle.lsm_sorted.specs.Compacting.{Compacted}
 
--- a call that goes through xs and leaves ys
+-- a call that consumes from xs and leaves ys
 abbrev pub CallsIn : {F C : Type 0} → (F → Entry → Result Verdict Error → F → Type 0)
     → (C → Entry → C → Type 0) → Rules → F → C → Option R → F → C → List R → List R → Type 0
 CallsIn gives gets rules f c r g d xs ys = Calls gives gets rules f c xs r g d ys
 
 module _ {S F C : Type 0} where
-  -- how the stream is set
+  -- the rules of the stream
   abbrev pub rules_of : CompactionStream S F C R → Rules
   rules_of s = record {
     watermark = s.gc_seqno_threshold;
@@ -35,11 +35,11 @@ module _ {S F C : Type 0} where
         s.zero_seqnos;
   }
 
-  -- what the stream reads from
+  -- the source of the stream
   abbrev pub source_of : CompactionStream S F C R → Ahead S R
   source_of s = s.inner
 
-  -- what the stream reads from, with what it took and has still to give
+  -- the source of the stream, with the entry read ahead
   abbrev pub compaction_outlook : CompactionStream S F C R → Outlook S
   compaction_outlook s = ahead_outlook (source_of s)
 
@@ -49,12 +49,12 @@ module _ {S F C : Type 0} where
   abbrev pub callback_of : CompactionStream S F C R → C
   callback_of s = s.dropped_callback
 
-  -- the list of results that the stream still goes through
+  -- the list of results that the stream has yet to process
   abbrev pub Compacts : (Error → Bool) → (S → Option R → S → Type 0) → CompactionStream S F C R
       → List R → Type 0
   Compacts stops front s xs = HoldsAhead stops front (source_of s) xs
 
-  -- the stream may be called, and it ends
+  -- the stream may be called, and is finite
   abbrev pub MayCompact : (S → Option R → S → Type 0) → (S → Type 0) → (S → Count)
       → CompactionStream S F C R → Type 0
   MayCompact front can left s = Goes front nowhere can can left (source_of s).source
@@ -62,9 +62,8 @@ module _ {S F C : Type 0} where
   abbrev pub compaction_size : (S → Count) → CompactionStream S F C R → ℕ
   compaction_size left s = ahead_size left (source_of s)
 
-  -- one call: it may be called again, its rules stay, and where it goes through xs, the answer and
-  -- what is left are those of a call on xs, up to an error that stops it; and whatever the source
-  -- gives, they are those of a call on what it had and what the source gave
+  -- one call: it may be called again, and its rules do not change. Result and remaining list are
+  -- those of a call on xs, up to an error in `stops`, and on any results of the source.
   pub record CompactsNext (front : S → Option R → S → Type 0) (can : S → Type 0) (left : S → Count)
       (gives : F → Entry → Result Verdict Error → F → Type 0) (gets : C → Entry → C → Type 0)
       (s : CompactionStream S F C R) (r : Option R) (t : CompactionStream S F C R) : Type 0 where
@@ -81,8 +80,8 @@ module _ {S F C : Type 0} where
 module _ {S F C : Type 0} (front : S → Option R → S → Type 0)
     (next : CompactionStream S F C R → Option R → CompactionStream S F C R → Type 0)
     (s : CompactionStream S F C R) where
-  -- of any list that the stream goes through, calls up to the one that answers `None` give, ask and
-  -- report what a compaction of the list does
+  -- for any list that the stream processes, calls until `None` yield, filter and report as a
+  -- compaction of the list does
   abbrev pub CompactsWhole : (F → Entry → Result Verdict Error → F → Type 0)
       → (C → Entry → C → Type 0) → Type 0
   CompactsWhole gives gets =
@@ -91,8 +90,8 @@ module _ {S F C : Type 0} (front : S → Option R → S → Type 0)
       → Yields next s gave t → next t None u → Compacted gives gets (rules_of s) (filter_of s)
       (callback_of s) xs gave (filter_of u) (callback_of u)
 
-  -- whatever the source gives, refusals too: calls up to the one that answers `None` give, ask and
-  -- report what a compaction of it does
+  -- whatever the source yields, errors included, calls until `None` yield, filter and report as a
+  -- compaction of it does
   abbrev pub CompactsHeard : (F → Entry → Result Verdict Error → F → Type 0)
       → (C → Entry → C → Type 0) → Type 0
   CompactsHeard gives gets = (source : S) (gave : List R) (t u : CompactionStream S F C R)
@@ -102,34 +101,35 @@ module _ {S F C : Type 0} (front : S → Option R → S → Type 0)
       (λ xs. Compacted gives gets (rules_of s) (filter_of s) (callback_of s) xs gave
       (filter_of u) (callback_of u))
 
-  -- and where a filter keeps all, they give what is given of it
+  -- the same where the filter keeps all: the calls yield the compaction's output
   abbrev pub GivesOuts : Type 0
   GivesOuts = (source : S) (gave : List R) (t u : CompactionStream S F C R) → compaction_outlook s
       ≡ before_any source
       → Yields next s gave t → next t None u
       → Heard front nowhere source (λ xs. gave ≡ outs (rules_of s) (as_they_are xs))
 
-  -- the stream deals what is given of any list that it goes through, where a filter keeps all
+  -- where the filter keeps all, the stream yields the compaction's output for any list that it
+  -- processes
   abbrev pub DealsOuts : Type 0
   DealsOuts = (stops : Error → Bool) (xs : List R) → Compacts stops front s xs
       → Deals (answer_stops stops) next nowhere s (outs (rules_of s) (as_they_are xs))
 
-  -- and of entries without errors those that are kept
+  -- the same for a list without errors: the stream yields the entries kept
   abbrev pub DealsKept : Type 0
   DealsKept = (stops : Error → Bool) (xs : List Entry) → Compacts stops front s (ok_results xs)
       → Deals (answer_stops stops) next nowhere s (ok_results (kept (rules_of s) (unfiltered xs)))
 
--- the error of a refusal
+-- the error of a result, if any
 abbrev pub refusal : {X : Type 0} → Result X Error → Option Error
 refusal (Ok x) = None
 refusal (Err e) = Some e
 
--- the answer that it is
+-- the same as the result of a call
 abbrev pub failure : {X : Type 0} → Result X Error → Option R
 failure (Ok x) = None
 failure (Err e) = Some (Err e)
 
--- the error in front, and what is left once it was answered
+-- the error at the front of a list, and the list after it
 abbrev pub error_first : List R → Option Error
 error_first [] = None
 error_first (Ok x ∷ rs) = None
@@ -140,7 +140,7 @@ past_error [] = []
 past_error (Ok x ∷ rs) = Ok x ∷ rs
 past_error (Err e ∷ rs) = rs
 
--- the entries of a key in front were taken and reported, up to an error that stops it
+-- the next entries with a key were consumed and reported, up to an error in `stops`
 pub record DrainsKey {T C X : Type 0} (stops : Error → Bool) (Has : T → List R → Type 0)
     (gets : C → Entry → C → Type 0) (key : List ℕ) (s : T) (c : C) (result : Result X Error) (t : T)
     (d : C) : Type 0 where
@@ -148,12 +148,12 @@ pub record DrainsKey {T C X : Type 0} (stops : Error → Bool) (Has : T → List
       → (refusal result ≡ error_first (after_key key xs)) × Has t (past_error (after_key key xs))
       × GetsAll gets c (of_key key xs) d
 
--- what a turn answers at a head that goes or stays
+-- the result of a turn for a head that is removed or kept
 abbrev pub answer_of : Rules → Entry → Result Bool Error → Option R
 answer_of rules head (Ok gone) = head_answer rules gone head
 answer_of rules head (Err e) = Some (Err e)
 
--- a head was settled, up to an error that stops it
+-- a head was settled, up to an error in `stops`
 pub record Settles {T C : Type 0} (stops : Error → Bool) (Has : T → List R → Type 0)
     (gets : C → Entry → C → Type 0) (rules : Rules) (head : Entry) (s : T) (c : C)
     (result : Result Bool Error) (t : T) (d : C) : Type 0 where
@@ -161,7 +161,7 @@ pub record Settles {T C : Type 0} (stops : Error → Bool) (Has : T → List R �
       → (answer_of rules head result ≡ (settled rules head xs).answer)
       × Has t (settled rules head xs).rest × GetsAll gets c (settled rules head xs).reports d
 
--- the same of lists themselves
+-- the same for plain lists
 module _ {C : Type 0} (gets : C → Entry → C → Type 0) where
   abbrev pub DrainsIn : {X : Type 0} → List ℕ → C → Result X Error → C → List R → List R → Type 0
   DrainsIn key c result d xs ys = DrainsKey nothing_stops IsSame gets key xs c result ys d
@@ -170,7 +170,7 @@ module _ {C : Type 0} (gets : C → Entry → C → Type 0) where
   SettlesIn rules head c result d xs ys =
       Settles nothing_stops IsSame gets rules head xs c result ys d
 
--- a head was filtered, and reported as told
+-- a head was filtered, and reported by its verdict
 pub record Filters {F C : Type 0} (gives : F → Entry → Result Verdict Error → F → Type 0)
     (gets : C → Entry → C → Type 0) (head : Entry) (f : F) (c : C)
     (result : Result (Option Entry) Error) (g : F) (d : C) : Type 0 where

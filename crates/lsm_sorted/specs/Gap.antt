@@ -1,5 +1,5 @@
--- Entries among which one error stands in place of a stretch: what a source gives that ends for
--- good at its first error.
+-- Entries with one error in place of a sublist: the results of a source that is exhausted after its
+-- first error.
 use Rattle.std.specs.Prelude.{◌≡◌, ◌⊎◌, Bool, true, false, List, ◌∷◌, ◌++◌, Contains, Option, None}
 use Rattle.std.specs.Prelude.{Err}
 use Rattle.std.specs.Iterator.{Yields}
@@ -14,7 +14,7 @@ use Rattle.lsm_sorted.specs.declared.compaction.Rules.{Rules}
 use Rattle.lsm_sorted.specs.Compaction.{outs, as_they_are}
 use Rattle.lsm_sorted.specs.Outlook.{StopsAtNone}
 
--- the entries before a gap and those behind it, with an error between them
+-- the entries before a gap and those after it, with an error between them
 pub record HasGap (es : List Entry) (e : Error) (xs : List R) : Type 0 where
   pub before : List Entry
   pub gap : List Entry
@@ -22,14 +22,13 @@ pub record HasGap (es : List Entry) (e : Error) (xs : List R) : Type 0 where
   pub parts : es ≡ before ++ (gap ++ behind)
   pub is : xs ≡ ok_results before ++ Err e ∷ ok_results behind
 
--- all the entries, or what a gap leaves of them, at one of these errors or at one that stops the
--- sources
+-- all the entries, or the entries with a gap, at one of these errors or at an error in `stops`
 abbrev pub IsUpToGap : (Error → Bool) → List Entry → List Error → List R → Type 0
 IsUpToGap stops es errors xs =
     (xs ≡ ok_results es) ⊎ ((e : Error) × HasGap es e xs × ((stops e ≡ true) ⊎ Contains errors e))
 
--- for every list of ends, up to the first `None`, the answers are dealt by all the entries, or by
--- what a gap leaves of them
+-- for every list of ends, the results up to the first `None` are those of all the entries, or of
+-- the entries with a gap
 pub record DealsUpToGap {T : Type 0} (stops : Error → Bool)
     (next next_back : T → Option R → T → Type 0) (t : T) (es : List Entry) (errors : List Error) :
     Type 0 where
@@ -37,14 +36,14 @@ pub record DealsUpToGap {T : Type 0} (stops : Error → Bool)
       → Runs next next_back t ends rs u → StopsAtNone false rs
       → (xs : List R) × IsUpToGap stops es errors xs × (rs ≡ deal xs ends)
 
--- what sorted sources have together is dealt so
+-- the union of sorted sources is yielded, or the union with a gap
 pub record MergesUpToGap {S T : Type 0} (front back : S → Option R → S → Type 0) (its : List S)
     (next next_back : T → Option R → T → Type 0) (t : T) : Type 0 where
   pub deals : (stops : Error → Bool) (lists : List (List R)) → DealSorted front back stops its lists
       → DealsUpToGap stops next next_back t (union_of lists) (all_errors lists)
 
--- what calls of an unfiltered compaction of it give, up to the one that answers `None`, is what is
--- given of all entries or up to a gap
+-- an unfiltered compaction, called until `None`, yields the output for the union of sorted sources,
+-- or for the union with a gap
 pub record GivesUpToGap {S T : Type 0} (front back : S → Option R → S → Type 0) (its : List S)
     (rules : Rules) (next : T → Option R → T → Type 0) (t : T) : Type 0 where
   pub gives : (stops : Error → Bool) (lists : List (List R)) → DealSorted front back stops its lists

@@ -1,4 +1,4 @@
--- Calls by what their source gave in them, whatever it gives, and the errors among it.
+-- Calls described by the results that their source returned in them, errors included.
 use Rattle.std.specs.Prelude.{◌≡◌, Bool, false, List, [], ◌∷◌, Option}
 use Rattle.sst_entries.specs.declared.stream.Direction.{Direction}
 use Rattle.sst_entries.specs.declared.error.Error.{Error}
@@ -9,20 +9,19 @@ use Rattle.lsm_sorted.specs.Outlook.{Outlook, list_of, MayGive, results_in, with
 use Rattle.lsm_sorted.specs.Outlook.{StopsAtNone}
 
 module _ {S : Type 0} (ask : S → Option R → S → Type 0) where
-  -- calls of an iterator gave these answers one after another
+  -- successive calls of an iterator returned these results
   abbrev pub GaveEach : S → List (Option R) → S → Type 0
   GaveEach s [] t = s ≡ t
   GaveEach s (r ∷ rs) t = (j : S) × ask s r j × GaveEach j rs t
 
-  -- the same of a source that is left alone once it has ended
+  -- the same for a source that is not called again after `None`
   pub record Gave (s : Ends S) (answers : List (Option R)) (t : Ends S) : Type 0 where
     pub each : GaveEach s.iter answers t.iter
     pub over : t.done ≡ is_over s.done answers
     pub once : StopsAtNone s.done answers
 
-  -- a call that asked its source at this end, answered r and led from s to t: P relates what was to
-  -- come to what is still to come, whatever the source still gives, and no error that the source
-  -- gave is kept from the caller
+  -- a call that polled its source at this end, returned r and led from s to t. P relates the list
+  -- before and after, for any remaining results; no error of the source is dropped.
   pub record Hears (end : Direction) (r : Option R) (P : List R → List R → Type 0) (s t : Outlook S)
       : Type 0 where
     pub answers : List (Option R)
@@ -32,8 +31,7 @@ module _ {S : Type 0} (ask : S → Option R → S → Type 0) where
     pub holds : (rest : List R) → MayGive t.source.done rest
         → P (list_of s (with_rest end (results_in answers) rest)) (list_of t rest)
 
--- a source was asked, and not again once it gave `None`: P holds of every list that deals what it
--- answered
+-- a source was called, and not again after `None`; P holds of every list that yields its results
 pub record Heard {S : Type 0} (front back : S → Option R → S → Type 0) (source : S)
     (P : List R → Type 0) : Type 0 where
   pub ends : List Direction

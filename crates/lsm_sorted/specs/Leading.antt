@@ -1,10 +1,10 @@
--- The first of entries that were found.
+-- The first of two entries.
 use Rattle.std.specs.Prelude.{Option, Some, None, if◌then◌else◌}
 use Rattle.std.specs.Ordering.{is_lt}
 use Rattle.sst_entries.specs.Entry.{Entry}
 use Rattle.lsm_sorted.specs.merge.Union.{item_cmp}
 
--- of two entries that may be there the one that stands before the other, or the first
+-- of two optional entries, the one that sorts first; on a tie, the left one
 abbrev pub leading_of : Option Entry → Option Entry → Option Entry
 leading_of None y = y
 leading_of (Some x) None = Some x

@@ -1,4 +1,4 @@
--- A stream of newest versions: its calls, and runs of them.
+-- A stream of the newest versions: single calls and sequences of calls.
 use Rattle.std.specs.Prelude.{◌≡◌, ℕ, Bool, List, Option}
 use Rattle.std.specs.Iterator.{Count}
 use Rattle.sst_entries.specs.declared.error.Error.{Error}
@@ -14,24 +14,24 @@ use Rattle.lsm_sorted.specs.Outlook.{Outlook, IsStep}
 use Rattle.lsm_sorted.specs.Hears.{Hears, Heard}
 use Rattle.lsm_sorted.specs.Peeked.{peeked_size, peeked_outlook}
 
--- what the stream reads from, with what it took and has still to give
+-- the source of the stream, with the entries read ahead
 abbrev pub mvcc_outlook : {S : Type 0} → MvccStream S R → Outlook S
 mvcc_outlook s = peeked_outlook s.inner
 
--- what it reads from, alone
+-- the source of the stream alone
 abbrev pub read_from : {S : Type 0} → MvccStream S R → S
 read_from s = s.inner.source.iter
 
 abbrev pub mvcc_size : {S : Type 0} → (S → Count) → MvccStream S R → ℕ
 mvcc_size left s = peeked_size left s.inner
 
--- what it reads from may be asked
+-- the source may be called
 abbrev pub MayStep : {S : Type 0} → (S → Option R → S → Type 0) → (S → Option R → S → Type 0)
     → (S → Type 0) → (S → Type 0) → (S → Count) → MvccStream S R → Type 0
 MayStep front back can can_back left s = Goes front back can can_back left s.inner.source
 
--- one call: it may be called again, and whatever the source gives, it answers the step on what it
--- had and what the source gave
+-- one call: it may be called again, and its result is that of a step on the entries read ahead and
+-- the source's results
 pub record StepsAt {S : Type 0} (May : MvccStream S R → Type 0) (ask : S → Option R → S → Type 0)
     (end : Direction) (stepped : List R → Option R × List R) (s : MvccStream S R) (r : Option R)
     (t : MvccStream S R) : Type 0 where
@@ -40,27 +40,27 @@ pub record StepsAt {S : Type 0} (May : MvccStream S R → Type 0) (ask : S → O
 
 module _ {S T : Type 0} (front back : S → Option R → S → Type 0) (source : S)
     (next next_back : T → Option R → T → Type 0) (t : T) where
-  -- whatever the source gives, the answers at a list of ends are those of the steps on what it gave
+  -- whatever the source returns, the results at a list of ends are those of steps on it
   pub record AnswersSteps : Type 0 where
     pub heard : (ends : List Direction) (rs : List (Option R)) (u : T)
         → Runs next next_back t ends rs u
         → Heard front back source (λ xs. rs ≡ newest_answers xs ends)
 
-  -- of a list that the source deals, the answers are those of the steps on it, up to an error that
-  -- stops the source
+  -- for a list that the source yields, the results are those of steps on it, up to an error in
+  -- `stops`
   pub record DealsSteps : Type 0 where
     pub answers : (stops : Error → Bool) (xs : List R)
         → Deals (answer_stops stops) front back source xs
         → (ends : List Direction) (rs : List (Option R)) (u : T) → Runs next next_back t ends rs u
         → NoneStops (answer_stops stops) rs → rs ≡ newest_answers xs ends
 
-  -- of sorted entries that the source deals, the newest version of each key is dealt
+  -- for sorted entries that the source yields, the newest version of each key is yielded
   pub record DealsNewestOf : Type 0 where
     pub deals : (stops : Error → Bool) (xs : List Entry) → Ascends xs
         → Deals (answer_stops stops) front back source (ok_results xs)
         → Deals (answer_stops stops) next next_back t (ok_results (newest xs))
 
-  -- where the source may be asked and ends, so may the stream be asked
+  -- if the source may be called and is finite, the stream may be called
   pub record CanStep (can can_back : S → Type 0) (left : S → Count)
       (can_next can_next_back : T → Type 0) : Type 0 where
     pub asks : CanDeal front back can can_back source → IsFinite (left source)

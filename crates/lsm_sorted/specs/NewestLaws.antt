@@ -1,4 +1,4 @@
--- What is promised of the newest versions of several sources.
+-- Guarantees for the newest versions of several sources.
 use Rattle.std.specs.Prelude.{◌≡◌, Bool, List, [], All, Option}
 use Rattle.std.specs.Iterator.{Count, IsFinite}
 use Rattle.sst_entries.specs.Stream.{Runs, Deals, CanDeal, answer_stops, ok_results, EndsAtError}
@@ -17,13 +17,13 @@ use Rattle.lsm_sorted.specs.Mvcc.{mvcc_outlook}
 use Rattle.lsm_sorted.specs.Newest.{newest_answers}
 use Rattle.lsm_sorted.specs.Outlook.{before_any}
 
--- a stream of newest versions, before any call, over a merger of just these sources
+-- a stream of the newest versions, before any call, over a merger of exactly these sources
 pub record IsNewestOf {S A : Type 0} (its : List S) (s : MvccStream (Merger S A) R) : Type 0 where
   pub source : Merger S A
   pub starts : mvcc_outlook s ≡ before_any source
   pub of : IsMergerOf its source
 
--- where the sources may be asked and end, so may the stream be asked
+-- if the sources may be called and are finite, the stream may be called
 pub record CanAskNewest {S T : Type 0} (front back : S → Option R → S → Type 0)
     (can can_back : S → Type 0) (left : S → Count) (its : List S)
     (next next_back : T → Option R → T → Type 0) (can_next can_next_back : T → Type 0)
@@ -33,22 +33,21 @@ pub record CanAskNewest {S T : Type 0} (front back : S → Option R → S → Ty
 
 module _ {S : Type 0} (front back : S → Option R → S → Type 0) (its : List S) where
   module _ {T : Type 0} (next next_back : T → Option R → T → Type 0) (t : T) where
-    -- of what sorted sources have together, the newest version of each key is dealt, where they
-    -- have no errors
+    -- if no source has an error, the stream yields the newest version of each key in the union of
+    -- sorted sources
     pub record DealsNewest : Type 0 where
       pub deals : (stops : Error → Bool) (lists : List (List R))
           → DealSorted front back stops its lists → all_errors lists ≡ []
           → Deals (answer_stops stops) next next_back t (ok_results (newest (union_of lists)))
 
-    -- with errors among it, as long as none of them is the answer
+    -- if the sources have errors, the same holds as long as no error is returned
     pub record DealsNewestUntilError : Type 0 where
       pub deals : (stops : Error → Bool) (lists : List (List R))
           → DealSorted front back stops its lists
           → Deals (answer_stops every_error) next next_back t (ok_results (newest (union_of lists)))
 
-    -- whatever errors are met, and after them: for every list of ends the answers are those of the
-    -- steps on all entries, or on what is left of them where the first error that was met takes the
-    -- place of a stretch
+    -- with any errors, and after them: the results are those of steps on the union, or on the union
+    -- with a gap. The gap is at the first error met.
     pub record AnswersNewest : Type 0 where
       pub answers : (stops : Error → Bool) (lists : List (List R))
           → DealSorted front back stops its lists
@@ -56,9 +55,8 @@ module _ {S : Type 0} (front back : S → Option R → S → Type 0) (its : List
           → (xs : List R) × IsUpToGap stops (union_of lists) (all_errors lists) xs
           × (rs ≡ newest_answers xs ends)
 
-  -- its merger deals what the sources have together up to an error of one of them, from one end
-  -- alone no error comes before the entries before it, seen from there, and nothing follows an
-  -- error
+  -- its merger yields the union of the sources up to an error, and is then exhausted. From one end
+  -- alone, an error comes only after the entries before it.
   pub record IsOverMerged {A : Type 0} (next next_back : Merger S A → Option R → Merger S A
       → Type 0) (s : MvccStream (Merger S A) R) : Type 0 where
     pub of : IsNewestOf its s

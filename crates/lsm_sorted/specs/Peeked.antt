@@ -1,11 +1,11 @@
--- An iterator with a place for one entry before it and one behind it.
+-- An iterator with one entry read ahead at each end.
 use Rattle.std.specs.Prelude.{ℕ, ◌+◌, List, [], ◌∷◌, Option, Some, None}
 use Rattle.std.specs.Iterator.{Count}
 use Rattle.lsm_sorted.specs.declared.peeked.Peeked.{Peeked}
 use Rattle.lsm_sorted.specs.merge.Ends.{R, ends_size}
 use Rattle.lsm_sorted.specs.Outlook.{Outlook}
 
--- what a place holds
+-- the entry read ahead, if any
 abbrev pub content : Option R → List R
 content None = []
 content (Some x) = x ∷ []
@@ -14,7 +14,7 @@ abbrev pub content_count : Option R → ℕ
 content_count None = 0
 content_count (Some x) = 1
 
--- the iterator, and what its places hold
+-- the iterator, with the entries read ahead
 abbrev pub peeked_outlook : {S : Type 0} → Peeked S R → Outlook S
 peeked_outlook s = record { source = s.source; ahead = content s.front; behind = content s.back }
 

@@ -1,4 +1,4 @@
--- What readers see before and after a compaction.
+-- The guarantee for readers before and after a compaction.
 use Rattle.std.specs.Prelude.{◌≡◌, ◌≢◌, ◌<◌, ◌≤◌, ◌⊎◌, ℕ, true, false, List, ◌++◌}
 use Rattle.std.specs.List.{AllByRecursion}
 use Rattle.sst_entries.specs.Entry.{Entry}
@@ -10,26 +10,26 @@ use Rattle.lsm_sorted.specs.Point.{seen}
 use Rattle.lsm_sorted.specs.declared.compaction.Rules.{Rules}
 use Rattle.lsm_sorted.specs.Compaction.{kept, unfiltered}
 
--- every version of the key is numbered below the bound
+-- every version of the key has a seqno below the bound
 abbrev pub AllBelow : List ℕ → ℕ → List Entry → Type 0
 AllBelow key bound es = AllByRecursion (λ e. same_key e.user_key key ≡ true → e.seqno < bound) es
 
--- a reader whose bound is the watermark or above, or above every version of the key
+-- a reader at the watermark or above, or above every version of the key
 abbrev pub IsServed : ℕ → List Entry → List ℕ → ℕ → Type 0
 IsServed watermark es key bound = (watermark ≤ bound) ⊎ AllBelow key bound es
 
--- whatever is evicted and zeroed, such a reader sees the same before and after
+-- with any eviction and zeroing, such a reader sees the same before and after
 abbrev pub ReadLaw : Type 0
 ReadLaw = (rules : Rules) (es : List Entry) → Ascends es → (key : List ℕ) (bound : ℕ)
     → IsServed rules.watermark es key bound → seen (kept rules (unfiltered es)) key bound
     ≡ seen es key bound
 
--- what is kept of a strict list is strict, also where numbers become 0
+-- a compaction of a strictly sorted list is strictly sorted, even where seqnos become 0
 abbrev pub StaysStrict : Type 0
 StaysStrict = (rules : Rules) (es : List Entry) → IsStrict es
     → IsStrict (kept rules (unfiltered es))
 
--- no entry of one list has the key and the number of one of the other
+-- no entry of one list has the key and seqno of an entry of the other
 abbrev pub Distinct : List Entry → List Entry → Type 0
 Distinct xs ys = AllByRecursion
     (λ x. AllByRecursion (λ y. x.user_key ≡ y.user_key → x.seqno ≢ y.seqno) ys) xs
@@ -39,18 +39,18 @@ abbrev pub AllNewer : List Entry → List Entry → Type 0
 AllNewer xs ys = AllByRecursion
     (λ x. AllByRecursion (λ y. x.user_key ≡ y.user_key → x.seqno < y.seqno) ys) xs
 
--- a sorted list that has each entry as often as two lists have it together
+-- a sorted list with exactly the entries of two lists, with multiplicity
 pub record IsMerged (xs ys zs : List Entry) : Type 0 where
   pub ascends : Ascends zs
   pub same : SameBag zs (xs ++ ys)
 
--- nothing is evicted or zeroed, and no weak tombstone may go with the version that it hides
+-- no eviction, no zeroing and no weak tombstones
 abbrev pub IsPlain : Rules → List Entry → Type 0
 IsPlain rules es = (rules.evict ≡ false) × (rules.zeroing ≡ false)
     × AllByRecursion (λ e. is_weak_kind e.kind ≡ false) es
 
--- where a part of the entries is compacted and others stay, a reader at the watermark or above sees
--- the same
+-- if a part of the entries is compacted and the others remain, a reader at the watermark or above
+-- sees the same
 abbrev pub PartLaw : Type 0
 PartLaw = (rules : Rules) (part others all left : List Entry) → IsStrict part → IsStrict others
     → Distinct part others → IsMerged part others all

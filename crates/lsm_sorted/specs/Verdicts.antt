@@ -1,4 +1,4 @@
--- What a filter said, without its memory.
+-- A filter's verdict, without its allocator.
 use Rattle.std.specs.Prelude.{Result, Ok, Err}
 use Rattle.sst_entries.specs.declared.error.Error.{Error}
 use Rattle.lsm_sorted.specs.declared.compaction.stream.StreamFilterVerdict.{StreamFilterVerdict}
@@ -13,7 +13,7 @@ verdict_of Keep = keep
 verdict_of (Replace p) = replace p.0 p.1
 verdict_of Drop = drop
 
--- a filter's answer with its verdict as a plain value
+-- a filter's result with its verdict as a plain value
 abbrev pub said : {A : Type 0} → Result (StreamFilterVerdict A) Error → Result Verdict Error
 said (Ok v) = Ok (verdict_of v)
 said (Err e) = Err e

@@ -1,5 +1,5 @@
--- The words of the contracts of a compaction, those of the crates below among them, so that a file
--- asks for them once.
+-- The definitions for contracts of compactions, with those of the crates below, so that a file
+-- imports them from one module.
 pub use Rattle.sst_entries.specs.Entry.{Entry}
 pub use Rattle.sst_entries.specs.Key.{same_key}
 pub use Rattle.sst_entries.specs.Stream.{CanDeal, Deals, answer_stops, nowhere}

@@ -1,4 +1,4 @@
-//! An iterator that is taken from the front alone, with a place for one entry before it.
+//! An iterator that is polled at the front only, with one slot for an entry before the next.
 ghost use Rattle.sst_entries.specs.declared.error.Error.{Error};
 ghost use Rattle.std.specs.Prelude.{Bool, ◌≡◌, ℕ, ◌+◌, ◌<◌, List, ◌∷◌, false};
 ghost use Rattle.lsm_sorted.specs.merge.Ends.{R, Goes};
@@ -12,7 +12,7 @@ use crate::Ends;
 use sst_entries::{InternalValue, IterItem};
 use std::alloc::Allocator;
 
-/// An iterator to which the entry that was taken last may be given back.
+/// An iterator that takes its last entry back.
 #[derive(Drop)]
 pub struct Ahead<I: Iterator> {
     pub(crate) source: Ends<I>,
@@ -48,7 +48,7 @@ impl<I: Iterator<Item = IterItem<A>>, A: Allocator> Ahead<I> {
         self.source.next_in_front()
     }
 
-    // Puts an entry before what is left.
+    // Puts an entry before the remaining ones.
     pub(crate) fn put_back(&mut self, x: InternalValue<A>)
         requires { self.old.front ≡ None }
         ensures source { self.new.source ≡ self.old.source }

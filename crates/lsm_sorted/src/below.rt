@@ -1,4 +1,4 @@
-//! The entries of a source that are numbered below a bound.
+//! The entries of a source below a seqno bound.
 ghost use Rattle.std.specs.Prelude.{◌≡◌, IfErr, IfOk, None, OnErr, is_some, map, nat_lt};
 ghost use Rattle.std.specs.Iterator.{IsFinite};
 ghost use Rattle.sst_entries.specs.Lending.{came};
@@ -13,16 +13,16 @@ use crate::give_up::give_up;
 use sst_entries::{EntryRef, Error, InternalValue, IterItem, Lending, SeqNo};
 use std::alloc::Allocator;
 
-// Whether an entry is numbered below the bound.
 fn is_below<A: Allocator>(entry: &InternalValue<A>, seqno: SeqNo) -> bool
     ensures { result ≡ nat_lt entry.now.seqno seqno }
 {
     entry.key.seqno < seqno
 }
 
-/// Yields the entries of a source that are numbered below a bound, and the source's errors. It has
-/// the ends that the source has, and lends where the source lends. A step drops the entries before
-/// the one that it yields. No error is its own.
+/// An iterator over the entries of a source whose seqno is below a bound.
+///
+/// It is double-ended or a [`Lending`] if the source is. A step drops the entries before the one
+/// that it yields. It passes on the source's errors and has none of its own.
 #[derive(Drop)]
 pub struct Below<I> {
     iter: I,
@@ -30,19 +30,19 @@ pub struct Below<I> {
 }
 
 impl<I: Iterator<Item = IterItem<A>>, A: Allocator> Below<I> {
-    /// The entries of a source numbered below `seqno`. Nothing is taken from it yet.
+    /// Creates an iterator over the entries of a source whose seqno is below `seqno`.
     ///
-    /// What holds where the back is asked too is said by [`Below::from_both_ends`].
+    /// The call does not poll the source. For calls at both ends, see [`Below::from_both_ends`].
     pub fn new(iter: I, seqno: SeqNo) -> Self
         ensures of { result ≡ below_of seqno iter }
-        // Of any list, up to an error that stops the source: what of it is numbered below the
-        // bound, and its errors.
+        // For any list, up to an error that stops the source, it yields the entries below the bound
+        // and the errors.
         ensures deals { DealsBelow I.next_gives nowhere iter seqno
             ⟦<Below<I> as Iterator>⟧.next_gives nowhere result }
         ensures can { CanStep I.next_gives nowhere iter ⟦<Below<I> as Iterator>⟧.next_gives nowhere
             result I.can_next I.can_next I.remaining ⟦<Below<I> as Iterator>⟧.can_next
             ⟦<Below<I> as Iterator>⟧.can_next }
-        // So a `for` may go over it.
+        // A `for` loop may iterate over it.
         ensures next { CanDeal I.next_gives nowhere I.can_next I.can_next iter →
             IsFinite (I.remaining iter) → ⟦<Below<I> as Iterator>⟧.can_next result }
     {
@@ -51,7 +51,9 @@ impl<I: Iterator<Item = IterItem<A>>, A: Allocator> Below<I> {
 }
 
 impl<I: DoubleEndedIterator<Item = IterItem<A>>, A: Allocator> Below<I> {
-    /// A law of sources with two ends, for every list of ends. The call does nothing.
+    /// States what it yields for a double-ended source, for calls at both ends in any order.
+    ///
+    /// The call does nothing: its contract states the law.
     pub fn from_both_ends(&self)
         ensures deals { (iter : I) (seqno : _) → self.now ≡ below_of seqno iter →
             DealsBelow I.next_gives I.next_back_gives iter seqno
@@ -62,7 +64,7 @@ impl<I: DoubleEndedIterator<Item = IterItem<A>>, A: Allocator> Below<I> {
             ⟦<Below<I> as DoubleEndedIterator>⟧.next_back_gives self.now I.can_next I.can_next_back
             I.remaining ⟦<Below<I> as Iterator>⟧.can_next
             ⟦<Below<I> as DoubleEndedIterator>⟧.can_next_back }
-        // So a `for` may go over it, from the front or from the back.
+        // A `for` loop may iterate over it, from the front or from the back.
         ensures next { (iter : I) (seqno : _) → self.now ≡ below_of seqno iter →
             CanDeal I.next_gives I.next_back_gives I.can_next I.can_next_back iter →
             IsFinite (I.remaining iter) → ⟦<Below<I> as Iterator>⟧.can_next self.now }
@@ -73,7 +75,7 @@ impl<I: DoubleEndedIterator<Item = IterItem<A>>, A: Allocator> Below<I> {
     {}
 }
 
-// Whether the entry that a source lends is numbered below a bound.
+// Whether the current entry of a source is below a bound; true if there is none.
 #[inline]
 fn is_low<L: Lending>(source: &L, seqno: SeqNo) -> bool
     ensures { result ≡ lent_passes seqno (L.lent source.now) }
@@ -84,7 +86,7 @@ fn is_low<L: Lending>(source: &L, seqno: SeqNo) -> bool
     }
 }
 
-// Goes on to the next entry of a source that is numbered below a bound.
+// Advances a source to its next entry below a bound.
 #[inline]
 fn advance_below<L: Lending>(source: &mut L, seqno: SeqNo) -> Result<bool, Error>
     requires { CanDeal L.advances nowhere L.can_advance L.can_advance source.old }
@@ -105,13 +107,15 @@ fn advance_below<L: Lending>(source: &mut L, seqno: SeqNo) -> Result<bool, Error
 }
 
 impl<L: Lending> Below<L> {
-    /// The entries of a source that lends, numbered below `seqno`. The source is not advanced yet.
+    /// Creates a lending iterator over the entries of a source whose seqno is below `seqno`.
+    ///
+    /// The source is not advanced yet.
     pub fn lending(source: L, seqno: SeqNo) -> Self
         ensures of { result ≡ below_of seqno source }
-        // The entry that the source lends already is lent on if it is numbered below the bound. So
-        // no other entry is ever lent.
+        // The current entry of the source stays current if it is below the bound. So no other entry
+        // is ever current.
         ensures lent { ⟦<Below<L> as Lending>⟧.lent result ≡ only_below seqno (L.lent source) }
-        // Of any list, up to an error that stops the source: the entries numbered below the bound,
+        // For any list, up to an error that stops the source, it yields the entries below the bound
         // and the errors.
         ensures deals { DealsBelow L.advances nowhere source seqno
             ⟦<Below<L> as Lending>⟧.advances nowhere result }
@@ -152,7 +156,11 @@ impl<L: Lending> Lending for Below<L> {
     }
 }
 
-/// Each of several sources below one bound. The only error is [`Error::OutOfMemory`].
+/// Limits each of several sources to the entries below one bound.
+///
+/// # Errors
+///
+/// [`Error::OutOfMemory`] only.
 pub fn each_below<I: Drop, A: Allocator>(
     alloc: A,
     iterators: Vec<I, A>,

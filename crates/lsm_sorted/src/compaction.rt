@@ -1,16 +1,18 @@
-//! Compaction: older versions and tombstones that no reader needs are left out.
+//! Compaction: dropping older versions and tombstones that no reader needs.
 use sst_entries::SeqNo;
 
 pub mod lending;
 pub mod stream;
 
-/// How runs are compacted.
+/// The rules of a compaction.
 #[derive(Clone, Copy, Debug, PartialEq, Eq)]
 pub struct Rules {
-    /// No reader stands below this number.
+    /// The watermark: no reader reads at a smaller seqno.
     pub watermark: SeqNo,
-    /// Whether a tombstone goes where no older version of its key follows.
+    /// Whether a tombstone is dropped if no older version of its key is kept.
+    ///
+    /// A weak tombstone stays if it hides a next version that is not a value.
     pub evict: bool,
-    /// Whether numbers below the watermark become 0.
+    /// Whether seqnos below the watermark become 0.
     pub zeroing: bool,
 }

@@ -1,4 +1,4 @@
-//! The first of entries that were found.
+//! The first of two optional entries.
 ghost use Rattle.std.specs.Prelude.{◌≡◌};
 ghost use Rattle.std.specs.Ordering.{is_lt};
 ghost use Rattle.lsm_sorted.specs.merge.Union.{item_cmp};
@@ -7,15 +7,16 @@ ghost use Rattle.lsm_sorted.specs.Leading.{leading_of};
 use sst_entries::InternalValue;
 use std::alloc::Allocator;
 
-// Whether an entry stands before another.
 fn stands_before<A: Allocator>(x: &InternalValue<A>, y: &InternalValue<A>) -> bool
     ensures { result ≡ is_lt (item_cmp x.now y.now) }
 {
     x.key < y.key
 }
 
-/// Of two entries that may be there the one that stands before the other: of one key that with the
-/// higher number. The first, where neither does.
+/// Returns the first of two optional entries in entry order.
+///
+/// Between versions of one key, this is the one with the higher seqno. On a tie it returns the
+/// first argument. If one of them is `None`, it returns the other.
 pub fn leading<A: Allocator>(
     first: Option<InternalValue<A>>,
     second: Option<InternalValue<A>>,

@@ -1,9 +1,9 @@
-//! Letting go of an entry.
+//! Dropping an entry.
 use sst_entries::InternalValue;
 use std::alloc::Allocator;
 
-// A call of its own: a place in which an entry may be let go is moved in many small pieces, which
-// costs each entry that passes through it more than this call does.
+// Not inlined: a variable in which an entry may be dropped is moved in many small pieces. This
+// costs each entry that passes through it more than a call.
 #[inline(never)]
 pub(crate) fn give_up<A: Allocator>(item: InternalValue<A>) {
     let _ = item;

@@ -1,4 +1,4 @@
-//! Queues with two ends: an interval heap, and pairs of tournaments.
+//! Double-ended priority queues: an interval heap and pairs of tournaments.
 pub(crate) mod ends;
 mod interval_heap;
 mod lazy_tournament;

@@ -15,7 +15,9 @@ use std::alloc::{AllocError, Allocator, Global};
 use std::marker::Model;
 use std::ops::Bound;
 
-/// The keys from a least one to a greatest one, both included. A contract sees the two keys.
+/// A closed interval of keys, from a least to a greatest one.
+///
+/// In contracts, it is the pair of the two keys.
 #[derive(Drop)]
 #[derive_where(Debug, PartialEq, Eq)]
 pub struct KeyRange<A: Allocator = Global>(UserKey<A>, UserKey<A>);
@@ -41,8 +43,9 @@ impl<A: Allocator> Clone for KeyRange<A> {
 }
 
 impl<A: Allocator> KeyRange<A> {
-    /// The range between two keys. Nothing tests that the first is not above the second, see
-    /// [`KeyRange::is_well_formed`].
+    /// Creates the range between two keys.
+    ///
+    /// The call does not check their order, see [`KeyRange::is_well_formed`].
     pub fn new(ends: (UserKey<A>, UserKey<A>)) -> KeyRange<A>
         ensures { result ≡ interval ends.0 ends.1 }
     {
@@ -50,14 +53,14 @@ impl<A: Allocator> KeyRange<A> {
         KeyRange(min, max)
     }
 
-    /// The range from the empty key to the empty key, which has that key alone.
+    /// Returns the range that contains the empty key alone.
     pub fn empty() -> KeyRange<A>
         ensures { result ≡ interval [] [] }
     {
         KeyRange(Slice::empty(), Slice::empty())
     }
 
-    /// The least key.
+    /// Returns the least key.
     #[inline]
     pub fn min(&self) -> &UserKey<A>
         ensures { result.now ≡ self.now.min }
@@ -65,7 +68,7 @@ impl<A: Allocator> KeyRange<A> {
         &self.0
     }
 
-    /// The greatest key.
+    /// Returns the greatest key.
     #[inline]
     pub fn max(&self) -> &UserKey<A>
         ensures { result.now ≡ self.now.max }
@@ -73,14 +76,16 @@ impl<A: Allocator> KeyRange<A> {
         &self.1
     }
 
-    /// Whether the least key is not above the greatest, so that the range has a key.
+    /// Returns whether the least key is not above the greatest, so that the range contains a key.
     pub fn is_well_formed(&self) -> bool
         ensures { result ≡ is_well_formed self.now }
     {
         is_at_most(self.0.as_slice(), self.1.as_slice())
     }
 
-    /// Whether no two of the ranges overlap. Each is compared with each later one.
+    /// Returns whether no two of the ranges overlap.
+    ///
+    /// It compares each range with each later one.
     pub fn is_disjoint(ranges: &[&KeyRange<A>]) -> bool
         ensures { result ≡ are_disjoint (intervals ranges.now) }
     {
@@ -93,9 +98,13 @@ impl<A: Allocator> KeyRange<A> {
         true
     }
 
-    /// The range from the least minimum to the greatest maximum of some ranges, and
-    /// [`KeyRange::empty`] of none, which is never refused. Refused [`Error::OutOfMemory`] where a
-    /// count of sharers is refused.
+    /// Returns the range from the least minimum to the greatest maximum of some ranges.
+    ///
+    /// For no ranges it returns [`KeyRange::empty`] and does not fail.
+    ///
+    /// # Errors
+    ///
+    /// [`Error::OutOfMemory`] if a reference count cannot be incremented.
     pub fn aggregate(ranges: &[&KeyRange<A>]) -> Result<KeyRange<A>, Error>
         ensures ok { IfOk result (λ range. IsAggregate (intervals ranges.now) range) }
         ensures none { ranges.now ≡ [] → result ≡ Ok (interval [] []) }
@@ -112,14 +121,14 @@ impl<A: Allocator> KeyRange<A> {
         Ok(KeyRange(min.clone()?, max.clone()?))
     }
 
-    /// Whether the key lies in the range.
+    /// Returns whether the key is within the range.
     pub fn contains_key(&self, key: &[u8]) -> bool
         ensures { result ≡ has_key self.now key.now }
     {
         is_at_most(self.0.as_slice(), key) && is_at_most(key, self.1.as_slice())
     }
 
-    /// Whether the other range lies inside this one.
+    /// Returns whether the other range is inside this one.
     pub fn contains_range(&self, other: &KeyRange<A>) -> bool
         ensures { result ≡ has_range self.now other.now }
     {
@@ -127,8 +136,9 @@ impl<A: Allocator> KeyRange<A> {
             && is_at_most(other.1.as_slice(), self.1.as_slice())
     }
 
-    /// Whether neither range ends before the other one starts. For well-formed ranges that is
-    /// whether some key lies in both.
+    /// Returns whether neither range ends before the other one starts.
+    ///
+    /// For well-formed ranges, this means that some key is in both.
     pub fn overlaps_with_key_range(&self, other: &KeyRange<A>) -> bool
         ensures value { result ≡ overlaps self.now other.now }
         ensures shared { IsTrue (is_well_formed self.now) → IsTrue (is_well_formed other.now) →
@@ -138,9 +148,11 @@ impl<A: Allocator> KeyRange<A> {
             && is_at_most(self.0.as_slice(), other.1.as_slice())
     }
 
-    /// Whether the range reaches past both bounds: its greatest key is not before the lower one,
-    /// and its least key is not past the upper one. Where it does not, no key of the range lies
-    /// within the bounds. Bounds that are reversed can both be met.
+    /// Returns whether the range reaches past both bounds.
+    ///
+    /// Its greatest key is then not before the lower bound, and its least key is not past the upper
+    /// one. If the result is false, no key of the range is within the bounds. Reversed bounds can
+    /// both be met.
     pub fn overlaps_with_bounds(&self, bounds: &(Bound<&[u8]>, Bound<&[u8]>)) -> bool
         ensures value { result ≡
             overlaps_bounds (key_bound bounds.now.0) (key_bound bounds.now.1) self.now }
@@ -152,7 +164,6 @@ impl<A: Allocator> KeyRange<A> {
     }
 }
 
-// Whether a key is not above another.
 #[tactic(auto, using(crate::proofs::IntervalLemmas::ge_is))]
 pub(crate) fn is_at_most(key: &[u8], other: &[u8]) -> bool
     ensures { result ≡ key_le key.now other.now }

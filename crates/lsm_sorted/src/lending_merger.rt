@@ -1,4 +1,4 @@
-//! Several sorted sources that lend their entries, as one that lends.
+//! Merging several sorted lending sources.
 ghost use Rattle.std.specs.Prelude.{◌≡◌, ℕ, ◌+◌, ◌<◌, ◌≤◌, true, false, [], length, All, IfOk};
 ghost use Rattle.std.specs.Prelude.{Bool, IfErr, IsOk, Some, None};
 ghost use Rattle.std.specs.Option.{option_map};
@@ -22,35 +22,38 @@ use sst_entries::{EntryRef, Error, Lending};
 use std::alloc::{Allocator, Global};
 use std::cmp::Ordering;
 
-/// Lends the entries of several sorted sources that lend, in order. Entries with the same key,
-/// number and kind come source by source. Entries are neither moved nor shared. A comparison takes
-/// copies of the first sixteen bytes of both keys, and reads the entries only where these are equal.
-/// The first call of [`Lending::advance`] asks each source for its first entry, and each later one
-/// asks only the source whose entry was lent.
+/// A lending iterator that merges several sorted lending sources in order.
 ///
-/// An error of a source is the answer of the call that met it: it stands right behind the entry
-/// before it in its source. Nothing comes after it.
+/// Entries with equal key, seqno and kind come in source order. Entries are neither moved nor
+/// shared. A comparison uses copies of the first 16 bytes of both keys, and reads the entries only
+/// if these are equal. The first [`Lending::advance`] advances each source. Each later one advances
+/// only the source of the current entry.
+///
+/// # Errors
+///
+/// `advance` fails with the error of a source that it advances. So an error comes right after the
+/// entry that precedes it in its source. The merger is then exhausted.
 #[derive(Drop)]
 pub struct LendingMerger<L, A: Allocator = Global> {
     sources: Vec<L, A>,
     // One head for each source with a current entry. The head of the first entry is the last
-    // element: while its source stays ahead, it is popped and pushed back without a move.
+    // element. While its source stays ahead, it is popped and pushed back without a move.
     queue: Vec<Head, A>,
     is_started: bool,
-    // Whether the source that went on last stayed ahead of all others.
+    // Whether the source that was advanced last stayed ahead of all others.
     stayed_ahead: bool,
 }
 
 // A source with a current entry, by its index, and the prefix of that entry's key. Two different
-// prefixes order their heads without a read of the entries.
+// prefixes order their heads without reading the entries.
 #[derive(Clone, Copy)]
 struct Head {
     prefix: u128,
     source: usize,
 }
 
-// The first sixteen bytes of a key as one number, the first byte the highest. Zeros follow a shorter
-// key. Eight bytes would decide less: keys that count up often have the first eight in common.
+// The first 16 bytes of a key as a big-endian number, padded with zeros. Eight bytes would decide
+// less: keys that count up often share the first eight.
 #[inline(always)]
 fn prefix_of(key: &[u8]) -> u128
     ensures { IsPrefix result key.now }
@@ -61,7 +64,7 @@ fn prefix_of(key: &[u8]) -> u128
     }
 }
 
-// The prefix of a key of fewer than sixteen bytes: the bytes that it lacks are zero.
+// The prefix of a key of fewer than 16 bytes, padded with zeros.
 fn short_prefix(key: &[u8]) -> u128
     requires { length key.now < 16 }
     ensures { IsPrefix result key.now }
@@ -71,8 +74,7 @@ fn short_prefix(key: &[u8]) -> u128
     u128::from_be_bytes(bytes)
 }
 
-// Whether an entry comes before another: by key, number and kind, and where these tie by the places
-// of their sources.
+// Whether an entry comes before another: by key, seqno and kind, then by source index.
 #[inline(always)]
 fn is_before(entry: &EntryRef<'_>, place: usize, other: &EntryRef<'_>, other_place: usize) -> bool
     ensures { result ≡ is_turn (entry_of_ref entry.now) place (entry_of_ref other.now) other_place }
@@ -84,21 +86,27 @@ fn is_before(entry: &EntryRef<'_>, place: usize, other: &EntryRef<'_>, other_pla
 }
 
 impl<L: Lending + Drop, A: Allocator> LendingMerger<L, A> {
-    /// Merges sources that each lend their entries in order. Reserves a place for each source; no
-    /// step takes memory. Refused [`Error::OutOfMemory`] alone.
+    /// Creates a merger of sources that each yield their entries in order.
+    ///
+    /// The call reserves a slot for each source, so no later step allocates.
+    ///
+    /// # Errors
+    ///
+    /// [`Error::OutOfMemory`] only.
     pub fn new(alloc: A, sources: Vec<L, A>) -> Result<Self, Error>
-        // Nothing is lent yet.
+        // It has no current entry yet.
         ensures none { IfOk result (λ m. ⟦<LendingMerger<L, A> as Lending>⟧.lent m ≡ None) }
-        // What sorted sources have together is dealt in order.
+        // For sorted sources without errors, it yields their merged entries in order.
         ensures deals { IfOk result (λ m. DealsMerged L.advances nowhere sources.items
             ⟦<LendingMerger<L, A> as Lending>⟧.advances nowhere m) }
-        // With errors among it, up to the first, in its place.
+        // With errors, it yields the same up to the first one, which directly follows the entry
+        // before it in its source.
         ensures places { IfOk result (λ m. DealsInPlace L.advances nowhere sources.items
             ⟦<LendingMerger<L, A> as Lending>⟧.advances nowhere m) }
-        // Nothing follows an error, whatever the sources give.
+        // After an error it is exhausted, whatever the sources yield.
         ensures ends { IfOk result (λ m. EndsAtError
             ⟦<LendingMerger<L, A> as Lending>⟧.advances nowhere m) }
-        // Where the sources may be asked for as long as wanted, so may it.
+        // It can be advanced as often as its sources can.
         ensures can { All (CanDeal L.advances nowhere L.can_advance L.can_advance) sources.items →
             IfOk result (CanDeal ⟦<LendingMerger<L, A> as Lending>⟧.advances nowhere
             ⟦<LendingMerger<L, A> as Lending>⟧.can_advance
@@ -118,7 +126,7 @@ impl<L: Lending + Drop, A: Allocator> LendingMerger<L, A> {
 }
 
 impl<L: Lending, A: Allocator> LendingMerger<L, A> {
-    // What a source lends.
+    // The current entry of a source.
     #[inline(always)]
     fn lent_by(&self, source: usize) -> Option<EntryRef<'_>>
         ensures { option_map entry_of_ref result ≡
@@ -130,8 +138,8 @@ impl<L: Lending, A: Allocator> LendingMerger<L, A> {
         }
     }
 
-    // Whether an entry of one source comes before what another lends. Called only where the prefixes
-    // are equal, and kept out of the search that calls it, which is short without it.
+    // Whether an entry of one source comes before the current entry of another. Called only if the
+    // prefixes are equal. It is not inlined, so that the calling search stays short.
     #[inline(never)]
     fn comes_before(&self, entry: &EntryRef<'_>, source: usize, other: usize) -> bool
         ensures { result ≡ goes_before (Some (entry_of_ref entry.now)) source
@@ -156,7 +164,7 @@ impl<L: Lending, A: Allocator> LendingMerger<L, A> {
         head.prefix < other.prefix
     }
 
-    // The index at which a head belongs in a queue that does not have its source.
+    // The index at which to insert a head into a queue without its source.
     #[inline(always)]
     fn index_of(&self, entry: &EntryRef<'_>, head: Head) -> usize
         requires heads { All (IsHead (lent_at L.lent self.now.sources.items)) self.now.queue.items }
@@ -168,8 +176,8 @@ impl<L: Lending, A: Allocator> LendingMerger<L, A> {
             (queued self.now) result }
     {
         match self.queue.last() {
-            // One comparison where a source stays ahead for long. Where sources take turns, it
-            // would be in vain most times.
+            // One comparison while a source stays ahead for long. If sources take turns, it would
+            // mostly be wasted.
             Some(&next) if self.stayed_ahead && self.is_ahead(entry, head, next) => {
                 self.queue.len()
             }
@@ -179,8 +187,8 @@ impl<L: Lending, A: Allocator> LendingMerger<L, A> {
         }
     }
 
-    // The index at which a source with a current entry belongs in a queue that does not have it, and
-    // its head.
+    // The head of a source with a current entry, and the index at which to insert it into a queue
+    // without that source.
     fn head_of(&self, source: usize) -> (usize, Head)
         requires heads { All (IsHead (lent_at L.lent self.now.sources.items)) self.now.queue.items }
         ensures within { result.0 ≤ length self.now.queue.items }
@@ -197,8 +205,8 @@ impl<L: Lending, A: Allocator> LendingMerger<L, A> {
         (self.index_of(&entry, head), head)
     }
 
-    // Asks a source that is not in the queue for its next entry. Where it lends one, it goes to its
-    // place in the queue.
+    // Advances a source that is not in the queue. If it has an entry, its head is inserted into the
+    // queue.
     fn go_on(&mut self, source: usize) -> Result<(), Error>
         requires place { source < length self.old.sources.items }
         requires ready { IsReady L.advances L.can_advance L.lent self.old }
@@ -218,13 +226,13 @@ impl<L: Lending, A: Allocator> LendingMerger<L, A> {
         if self.sources[source].advance()? {
             let (index, head) = self.head_of(source);
             self.stayed_ahead = index == self.queue.len();
-            // There is room for each source.
+            // The queue has capacity for each source.
             let _ = self.queue.insert(index, head);
         }
         Ok(())
     }
 
-    // Asks each source for its first entry.
+    // Advances each source to its first entry.
     #[inline(never)]
     fn start(&mut self) -> Result<(), Error>
         requires ready { IsReady L.advances L.can_advance L.lent self.old }
@@ -242,7 +250,7 @@ impl<L: Lending, A: Allocator> LendingMerger<L, A> {
         Ok(())
     }
 
-    // Asks the source whose entry is lent for its next, and before the first entry all sources.
+    // Advances the source of the current entry, and in the first call all sources.
     #[inline(always)]
     fn step(&mut self) -> Result<(), Error>
         requires { MayLend L.advances L.can_advance L.lent self.old }

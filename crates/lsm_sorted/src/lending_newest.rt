@@ -1,4 +1,4 @@
-//! The newest version of each key of a source that lends.
+//! The newest version of each key of a lending source.
 ghost use Rattle.std.specs.Prelude.{◌≡◌, ◌<◌, true, false, IfOk, IfErr, Some};
 ghost use Rattle.std.specs.Prelude.{None, OnErr, is_some};
 ghost use Rattle.sst_entries.specs.Lending.{came};
@@ -15,41 +15,46 @@ ghost use Rattle.lsm_sorted.specs.lending.LentNewest.{lent_newest, newest_left, 
 use sst_entries::{EntryRef, Error, Lending};
 use std::alloc::{Allocator, Global};
 
-/// Lends the newest version of each key of a source that lends its entries in order: of each key
-/// the first entry. The others are skipped when it is asked to go on.
+/// A lending iterator over the newest version of each key of a sorted source.
 ///
-/// An error of the source is passed on in its place, and it goes on behind it. The key of the entry
-/// that is lent is kept in one buffer that stays; where memory for it is refused, the answer is
-/// [`Error::OutOfMemory`] in the place of the entry, and nothing comes after it.
+/// The newest version is the first entry of its key. [`Lending::advance`] skips the others. The key
+/// of the current entry is copied into one buffer, which is reused.
+///
+/// # Errors
+///
+/// An error of the source is passed on in order, and the iteration continues after it. If the
+/// buffer cannot grow, `advance` fails with [`Error::OutOfMemory`] in place of the entry. The
+/// iterator is then exhausted.
 #[derive(Drop)]
 pub struct LendingNewest<L, A: Allocator = Global> {
     source: L,
-    // The key that was lent last, once there was one.
+    // The key of the last entry, if `has_key`.
     key: Vec<u8, A>,
     has_key: bool,
     is_over: bool,
 }
 
 impl<L: Lending, A: Allocator> LendingNewest<L, A> {
-    /// The newest versions of what the source has still to lend. Nothing is asked of it yet, and no
-    /// memory is taken.
+    /// Creates an iterator over the newest versions of the source's remaining entries.
+    ///
+    /// The call does not advance the source and does not allocate.
     pub fn new(alloc: A, source: L) -> Self
-        // Nothing is lent yet.
+        // It has no current entry yet.
         ensures none { ⟦<LendingNewest<L, A> as Lending>⟧.lent result ≡ None }
-        // Of a sorted list, the newest version of each key.
+        // For a sorted list, it yields the newest version of each key.
         ensures newest { DealsNewestEntries L.advances source
             ⟦<LendingNewest<L, A> as Lending>⟧.advances result }
-        // With errors among it, the same, and each error in its place.
+        // With errors, it yields the same, and each error in order.
         ensures places { DealsNewestResults L.advances source
             ⟦<LendingNewest<L, A> as Lending>⟧.advances result }
-        // Over any source, each of its errors as it is, and no other but its own want of memory.
+        // For any source, it passes on each error. Its only error of its own is `OutOfMemory`.
         ensures faults { AlwaysTells PassesAll L.advances source newest_lender
             ⟦<LendingNewest<L, A> as Lending>⟧.advances result }
-        // Behind its own want of memory nothing comes. Where nothing came, it asks the source
-        // again, and nothing comes while that gives nothing.
+        // After its own `OutOfMemory` it is exhausted. After the end it advances the source again,
+        // and yields nothing while the source yields nothing.
         ensures over { AlwaysTells StaysOver L.advances source newest_lender
             ⟦<LendingNewest<L, A> as Lending>⟧.advances result }
-        // Where the source may be asked for as long as wanted, so may it.
+        // It can be advanced as often as the source can.
         ensures can { CanDeal L.advances nowhere L.can_advance L.can_advance source →
             CanDeal ⟦<LendingNewest<L, A> as Lending>⟧.advances nowhere
             ⟦<LendingNewest<L, A> as Lending>⟧.can_advance
@@ -65,7 +70,7 @@ impl<L: Lending, A: Allocator> LendingNewest<L, A> {
         }
     }
 
-    // Whether what the source lends is of another key than what was lent last.
+    // Whether the source's current entry has another key than the last one.
     #[inline(always)]
     fn is_other(&self) -> bool
         ensures { result ≡ is_other (given_key self.now) (L.lent self.now.source) }
@@ -76,7 +81,7 @@ impl<L: Lending, A: Allocator> LendingNewest<L, A> {
         }
     }
 
-    // Keeps the key of what the source lends.
+    // Copies the key of the source's current entry.
     #[inline(always)]
     fn remember(&mut self) -> Result<(), Error>
         ensures source { self.new.source ≡ self.old.source }
@@ -94,7 +99,7 @@ impl<L: Lending, A: Allocator> LendingNewest<L, A> {
         Ok(())
     }
 
-    // Goes on to the next entry of another key, and keeps that.
+    // Advances to the next entry of another key, and copies that key.
     fn go_on(&mut self) -> Result<bool, Error>
         requires may { MayNewest L.advances L.can_advance self.old }
         requires live { self.old.is_over ≡ false }

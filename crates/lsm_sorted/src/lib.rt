@@ -1,6 +1,5 @@
-//! What works on sorted entries, whatever table they come from: key ranges, runs of tables and
-//! packing; merging, newest versions and compaction, of sources that give entries and of sources
-//! that lend them.
+//! Operations on sorted entries from any table: key ranges, runs, packing, merging, newest versions
+//! and compaction.
 #![tactic(auto)]
 
 mod ahead;

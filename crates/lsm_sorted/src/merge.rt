@@ -1,4 +1,4 @@
-//! Several sorted sources as one.
+//! Merging several sorted sources.
 ghost use Rattle.std.specs.Prelude.{◌≡◌, ℕ, ◌+◌, ◌*◌, ◌<◌, ◌≤◌, true, false, List, [], length, map};
 ghost use Rattle.std.specs.Prelude.{All, IfOk, IfErr, IfSome, IfNone};
 ghost use Rattle.std.specs.Iterator.{at_most, MakesProgress};
@@ -28,11 +28,11 @@ use sst_entries::{Direction, Error, InternalKey, InternalValue, IterItem, UserVa
 use std::alloc::{Allocator, Global};
 use std::cmp::Ordering;
 
-// An entry on its way through the heap. Where keys tie, entries of earlier sources come first,
-// and those of one source in its order: the one from its front before the one from its back.
+// An entry in the heap. On equal keys, entries of earlier sources come first. Entries of one source
+// keep their order: the one from its front precedes the one from its back.
 #[derive(Drop)]
 struct HeapItem<A: Allocator> {
-    // The key and the value stand as in an `InternalValue`, so that an entry is moved in one piece.
+    // Key and value are laid out as in an `InternalValue`, so that an entry moves in one piece.
     key: InternalKey<A>,
     value: UserValue<A>,
     source: usize,
@@ -108,19 +108,23 @@ impl<A: Allocator> HeapItem<A> {
     }
 }
 
-// Lets go of an entry. It is a call of its own, since a place in which an entry may be let go is
-// moved in many small pieces.
+// Drops an entry. Not inlined: a variable in which an entry may be dropped is moved in many small
+// pieces.
 #[cold]
 #[inline(never)]
 fn give_up<A: Allocator>(item: HeapItem<A>) {
     let _ = item;
 }
 
-/// Gives the entries of several sorted sources in order, from the front, and from both ends where
-/// the sources have two. A call asks the sources at its own end alone. Entries with the same key,
-/// number and kind come source by source. An error of a source is the answer of the call that met
-/// it; the entry that was taken in that call is given up, and nothing comes after it from either
-/// end.
+/// An iterator that merges several sorted sources in order.
+///
+/// It is double-ended if the sources are. A call polls the sources at its own end only. Entries
+/// with equal key, seqno and kind come in source order.
+///
+/// # Errors
+///
+/// If a source returns an error, the call that polled it returns that error. The entry taken in
+/// that call is dropped. The merger is then exhausted at both ends.
 #[derive(Drop)]
 pub struct Merger<I, A: Allocator = Global> {
     sources: Vec<Ends<I>, A>,
@@ -130,7 +134,6 @@ pub struct Merger<I, A: Allocator = Global> {
     failed: bool,
 }
 
-// The sources before any call.
 fn fused<I: Iterator<Item = IterItem<A>>, A: Allocator>(
     alloc: A,
     iterators: Vec<I, A>,
@@ -146,29 +149,37 @@ fn fused<I: Iterator<Item = IterItem<A>>, A: Allocator>(
 }
 
 impl<I: Iterator<Item = IterItem<A>>, A: Allocator + Clone> Merger<I, A> {
-    /// Merges sources that each deal their entries in order. Reserves two places for each source;
-    /// no step takes memory. Refused [`Error::OutOfMemory`] alone.
+    /// Creates a merger of sources that each yield their entries in order.
     ///
-    /// What holds where the back is asked too is said by [`from_both_ends`].
+    /// The call reserves two slots for each source, so no later step allocates. For calls at both
+    /// ends, see [`from_both_ends`].
+    ///
+    /// # Errors
+    ///
+    /// [`Error::OutOfMemory`] only.
     pub fn new(alloc: A, iterators: Vec<I, A>) -> Result<Self, Error>
         ensures fresh { IfOk result (λ m. IsMergerOf iterators.items m) }
         ensures places { IfOk result (λ m. m.heap.room ≡ 2 * length iterators.items) }
-        // What sorted sources have together is dealt in order from the front.
+        // For sorted sources without errors, it yields their merged entries in order from the
+        // front.
         ensures deals { IfOk result (λ m. DealsMerged I.next_gives nowhere iterators.items
             ⟦<Merger<I, A> as Iterator>⟧.next_gives nowhere m) }
-        // Whatever errors are among it, the same as long as none of them is the answer.
+        // With any errors, it yields the same until a call returns one.
         ensures before { IfOk result (λ m. DealsBeforeErrors I.next_gives nowhere iterators.items
             ⟦<Merger<I, A> as Iterator>⟧.next_gives nowhere m) }
-        // With errors among it, up to the call in which a source answers one: that is its answer.
+        // With errors, it yields the same until a source returns one, and that call returns the
+        // error.
         ensures until { IfOk result (λ m. DealsUntilError I.next_gives nowhere iterators.items
             ⟦<Merger<I, A> as Iterator>⟧.next_gives nowhere m) }
-        // No error is met before the entries that stand before it, but for the last of them.
+        // An error comes only after the entries before it in its source, except perhaps the last of
+        // them.
         ensures late { IfOk result (λ m. MeetsErrorsLate I.next_gives nowhere iterators.items Front
             ⟦<Merger<I, A> as Iterator>⟧.next_gives m) }
-        // Nothing follows an error, whatever the sources give.
+        // After an error it is exhausted, whatever the sources yield.
         ensures ends { IfOk result (λ m. EndsAtError ⟦<Merger<I, A> as Iterator>⟧.next_gives nowhere
             m) }
-        // What is dealt is a union, and where no two entries share a key and number the only one.
+        // The merged list is a union of the lists. It is the only one if no two entries share key
+        // and seqno.
         ensures union { IfOk result (λ _. (lists : List (List R)) →
             IsUnion lists (union_of lists)) }
         ensures only { IfOk result (λ _. (lists : List (List R)) (xs : List Entry) →
@@ -196,36 +207,38 @@ impl<I: Iterator<Item = IterItem<A>>, A: Allocator + Clone> Merger<I, A> {
     }
 }
 
-/// A law of mergers of sources with two ends, for every list of ends. The call does nothing.
+/// States what a merger of double-ended sources yields, for calls at both ends in any order.
+///
+/// The call does nothing: its contract states the law.
 pub fn from_both_ends<I: DoubleEndedIterator<Item = IterItem<A>>, A: Allocator>(
     merger: &Merger<I, A>,
 )
-    // What sorted sources have together is dealt in order, whatever the ends.
+    // For sorted sources without errors, it yields their merged entries in order.
     ensures deals { (its : List I) → IsMergerOf its merger.now →
         DealsMerged I.next_gives I.next_back_gives its
         ⟦<Merger<I, A> as Iterator>⟧.next_gives
         ⟦<Merger<I, A> as DoubleEndedIterator>⟧.next_back_gives merger.now }
-    // Whatever errors are among it, the same as long as none of them is the answer.
+    // With any errors, it yields the same until a call returns one.
     ensures before { (its : List I) → IsMergerOf its merger.now →
         DealsBeforeErrors I.next_gives I.next_back_gives its
         ⟦<Merger<I, A> as Iterator>⟧.next_gives
         ⟦<Merger<I, A> as DoubleEndedIterator>⟧.next_back_gives merger.now }
-    // With errors among it, up to the call in which a source answers one: that is its answer.
+    // With errors, it yields the same until a source returns one, and that call returns the error.
     ensures until { (its : List I) → IsMergerOf its merger.now →
         DealsUntilError I.next_gives I.next_back_gives its
         ⟦<Merger<I, A> as Iterator>⟧.next_gives
         ⟦<Merger<I, A> as DoubleEndedIterator>⟧.next_back_gives merger.now }
-    // Calls at the front alone meet no error before the entries that stand before it, but for the
-    // last of them.
+    // With calls at the front only, an error comes after the entries before it in its source. The
+    // last of them may be missing.
     ensures late { (its : List I) → IsMergerOf its merger.now →
         MeetsErrorsLate I.next_gives I.next_back_gives its Front
         ⟦<Merger<I, A> as Iterator>⟧.next_gives merger.now }
-    // Calls at the back alone meet no error before the entries that stand behind it, but for the
-    // first of them.
+    // With calls at the back only, an error comes after the entries that follow it in its source.
+    // The first of them may be missing.
     ensures late_back { (its : List I) → IsMergerOf its merger.now →
         MeetsErrorsLate I.next_gives I.next_back_gives its Back
         ⟦<Merger<I, A> as DoubleEndedIterator>⟧.next_back_gives merger.now }
-    // Nothing follows an error, whatever the sources give.
+    // After an error it is exhausted, whatever the sources yield.
     ensures ends { EndsAtError ⟦<Merger<I, A> as Iterator>⟧.next_gives
         ⟦<Merger<I, A> as DoubleEndedIterator>⟧.next_back_gives merger.now }
     ensures can { (its : List I) → IsMergerOf its merger.now →
@@ -242,7 +255,7 @@ pub fn from_both_ends<I: DoubleEndedIterator<Item = IterItem<A>>, A: Allocator>(
 }
 
 impl<I, A: Allocator> Merger<I, A> {
-    // Whether the sources were asked at this end.
+    // Whether the sources were polled at this end.
     fn is_ready(&self, end: Direction) -> bool
         ensures { result ≡ is_ready end self.now }
     {
@@ -261,7 +274,7 @@ impl<I, A: Allocator> Merger<I, A> {
         }
     }
 
-    // Takes out the first of what is held, seen from an end.
+    // Removes the first entry of the heap, seen from an end.
     #[inline(always)]
     fn pop(&mut self, end: Direction) -> Option<HeapItem<A>>
         ensures none { IfNone result (HoldsNone self.old self.new) }
@@ -286,7 +299,7 @@ impl<I, A: Allocator> Merger<I, A> {
 }
 
 impl<I: Iterator<Item = IterItem<A>>, A: Allocator> Merger<I, A> {
-    // Moves what stands at an end of source `i` into the heap.
+    // Moves the entry at an end of source `i` into the heap.
     #[inline(always)]
     fn take<E: End<I>>(&mut self, i: usize) -> Result<(), Error>
         requires place { i < length self.old.sources.items }
@@ -312,7 +325,7 @@ impl<I: Iterator<Item = IterItem<A>>, A: Allocator> Merger<I, A> {
         }
     }
 
-    // Moves what stands at an end of each source into the heap.
+    // Moves the entry at an end of each source into the heap.
     #[inline(never)]
     fn fill<E: End<I>>(&mut self) -> Result<(), Error>
         requires places { HasPlaces I.next_gives E.back_gives I.can_next E.can_back I.remaining
@@ -349,8 +362,8 @@ impl<I: Iterator<Item = IterItem<A>>, A: Allocator> Merger<I, A> {
         self.fill::<E>()
     }
 
-    // The answer at an end: the entry of this end of all sources, while the next of its source goes
-    // into the heap.
+    // The result of a call at an end: the first entry of all sources, seen from there. The next
+    // entry of its source goes into the heap.
     #[inline(always)]
     fn call<E: End<I>>(&mut self) -> Option<IterItem<A>>
         requires { MayMerge I.next_gives E.back_gives I.can_next E.can_back I.remaining self.old }

@@ -14,7 +14,7 @@ use crate::peeked::Peeked;
 use sst_entries::{InternalValue, IterItem};
 use std::alloc::Allocator;
 
-// By equality alone, which asks less of the order than the back does.
+// Tests equality only, which requires less of the order than the test at the back.
 fn has_other_key<A: Allocator>(x: &InternalValue<A>, y: &InternalValue<A>) -> bool
     ensures { result ≡ not (same_key x.now.user_key y.now.user_key) }
 {
@@ -27,35 +27,38 @@ fn has_lower_key<A: Allocator>(x: &InternalValue<A>, y: &InternalValue<A>) -> bo
     x.key.user_key < y.key.user_key
 }
 
-/// Gives the newest version of each key, from the front, and from both ends where what it reads
-/// from has two.
+/// An iterator over the newest version of each key of sorted entries.
 ///
-/// The entries come by key upward, and the versions of a key from the newest down. Tombstones are
-/// given like values. An error is passed on in the place where it stands, and the version that it
-/// interrupts is given up: at the front the one before it, at the back the stretch of its key after
-/// it. A step looks at each version of its key once. Between steps at most one entry is held at
-/// each end, and in a step one more.
+/// It is double-ended if its source is. The source must yield its keys in ascending order, and the
+/// versions of a key from the newest down. Tombstones are yielded like values.
+///
+/// An error of the source is passed on and replaces the version that it interrupts. At the front,
+/// this is the version before the error. At the back, these are the versions of one key after it.
+///
+/// Each step reads each version of its key once. Between steps the stream holds at most one entry
+/// at each end, and one more during a step.
 #[derive(Drop)]
 pub struct MvccStream<I: Iterator> {
     inner: Peeked<I>,
 }
 
 impl<I: Iterator<Item = IterItem<A>>, A: Allocator> MvccStream<I> {
-    /// A stream over sorted entries. Nothing is taken from them yet.
+    /// Creates a stream over sorted entries.
     ///
-    /// What holds where the back is asked too is said by [`MvccStream::from_both_ends`].
+    /// The call does not poll the source. For calls at both ends, see
+    /// [`MvccStream::from_both_ends`].
     pub fn new(iter: I) -> Self
         ensures starts { mvcc_outlook result ≡ before_any iter }
         ensures may { CanDeal I.next_gives nowhere I.can_next I.can_next iter →
             IsFinite (I.remaining iter) →
             MayStep I.next_gives nowhere I.can_next I.can_next I.remaining result }
-        // Whatever is read, refusals too: the answers are those of the steps on it.
+        // For any source, errors included, the results are those of the steps on it.
         ensures heard { AnswersSteps I.next_gives nowhere iter
             ⟦<MvccStream<I> as Iterator>⟧.next_gives nowhere result }
-        // Of any list, the same up to an error that stops what is read.
+        // For any list, the same up to an error that stops the source.
         ensures steps { DealsSteps I.next_gives nowhere iter
             ⟦<MvccStream<I> as Iterator>⟧.next_gives nowhere result }
-        // Of sorted entries, the newest version of each key.
+        // For sorted entries, it yields the newest version of each key.
         ensures newest { DealsNewestOf I.next_gives nowhere iter
             ⟦<MvccStream<I> as Iterator>⟧.next_gives nowhere result }
         ensures can { CanStep I.next_gives nowhere iter
@@ -70,7 +73,7 @@ impl<I: Iterator<Item = IterItem<A>>, A: Allocator> MvccStream<I> {
 }
 
 impl<I: Iterator<Item = IterItem<A>>, A: Allocator> MvccStream<I> {
-    // What the stream reads from, whatever it took and has still to give.
+    // The source of the stream, in any state of the stream.
     pub(crate) fn source(&self) -> &I
         ensures { result.now ≡ read_from self.now }
     {
@@ -79,7 +82,9 @@ impl<I: Iterator<Item = IterItem<A>>, A: Allocator> MvccStream<I> {
 }
 
 impl<I: DoubleEndedIterator<Item = IterItem<A>>, A: Allocator> MvccStream<I> {
-    /// A law of streams over what has two ends, for every list of ends. The call does nothing.
+    /// States what a stream over a double-ended source yields, for calls at both ends in any order.
+    ///
+    /// The call does nothing: its contract states the law.
     pub fn from_both_ends(&self)
         ensures heard { (iter : I) → mvcc_outlook self.now ≡ before_any iter →
             AnswersSteps I.next_gives I.next_back_gives iter

@@ -11,25 +11,31 @@ use crate::{Merger, from_both_ends};
 use sst_entries::{Error, IterItem};
 use std::alloc::Allocator;
 
-/// A stream of the newest version of each key of several sources: what [`newest_of`] makes.
+/// The stream of newest versions that [`newest_of`] returns.
 pub type NewestOf<I, A> = MvccStream<Merger<I, A>>;
 
-/// The newest version of each key of several sources that each deal their entries in order.
-/// Reserves two places for each source; no step takes memory. Refused [`Error::OutOfMemory`] alone.
+/// Returns a stream of the newest version of each key of several sorted sources.
 ///
-/// What holds where the back is asked too is said by [`newest_from_both_ends`].
+/// Each source must yield its entries in order. The call reserves two slots for each source, so no
+/// later step allocates. For calls at both ends, see [`newest_from_both_ends`].
+///
+/// # Errors
+///
+/// [`Error::OutOfMemory`] only.
 pub fn newest_of<I: Iterator<Item = IterItem<A>>, A: Allocator + Clone>(
     alloc: A,
     iterators: Vec<I, A>,
 ) -> Result<MvccStream<Merger<I, A>>, Error>
     ensures starts { IfOk result (IsNewestOf iterators.items) }
-    // Sorted sources without errors: of what they have together, the newest version of each key.
+    // For sorted sources without errors, it yields the newest version of each key of their merged
+    // entries.
     ensures deals { IfOk result (DealsNewest I.next_gives nowhere iterators.items
         ⟦<NewestOf<I, A> as Iterator>⟧.next_gives nowhere) }
-    // With errors among it, the same up to the call whose answer is an error.
+    // With errors, it yields the same until a call returns an error.
     ensures until { IfOk result (DealsNewestUntilError I.next_gives nowhere iterators.items
         ⟦<NewestOf<I, A> as Iterator>⟧.next_gives nowhere) }
-    // An error that is met stands in its place, and what is dealt goes on by the stream's steps.
+    // After an error too, the results are those of the stream's steps on the merged entries. There,
+    // the first error met replaces a stretch of entries.
     ensures past { IfOk result (AnswersNewest I.next_gives nowhere iterators.items
         ⟦<NewestOf<I, A> as Iterator>⟧.next_gives nowhere) }
     ensures over { IfOk result (IsOverMerged I.next_gives nowhere iterators.items
@@ -38,7 +44,7 @@ pub fn newest_of<I: Iterator<Item = IterItem<A>>, A: Allocator + Clone>(
         iterators.items ⟦<NewestOf<I, A> as Iterator>⟧.next_gives nowhere
         ⟦<NewestOf<I, A> as Iterator>⟧.can_next
         ⟦<NewestOf<I, A> as Iterator>⟧.can_next) }
-    // So a `for` may go over it.
+    // A `for` loop may iterate over it.
     ensures next { All (CanDeal I.next_gives nowhere I.can_next I.can_next) iterators.items →
         All (λ i. IsFinite (I.remaining i)) iterators.items →
         IfOk result (λ s. ⟦<NewestOf<I, A> as Iterator>⟧.can_next s) }
@@ -48,8 +54,9 @@ pub fn newest_of<I: Iterator<Item = IterItem<A>>, A: Allocator + Clone>(
     Ok(MvccStream::new(merger))
 }
 
-/// A law of the newest versions of sources with two ends, for every list of ends. The call does
-/// nothing.
+/// States what the stream of double-ended sources yields, for calls at both ends in any order.
+///
+/// The call does nothing: its contract states the law.
 pub fn newest_from_both_ends<I: DoubleEndedIterator<Item = IterItem<A>>, A: Allocator>(
     stream: &MvccStream<Merger<I, A>>,
 )
@@ -61,7 +68,8 @@ pub fn newest_from_both_ends<I: DoubleEndedIterator<Item = IterItem<A>>, A: Allo
         DealsNewestUntilError I.next_gives I.next_back_gives its
         ⟦<NewestOf<I, A> as Iterator>⟧.next_gives
         ⟦<NewestOf<I, A> as DoubleEndedIterator>⟧.next_back_gives stream.now }
-    // An error that is met stands in its place, and what is dealt goes on by the stream's steps.
+    // After an error too, the results are those of the stream's steps on the merged entries. There,
+    // the first error met replaces a stretch of entries.
     ensures past { (its : List I) → IsNewestOf its stream.now →
         AnswersNewest I.next_gives I.next_back_gives its
         ⟦<NewestOf<I, A> as Iterator>⟧.next_gives
@@ -75,7 +83,7 @@ pub fn newest_from_both_ends<I: DoubleEndedIterator<Item = IterItem<A>>, A: Allo
         ⟦<NewestOf<I, A> as DoubleEndedIterator>⟧.next_back_gives
         ⟦<NewestOf<I, A> as Iterator>⟧.can_next
         ⟦<NewestOf<I, A> as DoubleEndedIterator>⟧.can_next_back stream.now }
-    // So a `for` may go over it, from the front or from the back.
+    // A `for` loop may iterate over it, from the front or from the back.
     ensures next { (its : List I) → IsNewestOf its stream.now →
         All (CanDeal I.next_gives I.next_back_gives I.can_next I.can_next_back) its →
         All (λ i. IsFinite (I.remaining i)) its →

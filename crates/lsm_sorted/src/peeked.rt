@@ -1,4 +1,4 @@
-//! An iterator with a place for one entry before it and one behind it.
+//! An iterator with one slot for an entry at each end.
 ghost use Rattle.std.specs.Prelude.{◌≡◌, ℕ, ◌+◌, ◌<◌, ◌∷◌, ◌++◌, [], false};
 ghost use Rattle.std.specs.Iterator.{IsFinite};
 ghost use Rattle.lsm_sorted.specs.merge.Ends.{R, Goes, ends_size};
@@ -12,8 +12,9 @@ use crate::Ends;
 use sst_entries::{InternalValue, IterItem};
 use std::alloc::Allocator;
 
-/// An iterator to which an entry may be given back at either end. What is given back at one end is
-/// still found from the other, once nothing is left between.
+/// An iterator that takes an entry back at either end.
+///
+/// An entry put back at one end is also yielded at the other, once nothing is left between.
 #[derive(Drop)]
 pub struct Peeked<I: Iterator> {
     pub(crate) source: Ends<I>,
@@ -56,7 +57,7 @@ impl<I: Iterator<Item = IterItem<A>>, A: Allocator> Peeked<I> {
         }
     }
 
-    // Puts an entry before what is left.
+    // Puts an entry before the remaining ones.
     pub(crate) fn put_front(&mut self, x: InternalValue<A>)
         requires { self.old.front ≡ None }
         ensures source { self.new.source ≡ self.old.source }
@@ -92,7 +93,7 @@ impl<I: DoubleEndedIterator<Item = IterItem<A>>, A: Allocator> Peeked<I> {
         }
     }
 
-    // Puts an entry behind what is left.
+    // Puts an entry after the remaining ones.
     pub(crate) fn put_back(&mut self, x: InternalValue<A>)
         requires { self.old.back ≡ None }
         ensures source { self.new.source ≡ self.old.source }

@@ -1,5 +1,4 @@
-//! Runs of tables whose ranges lie one behind another, and packing tables into as few runs as can
-//! be.
+//! Runs of tables with ascending ranges, and packing tables into as few runs as possible.
 mod optimize;
 mod packed;
 mod run;

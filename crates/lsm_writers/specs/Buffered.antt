@@ -12,37 +12,39 @@ use Rattle.sst_blocks.specs.Reading.{entry_at}
 use Rattle.lsm_writers.specs.declared.writer.block_buffer.Place.{Place}
 use Rattle.lsm_writers.specs.declared.writer.block_buffer.Mark.{Mark}
 
--- the n entries encoded in a payload, after its count
+-- the n entries decoded from a payload, after its count
 unfoldable pub entries_behind : ℕ → List ℕ → List Entry
 entries_behind n bytes = unwrap_or (items_at (entry_at V4) n (drop 4 bytes)) []
 
--- the encoded entries, one after another
+-- the encodings of the entries, one after another
 abbrev pub body : List Entry → List ℕ
 body es = flat_map (spelled V4) es
 
--- the entry with its key and value at these offsets; its value runs to the end of the bytes
+-- the entry whose key and value are at these offsets; the value runs to the end of the bytes
 abbrev pub placed : List ℕ → Place → Entry
 placed bytes p = entry (slice_range bytes p.key p.value) (drop p.value bytes) p.seqno p.value_type
 
+-- the offsets of an optional entry are within the bytes
 abbrev pub IsWithin : List ℕ → Option Place → Type 0
 IsWithin bytes None = Unit {0}
 IsWithin bytes (Some p) = (p.key ≤ p.value) × (p.value ≤ length bytes)
 
--- a checkpoint: the number of entries, the length of their bytes with the count, the last entry
+-- a checkpoint of these entries: their number, their length in bytes with the count, and the last
+-- one
 pub record IsMark (m : Mark) (es : List Entry) : Type 0 where
   pub count : m.len ≡ length es
   pub ends : m.end ≡ 4 + length (body es)
   pub within : IsWithin (body es) m.last
   pub last_is : last_of None es ≡ option_map (placed (body es)) m.last
 
--- the bytes are four bytes for a count, then these entries
+-- the bytes are four bytes for a count, then the encodings of these entries
 pub record AreBuffered (bytes : List ℕ) (m : Mark) (es : List Entry) : Type 0 where
   pub room : 4 ≤ length bytes
   pub bytes_are : drop 4 bytes ≡ body es
   pub fit : AllByRecursion (IsSpellable V4) es
   pub mark : IsMark m es
 
--- a checkpoint after the first entries of a list
+-- a checkpoint after some first entries of a list
 pub record MarksFront (m : Mark) (es : List Entry) : Type 0 where
   pub front : List Entry
   pub rest : List Entry

@@ -37,7 +37,7 @@ no_counts = record {
   highest_seqno = 0;
 }
 
--- the counts of a list: blocks, items, bytes and the last key count what was cut, the rest all
+-- the counts of a list: blocks, items, bytes and last key count the cut blocks, the rest all
 -- entries
 abbrev pub metadata_of : {A : Type 0} → TableVersion → List (List Entry) → List Entry → Metadata A
 metadata_of v cut pending =
@@ -57,12 +57,12 @@ metadata_of v cut pending =
       highest_seqno = highest_seqno es;
     }
 
--- the first key that an entry adds: its own if there was none
+-- the first key that an entry sets: its own if none was set before
 abbrev pub brought : Option (List ℕ) → List ℕ → Option (List ℕ)
 brought None key = Some key
 brought (Some first) key = None
 
--- what an entry adds to the counts, given the entry before it
+-- the changes that an entry makes to the counts, after the entry before it
 abbrev pub tally_of : {A : Type 0} → Option Entry → Entry → Option (List ℕ) → Tally A
 tally_of before e first = record {
   starts_key = starts_key before e;
@@ -85,18 +85,18 @@ added t m = record m {
   highest_seqno = max m.highest_seqno t.seqno;
 }
 
--- the counts with one more entry, given the entry before it
+-- the counts with one more entry, after the entry before it
 abbrev pub with_entry : {A : Type 0} → Option Entry → Entry → Metadata A → Metadata A
 with_entry before e m = added (tally_of before e m.first_key) m
 
--- each count can grow by one
+-- no count overflows a `u64` when it grows by one
 pub record HasRoom {A : Type 0} (m : Metadata A) : Type 0 where
   pub tombstones : m.tombstone_count + 1 < 2 ^ 64
   pub weak : m.weak_tombstone_count + 1 < 2 ^ 64
   pub reclaimable : m.weak_tombstone_reclaimable_count + 1 < 2 ^ 64
   pub keys : m.key_count + 1 < 2 ^ 64
 
--- the facts of a list in its meta block, by these counts
+-- the facts about a list that its meta block stores, from these counts
 abbrev pub counted_facts : {A : Type 0} → Metadata A → ListFacts
 counted_facts m = record {
   item_count = m.item_count;
@@ -110,14 +110,14 @@ counted_facts m = record {
   highest = m.highest_seqno;
 }
 
--- the items of the meta block, by these counts
+-- the items of the meta block, from these counts
 unfoldable pub counted_items : {A : Type 0} → Label → Options → BlockCounts → Metadata A → List
     Entry
 counted_items label options counts m =
     meta_items V4 label options counts (counted_facts m)
     m.data_block_count m.file_pos.0 m.uncompressed_size
 
--- the first and the last key are at most as long as a key of a table may be
+-- neither the first nor the last key is longer than a table allows
 pub record HasShortKeys {A : Type 0} (m : Metadata A) : Type 0 where
   pub first : length (unwrap_or m.first_key []) ≤ longest_key V4
   pub last : length (unwrap_or m.last_key []) ≤ longest_key V4

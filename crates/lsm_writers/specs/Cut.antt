@@ -24,22 +24,22 @@ pub record Cut : Type 0 where
   pub chunks : List (List Entry)
   pub failed : Bool
 
--- the chunks of the first n blocks in some bytes
+-- the chunks decoded from the first n blocks of some bytes
 unfoldable pub chunks_in : TableVersion → ℕ → List ℕ → List (List Entry)
 chunks_in v zero bytes = []
 chunks_in v (suc n) bytes =
     unwrap_or (entries_in v (take (data_len bytes) (drop header_len bytes))) []
     ∷ chunks_in v n (drop (header_len + data_len bytes) bytes)
 
--- a chunk that its block decodes to
+-- a nonempty chunk that its block decodes to
 pub record IsReadable (v : TableVersion) (c : List Entry) : Type 0 where
   pub some : 0 < length c
   pub reads : entries_in v (payload v c) ≡ Some c
   pub short : header_len + length (payload v c) < 2 ^ 32
   pub wide : entry_head_len * length c ≤ length (payload v c)
 
--- the bytes are the blocks of these chunks, with a rest only after a failed registration; the index
--- has the handles of these blocks
+-- the bytes are the blocks of these chunks, and the index has their handles; further bytes follow
+-- only after a failed registration
 pub record AreCut (chunks : List (List Entry)) (w : Written) (hs : List Handle)
     (last : Option Entry) (failed : Bool) : Type 0 where
   pub rest : List ℕ
@@ -51,7 +51,7 @@ pub record AreCut (chunks : List (List Entry)) (w : Written) (hs : List Handle)
   pub strict : IsStrict (joined chunks)
   pub last_is : last ≡ last_of None (joined chunks)
 
--- the same for an index writer that has the handles and the failure flag
+-- the same for the handles and the failure flag of an index writer
 abbrev pub AreCutBy : List (List Entry) → Written → Registered → Option Entry → Type 0
 AreCutBy chunks w index last = AreCut chunks w index.handles last index.failed
 
@@ -63,12 +63,12 @@ pub record CanCut (w : Written) (hs : List Handle) (failed : Bool) (es : List En
   pub works : failed ≡ false
   pub strict : IsStrict (joined chunks ++ es)
 
--- the rest as a chunk, if it has entries
+-- the rest as one chunk, or no chunk if it is empty
 abbrev pub rest_chunk : List Entry → List (List Entry)
 rest_chunk [] = []
 rest_chunk (e ∷ es) = (e ∷ es) ∷ []
 
--- the counts, with those of blocks set for these chunks
+-- the counts, with the counts of blocks set to those of these chunks
 abbrev pub with_cut : {A : Type 0} → List (List Entry) → Metadata A → Metadata A
 with_cut cs m = record m {
   data_block_count = length cs;

@@ -1,4 +1,4 @@
--- The keys of a table's filter, and the filter writer that holds them.
+-- The keys of a table filter, and the filter writer that has them.
 use Rattle.std.specs.Prelude.{◌≡◌, ℕ, ◌≤◌, Bool, false, ◌&&◌, nat_lt, List, [], ◌∷◌, ◌++◌, Option}
 use Rattle.std.specs.Prelude.{Some, None, if◌then◌else◌}
 use Rattle.sst_entries.specs.Entry.{Entry}
@@ -17,8 +17,7 @@ use Rattle.lsm_writers.specs.section.Rising.{AreRising}
 abbrev pub registered_key : BloomConstructionPolicy → Bool → List ℕ → List (List ℕ)
 registered_key policy starts key = if nat_lt 0 (tenths_of policy) && starts then key ∷ [] else []
 
--- an unfailed filter writer of this kind and policy that holds these keys, all registered under
--- both
+-- an unfailed filter writer of this kind and policy has these keys, all registered under both
 pub record HasKeys {A : Type 0} (kind : FilterKind) (policy : BloomConstructionPolicy)
     (w : FilterWriterImpl A) (keys : List (List ℕ)) : Type 0 where
   pub kind_is : kind_by w ≡ kind
@@ -26,13 +25,13 @@ pub record HasKeys {A : Type 0} (kind : FilterKind) (policy : BloomConstructionP
   pub works : failed_by w ≡ false
   pub holds : HoldsBy w (given_by kind policy keys)
 
--- an optional filter writer holds these keys; it is `None` exactly without keys
+-- an optional filter writer has these keys; it is `None` exactly without keys
 abbrev pub MayHaveKeys : {A : Type 0} → FilterKind → BloomConstructionPolicy
     → Option (FilterWriterImpl A) → List (List ℕ) → Type 0
 MayHaveKeys kind policy None keys = keys ≡ []
 MayHaveKeys kind policy (Some w) keys = (keys ≡ [] → ⊥) × HasKeys kind policy w keys
 
--- the filter writer holds these keys after those that it held before
+-- the filter writer has the keys that it had before, then these
 abbrev pub Registers : {A : Type 0} → Options → Option (FilterWriterImpl A)
     → Option (FilterWriterImpl A) → List (List ℕ) → Type 0
 Registers options before after more =
@@ -43,7 +42,7 @@ Registers options before after more =
 abbrev pub IsSmallFilter : FilterKind → Type 0
 IsSmallFilter kind = partition_size kind ≤ 4194304
 
--- these keys can be registered after those that are held
+-- these keys can be registered after those that the filter writer has
 pub record CanRegister {A : Type 0} (kind : FilterKind) (policy : BloomConstructionPolicy)
     (w : Option (FilterWriterImpl A)) (more : List (List ℕ)) : Type 0 where
   pub keys : List (List ℕ)
@@ -51,7 +50,7 @@ pub record CanRegister {A : Type 0} (kind : FilterKind) (policy : BloomConstruct
   pub rising : AreRising (keys ++ more)
   pub small : IsSmallFilter kind
 
--- unless a call failed, the filter writer holds the keys of the list
+-- unless a call failed, the filter writer has the filter keys of the list
 pub record IsFiltered {A : Type 0} (failed : Bool) (kind : FilterKind)
     (policy : BloomConstructionPolicy) (w : Option (FilterWriterImpl A)) (es : List Entry)
     : Type 0 where

@@ -22,12 +22,12 @@ use Rattle.lsm_writers.specs.Counts.{HasShortKeys, metadata_of}
 use Rattle.lsm_writers.specs.Cut.{Cut, with_cut}
 use Rattle.lsm_writers.specs.Filtering.{MayHaveKeys}
 
--- a chunk with entries of which no proper nonempty prefix is full
+-- a nonempty chunk of which no proper nonempty prefix is full
 pub record IsShortest (size : ℕ) (c : List Entry) : Type 0 where
   pub some : 0 < length c
   pub shortest : (n : ℕ) → 0 < n → n < length c → is_full size (take n c) ≡ false
 
--- the pending entries are none, or not full
+-- there are no pending entries, or they are not full
 abbrev pub IsUnfilled : ℕ → List Entry → Type 0
 IsUnfilled size [] = Unit {0}
 IsUnfilled size (e ∷ es) = is_full size (e ∷ es) ≡ false
@@ -37,7 +37,8 @@ pub record CanGoOn (failed : Bool) (size : ℕ) (cut : Cut) (pending : List Entr
   pub works : failed ≡ false → cut.failed ≡ false
   pub room : failed ≡ false → IsUnfilled size pending
 
--- the list is strict, its entries fit, no proper prefix of a chunk is full, and all is counted
+-- the list is strict, its entries fit, no proper prefix of a chunk is full, and the counts are
+-- right
 pub record IsHeld {A : Type 0} (size : ℕ) (cut : List (List Entry)) (pending : List Entry)
     (chunk_size : ℕ) (meta : Metadata A) : Type 0 where
   pub strict : IsStrict (joined cut ++ pending)
@@ -48,8 +49,8 @@ pub record IsHeld {A : Type 0} (size : ℕ) (cut : List (List Entry)) (pending :
   pub sized : chunk_size ≡ entries_size pending
   pub small : empty_len + entry_head_len * length pending + chunk_size < 2 ^ 32
 
--- the pending entries, their size, the blocks and the counts after one more entry; a full chunk is
--- cut
+-- the pending entries, their size, the blocks and the counts after one more entry; the entries are
+-- cut if the flag is set
 abbrev pub IsTaken : {A : Type 0} → Bool → List Entry → Cut → Metadata A → List Entry → ℕ → Cut
     → Metadata A → Type 0
 IsTaken false chunk cut meta pending size cut' meta' =
@@ -58,7 +59,7 @@ IsTaken true chunk cut meta pending size cut' meta' =
     (pending ≡ []) × (size ≡ 0) × (cut'.chunks ≡ cut.chunks ++ chunk ∷ [])
     × (cut'.failed ≡ false) × (meta' ≡ with_cut cut'.chunks meta)
 
--- the parts that a table is finished from: data section, index, filter and counts of these chunks
+-- the parts from which a table is finished: data section, index, filter and counts of these chunks
 pub record AreTableParts {A : Type 0} (options : Options) (cut : List (List Entry))
     (front : Written) (index : IndexWriterImpl A) (filter : Option (FilterWriterImpl A))
     (meta : Metadata A) : Type 0 where
@@ -72,7 +73,7 @@ pub record AreTableParts {A : Type 0} (options : Options) (cut : List (List Entr
   pub short : HasShortKeys meta
   pub blocks : AllByRecursion (BlockFits V4) cut
 
--- these are such parts for some chunks
+-- these are the parts of a table for some chunks
 pub record HaveParts {A : Type 0} (options : Options) (front : Written) (index : IndexWriterImpl A)
     (filter : Option (FilterWriterImpl A)) (meta : Metadata A) : Type 0 where
   pub cut : List (List Entry)

@@ -1,4 +1,4 @@
--- A list cut into tables, and the state of a writer of many tables.
+-- The tables that a list is cut into, and the state of a writer of several tables.
 use Rattle.std.specs.Prelude.{◌≡◌, ℕ, zero, suc, ◌+◌, ◌-◌, ◌^◌, ◌<◌, ◌≤◌, ◌==◌, ◌&&◌, Bool, true}
 use Rattle.std.specs.Prelude.{false, nat_lt, nat_le, IsTrue, List, [], ◌∷◌, ◌++◌, length, take}
 use Rattle.std.specs.Prelude.{drop, map, slice_index, Option, Some, None, unwrap_or, MatchOption}
@@ -33,48 +33,49 @@ use Rattle.lsm_writers.specs.Writing.{IsFinished, IsFresh, IsTableWith, IsWritab
 use Rattle.lsm_writers.specs.Writing.{finish_fault, fresh_writing, gained, may_be_written}
 use Rattle.lsm_writers.specs.Writing.{write_fault, written}
 
--- the full chunks of a list: those that are cut while it is written
+-- the full chunks of a list, which are cut while it is written
 abbrev pub full_chunks : ℕ → List Entry → List (List Entry)
 full_chunks size es = filter (is_full size) (parts_by (is_full size) es)
 
--- the length of the blocks of these chunks
+-- the total length of the blocks of the full chunks
 abbrev pub cut_len : ℕ → List Entry → ℕ
 cut_len size es = length (data_section V4 (full_chunks size es))
 
--- both lists have entries, and the second begins with another key than the first ends with
+-- both lists are nonempty, and the last key of the first differs from the first key of the second
 abbrev pub apart : List Entry → List Entry → Bool
 apart [] b = false
 apart (x ∷ a) [] = false
 apart (x ∷ a) (y ∷ b) = starts_key (last_of None (x ∷ a)) y
 
--- a nonempty list; no proper prefix that ends a key has full blocks of the target's length
+-- a nonempty list; no proper prefix that ends a key has full blocks that reach the target
 pub record IsCut (size : ℕ) (target : ℕ) (t : List Entry) : Type 0 where
   pub some : 0 < length t
   pub shortest : (a b : List Entry) → t ≡ a ++ b → apart a b ≡ true → cut_len size a < target
 
--- a table that another one follows ends a key, and its full blocks have the target's length
+-- if another table follows, the table ends with a key and its full blocks reach the target
 abbrev pub EndsCut : ℕ → ℕ → List Entry → List (List Entry) → Type 0
 EndsCut size target t [] = Unit {0}
 EndsCut size target t (u ∷ us) = (apart t u ≡ true) × (target ≤ cut_len size t)
 
+-- each table but the last is cut at the first end of a key where its full blocks reach the target
 abbrev pub AreCuts : ℕ → ℕ → List (List Entry) → Type 0
 AreCuts size target [] = Unit {0}
 AreCuts size target (t ∷ ts) =
     IsCut size target t × EndsCut size target t ts × AreCuts size target ts
 
--- the tables are the list: each the shortest prefix of the rest that ends a key and has full blocks
--- of the target's length, the last one the rest
+-- the tables of a list: each is the shortest prefix of the rest that ends a key and reaches the
+-- target. The last one is the rest
 pub record AreTables (size : ℕ) (target : ℕ) (es : List Entry) (ts : List (List Entry)) : Type 0
   where
     pub whole : joined ts ≡ es
     pub each : AreCuts size target ts
 
--- the list can be cut into tables
+-- a list can be cut into tables
 pub record HasTables (size : ℕ) (target : ℕ) (es : List Entry) : Type 0 where
   pub tables : List (List Entry)
   pub are : AreTables size target es tables
 
--- each list can be cut into tables, for each block size and target
+-- every list can be cut into tables, for each block size and target
 abbrev pub CutLaw : Type 0
 CutLaw = (size target : ℕ) (es : List Entry) → HasTables size target es
 
@@ -83,12 +84,13 @@ abbrev pub OneCutLaw : Type 0
 OneCutLaw = (size target : ℕ) (es : List Entry) (ts us : List (List Entry)) →
     AreTables size target es ts → AreTables size target es us → ts ≡ us
 
--- the keys of a table are below those of the next table
+-- the keys of a table are below those of the next nonempty table
 abbrev pub IsBelow : List Entry → List (List Entry) → Type 0
 IsBelow t [] = Unit {0}
 IsBelow t ([] ∷ us) = IsBelow t us
 IsBelow t ((e ∷ u) ∷ us) = key_lt (last_entry t).user_key e.user_key ≡ true
 
+-- the keys of each table are below those of the next one
 abbrev pub AreInKeyOrder : List (List Entry) → Type 0
 AreInKeyOrder [] = Unit {0}
 AreInKeyOrder (t ∷ ts) = IsBelow t ts × AreInKeyOrder ts
@@ -99,7 +101,7 @@ AreInKeyOrder (t ∷ ts) = IsBelow t ts × AreInKeyOrder ts
 abbrev pub next_label : Label → Label
 next_label label = record label { table_id = label.table_id + 1 }
 
--- finished tables of these lists, with consecutive ids from the first table info
+-- finished tables of these lists, with consecutive ids from that of the first table info
 abbrev pub AreFinished : {A : Type 0} → Options → Label → List (List Entry)
     → List (FinishedTable A) → Type 0
 AreFinished options label [] [] = Unit {0}
@@ -109,7 +111,7 @@ AreFinished options label (t ∷ ts) (f ∷ fs) =
     IsTableWith label options t f.id f.checksum.0 f.bytes
     × AreFinished options (next_label label) ts fs
 
--- the chunks of the leading data blocks of some bytes, up to a block of another kind
+-- the chunks decoded from the leading data blocks of some bytes, up to a block of another kind
 unfoldable pub leading_chunks : ℕ → List ℕ → List (List Entry)
 leading_chunks zero bytes = []
 leading_chunks (suc n) bytes =
@@ -122,10 +124,11 @@ leading_chunks (suc n) bytes =
 abbrev pub list_in : List ℕ → List Entry
 list_in bytes = joined (leading_chunks (length bytes) bytes)
 
+-- the lists of finished tables
 abbrev pub lists_in : {A : Type 0} → List (FinishedTable A) → List (List Entry)
 lists_in {A = A} fs = map (λ (f : FinishedTable A). list_in f.bytes) fs
 
--- the finished tables, with that of the writer appended if it has entries
+-- the finished tables, with the table of the writer appended if it has entries
 pub record AddsTable {A : Type 0} (w : Writing) (fs gs : List (FinishedTable A)) : Type 0 where
   pub table : Option (FinishedTable A)
   pub added : gs ≡ fs ++ option_to_list table
@@ -147,10 +150,10 @@ abbrev pub ids_fault : Option ℕ → Option Error
 ids_fault None = Some TableIdsSpent
 ids_fault (Some id) = None
 
--- ---- a writer of many tables
+-- ---- a writer of several tables
 
--- the target size, the next id, the lists of the finished tables, the writer of the current table,
--- and whether a call failed
+-- the state: target size, next id, lists of the finished tables, writer of the current table, and
+-- whether a call failed
 pub record TablesWriting : Type 0 where
   pub target : ℕ
   pub ids : Option ℕ
@@ -158,7 +161,7 @@ pub record TablesWriting : Type 0 where
   pub present : Writing
   pub failed : Bool
 
--- the list written: the finished tables, then the current one; empty after a failed call
+-- the list written: the finished tables, then the current one; empty after an error
 abbrev pub all_written : TablesWriting → List Entry
 all_written m = if m.failed then [] else joined m.tables ++ written m.present
 
@@ -180,7 +183,7 @@ new_tables ids target level moment = record {
   failed = false;
 }
 
--- the table info of the n-th table before
+-- the table info of the n-th table before this one
 abbrev pub label_before : ℕ → Label → Label
 label_before n label = record label { table_id = label.table_id - n }
 
@@ -192,7 +195,8 @@ first_label m = label_before (length m.tables) m.present.label
 abbrev pub with_options : TablesWriting → Options → TablesWriting
 with_options m options = record m { present = record m.present { options = options } }
 
--- an entry is the first of its key, and the cut data blocks reach the target
+-- the next table is due: the entry is the first of its key, and the cut data blocks reach the
+-- target
 abbrev pub is_due : ℕ → Writing → Entry → Bool
 is_due target w e =
     starts_key (last_of None (written w)) e && nat_le target (length (data_section V4 w.cut))
@@ -217,7 +221,7 @@ IsStanding false ids fs w ids' fs' w' = (ids' ≡ ids) × (fs' ≡ fs) × (w' �
 IsStanding true ids fs w ids' fs' w' =
     (ids' ≡ drawn ids) × AddsTable w fs fs' × (w' ≡ next_writing ids w)
 
--- the state before an entry is added: rotated if a table is due
+-- the state before an entry is added, rotated if the next table is due
 abbrev pub standing : TablesWriting → Entry → TablesWriting
 standing m e = if is_due m.target m.present e then rotated m else m
 
@@ -233,16 +237,17 @@ took m e = let n = standing m e in record n { present = gained n.present e }
 abbrev pub rotation_fault : Option ℕ → Writing → Option Error
 rotation_fault ids w = option_or (ids_fault ids) (finish_fault w)
 
+-- the first fault of the rotation, if the next table is due
 abbrev pub turn_fault : ℕ → Option ℕ → Writing → Entry → Option Error
 turn_fault target ids w e = if is_due target w e then rotation_fault ids w else None
 
--- the first fault of writing an entry: of the rotation, then of the entry
+-- the first fault of writing an entry: that of the rotation, then that of the entry
 abbrev pub took_fault : TablesWriting → Entry → Option Error
 took_fault m e =
     if m.failed then Some WriterFailed
     else option_or (turn_fault m.target m.ids m.present e) (write_fault (standing m e).present e)
 
--- the first fault of writing an entry that comes before `OutOfMemory`
+-- the fault of writing an entry that takes precedence over `OutOfMemory`
 abbrev pub early_refusal : TablesWriting → Entry → Option Error
 early_refusal m e =
     if m.failed then Some WriterFailed
@@ -252,7 +257,7 @@ early_refusal m e =
 abbrev pub run_fault : TablesWriting → Option Error
 run_fault m = if m.failed then Some WriterFailed else finish_fault m.present
 
--- ---- when only `OutOfMemory` can occur
+-- ---- when `OutOfMemory` is the only possible error
 
 -- the first fault of writing the index, then the filter, of the table of a list
 abbrev pub table_fault : Options → List Entry → Option Error
@@ -266,13 +271,13 @@ table_fault options es =
 abbrev pub filling : Options → List Entry → List Entry
 filling options es = waiting_by (is_full options.data_block_size) es
 
--- an entry after a table's list: it fits, so do its block and the table's sections
+-- an entry fits after the list of a table, with its block and the sections of the table
 pub record FitsBehind (options : Options) (es : List Entry) (e : Entry) : Type 0 where
   pub entry : EntryFits V4 e
   pub block : data_block_bound_of (filling options es ++ e ∷ []) < 2 ^ 32
   pub sections : table_fault options es ≡ None
 
--- an unfailed writer with an id left, and an entry that fits after the list of the current table
+-- an unfailed writer with an id left, where the entry fits after the list of the current table
 pub record HasRoomFor (m : TablesWriting) (e : Entry) : Type 0 where
   pub works : m.failed ≡ false
   pub left : m.ids ≡ None → ⊥
@@ -280,18 +285,18 @@ pub record HasRoomFor (m : TablesWriting) (e : Entry) : Type 0 where
 
 -- ---- a list that is written whole
 
--- the entries, the data blocks and the sections of index and filter of a table fit
+-- a table fits: its entries, its data blocks, and its index and filter sections
 pub record TableFits (options : Options) (t : List Entry) : Type 0 where
   pub entries : AllByRecursion (EntryFits V4) t
   pub blocks : AllByRecursion (λ (c : List Entry). data_block_bound_of c < 2 ^ 32)
       (parts_by (is_full options.data_block_size) t)
   pub sections : table_fault options t ≡ None
 
--- the id of the first table: at target 0 the second id, as the first goes to no table
+-- the id of the first table: the second id at target 0, where no table has the first id
 abbrev pub first_id : ℕ → ℕ → ℕ
 first_id target first = if target == 0 then first + 1 else first
 
--- finishing has no fault, and the tables are these, with consecutive ids from this table info
+-- finishing has no fault, and the tables are these, with ids from this table info on
 pub record HasTaken (ts : List (List Entry)) (label : Label) (m : TablesWriting) : Type 0 where
   pub finishes : run_fault m ≡ None
   pub tables : tables_of m ≡ ts
@@ -304,7 +309,7 @@ Takes ts label m (e ∷ es) =
     IsTrue (may_be_written (all_written m) e.user_key e.seqno) × (took_fault m e ≡ None)
     × Takes ts label (took m e) es
 
--- a writable list is written whole as its tables if each fits and an id is left for each
+-- a writable list is written whole as its tables if each fits and enough ids remain
 abbrev pub TakesLaw : Type 0
 TakesLaw = (first target level moment : ℕ) (options : Options) (es : List Entry)
     (ts : List (List Entry)) → IsWritable es → AreTables options.data_block_size target es ts →
@@ -322,15 +327,15 @@ abbrev pub OneKeyLaw : Type 0
 OneKeyLaw = (size : ℕ) (es : List Entry) (ts : List (List Entry)) → IsStrict es →
     AreTables size 0 es ts → AllByRecursion HasOneKey ts × AreInKeyOrder ts
 
--- ---- invariant of a writer of many tables between its calls
+-- ---- the invariant of a writer of several tables between its calls
 
 -- the state after some more entries
 abbrev pub gained_all : Writing → List Entry → Writing
 gained_all w [] = w
 gained_all w (e ∷ es) = gained_all (gained w e) es
 
--- the writer has exactly its entries; the lists are cut by the target; the finished tables are
--- theirs, with consecutive ids up to the current one
+-- the current writer has exactly its entries, and all lists are cut by the target. The finished
+-- tables store their lists, with consecutive ids
 pub record GoesOn {A : Type 0} (target : ℕ) (ids : Option ℕ) (fs : List (FinishedTable A))
     (w : Writing) : Type 0 where
   pub present : w ≡ gained_all (fresh_writing w.label w.options) (written w)

@@ -34,7 +34,8 @@ use Rattle.sst_blocks.specs.declared.table.options.Options.{Options}
 use Rattle.sst_blocks.specs.declared.table.label.Label.{Label}
 use Rattle.sst_blocks.specs.table.Options.{default_options}
 
--- a writer: its table info, options, cut chunks and pending entries, and whether a call failed
+-- the state of a writer: table info, options, cut chunks, pending entries, and whether a call
+-- failed
 pub record Writing : Type 0 where
   pub label : Label
   pub options : Options
@@ -55,12 +56,13 @@ abbrev pub IsSmallIndex : IndexKind → Type 0
 IsSmallIndex FullIndex = Unit {0}
 IsSmallIndex (PartitionedIndex size) = size ≤ 4194304
 
--- a key and seqno can come next: the seqno is below `u64::MAX`, both strictly after the last entry
+-- an entry with this key and seqno can be written next: the seqno is below `u64::MAX`, and the
+-- entry sorts strictly after the last one
 abbrev pub may_be_written : List Entry → List ℕ → ℕ → Bool
 may_be_written es key seqno =
     nat_lt seqno (2 ^ 64 - 1) && may_follow (last_of None es) (entry key [] seqno Value)
 
--- the first fault of an entry after the pending ones
+-- the first fault of an entry that is appended to the pending ones
 abbrev pub item_fault : List Entry → Entry → Option Error
 item_fault pending e =
     if is_long_key e.user_key then Some KeyTooLong
@@ -71,7 +73,7 @@ item_fault pending e =
 abbrev pub write_fault : Writing → Entry → Option Error
 write_fault w e = if w.failed then Some WriterFailed else item_fault w.pending e
 
--- the state after one more entry: a full chunk is cut
+-- the state after one more entry; a full chunk is cut
 abbrev pub gained : Writing → Entry → Writing
 gained w e =
     let chunk = w.pending ++ e ∷ [] in
@@ -79,7 +81,7 @@ gained w e =
     then record w { cut = w.cut ++ chunk ∷ []; pending = [] }
     else record w { pending = chunk }
 
--- all chunks, the pending entries as the last one
+-- all chunks, with the pending entries as the last one
 abbrev pub blocks_of : Writing → List (List Entry)
 blocks_of w = w.cut ++ rest_chunk w.pending
 
@@ -87,24 +89,24 @@ blocks_of w = w.cut ++ rest_chunk w.pending
 abbrev pub spilled : Writing → Writing
 spilled w = record w { cut = blocks_of w; pending = [] }
 
--- the end positions of the chunks that are not full, counted from a start
+-- the end positions in the list of the chunks that are not full, from a start position
 unfoldable pub early_ends : ℕ → ℕ → List (List Entry) → List ℕ
 early_ends size at [] = []
 early_ends size at (c ∷ cs) =
     if is_full size c then early_ends size (at + length c) cs
     else (at + length c) ∷ early_ends size (at + length c) cs
 
--- the positions in the list after which a block was cut before it was full
+-- the positions in the list at which a block was cut before it was full
 abbrev pub spills_of : Writing → List ℕ
 spills_of w = early_ends w.options.data_block_size 0 w.cut
 
--- the keys of the filter of a list of chunks, by partition
+-- the filter keys of a list of chunks, by partition
 abbrev pub keys_of_parts : Options → List (List Entry) → List (List (List ℕ))
 keys_of_parts options cs =
     filter_parts options.filter_kind options.bloom_policy
     (filtered_keys options.bloom_policy (joined cs))
 
--- the content of the table of a list of chunks, with these filters
+-- the content of the table of these chunks, with these filters
 abbrev pub content_of : Options → List (List Entry) → List BloomFilter → Content
 content_of options cs fs = record {
   blocks = cs;
@@ -113,7 +115,7 @@ content_of options cs fs = record {
   filters = fs;
 }
 
--- the bytes are the table of the cut blocks; these blocks and the sections fit
+-- the bytes are the table of the cut blocks; the blocks and sections fit
 pub record WritesTable (w : Writing) (bytes : List ℕ) : Type 0 where
   pub filters : List BloomFilter
   pub are_filters : AreFiltersFor w.options.bloom_policy (keys_of_parts w.options w.cut) filters
@@ -131,11 +133,11 @@ sections_fault w =
     (filter_fault w.options.filter_kind w.options.bloom_policy
     (filtered_keys w.options.bloom_policy (joined w.cut)))
 
--- the first fault of finishing
+-- the first fault of finishing the table
 abbrev pub finish_fault : Writing → Option Error
 finish_fault w = if w.failed then Some WriterFailed else sections_fault (spilled w)
 
--- a finished table: its id, its checksum, and its bytes: a table of the strict list, which fits
+-- a finished table with this id, checksum and bytes; its list is strict and fits
 pub record IsFinished (w : Writing) (id : ℕ) (checksum : ℕ) (bytes : List ℕ) : Type 0 where
   pub some : written w ≡ [] → ⊥
   pub id_is : id ≡ w.label.table_id
@@ -144,7 +146,7 @@ pub record IsFinished (w : Writing) (id : ℕ) (checksum : ℕ) (bytes : List �
   pub strict : IsStrict (written w)
   pub fits : Fits V4 w.label w.options file_is.content
 
--- a list that is strict, with each seqno below `u64::MAX`
+-- a writable list: strict, with each seqno below `u64::MAX`
 pub record IsWritable (es : List Entry) : Type 0 where
   pub strict : IsStrict es
   pub numbered : AllByRecursion (λ (e : Entry). e.seqno < 2 ^ 64 - 1) es
@@ -171,7 +173,7 @@ writing_fault w (e ∷ es) = option_or (write_fault w e) (writing_fault (gained 
 abbrev pub list_fault : Label → List Entry → Option Error
 list_fault label es = writing_fault (new_writing label) es
 
--- a finished table of a list, with this table info and options, and no block cut before it was full
+-- a finished table of a list, with this table info and options; no block was cut before it was full
 pub record IsTableWith (label : Label) (options : Options) (es : List Entry) (id : ℕ)
     (checksum : ℕ) (bytes : List ℕ) : Type 0 where
   pub some : es ≡ [] → ⊥

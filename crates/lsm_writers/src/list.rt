@@ -17,19 +17,20 @@ fn are_numbered<A: Allocator>(items: &[InternalValue<A>]) -> bool
     items.iter().all(|item| item.key.seqno < SeqNo::MAX)
 }
 
-/// Returns whether a list meets the requirement of [`write_list`].
+/// Returns whether a list can be passed to [`write_list`].
 ///
-/// Each entry is strictly before the next by key and sequence number. Each sequence number is below
-/// `u64::MAX`.
+/// It can if each entry sorts strictly before the next and each sequence number is below
+/// `u64::MAX`. Entries are sorted by key, then by descending sequence number.
 pub fn is_writable<A: Allocator>(items: &[InternalValue<A>]) -> bool
     ensures { IsTrue result ↔ IsWritable items.now }
 {
     are_strict(items) && are_numbered(items)
 }
 
-/// Writes a list as one table with default options. Returns `None` if the list is empty.
+/// Writes a list as one table with default options, and returns it, or `None` for an empty list.
 ///
-/// The table is at level `initial_level` and has the timestamp `created_at`.
+/// The list must be writable; see [`is_writable`]. The table is at level `initial_level` and has
+/// the timestamp `created_at`.
 ///
 /// # Errors
 ///

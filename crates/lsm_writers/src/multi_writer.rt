@@ -33,14 +33,14 @@ use std::alloc::{Allocator, Global};
 use std::marker::Model;
 use std::mem;
 
-/// Writes entries into tables, one after another, each with its own id.
+/// A writer of several tables, one after another, each with its own id.
 ///
 /// The next table begins at the first entry of a key, once the cut data blocks of the current table
 /// reach the target size. A table can exceed the target by one block and all versions of one key.
-/// After an error its finished tables are dropped too.
+/// After an error the finished tables are lost too.
 ///
-/// Contracts see the lists of the finished tables, the writer of the current one and the id
-/// counter.
+/// The `use_` methods set options; they must be called before the first entry is written. Contracts
+/// see the lists of the finished tables, the writer of the current one and the id counter.
 #[derive(Drop)]
 pub struct MultiWriter<A: Allocator = Global> {
     target_size: u64,
@@ -75,7 +75,7 @@ impl<A: Allocator + Clone> MultiWriter<A> {
     /// Creates a writer of tables at level `initial_level` and with the timestamp `created_at`.
     ///
     /// Each table but the last has at least `target_size` bytes of data blocks. The call draws the
-    /// first id. At a target of 0 the first id goes to no table.
+    /// first id. At a target of 0 no table has the first id.
     ///
     /// # Errors
     ///
@@ -113,8 +113,9 @@ impl<A: Allocator + Clone> MultiWriter<A> {
 
     /// Returns whether an entry with this key can be written next.
     ///
-    /// Its sequence number is below `u64::MAX`. It is strictly after the last entry by key and
-    /// sequence number. After an error the list is empty, so any key can follow.
+    /// It can if its sequence number is below `u64::MAX` and it sorts strictly after the last
+    /// entry. Entries are sorted by key, then by descending sequence number. After an error the
+    /// list is empty, so any key can follow.
     pub fn can_follow(&self, key: &InternalKey<A>) -> bool
         ensures { result ≡ may_be_written (all_written self.now) key.now.user_key key.now.seqno }
     {
@@ -142,10 +143,11 @@ impl<A: Allocator + Clone> MultiWriter<A> {
         self.ids
     }
 
-    /// Writes an entry. If a new table is due, it finishes the current table first.
+    /// Writes an entry, and finishes the current table before it if the next table is due.
     ///
-    /// A table is due at the first entry of a key, once the cut data blocks of the current table
-    /// reach the target size.
+    /// The next table is due at the first entry of a key, once the cut data blocks of the current
+    /// table reach the target size. The entry must be able to follow the last one; see
+    /// [`MultiWriter::can_follow`].
     ///
     /// # Errors
     ///
@@ -163,7 +165,7 @@ impl<A: Allocator + Clone> MultiWriter<A> {
         ensures ok { OnOk result (self.new ≡ took self.old item) }
         ensures listed { OnOk result (all_written self.new ≡ all_written self.old ++ item ∷ []) }
         ensures refused { Faults result (took_fault self.old item) }
-        // These faults come before `OutOfMemory`.
+        // These errors take precedence over `OutOfMemory`.
         ensures first { FaultsFirst result (early_refusal self.old item) }
         ensures memory { took_fault self.old item ≡ None → IfErr result (λ e. e ≡ OutOfMemory) }
         // With an id left and an entry that fits, an unfailed writer fails only with `OutOfMemory`.
@@ -178,8 +180,9 @@ impl<A: Allocator + Clone> MultiWriter<A> {
         outcome
     }
 
-    /// Writes a borrowed entry; see [`MultiWriter::write`]. It copies the key and value into a
-    /// buffer that is reused from block to block.
+    /// Writes a borrowed entry; see [`MultiWriter::write`].
+    ///
+    /// It copies the key and value into a buffer that is reused from block to block.
     pub fn write_ref(&mut self, entry: &EntryRef<'_>) -> Result<(), Error>
         requires { let e = entry_of_ref entry.now in
             IsTrue (may_be_written (all_written self.old) e.user_key e.seqno) }
@@ -187,7 +190,7 @@ impl<A: Allocator + Clone> MultiWriter<A> {
         ensures listed { OnOk result
             (all_written self.new ≡ all_written self.old ++ entry_of_ref entry.now ∷ []) }
         ensures refused { Faults result (took_fault self.old (entry_of_ref entry.now)) }
-        // These faults come before `OutOfMemory`.
+        // These errors take precedence over `OutOfMemory`.
         ensures first { FaultsFirst result (early_refusal self.old (entry_of_ref entry.now)) }
         ensures memory { took_fault self.old (entry_of_ref entry.now) ≡ None →
             IfErr result (λ e. e ≡ OutOfMemory) }
@@ -218,7 +221,7 @@ impl<A: Allocator + Clone> MultiWriter<A> {
     /// Finishes the current table and returns all tables in key order, none if nothing was written.
     ///
     /// The ids of the tables are consecutive from the first id drawn. At a target of 0 they start
-    /// at the second, because the first table is finished before it has an entry.
+    /// at the second id: the first table is finished before it has an entry.
     ///
     /// # Errors
     ///
@@ -266,8 +269,11 @@ impl<A: Allocator + Clone> MultiWriter<A> {
         self
     }
 
-    /// Replaces the options of all tables. Only tables with an index block restart interval of 1
-    /// can be opened.
+    /// Replaces the options of all tables.
+    ///
+    /// The data block size and the partition sizes are at most 4,194,304 bytes. The data block
+    /// restart interval is at least 1. A table can be opened only if its index block restart
+    /// interval is 1.
     pub fn use_options(self, options: Options) -> MultiWriter<A>
         requires fresh { IsFreshRun self }
         requires some { 0 < options.data_block_restart_interval }
@@ -279,8 +285,9 @@ impl<A: Allocator + Clone> MultiWriter<A> {
         self.with_options(options)
     }
 
-    /// Sets the restart interval of data blocks. It is stored in the meta block and changes nothing
-    /// else.
+    /// Sets the restart interval of data blocks, at least 1.
+    ///
+    /// It is stored in the meta block and changes nothing else.
     pub fn use_data_block_restart_interval(self, interval: u8) -> MultiWriter<A>
         requires fresh { IsFreshRun self }
         requires some { 0 < interval }
@@ -295,8 +302,10 @@ impl<A: Allocator + Clone> MultiWriter<A> {
         self.with_options(options)
     }
 
-    /// Sets the restart interval of index blocks. It is stored in the meta block and changes no
-    /// index block. Only tables written with 1 can be opened.
+    /// Sets the restart interval of index blocks.
+    ///
+    /// It is stored in the meta block and changes no index block. A table can be opened only if it
+    /// is 1.
     pub fn use_index_block_restart_interval(self, interval: u8) -> MultiWriter<A>
         requires { IsFreshRun self }
         ensures { result ≡
@@ -310,7 +319,9 @@ impl<A: Allocator + Clone> MultiWriter<A> {
         self.with_options(options)
     }
 
-    /// Sets the hash ratio of data blocks. It is stored in the meta block and changes nothing else.
+    /// Sets the hash ratio of data blocks.
+    ///
+    /// It is stored in the meta block and changes nothing else.
     pub fn use_data_block_hash_ratio(self, ratio: u32) -> MultiWriter<A>
         requires { IsFreshRun self }
         ensures { result ≡
@@ -323,7 +334,9 @@ impl<A: Allocator + Clone> MultiWriter<A> {
         self.with_options(options)
     }
 
-    /// Sets the length of keys and values, in bytes, at which a data block is cut.
+    /// Sets the data block size in bytes, at most 4,194,304.
+    ///
+    /// A data block is cut once its keys and values reach this total length.
     pub fn use_data_block_size(self, size: u32) -> MultiWriter<A>
         requires fresh { IsFreshRun self }
         requires small { size ≤ 4194304 }
@@ -337,7 +350,9 @@ impl<A: Allocator + Clone> MultiWriter<A> {
         self.with_options(options)
     }
 
-    /// Writes partitioned filters. A partition is cut at 4,096 bytes.
+    /// Selects partitioned filters whose partitions are cut at 4,096 bytes.
+    ///
+    /// It replaces a partition size set before.
     pub fn use_partitioned_filter(self) -> MultiWriter<A>
         requires { IsFreshRun self }
         ensures { result ≡
@@ -351,7 +366,9 @@ impl<A: Allocator + Clone> MultiWriter<A> {
         self.with_options(options)
     }
 
-    /// Writes partitioned indexes. A partition is cut at 4,096 bytes.
+    /// Selects partitioned indexes whose partitions are cut at 4,096 bytes.
+    ///
+    /// It replaces a partition size set before.
     pub fn use_partitioned_index(self) -> MultiWriter<A>
         requires { IsFreshRun self }
         ensures { result ≡
@@ -364,8 +381,9 @@ impl<A: Allocator + Clone> MultiWriter<A> {
         self.with_options(options)
     }
 
-    /// Sets the size in bytes at which a partition of an index or a filter is cut. Full indexes and
-    /// filters are not affected.
+    /// Sets the size in bytes, at most 4,194,304, at which index and filter partitions are cut.
+    ///
+    /// Full indexes and filters are not affected.
     #[tactic(auto, using(crate::proofs::Filtered::sized_small))]
     pub fn use_meta_partition_size(self, size: u32) -> MultiWriter<A>
         requires fresh { IsFreshRun self }
@@ -386,7 +404,9 @@ impl<A: Allocator + Clone> MultiWriter<A> {
         self.with_options(options)
     }
 
-    /// Sets the bits that a filter has for each key. With 0 bits no filter is written.
+    /// Sets the number of filter bits for each key.
+    ///
+    /// With 0 bits no filter is written.
     pub fn use_bloom_policy(self, policy: BloomConstructionPolicy) -> MultiWriter<A>
         requires { IsFreshRun self }
         ensures { result ≡
@@ -400,6 +420,8 @@ impl<A: Allocator + Clone> MultiWriter<A> {
     }
 
     /// Sets the compression of data blocks.
+    ///
+    /// `None` is the only variant, so the call changes nothing.
     pub fn use_data_block_compression(self, compression: CompressionType) -> MultiWriter<A>
         requires { IsFreshRun self }
         ensures { result ≡ self }
@@ -410,6 +432,8 @@ impl<A: Allocator + Clone> MultiWriter<A> {
     }
 
     /// Sets the compression of index blocks.
+    ///
+    /// `None` is the only variant, so the call changes nothing.
     pub fn use_index_block_compression(self, compression: CompressionType) -> MultiWriter<A>
         requires { IsFreshRun self }
         ensures { result ≡ self }
@@ -440,7 +464,7 @@ fn add_table<A: Allocator + Clone>(
 fn is_due<A: Allocator + Clone>(target: u64, writer: &Writer<A>, entry: &EntryRef<'_>) -> bool
     ensures { result ≡ is_due target writer.now (entry_of_ref entry.now) }
 {
-    // The length first: it costs less than comparing keys.
+    // Compare the length first: it costs less than comparing keys.
     writer.metadata().file_pos.0 >= target && writer.starts_key(entry)
 }
 
@@ -492,11 +516,11 @@ fn make_ready<A: Allocator + Clone>(
     Ok(())
 }
 
-/// Laws of a list that is cut into tables. The call does nothing.
+/// States laws of cutting a list into tables; the call does nothing.
 ///
 /// - Each list can be cut into tables, and these are unique.
-/// - A writable list is written as these tables if each table fits and an id is left for each. The
-///   only possible error is [`Error::OutOfMemory`].
+/// - A writable list is written as these tables if each table fits and enough ids remain. The only
+///   possible error is [`Error::OutOfMemory`].
 /// - At a target of 0 each table of a strict list has all entries of exactly one key.
 pub fn tables_law()
     ensures cut { CutLaw }

@@ -1,5 +1,4 @@
-//! Writers of the sections behind a table's data blocks: the filter of its keys, and the index of
-//! its blocks, each as one block, or in partitions below a top level.
+//! Writers of the index and filter sections of a table, full or partitioned.
 mod block;
 mod build;
 mod filter_either;

@@ -31,7 +31,7 @@ impl TableIds {
         TableIds { next: Some(first) }
     }
 
-    /// Draws the next id. Returns `None` once `u64::MAX` was drawn.
+    /// Draws and returns the next id, or returns `None` once `u64::MAX` was drawn.
     pub fn next(&mut self) -> Option<TableId>
         ensures id { result ≡ self.old }
         ensures left { self.new ≡ drawn self.old }

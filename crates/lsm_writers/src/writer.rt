@@ -51,9 +51,10 @@ use std::alloc::{Allocator, Global};
 use std::fmt;
 use std::marker::Model;
 
-/// Writes entries into blocks, and the blocks into the bytes of one table.
+/// A writer of one table: it encodes entries into blocks, and blocks into the bytes of the table.
 ///
-/// Contracts see the list written: the chunks of the blocks that were cut, and the pending entries.
+/// The `use_` methods set options; they must be called before the first entry is written. Contracts
+/// see the list written: the chunks of the cut blocks, then the pending entries.
 #[derive(Drop)]
 pub struct Writer<A: Allocator = Global> {
     label: Label,
@@ -63,7 +64,7 @@ pub struct Writer<A: Allocator = Global> {
     chunk: BlockBuffer<A>,
     chunk_size: usize,
     meta: Metadata<A>,
-    // has each distinct key once; `None` while no key is registered
+    // each distinct key once; `None` until the first key is registered
     filter_writer: Option<FilterWriterImpl<A>>,
     // set while a call runs, so it stays set after an error
     failed: bool,
@@ -171,8 +172,8 @@ impl<A: Allocator + Clone> Writer<A> {
 
     /// Returns whether an entry with this key can be written next.
     ///
-    /// Its sequence number is below `u64::MAX`. It is strictly after the last entry by key and
-    /// sequence number.
+    /// It can if its sequence number is below `u64::MAX` and it sorts strictly after the last
+    /// entry. Entries are sorted by key, then by descending sequence number.
     pub fn can_follow(&self, key: &InternalKey<A>) -> bool
         ensures { result ≡ may_be_written (written self.now) key.now.user_key key.now.seqno }
     {
@@ -199,21 +200,24 @@ impl<A: Allocator + Clone> Writer<A> {
             }
     }
 
-    /// Returns counts of the entries and blocks written so far.
+    /// Returns the counts of the entries and blocks written so far.
     pub fn metadata(&self) -> &Metadata<A>
         ensures { result.now ≡ metadata_of V4 self.now.cut self.now.pending }
     {
         &self.meta
     }
 
-    /// Returns the length of the pending keys and values in bytes.
+    /// Returns the total length of the pending keys and values in bytes.
     pub fn chunk_size(&self) -> usize
         ensures { result ≡ entries_size self.now.pending }
     {
         self.chunk_size
     }
 
-    /// Writes an entry. A block is cut once its keys and values reach the data block size.
+    /// Writes an entry.
+    ///
+    /// The entry must be able to follow the last one; see [`Writer::can_follow`]. A data block is
+    /// cut once its keys and values reach the data block size.
     ///
     /// # Errors
     ///
@@ -222,14 +226,14 @@ impl<A: Allocator + Clone> Writer<A> {
     /// - [`Error::WriterFailed`] if an earlier call failed;
     /// - [`Error::KeyTooLong`] if the key is longer than 1,048,576 bytes;
     /// - [`Error::ValueTooLong`] if the value has 2^32 bytes or more;
-    /// - [`Error::BlockTooLarge`] if the size bound of the block being filled reaches 2^32.
+    /// - [`Error::BlockTooLarge`] if the size bound of the current block reaches 2^32.
     ///
     /// After an error each later call fails with [`Error::WriterFailed`].
     pub fn write(&mut self, item: InternalValue<A>) -> Result<(), Error>
         requires { IsTrue (may_be_written (written self.old) item.user_key item.seqno) }
         ensures ok { OnOk result (self.new ≡ gained self.old item) }
         ensures refused { Faults result (write_fault self.old item) }
-        // A fault comes before `OutOfMemory`.
+        // Errors of the writer or the entry take precedence over `OutOfMemory`.
         ensures first { FaultsFirst result (write_fault self.old item) }
         // After an error the entry is dropped; the list and its counts stay.
         ensures failed { OnErr result (self.new ≡ record self.old { failed = true }) }
@@ -239,14 +243,15 @@ impl<A: Allocator + Clone> Writer<A> {
         outcome
     }
 
-    /// Writes a borrowed entry; see [`Writer::write`]. It copies the key and value into a buffer
-    /// that is reused from block to block.
+    /// Writes a borrowed entry; see [`Writer::write`].
+    ///
+    /// It copies the key and value into a buffer that is reused from block to block.
     pub fn write_ref(&mut self, entry: &EntryRef<'_>) -> Result<(), Error>
         requires { let e = entry_of_ref entry.now in
             IsTrue (may_be_written (written self.old) e.user_key e.seqno) }
         ensures ok { OnOk result (self.new ≡ gained self.old (entry_of_ref entry.now)) }
         ensures refused { Faults result (write_fault self.old (entry_of_ref entry.now)) }
-        // A fault comes before `OutOfMemory`.
+        // Errors of the writer or the entry take precedence over `OutOfMemory`.
         ensures first { FaultsFirst result (write_fault self.old (entry_of_ref entry.now)) }
         // After an error the entry is dropped; the list and its counts stay.
         ensures failed { OnErr result (self.new ≡ record self.old { failed = true }) }
@@ -277,7 +282,9 @@ impl<A: Allocator + Clone> Writer<A> {
         Ok(())
     }
 
-    /// Cuts the pending entries as a block, full or not. Without pending entries nothing happens.
+    /// Cuts the pending entries as a block, full or not.
+    ///
+    /// Without pending entries nothing is written.
     ///
     /// # Errors
     ///
@@ -301,10 +308,10 @@ impl<A: Allocator + Clone> Writer<A> {
         Ok(())
     }
 
-    /// Finishes the table: cuts the pending entries as a block, then writes all other sections.
+    /// Finishes the table and returns it, or `None` if nothing was written.
     ///
-    /// These are the index, the filter, the version and the meta block. Returns `None` if nothing
-    /// was written.
+    /// It cuts the pending entries as a block. Then it writes the index, the filter, the version
+    /// and the meta block.
     ///
     /// # Errors
     ///
@@ -400,7 +407,11 @@ impl<A: Allocator + Clone> Writer<A> {
         self
     }
 
-    /// Replaces all options. Only tables with an index block restart interval of 1 can be opened.
+    /// Replaces all options.
+    ///
+    /// The data block size and the partition sizes are at most 4,194,304 bytes. The data block
+    /// restart interval is at least 1. A table can be opened only if its index block restart
+    /// interval is 1.
     pub fn use_options(self, options: Options) -> Writer<A>
         requires fresh { IsFresh self }
         requires some { 0 < options.data_block_restart_interval }
@@ -412,8 +423,9 @@ impl<A: Allocator + Clone> Writer<A> {
         self.with_options(options)
     }
 
-    /// Sets the restart interval of data blocks. It is stored in the meta block and changes nothing
-    /// else.
+    /// Sets the restart interval of data blocks, at least 1.
+    ///
+    /// It is stored in the meta block and changes nothing else.
     pub fn use_data_block_restart_interval(mut self, interval: u8) -> Writer<A>
         requires fresh { IsFresh self }
         requires some { 0 < interval }
@@ -427,8 +439,10 @@ impl<A: Allocator + Clone> Writer<A> {
         self
     }
 
-    /// Sets the restart interval of index blocks. It is stored in the meta block and changes no
-    /// index block. Only tables written with 1 can be opened.
+    /// Sets the restart interval of index blocks.
+    ///
+    /// It is stored in the meta block and changes no index block. A table can be opened only if it
+    /// is 1.
     pub fn use_index_block_restart_interval(mut self, interval: u8) -> Writer<A>
         requires { IsFresh self }
         ensures { result ≡ record self {
@@ -441,7 +455,9 @@ impl<A: Allocator + Clone> Writer<A> {
         self
     }
 
-    /// Sets the hash ratio of data blocks. It is stored in the meta block and changes nothing else.
+    /// Sets the hash ratio of data blocks.
+    ///
+    /// It is stored in the meta block and changes nothing else.
     pub fn use_data_block_hash_ratio(mut self, ratio: u32) -> Writer<A>
         requires { IsFresh self }
         ensures { result ≡ record self {
@@ -454,7 +470,9 @@ impl<A: Allocator + Clone> Writer<A> {
         self
     }
 
-    /// Sets the length of keys and values, in bytes, at which a data block is cut.
+    /// Sets the data block size in bytes, at most 4,194,304.
+    ///
+    /// A data block is cut once its keys and values reach this total length.
     pub fn use_data_block_size(mut self, size: u32) -> Writer<A>
         requires fresh { IsFresh self }
         requires small { size ≤ 4194304 }
@@ -468,8 +486,9 @@ impl<A: Allocator + Clone> Writer<A> {
         self
     }
 
-    /// Writes a partitioned filter. A partition is cut at 4,096 bytes; this replaces an earlier
-    /// size.
+    /// Selects a partitioned filter whose partitions are cut at 4,096 bytes.
+    ///
+    /// It replaces a partition size set before.
     pub fn use_partitioned_filter(mut self) -> Writer<A>
         requires { IsFresh self }
         ensures { result ≡ record self {
@@ -480,8 +499,9 @@ impl<A: Allocator + Clone> Writer<A> {
         self
     }
 
-    /// Writes a partitioned index. A partition is cut at 4,096 bytes; this replaces an earlier
-    /// size.
+    /// Selects a partitioned index whose partitions are cut at 4,096 bytes.
+    ///
+    /// It replaces a partition size set before.
     pub fn use_partitioned_index(mut self) -> Writer<A>
         requires { IsFresh self }
         ensures { result ≡ record self {
@@ -492,8 +512,9 @@ impl<A: Allocator + Clone> Writer<A> {
         self
     }
 
-    /// Sets the size in bytes at which a partition of the index or the filter is cut. A full index
-    /// or filter is not affected.
+    /// Sets the size in bytes, at most 4,194,304, at which index and filter partitions are cut.
+    ///
+    /// A full index or filter is not affected.
     pub fn use_meta_partition_size(mut self, size: u32) -> Writer<A>
         requires fresh { IsFresh self }
         requires small { size ≤ 4194304 }
@@ -509,7 +530,9 @@ impl<A: Allocator + Clone> Writer<A> {
         self
     }
 
-    /// Sets the bits that the filter has for each key. With 0 bits no filter is written.
+    /// Sets the number of filter bits for each key.
+    ///
+    /// With 0 bits no filter is written.
     pub fn use_bloom_policy(mut self, policy: BloomConstructionPolicy) -> Writer<A>
         requires { IsFresh self }
         ensures { result ≡ record self {
@@ -521,6 +544,8 @@ impl<A: Allocator + Clone> Writer<A> {
     }
 
     /// Sets the compression of data blocks.
+    ///
+    /// `None` is the only variant, so the call changes nothing.
     pub fn use_data_block_compression(self, compression: CompressionType) -> Writer<A>
         requires { IsFresh self }
         ensures { result ≡ self }
@@ -531,6 +556,8 @@ impl<A: Allocator + Clone> Writer<A> {
     }
 
     /// Sets the compression of index blocks.
+    ///
+    /// `None` is the only variant, so the call changes nothing.
     pub fn use_index_block_compression(self, compression: CompressionType) -> Writer<A>
         requires { IsFresh self }
         ensures { result ≡ self }
@@ -541,12 +568,14 @@ impl<A: Allocator + Clone> Writer<A> {
     }
 }
 
-/// A finished table. Its `Debug` output has the number of bytes, not the bytes.
+/// A finished table.
+///
+/// Its `Debug` output has the length of `bytes`, not their content.
 #[derive(Drop)]
 pub struct FinishedTable<A: Allocator = Global> {
     /// The table's id.
     pub id: TableId,
-    /// The checksum of `bytes`.
+    /// The FNV-1a checksum of `bytes`.
     pub checksum: Checksum,
     /// The bytes of the table: its sections and the trailer.
     pub bytes: Slice<A>,
@@ -562,8 +591,8 @@ impl<A: Allocator> fmt::Debug for FinishedTable<A> {
     }
 }
 
-/// Writes the section of the table version. Fails only with [`Error::OutOfMemory`]; nothing is
-/// written then.
+/// Writes the table version section. Fails only with [`Error::OutOfMemory`] and then writes
+/// nothing.
 fn write_version<A: Allocator + Clone>(file_writer: &mut SectionWriter<A>) -> Result<(), Error>
     requires { HasNoVersion file_writer.old }
     ensures ok { OnOk result (file_writer.new ≡ appended file_writer.old (version_section V4)) }
@@ -573,7 +602,7 @@ fn write_version<A: Allocator + Clone>(file_writer: &mut SectionWriter<A>) -> Re
     file_writer.append(&[4])
 }
 
-/// Returns the entry written last: the last pending one, else the last one of the cut blocks.
+/// Returns the last entry written: the last pending one, else the last one of the cut blocks.
 fn last_written<'a, A: Allocator + Clone>(
     chunk: &'a BlockBuffer<A>,
     blocks: &'a DataBlocks<A>,
@@ -588,8 +617,8 @@ fn last_written<'a, A: Allocator + Clone>(
     buffer.last()
 }
 
-/// Checks an entry after `before`, registers its key, and returns what it adds to the counts. A
-/// fault of the entry comes before [`Error::OutOfMemory`].
+/// Checks an entry after `before`, registers its key, and returns its changes to the counts. Errors
+/// of the entry take precedence over [`Error::OutOfMemory`].
 fn admit<A: Allocator + Clone>(
     chunk: &BlockBuffer<A>,
     chunk_size: usize,
@@ -628,7 +657,7 @@ fn admit<A: Allocator + Clone>(
 }
 
 /// Appends an entry to the pending ones, and cuts these as a block once they are full. Fails only
-/// with [`Error::OutOfMemory`]; the entry is dropped then, and the rest is unchanged.
+/// with [`Error::OutOfMemory`]. The entry is dropped then, and the rest is unchanged.
 fn take_entry<A: Allocator + Clone>(
     chunk: &mut BlockBuffer<A>,
     chunk_size: &mut usize,
@@ -698,7 +727,7 @@ fn write_sections<A: Allocator + Clone>(
     write_meta(file_writer, buffer, label, options, counts, meta)
 }
 
-/// Fails if a key or value is too long, or if the block of the pending entries would be too large.
+/// Returns an error if the key or value is too long, or the block of the pending entries too large.
 fn check_entry<A: Allocator>(
     chunk: &BlockBuffer<A>,
     chunk_size: usize,

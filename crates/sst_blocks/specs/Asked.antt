@@ -1,5 +1,4 @@
--- What is asked of one block in a table's bytes: its answer, or the first fault of loading the
--- block.
+-- Results of a query on one block in a table's bytes, or the first fault of loading the block.
 use Rattle.std.specs.Prelude.{◌≡◌, ℕ, Bool, List, find, Option, Some, None, Result, Ok, Err}
 use Rattle.std.specs.Option.{option_map}
 use Rattle.sst_blocks.specs.declared.block_type.BlockType.TheVariants.{Data, Index, Filter}
@@ -11,42 +10,40 @@ use Rattle.sst_blocks.specs.Handles.{reaches}
 use Rattle.sst_blocks.specs.Place.{Place, place_of}
 use Rattle.sst_blocks.specs.filter.Filter.{admits, filter_in}
 
--- a function of what is told, where no fault is
+-- a function applied to a result that is not an error
 abbrev pub told_map : {X Y : Type 0} → (X → Y) → Result X Error → Result Y Error
 told_map f (Ok x) = Ok (f x)
 told_map f (Err e) = Err e
 
--- the first entry of a key numbered below a bound, in a block of entries
+-- in a block of entries: the newest version of a key visible at a bound
 abbrev pub point_of : List ℕ → ℕ → Loaded → Option Entry
 point_of key bound b = point (entries_of b) key bound
 
--- where the first handle leads that reaches a key at a bound, in a block of handles
+-- in a block of handles: the position of the first block that reaches a key at a bound
 abbrev pub place_for : List ℕ → ℕ → Loaded → Option Place
 place_for key bound b = option_map place_of (find (reaches key bound) (handles_of b))
 
--- whether the filter of a block may have a hash
+-- whether the filter of a block admits a hash
 abbrev pub maybe_in : ℕ → Loaded → Bool
 maybe_in hash b = admits (filter_in b.payload) hash
 
--- the first entry of a key numbered below a bound, in the data block of a place in the bytes before
--- the trailer, or the first fault of loading it
+-- the newest version of a key visible at a bound in the data block at an offset, or the first fault
+-- of loading the block
 abbrev pub point_told : List ℕ → ℕ → ℕ → List ℕ → ℕ → Result (Option Entry) Error
 point_told body offset size key bound =
     told_map (point_of key bound) (load_told body offset size Data)
 
--- where the first handle leads that reaches a key at a bound, in the index block of a place, or the
--- first fault of loading it
+-- the result of `place_for` on the index block at an offset, or the first fault of loading the
+-- block
 abbrev pub find_told : List ℕ → ℕ → ℕ → List ℕ → ℕ → Result (Option Place) Error
 find_told body offset size key bound =
     told_map (place_for key bound) (load_told body offset size Index)
 
--- whether the filter of the filter block of a place may have a hash, or the first fault of loading
--- it
+-- whether the filter block at an offset admits a hash, or the first fault of loading it
 abbrev pub maybe_told : List ℕ → ℕ → ℕ → ℕ → Result Bool Error
 maybe_told body offset size hash = told_map (maybe_in hash) (load_told body offset size Filter)
 
--- want of memory stands in the place of a value alone: where a fault is told the call refuses with
--- it, and where nothing is there it answers so
+-- out of memory can only replace a value: the call returns an expected error or `None` exactly
 abbrev pub IsSure : {X : Type 0} → Result (Option X) Error → Result (Option X) Error → Type 0
 IsSure r (Ok (Some x)) = Unit {0}
 IsSure r (Ok None) = r ≡ Ok None

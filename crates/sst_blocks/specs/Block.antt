@@ -1,5 +1,5 @@
--- Blocks in a table's bytes: a header of 24 bytes, then the payload. Which block a load gives, or
--- the first fault that it meets.
+-- Blocks in a table's bytes: a header of 24 bytes, then the payload. A load returns a block or the
+-- first fault.
 use Rattle.std.specs.Prelude.{◌≡◌, ℕ, ◌+◌, ◌*◌, ◌==◌, ◌&&◌, ◌||◌, not, nat_lt, nat_le, Bool, false}
 use Rattle.std.specs.Prelude.{List, [], ◌∷◌, ◌++◌, length, take, drop, slice_index, slice_range}
 use Rattle.std.specs.Prelude.{Option, Some, None, is_some, is_none, unwrap_or, Result, Ok, Err}
@@ -35,13 +35,13 @@ pub record Loaded : Type 0 where
   pub kind : BlockType
   pub payload : List ℕ
 
--- the number of probes, from 1 to 30, and at least one byte of bits
+-- 1 to 30 probes, and at least one byte of bits
 abbrev pub is_filter : List ℕ → Bool
 is_filter [] = false
 is_filter (k ∷ []) = false
 is_filter (k ∷ b ∷ bits) = nat_le 1 k && nat_le k 30
 
--- the payload is in the grammar of its kind
+-- the payload follows the grammar of its block type
 abbrev pub in_grammar : TableVersion → BlockType → List ℕ → Bool
 in_grammar v Data payload = is_some (entries_in v payload)
 in_grammar v Meta payload = is_some (entries_in v payload)
@@ -52,7 +52,8 @@ in_grammar v Filter payload = is_filter payload
 abbrev pub header_len : ℕ
 header_len = 24
 
--- the mark, the kind, no compression, two zero bytes, the payload's length twice and its checksum
+-- the magic number, the block type, no compression, two zero bytes, the payload length twice, the
+-- checksum
 abbrev pub header : TableVersion → BlockType → List ℕ → List ℕ
 header v kind payload =
     mark v ++ (kind_tag kind ∷ 0 ∷ 0 ∷ 0 ∷ [])
@@ -61,7 +62,7 @@ header v kind payload =
 abbrev pub block_bytes : TableVersion → BlockType → List ℕ → List ℕ
 block_bytes v kind payload = header v kind payload ++ payload
 
--- what is wrong with a header's mark, zero bytes, kind or compression: the first fault
+-- the first fault of a header's magic number, zero bytes, block type or compression
 abbrev pub header_fault : BlockType → List ℕ → Option Error
 header_fault kind head =
     if is_none (version_of (take 4 head)) || not
@@ -82,42 +83,42 @@ uncompressed_len head = num4 (drop 12 head)
 abbrev pub stored_checksum : List ℕ → ℕ
 stored_checksum head = num8 (drop 16 head)
 
--- the version of a header whose mark is one
+-- the version given by a header's magic number; V4 where the magic number is unknown
 abbrev pub version_in : List ℕ → TableVersion
 version_in head = unwrap_or (version_of (take 4 head)) V4
 
 abbrev pub grammar_fault : TableVersion → BlockType → List ℕ → Option Error
 grammar_fault v kind payload = if not (in_grammar v kind payload) then Some InvalidBlock else None
 
--- the checksum that a payload's header says is another
+-- the fault of a payload whose checksum differs from the header's
 abbrev pub checksum_fault : ℕ → List ℕ → Option Error
 checksum_fault checksum payload =
     if not (fnv1a payload == checksum) then Some ChecksumMismatch else None
 
--- a count, and behind it room for as many items of so many bytes each
+-- a count, followed by room for that many items of at least `least` bytes each
 unfoldable pub has_room_for : ℕ → List ℕ → Bool
 has_room_for least payload = nat_le (4 + least * num4 payload) (length payload)
 
--- a payload has room for what it counts, each item as short as one of its version can be; a filter
--- is in its grammar
+-- a payload has room for the items it counts, at the minimum size of an item; a filter follows its
+-- grammar
 abbrev pub has_room : TableVersion → BlockType → List ℕ → Bool
 has_room v Data payload = has_room_for (13 + key_width v) payload
 has_room v Meta payload = has_room_for (13 + key_width v) payload
 has_room v Index payload = has_room_for (20 + key_width v) payload
 has_room v Filter payload = is_filter payload
 
--- the fault of a payload's grammar that is found before memory is taken
+-- the fault of a payload's grammar that is found before allocating
 abbrev pub room_fault : TableVersion → BlockType → List ℕ → Option Error
 room_fault v kind payload = if not (has_room v kind payload) then Some InvalidBlock else None
 
--- the payload is tested last, by what its header says: its checksum, then its grammar
+-- a payload with its checksum verified, then its grammar
 unfoldable pub checked_payload : TableVersion → ℕ → BlockType → List ℕ → Result Loaded Error
 checked_payload v checksum kind payload =
     if not (fnv1a payload == checksum) then Err ChecksumMismatch
     else unless (grammar_fault v kind payload)
     (Ok (record { version = v; kind = kind; payload = payload }))
 
--- the block of a kind at a place in the bytes before the trailer, or the first fault
+-- the block of a type at an offset in the bytes before the trailer, or the first fault
 unfoldable pub load_told : List ℕ → ℕ → ℕ → BlockType → Result Loaded Error
 load_told body offset size kind =
     let head = slice_range body offset (offset + header_len) in
@@ -128,7 +129,7 @@ load_told body offset size kind =
     else checked_payload (version_in head) (stored_checksum head) kind
     (slice_range body (offset + header_len) (offset + size)))
 
--- the same with the size that the header says
+-- the same with the size from the header
 unfoldable pub load_at_told : List ℕ → ℕ → BlockType → Result Loaded Error
 load_at_told body position kind =
     let head = slice_range body position (position + header_len) in
@@ -139,8 +140,8 @@ load_at_told body position kind =
     else checked_payload (version_in head) (stored_checksum head) kind
     (slice_range body (position + header_len) (position + header_len + data_len head))))
 
--- what a load finds wrong before it takes memory: too few bytes, the header, its lengths, the
--- checksum, a payload without room for what it counts, a filter that is none; the first fault
+-- the first fault that a load finds before it allocates: length, header, payload lengths, checksum,
+-- room for the counted items, filter grammar
 unfoldable pub place_fault : List ℕ → ℕ → ℕ → BlockType → Option Error
 place_fault body offset size kind =
     let head = slice_range body offset (offset + header_len) in
@@ -152,7 +153,7 @@ place_fault body offset size kind =
     option_or (checksum_fault (stored_checksum head) payload)
     (room_fault (version_in head) kind payload))
 
--- the same with the size that the header says
+-- the same with the size from the header
 unfoldable pub position_fault : List ℕ → ℕ → BlockType → Option Error
 position_fault body position kind =
     let head = slice_range body position (position + header_len) in
@@ -169,15 +170,14 @@ position_fault body position kind =
 abbrev pub loaded : TableVersion → BlockType → List ℕ → Loaded
 loaded v kind payload = record { version = v; kind = kind; payload = payload }
 
--- whatever stands before and behind it, the block of a payload loads, by its handle and at its
--- position
+-- whatever bytes surround it, an encoded block loads again, by its handle and at its position
 abbrev pub LoadsBack : TableVersion → BlockType → List ℕ → Type 0
 LoadsBack v kind payload =
     (front behind : List ℕ) → let body = front ++ block_bytes v kind payload ++ behind in
     (load_told body (length front) (header_len + length payload) kind ≡ Ok (loaded v kind payload))
     × (load_at_told body (length front) kind ≡ Ok (loaded v kind payload))
 
--- the entries, and the handles, of a loaded block
+-- the entries and the handles of a loaded block
 abbrev pub entries_of : Loaded → List Entry
 entries_of b = unwrap_or (entries_in b.version b.payload) []
 

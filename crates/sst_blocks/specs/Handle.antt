@@ -1,4 +1,4 @@
--- A block's handle, with the key and the number of the block's last entry.
+-- A block's handle, with the key and the sequence number of the block's last entry.
 use Rattle.std.specs.Prelude.{ℕ, List}
 
 pub record Handle : Type 0 where

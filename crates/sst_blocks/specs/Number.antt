@@ -1,8 +1,8 @@
--- Numbers as bytes, the low byte first.
+-- Integers as little-endian bytes.
 use Rattle.std.specs.Prelude.{ℕ, List}
 use Rattle.byteorder.specs.Endian.{little_bytes, little_number}
 
--- a number of 2, 4, 8 or 16 bytes
+-- an integer in 2, 4, 8 or 16 bytes
 unfoldable pub le2 : ℕ → List ℕ
 le2 n = little_bytes 2 n
 
@@ -15,7 +15,7 @@ le8 n = little_bytes 8 n
 unfoldable pub le16 : ℕ → List ℕ
 le16 n = little_bytes 16 n
 
--- the number that the first 2, 4, 8 or 16 bytes spell
+-- the integer in the first 2, 4, 8 or 16 bytes
 unfoldable pub num2 : List ℕ → ℕ
 num2 bytes = little_number 2 bytes
 

@@ -1,14 +1,14 @@
--- How many blocks of each kind were loaded.
+-- Counts of loaded blocks by type.
 use Rattle.std.specs.Prelude.{ℕ, ◌+◌, ◌-◌, ◌^◌, min}
 use Rattle.sst_blocks.specs.declared.block_type.BlockType.{BlockType}
 use Rattle.sst_blocks.specs.declared.block_type.BlockType.TheVariants.{Data, Index, Filter, Meta}
 use Rattle.sst_blocks.specs.declared.opened.Opened.{Opened}
 
--- one more, staying at the largest value
+-- one more, saturating
 abbrev pub one_more : ℕ → ℕ
 one_more n = min (n + 1) (2 ^ 64 - 1)
 
--- one more load of a kind
+-- one more load of a block type
 abbrev pub with_load : BlockType → Opened → Opened
 with_load Data o = record o { data_loads = one_more o.data_loads }
 with_load Index o = record o { index_loads = one_more o.index_loads }

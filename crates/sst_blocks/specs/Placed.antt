@@ -1,4 +1,4 @@
--- Where the payload of a block lies, and what was tested of it.
+-- The range of a block's payload, and which checks it has passed.
 use Rattle.std.specs.Prelude.{◌≡◌, ◌≤◌, ◌<◌, ◌+◌, ◌^◌, ℕ, true, List, length, slice_range, IsTrue}
 use Rattle.std.specs.Prelude.{None}
 use Rattle.std.specs.Option.{option_or}
@@ -10,7 +10,8 @@ use Rattle.sst_blocks.specs.Block.{place_fault, room_fault}
 use Rattle.sst_blocks.specs.Marks.{IsHeaded}
 use Rattle.sst_blocks.specs.Fnv.{fnv1a}
 
--- the payload lies within the bytes before the trailer, and what is told of its block is told of it
+-- the payload is within the bytes before the trailer, and loading its block checks exactly this
+-- payload
 pub record IsPlaced (body : List ℕ) (offset size : ℕ) (kind : BlockType) (p : Placed) : Type 0 where
   pub ordered : p.start ≤ p.end
   pub within : p.end ≤ length body
@@ -21,8 +22,8 @@ pub record IsPlaced (body : List ℕ) (offset size : ℕ) (kind : BlockType) (p 
       option_or (checksum_fault p.header.checksum (slice_range body p.start p.end))
       (room_fault p.header.version kind (slice_range body p.start p.end))
 
--- the payload has its checksum, and room for what it counts; where it was tested, it is in its
--- grammar
+-- the payload matches its checksum and has room for the items it counts; once tested, it follows
+-- its grammar
 pub record IsSound (body : List ℕ) (kind : BlockType) (s : Sound) : Type 0 where
   pub ordered : s.start ≤ s.end
   pub within : s.end ≤ length body
@@ -32,11 +33,11 @@ pub record IsSound (body : List ℕ) (kind : BlockType) (s : Sound) : Type 0 whe
   pub tested : IsTrue s.is_tested →
       in_grammar s.header.version kind (slice_range body s.start s.end) ≡ true
 
--- the header before the payload is its header, of a kind, and says where the payload ends
+-- the header before the payload has its version, type, checksum and length
 abbrev pub IsSoundHeaded : List ℕ → BlockType → Sound → Type 0
 IsSoundHeaded bytes kind s = IsHeaded bytes s.start s.end s.header.version kind s.header.checksum
 
--- what is told of its block is told of it, and no fault is found before memory is taken
+-- loading the block checks exactly this payload, and no fault is found before allocating
 pub record IsSoundAt (body : List ℕ) (offset size : ℕ) (kind : BlockType) (s : Sound) : Type 0 where
   pub sound : IsSound body kind s
   pub told : load_told body offset size kind ≡

@@ -1,4 +1,4 @@
--- What the payload of a data or meta block spells.
+-- Decoding the payload of a data or meta block.
 use Rattle.std.specs.Prelude.{ℕ, ◌+◌, List, length, take, drop, slice_index, Option, Some, None}
 use Rattle.std.specs.Prelude.{option_and_then, nat_lt, if◌then◌else◌}
 use Rattle.sst_blocks.specs.declared.version.TableVersion.{TableVersion}
@@ -10,7 +10,7 @@ use Rattle.sst_blocks.specs.Version.{key_width, key_len_at}
 use Rattle.sst_blocks.specs.Format.{Format, items_in}
 use Rattle.sst_blocks.specs.Payload.{spelled}
 
--- after the tag and the number: both lengths, the key and the value
+-- after the value type and the sequence number: both lengths, the key and the value
 unfoldable pub parts_at : TableVersion → ValueType → ℕ → List ℕ → Option (Entry × List ℕ)
 parts_at v t n bytes =
     let k = key_len_at v bytes in
@@ -26,14 +26,14 @@ entry_at v bytes =
     else option_and_then (λ t. parts_at v t (num8 (drop 1 bytes)) (drop 8 (drop 1 bytes)))
     (kind_of (slice_index bytes 0))
 
--- what a search reads of an entry: its key and its number
+-- the key and the sequence number of an entry, which a search reads
 abbrev pub key_and_number : Entry → List ℕ × ℕ
 key_and_number e = (e.user_key, e.seqno)
 
--- how an entry is spelled and read; it has its own place in the order
+-- the format of an entry, sorted by itself
 abbrev pub entry_format : TableVersion → Format Entry
 entry_format v = record { spell = spelled v; read = entry_at v; key = λ e. e }
 
--- the strict list of entries that a payload spells, where it spells one
+-- the strictly sorted list of entries in a payload, if it is valid
 unfoldable pub entries_in : TableVersion → List ℕ → Option (List Entry)
 entries_in v bytes = items_in (entry_format v) bytes

@@ -1,5 +1,5 @@
--- The sections of a table's bytes: the body, and behind it a trailer of 120 bytes that says where
--- each section lies.
+-- The sections of a table's bytes: the body, then a trailer of 120 bytes with the range of each
+-- section.
 use Rattle.std.specs.Prelude.{◌≡◌, ℕ, ◌+◌, ◌-◌, ◌*◌, ◌≤◌, ◌==◌, ◌||◌, nat_lt, nat_eq, not, Bool}
 use Rattle.std.specs.Prelude.{false, List, [], ◌∷◌, ◌++◌, length, take, drop, replicate, Option}
 use Rattle.std.specs.Prelude.{Some, None, if◌then◌else◌}
@@ -18,7 +18,7 @@ use Rattle.sst_blocks.specs.Number.{le8, num8}
 abbrev pub section_names : List SectionName
 section_names = Data ∷ Index ∷ Tli ∷ Filter ∷ FilterTli ∷ TableVersion ∷ Meta ∷ []
 
--- a section's place in that order
+-- a section's index in that order
 abbrev pub slot_index : SectionName → ℕ
 slot_index Data = 0
 slot_index Index = 1
@@ -28,7 +28,7 @@ slot_index FilterTli = 4
 slot_index TableVersion = 5
 slot_index Meta = 6
 
--- the length of a trailer in bytes, and of the seven slots of sixteen at its front
+-- the length of a trailer in bytes, and of the seven slots of 16 bytes at its front
 abbrev pub trailer_len : ℕ
 trailer_len = 120
 
@@ -39,18 +39,17 @@ slots_len = 112
 abbrev pub trailer_mark : List ℕ
 trailer_mark = 0x4c ∷ 0x53 ∷ 0x4d ∷ 0x54 ∷ 0x53 ∷ 0x45 ∷ 0x43 ∷ 0x31 ∷ []
 
--- the bytes written so far, and the sections that were started, each with the position where it
--- begins
+-- the bytes written so far, and the started sections, each with its offset
 pub record Written : Type 0 where
   pub bytes : List ℕ
   pub started : List (SectionName × ℕ)
 
--- where the section after this one begins, or where the bytes end
+-- the start of the next section, or the end of the bytes
 abbrev pub next_start : ℕ → List (SectionName × ℕ) → ℕ
 next_start end [] = end
 next_start end (s ∷ ss) = s.1
 
--- a section that was started reaches up to the next one, or up to the end
+-- a started section extends to the next one, or to the end
 abbrev pub section_of : ℕ → List (SectionName × ℕ) → SectionName → Option Section
 section_of end [] name = None
 section_of end (s ∷ ss) name =
@@ -58,17 +57,17 @@ section_of end (s ∷ ss) name =
     then Some (record { position = s.1; len = next_start end ss - s.1 })
     else section_of end ss name
 
--- each section begins where the one before it does, or further on, and none of them past the end
+-- the sections start in ascending order, none past the end
 abbrev pub AreAscending : ℕ → List (SectionName × ℕ) → Type 0
 AreAscending end [] = Unit {0}
 AreAscending end (s ∷ ss) = (s.1 ≤ next_start end ss) × AreAscending end ss
 
--- what the trailer says of a section: its position and length, or sixteen bytes ff
+-- the trailer's slot for a section: its position and length, or 16 bytes 0xff
 abbrev pub slot : Option Section → List ℕ
 slot None = replicate 16 255
 slot (Some s) = le8 s.position ++ le8 s.len
 
--- seven slots, then the mark
+-- seven slots, then the magic number
 abbrev pub trailer : Written → List ℕ
 trailer w =
     flat_map (λ name. slot (section_of (length w.bytes) w.started name)) section_names
@@ -85,22 +84,22 @@ body_of bytes = take (length bytes - trailer_len) bytes
 abbrev pub trailer_of : List ℕ → List ℕ
 trailer_of bytes = drop (length bytes - trailer_len) bytes
 
--- what a slot says
+-- the section in a slot
 abbrev pub section_at : List ℕ → Option Section
 section_at cells =
     if pointwise nat_eq (take 16 cells) (replicate 16 255) then None
     else Some (record { position = num8 cells; len = num8 (drop 8 cells) })
 
--- what a table's bytes say of a section
+-- the range of a section by the trailer of a table's bytes
 unfoldable pub section_in : List ℕ → SectionName → Option Section
 section_in bytes name = section_at (drop (16 * slot_index name) (trailer_of bytes))
 
--- a section that passes the end of the body
+-- a section that extends past the end of the body
 abbrev pub is_past : ℕ → Option Section → Bool
 is_past end None = false
 is_past end (Some s) = nat_lt end (s.position + s.len)
 
--- too few bytes, another mark, or a section past the body
+-- too few bytes, a wrong magic number, or a section past the body
 abbrev pub is_bad_trailer : List ℕ → Bool
 is_bad_trailer bytes =
     nat_lt (length bytes) trailer_len
@@ -110,8 +109,8 @@ is_bad_trailer bytes =
 abbrev pub trailer_fault : List ℕ → Option Error
 trailer_fault bytes = if is_bad_trailer bytes then Some InvalidTrailer else None
 
--- a table's bytes give back what was written: no fault of the trailer, the body, and each section
--- where it lies
+-- reading a table's bytes returns what was written: a valid trailer, the body, and each section's
+-- range
 pub record ReadsBack (w : Written) (bytes : List ℕ) : Type 0 where
   pub fine : trailer_fault bytes ≡ None
   pub body : body_of bytes ≡ w.bytes

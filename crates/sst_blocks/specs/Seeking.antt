@@ -1,4 +1,4 @@
--- What seeks leave of a span.
+-- The part of a span that remains after a seek.
 use Rattle.std.specs.Prelude.{◌≡◌, ℕ, Bool, true, List, length, min, max, not, Option, Some, None}
 use Rattle.std.specs.Prelude.{Result}
 use Rattle.std.specs.declared.ops.Bound.{Bound}
@@ -12,7 +12,7 @@ use Rattle.sst_entries.specs.Entry.{Entry}
 use Rattle.sst_entries.specs.Point.{within}
 use Rattle.sst_entries.specs.Span.{Span, rest_in, front_length}
 
--- all of a list; without what stands before a place; without what stands from a place on
+-- a whole list; a span without the items before an index; a span without those from an index on
 abbrev pub whole_span : {X : Type 0} → List X → Span X
 whole_span xs = record { list = xs; from = 0; to = length xs }
 
@@ -22,15 +22,15 @@ span_from n s = record s { from = max s.from n }
 abbrev pub span_to : {X : Type 0} → ℕ → Span X → Span X
 span_to n s = record s { to = min s.to n }
 
--- a span deals what is left of it, where want of memory stops its reader, and ends for good there
+-- a span yields its remaining items, except for `OutOfMemory`, and is exhausted after an error
 pub record DealsLeft {X : Type 0} (front back : Span X → Option (Result X Error) → Span X → Type 0)
     (s : Span X) : Type 0 where
   pub deals : (stops : Error → Bool) → stops OutOfMemory ≡ true
       → Deals (answer_stops stops) front back s (ok_results (rest_in s))
   pub ends : EndsAtError front back s
 
--- of the entries within an upper edge, those within both edges are left; and the same of a lower
--- edge
+-- of the entries within an upper bound, those within both bounds remain; and the same for a lower
+-- bound
 abbrev pub KeepsUpper : Bound (List ℕ) → Span Entry → Span Entry → Type 0
 KeepsUpper low old new =
     (high : Bound (List ℕ)) (es : List Entry)
@@ -41,15 +41,15 @@ KeepsLower high old new =
     (low : Bound (List ℕ)) (es : List Entry)
     → rest_in old ≡ within low Unbounded es → rest_in new ≡ within low high es
 
--- how many handles stand before the first that reaches an edge, and before the first that ends
--- above a key
+-- the number of handles before the first that reaches an edge, and before the first that ends above
+-- a key
 abbrev pub reaching_place : List ℕ × ℕ → List Handle → ℕ
 reaching_place edge hs = front_length (λ h. not (reaches edge.0 edge.1 h)) hs
 
 abbrev pub above_place : List ℕ → List Handle → ℕ
 above_place key hs = front_length (λ h. not (is_above key h)) hs
 
--- of a window up to an edge, the window between both edges is left; and of one from an edge on
+-- of a window up to an edge, the window between both edges remains; and the same from an edge on
 abbrev pub KeepsUpperEdge : List ℕ × ℕ → Span Handle → Span Handle → Type 0
 KeepsUpperEdge edge old new =
     (key : Option (List ℕ)) (hs : List Handle)

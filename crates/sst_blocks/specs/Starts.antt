@@ -1,4 +1,4 @@
--- Where the entries and the handles of a payload begin.
+-- The offsets of entries and handles in a payload.
 use Rattle.std.specs.Prelude.{◌≡◌, ℕ, ◌+◌, ◌<◌, ◌^◌, List, [], ◌∷◌, length, Option, Some}
 use Rattle.sst_blocks.specs.declared.version.TableVersion.{TableVersion}
 use Rattle.sst_blocks.specs.declared.block_type.BlockType.{BlockType}
@@ -12,12 +12,12 @@ use Rattle.sst_blocks.specs.Handles.{handle_spelled, handles_in}
 use Rattle.sst_blocks.specs.Reading.{entries_in}
 use Rattle.std.specs.Prelude.{true}
 
--- where the items begin, the first of them at a place
+-- the offsets of the items, given the first
 unfoldable pub starts_of : {X : Type 0} → (X → List ℕ) → ℕ → List X → List ℕ
 starts_of spell at [] = []
 starts_of spell at (x ∷ xs) = at ∷ starts_of spell (at + length (spell x)) xs
 
--- the payload spells these items, which begin at these places
+-- the payload decodes to these items, which start at these offsets
 pub record SpellsAt (X : Type 0) (spell : X → List ℕ) (told : Option (List X))
     (bytes starts : List ℕ)
     : Type 0 where
@@ -35,14 +35,14 @@ EntriesAt v bytes starts = SpellsAt Entry (spelled v) (entries_in v bytes) bytes
 abbrev pub HandlesAt : TableVersion → List ℕ → List ℕ → Type 0
 HandlesAt v bytes starts = SpellsAt Handle (handle_spelled v) (handles_in v bytes) bytes starts
 
--- the payload is in its kind's grammar, and its items begin at the places
+-- the payload follows the grammar of its block type, and its items start at these offsets
 abbrev pub IsBlock : TableVersion → BlockType → List ℕ → List ℕ → Type 0
 IsBlock v Data bytes starts = EntriesAt v bytes starts
 IsBlock v Meta bytes starts = EntriesAt v bytes starts
 IsBlock v Index bytes starts = HandlesAt v bytes starts
 IsBlock v Filter bytes starts = (is_filter bytes ≡ true) × (length bytes < 2 ^ 32)
 
--- a block of entries
+-- a block type that holds entries
 abbrev pub HoldsEntries : BlockType → Type 0
 HoldsEntries Data = Unit {0}
 HoldsEntries Meta = Unit {0}

@@ -1,5 +1,5 @@
--- The words of the contracts of blocks, those of the crates below among them, so that a file asks
--- for them once.
+-- The definitions for contracts of blocks, with those of the crates below, so that a file imports
+-- them from one module.
 pub use Rattle.sst_entries.specs.Entry.{Entry}
 pub use Rattle.sst_entries.specs.Error.{Faults, FaultsFirst, Gives, Refuses, is_memory, unless}
 pub use Rattle.sst_entries.specs.Key.{key_lt}

@@ -1,4 +1,4 @@
-//! Blocks: a checked payload of one kind.
+//! Blocks: a checksummed payload of one kind.
 ghost use Rattle.std.specs.Prelude.{◌≡◌, ◌+◌, ◌++◌, ◌<◌, ◌^◌, List, Ok, true, length, IsTrue, IfOk};
 ghost use Rattle.std.specs.Prelude.{IfErr, OnOk, OnErr};
 ghost use Rattle.sst_blocks.specs.Words.{AreSpellable, AreSpellableHandles, AreStrictHandles};
@@ -29,17 +29,18 @@ pub use header::Header;
 use std::alloc::{AllocError, Allocator, Global};
 use std::marker::Model;
 
-/// The length of a block of no entries or handles, in bytes: its header and a count.
+/// The length of a block without entries or handles, in bytes: its header and a count.
 pub const EMPTY_LEN: u64 = 28;
 
-/// A block that was loaded: its payload is in the grammar of its kind. It shares the table's bytes,
-/// and its clones share all that it holds.
+/// A loaded block whose payload matches the grammar of its kind.
+///
+/// It shares the table's bytes; clones share everything.
 #[derive(Drop)]
 pub struct Block<A: Allocator = Global> {
     pub(crate) version: TableVersion,
     pub(crate) kind: BlockType,
     pub(crate) payload: Slice<A>,
-    // Where the entries or handles begin, found by the one pass that tests the grammar.
+    // The offsets of the entries or handles, found by the pass that checks the grammar.
     pub(crate) starts: Starts<A>,
 }
 
@@ -59,7 +60,11 @@ impl<A: Allocator> Clone for Block<A> {
 
     ghost is_clone = { λ b copy. copy ≡ b };
 
-    /// Shares the block. Refused where a count of sharers is refused.
+    /// Returns a block that shares everything.
+    ///
+    /// # Errors
+    ///
+    /// Fails with `AllocError` if a reference count cannot be raised.
     fn clone(&self) -> Result<Block<A>, AllocError> {
         Ok(Block {
             version: self.version,
@@ -71,14 +76,14 @@ impl<A: Allocator> Clone for Block<A> {
 }
 
 impl<A: Allocator> Block<A> {
-    /// What the payload holds.
+    /// Returns the kind of the block.
     pub fn kind(&self) -> BlockType
         ensures { result ≡ self.now.kind }
     {
         self.kind
     }
 
-    /// The length of the payload in bytes.
+    /// Returns the length of the payload in bytes.
     pub fn size(&self) -> usize
         ensures { result ≡ length self.now.payload }
     {
@@ -87,9 +92,14 @@ impl<A: Allocator> Block<A> {
 }
 
 impl<A: Allocator + Clone> Block<A> {
-    /// The block of a payload whose checksum is right and which has room for what it counts.
-    /// Refused [`Error::InvalidBlock`] where the payload is not in the grammar of its kind, and
-    /// [`Error::OutOfMemory`]. Where it was tested before that it is, no keys are compared.
+    /// Opens the block of a payload with a valid checksum and room for its count.
+    ///
+    /// If `is_tested`, the grammar was checked already, and no keys are compared.
+    ///
+    /// # Errors
+    ///
+    /// Fails with [`Error::InvalidBlock`] if the payload violates its grammar, else only with
+    /// [`Error::OutOfMemory`].
     pub(crate) fn open(
         alloc: A,
         version: TableVersion,
@@ -113,8 +123,11 @@ impl<A: Allocator + Clone> Block<A> {
     }
 }
 
-/// Where the entries or handles of a payload begin; a filter has none. Refused
-/// [`Error::InvalidBlock`] where the payload is not in the grammar of its kind, and
+/// Returns the offsets of a payload's entries or handles; a filter has none.
+///
+/// # Errors
+///
+/// Fails with [`Error::InvalidBlock`] if the payload violates its grammar, else only with
 /// [`Error::OutOfMemory`].
 fn item_starts<A: Allocator>(
     alloc: A,
@@ -138,8 +151,9 @@ fn item_starts<A: Allocator>(
     }
 }
 
-/// Whether a payload has room for what it counts; whether it is that of a filter, where it is to be
-/// one. What is tested here is known before memory is taken.
+/// Returns whether a payload has room for its count, or is a filter's payload.
+///
+/// This check precedes any allocation.
 pub(crate) fn has_room(version: TableVersion, kind: BlockType, payload: &[u8]) -> bool
     ensures { result ≡ has_room version kind payload.now }
 {
@@ -150,8 +164,7 @@ pub(crate) fn has_room(version: TableVersion, kind: BlockType, payload: &[u8]) -
     }
 }
 
-/// Whether a payload is that of a filter: the number of probes, from 1 to 30, and at least one byte
-/// of bits.
+/// Returns whether a payload has a number of probes from 1 to 30, and at least one byte of bits.
 fn is_filter(payload: &[u8]) -> bool
     ensures { result ≡ is_filter payload.now }
 {
@@ -162,8 +175,13 @@ fn is_filter(payload: &[u8]) -> bool
 }
 
 impl<A: Allocator + Clone> Block<A> {
-    /// Writes a block with this payload at the end, and answers where it lies. Refused
-    /// [`Error::OutOfMemory`]; nothing changes then.
+    /// Appends a block with this payload to a writer and returns its handle.
+    ///
+    /// The length of the payload plus a header must be below 2^32.
+    ///
+    /// # Errors
+    ///
+    /// Fails only with [`Error::OutOfMemory`]; the writer is then unchanged.
     pub fn write_into(
         writer: &mut SectionWriter<A>,
         payload: &[u8],
@@ -194,9 +212,11 @@ impl<A: Allocator + Clone> Block<A> {
     }
 }
 
-/// A law of blocks that were written: whatever stands before and behind it, the block of a strict
-/// list that its version can spell loads, by its handle and at its position, and holds the list; so
-/// does that of a filter. The call does nothing.
+/// States that written blocks load back with the same content.
+///
+/// It covers strict lists of entries or handles that a version can encode, and filters. The payload
+/// must be shorter than 2^32 bytes. The bytes around the block do not matter. This is a lemma for
+/// proofs; the call has no effect.
 pub fn written_blocks_load()
     ensures entries { (v : TableVersion) (kind : BlockType) (es : List Entry) → HoldsEntries kind →
         IsStrict es → AreSpellable v es → length (payload v es) < 2 ^ 32 →
@@ -208,7 +228,7 @@ pub fn written_blocks_load()
     ensures filters { (v : TableVersion) (f : BloomFilter) →
         is_filter (payload_of f) ≡ true → length (payload_of f) < 2 ^ 32 →
         LoadsBack v Filter (payload_of f) × (filter_in (payload_of f) ≡ f) }
-    // What a builder gives is the payload of such a filter.
+    // A builder returns the payload of such a filter.
     ensures built { (v : TableVersion) (f : BloomFilter) → IsBuilt f →
         LoadsBack v Filter (payload_of f) × (filter_in (payload_of f) ≡ f) }
 {}

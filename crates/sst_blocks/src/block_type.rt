@@ -2,7 +2,9 @@
 ghost use Rattle.std.specs.Prelude.{◌≡◌};
 ghost use Rattle.sst_blocks.specs.Block.{kind_tag};
 
-/// What a block's payload holds. The discriminants are the kind bytes of block headers.
+/// The kind of a block.
+///
+/// The discriminants are the kind bytes of block headers.
 #[derive(Clone, Copy, Debug, PartialEq, Eq)]
 pub enum BlockType {
     /// Entries of the table.
@@ -16,7 +18,7 @@ pub enum BlockType {
 }
 
 impl BlockType {
-    /// The kind byte that a header stores.
+    /// Returns the kind byte that a header stores.
     pub fn tag(self) -> u8
         ensures { result ≡ kind_tag self }
     {

@@ -1,5 +1,5 @@
 //! Checksums.
 
-/// A checksum, wide enough for any hash that a table may be checked by.
+/// A checksum, wide enough for any hash that a table may use.
 #[derive(Clone, Copy, Debug, PartialEq, Eq)]
 pub struct Checksum(pub u128);

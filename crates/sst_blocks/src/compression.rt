@@ -1,9 +1,9 @@
 //! Compression of block payloads.
 
-/// How a block's payload is compressed.
+/// The compression of a block's payload.
 #[derive(Clone, Copy, Debug, Default, PartialEq, Eq)]
 pub enum CompressionType {
-    /// The payload is stored as it is.
+    /// No compression.
     #[default]
     None,
 }

@@ -38,12 +38,15 @@ use sst_entries::compare_versions;
 use std::alloc::{AllocError, Allocator, Global};
 use std::marker::Model;
 
-/// What an entry takes beside its key and its value as it is written, in bytes: its tag, its number
-/// and both lengths.
+/// The encoded size of an entry without its key and value, in bytes.
+///
+/// It covers the tag, the sequence number and both lengths.
 pub const ENTRY_HEAD_LEN: u64 = 17;
 
-/// A block of entries in strict order. It shares the table's bytes, and its clones share
-/// all that it holds.
+/// A block of entries in strict order.
+///
+/// It shares the table's bytes; clones share everything. In contracts it is the list of its
+/// entries.
 #[derive(Drop)]
 pub struct DataBlock<A: Allocator = Global> {
     version: TableVersion,
@@ -69,7 +72,11 @@ impl<A: Allocator> Clone for DataBlock<A> {
 
     ghost is_clone = { λ b copy. copy ≡ b };
 
-    /// Shares the block. Refused where a count of sharers is refused.
+    /// Returns a block that shares everything.
+    ///
+    /// # Errors
+    ///
+    /// Fails with `AllocError` if a reference count cannot be raised.
     fn clone(&self) -> Result<DataBlock<A>, AllocError> {
         Ok(DataBlock {
             version: self.version,
@@ -79,8 +86,9 @@ impl<A: Allocator> Clone for DataBlock<A> {
     }
 }
 
-/// An upper bound on the length of the block of these entries, with its header, in bytes. It stays
-/// at `u64::MAX` where the sum would pass it.
+/// Returns an upper bound on the length of the block of these entries, in bytes.
+///
+/// The bound includes the header and saturates at `u64::MAX`.
 pub fn data_block_bound<A: Allocator>(items: &[InternalValue<A>]) -> u64
     ensures { result ≡ data_block_bound_of items.now }
 {
@@ -88,7 +96,7 @@ pub fn data_block_bound<A: Allocator>(items: &[InternalValue<A>]) -> u64
 }
 
 impl<A: Allocator> DataBlock<A> {
-    /// The entries of a loaded block.
+    /// Returns the entries of a loaded block, which must be of kind `Data` or `Meta`.
     pub fn new(block: Block<A>) -> DataBlock<A>
         requires { HoldsEntries block.kind }
         ensures { result ≡ entries_of block }
@@ -100,13 +108,18 @@ impl<A: Allocator> DataBlock<A> {
         }
     }
 
-    /// Writes the payload of a block of these entries at the end of `buf`. Refused
-    /// [`Error::KeyTooLong`], else [`Error::ValueTooLong`], for the first entry that is too long,
-    /// then [`Error::BlockTooLarge`] where [`data_block_bound`] is 2^32 or more; and
-    /// [`Error::OutOfMemory`]. `buf` is then as it was.
+    /// Appends the payload of a block of these entries to `buf`.
     ///
-    /// The restart interval and the hash ratio are taken as the original takes them, and change
-    /// nothing here.
+    /// The entries must be in strict order. The restart interval and the hash ratio are accepted
+    /// for compatibility and have no effect.
+    ///
+    /// # Errors
+    ///
+    /// `buf` is unchanged on any error. The faults are, in this order:
+    /// - [`Error::KeyTooLong`], else [`Error::ValueTooLong`]: for the first entry that is too long.
+    /// - [`Error::BlockTooLarge`]: [`data_block_bound`] is 2^32 or more.
+    ///
+    /// If there is none of these, it fails only with [`Error::OutOfMemory`].
     #[tactic(auto, unfolding(crate::specs::Payload::payload))]
     pub fn encode_into(
         buf: &mut Vec<u8, A>,
@@ -118,9 +131,9 @@ impl<A: Allocator> DataBlock<A> {
         ensures ok { OnOk result (buf.new.items ≡ buf.old.items ++ payload V4 items.now) }
         ensures unchanged { OnErr result (buf.new.items ≡ buf.old.items) }
         ensures refused { Faults result (entries_fault items.now) }
-        // What is found before anything is written takes no memory.
+        // Faults of the entries come before any `OutOfMemory`.
         ensures first { FaultsFirst result (entries_fault items.now) }
-        // What was written spells the entries, and its block's length is the bound.
+        // The payload encodes the entries, and the block's length equals the bound.
         ensures fit { OnOk result (AreSpellable V4 items.now) }
         ensures reads { OnOk result (entries_in V4 (payload V4 items.now) ≡ Some items.now) }
         ensures bound { let len = header_len + length (payload V4 items.now) in
@@ -132,7 +145,7 @@ impl<A: Allocator> DataBlock<A> {
         encode(buf, items)
     }
 
-    /// How many entries the block has.
+    /// Returns the number of entries.
     pub fn len(&self) -> usize
         ensures value { result ≡ length self.now }
         ensures strict { IsStrict self.now }
@@ -140,14 +153,14 @@ impl<A: Allocator> DataBlock<A> {
         self.starts.len()
     }
 
-    /// Whether the block has no entries.
+    /// Returns whether the block has no entries.
     pub fn is_empty(&self) -> bool
         ensures { IsTrue result ↔ (self.now ≡ []) }
     {
         self.len() == 0
     }
 
-    /// The entry of a place, lent from where it lies.
+    /// Borrows the entry at an index, which must be below [`DataBlock::len`].
     #[inline(always)]
     #[tactic(auto, unfolding(crate::specs::Reading::entries_in))]
     pub fn entry_ref(&self, index: usize) -> EntryRef<'_>
@@ -157,7 +170,9 @@ impl<A: Allocator> DataBlock<A> {
         item_at(self.version, self.payload.as_slice(), &self.starts, index)
     }
 
-    /// The key and the number of the entry of a place, which are all that a search reads of it.
+    /// Returns the key and the sequence number of the entry at an index.
+    ///
+    /// The index must be below [`DataBlock::len`]. The rest of the entry is not decoded.
     #[inline(always)]
     #[tactic(auto, unfolding(crate::specs::Reading::entries_in))]
     pub fn key_at(&self, index: usize) -> (&[u8], SeqNo)
@@ -168,7 +183,7 @@ impl<A: Allocator> DataBlock<A> {
         key_at::<EntryRef<'_>, A>(self.version, self.payload.as_slice(), &self.starts, index)
     }
 
-    // The entry that was read at a place. Its key and value share the block's memory.
+    // The entry at an index, already read. Its key and value share the block's memory.
     #[inline(always)]
     fn share(&self, index: usize, entry: &EntryRef<'_>) -> Result<InternalValue<A>, Error>
         requires { slice_get self.now index ≡ Some (entry_of_ref entry.now) }
@@ -179,8 +194,13 @@ impl<A: Allocator> DataBlock<A> {
         EntryPlace::of(key_at, entry).share(&self.payload)
     }
 
-    /// The entry of a place, whose key and value share the block's memory. Refused
-    /// [`Error::OutOfMemory`] alone.
+    /// Returns the entry at an index; its key and value share the block's memory.
+    ///
+    /// The index must be below [`DataBlock::len`].
+    ///
+    /// # Errors
+    ///
+    /// Fails only with [`Error::OutOfMemory`].
     #[inline(always)]
     pub fn entry(&self, index: usize) -> Result<InternalValue<A>, Error>
         requires { index < length self.now }
@@ -190,8 +210,9 @@ impl<A: Allocator> DataBlock<A> {
         self.share(index, &self.entry_ref(index))
     }
 
-    /// How many entries at the front pass a test of their keys and numbers, by binary search: no
-    /// entry passes after one that does not.
+    /// Returns the number of leading entries that pass a test of key and sequence number.
+    ///
+    /// It is a binary search: no entry may pass after one that fails.
     fn front_len<P: Fn(&[u8], SeqNo) -> bool>(&self, passes: P) -> usize
         requires { P.IsAlwaysCallable passes }
         ensures within { result ≤ length self.now }
@@ -205,8 +226,9 @@ impl<A: Allocator> DataBlock<A> {
         front_len::<EntryRef<'_>, A, P>(self.version, payload, &self.starts, passes)
     }
 
-    /// How many entries stand below a key: the place of the first entry of the key or of a greater
-    /// one.
+    /// Returns the index of the first entry whose key is at least `key`.
+    ///
+    /// If there is none, it returns the number of entries. It is a binary search.
     pub fn first_at_least(&self, key: &[u8]) -> usize
         ensures place { result ≡ front_length (λ e. key_lt e.user_key key.now) self.now }
         ensures within { result ≤ length self.now }
@@ -215,7 +237,9 @@ impl<A: Allocator> DataBlock<A> {
         self.front_len(|user_key, _| user_key.cmp(key).is_lt())
     }
 
-    /// How many entries do not stand above a key: the place of the first entry of a greater key.
+    /// Returns the index of the first entry whose key is greater than `key`.
+    ///
+    /// If there is none, it returns the number of entries. It is a binary search.
     pub fn first_above(&self, key: &[u8]) -> usize
         ensures place { result ≡ front_length (λ e. not (key_lt key.now e.user_key)) self.now }
         ensures within { result ≤ length self.now }
@@ -224,7 +248,7 @@ impl<A: Allocator> DataBlock<A> {
         self.front_len(|user_key, _| !key.cmp(user_key).is_lt())
     }
 
-    /// The entries, from both ends.
+    /// Returns an iterator over the entries, from both ends.
     pub fn iter<'a>(&'a self) -> Iter<'a, A>
         ensures span { result ≡ whole_span self.now }
         ensures deals { (stops : Error → Bool) → stops OutOfMemory ≡ true →
@@ -234,14 +258,14 @@ impl<A: Allocator> DataBlock<A> {
             ⟦<Iter<'a, A> as DoubleEndedIterator>⟧.next_back_gives
             ⟦<Iter<'a, A> as Iterator>⟧.can_next
             ⟦<Iter<'a, A> as DoubleEndedIterator>⟧.can_next_back result }
-        // After a refusal every call, at either end, answers `None`.
+        // After an error both ends yield only `None`.
         ensures ends { EndsAtError ⟦<Iter<'a, A> as Iterator>⟧.next_gives
             ⟦<Iter<'a, A> as DoubleEndedIterator>⟧.next_back_gives result }
     {
         Iter::new(self)
     }
 
-    /// The entries, lent from both ends by a cursor that takes the block.
+    /// Converts the block into a cursor over its entries, from both ends.
     pub fn into_cursor(self) -> Cursor<A>
         ensures { result ≡ cursor_of self }
     {
@@ -249,7 +273,9 @@ impl<A: Allocator> DataBlock<A> {
         self.into_cursor_of(0, len)
     }
 
-    /// Those between two places, lent in the same way.
+    /// Converts the block into a cursor over the entries from index `from` up to `to`.
+    ///
+    /// The caller ensures that `to` is at most [`DataBlock::len`].
     pub fn into_cursor_of(self, from: usize, to: usize) -> Cursor<A>
         requires { to ≤ length self }
         ensures { result ≡ cursor_of (slice_range self from to) }
@@ -257,11 +283,17 @@ impl<A: Allocator> DataBlock<A> {
         Cursor::new(self.version, self.payload, self.starts, from, to)
     }
 
-    /// The first entry of a key numbered below `seqno`. Refused [`Error::OutOfMemory`] alone.
+    /// Returns the first entry of a key with a sequence number below `seqno`.
+    ///
+    /// It is a binary search.
+    ///
+    /// # Errors
+    ///
+    /// Fails only with [`Error::OutOfMemory`], and only if the entry exists.
     pub fn point_read(&self, key: &[u8], seqno: SeqNo) -> Result<Option<InternalValue<A>>, Error>
         ensures found { IfOk result (λ found. found ≡ point self.now key.now seqno) }
         ensures err { IfErr result (λ e. e ≡ OutOfMemory) }
-        // Where there is no such entry, nothing is refused.
+        // Without such an entry the call succeeds.
         ensures some { OnErr result (point self.now key.now seqno ≢ None) }
     {
         let index = self.front_len(move |user_key, number| {

@@ -1,4 +1,4 @@
-//! Where an entry lies in some bytes.
+//! The position of an entry in some bytes.
 ghost use Rattle.std.specs.Prelude.{◌≡◌, ◌+◌, ◌<◌, ◌≤◌, ◌^◌, length, slice_range, IfErr, IfOk};
 ghost use Rattle.std.specs.Option.{option_map};
 ghost use Rattle.sst_blocks.specs.EntryPlace.{IsPlacedIn, entry_placed, placed_in};
@@ -8,21 +8,22 @@ ghost use Rattle.sst_entries.specs.declared.error.Error.TheVariants.{OutOfMemory
 use crate::{EntryRef, Error, InternalValue, SeqNo, Slice, ValueType};
 use std::alloc::Allocator;
 
-/// Where the key and the value of an entry lie in a table's bytes, with its number and its kind. It
-/// borrows nothing, so whoever owns the bytes can keep it beside them.
+/// The position of an entry's key and value in a table's bytes, with its sequence number and kind.
+///
+/// It borrows nothing, so the owner of the bytes can store it beside them.
 #[derive(Clone, Copy)]
 pub struct EntryPlace {
     key_at: usize,
     value_at: usize,
     end: usize,
-    /// The number of the entry.
+    /// The sequence number of the entry.
     pub seqno: SeqNo,
     /// The kind of the entry.
     pub value_type: ValueType,
 }
 
 impl EntryPlace {
-    /// Of an entry whose key begins at `key_at` in some bytes, and its value behind it.
+    /// Returns the position of an entry whose key starts at `key_at`, with its value after it.
     #[inline(always)]
     pub(crate) fn of(key_at: usize, entry: &EntryRef<'_>) -> EntryPlace
         requires { key_at + length entry.now.user_key.now + length entry.now.value.now < 2 ^ 64 }
@@ -45,7 +46,7 @@ impl EntryPlace {
         }
     }
 
-    /// The entry, lent from the bytes in which it lies.
+    /// Borrows the entry from the bytes that contain it.
     #[inline(always)]
     pub(crate) fn entry<'a>(&self, bytes: &'a [u8]) -> EntryRef<'a>
         requires { IsPlacedIn bytes.now self.now }
@@ -59,7 +60,7 @@ impl EntryPlace {
         }
     }
 
-    /// The entry, lent from bytes in which it may lie: `None` where these are too short.
+    /// Borrows the entry, or returns `None` if the bytes are too short.
     #[inline]
     pub(crate) fn find<'a>(&self, bytes: &'a [u8]) -> Option<EntryRef<'a>>
         ensures { option_map entry_of_ref result ≡ placed_in bytes.now self.now }
@@ -70,8 +71,11 @@ impl EntryPlace {
         Some(self.entry(bytes))
     }
 
-    /// The entry, whose key and value share the memory of the bytes. Refused [`Error::OutOfMemory`]
-    /// alone.
+    /// Returns the entry; its key and value share the memory of the bytes.
+    ///
+    /// # Errors
+    ///
+    /// Fails only with [`Error::OutOfMemory`].
     #[inline(always)]
     pub(crate) fn share<A: Allocator>(&self, bytes: &Slice<A>) -> Result<InternalValue<A>, Error>
         requires { IsPlacedIn bytes.now self.now }

@@ -1,4 +1,4 @@
-//! Bloom filters: which keys a table may have.
+//! Bloom filters over the keys of a table.
 mod bit_array;
 mod builder;
 mod policy;

@@ -1,4 +1,4 @@
-//! Filter blocks: which hashes of keys a table, or a part of one, may have.
+//! Filter blocks: a Bloom filter of a table or of a part of it.
 ghost use Rattle.std.specs.Prelude.{◌≡◌, ◌+◌, List, ℕ, true, length};
 ghost use Rattle.sst_blocks.specs.Words.{IsFilterOf, admits, filter_in, is_filter, is_in};
 ghost use Rattle.sst_blocks.specs.Words.{payload_of};
@@ -8,11 +8,13 @@ use crate::{Block, Slice, contains_hash};
 use std::alloc::{AllocError, Allocator, Global};
 use std::marker::Model;
 
-/// A Bloom filter (Bloom 1970) that was loaded. It shares the table's bytes, and its clones share
-/// all that it holds. A contract sees how many probes a hash has, and the bytes of its bits.
+/// A loaded Bloom filter.
+///
+/// It shares the table's bytes; clones share everything. In contracts it is the number of probes
+/// and the bytes of its bits.
 #[derive(Drop)]
 pub struct FilterBlock<A: Allocator = Global> {
-    // the number of probes, then the bits
+    // The number of probes, then the bits.
     payload: Slice<A>,
 }
 
@@ -33,7 +35,11 @@ impl<A: Allocator> Clone for FilterBlock<A> {
 
     ghost is_clone = { λ b copy. copy ≡ b };
 
-    /// Shares the block. Refused where a count of sharers is refused.
+    /// Returns a filter that shares everything.
+    ///
+    /// # Errors
+    ///
+    /// Fails with `AllocError` if a reference count cannot be raised.
     fn clone(&self) -> Result<FilterBlock<A>, AllocError> {
         Ok(FilterBlock {
             payload: self.payload.clone()?,
@@ -42,7 +48,7 @@ impl<A: Allocator> Clone for FilterBlock<A> {
 }
 
 impl<A: Allocator> FilterBlock<A> {
-    /// The filter of a loaded block, whose payload is that filter's.
+    /// Returns the filter of a loaded block, which must be of kind `Filter`.
     pub fn new(block: Block<A>) -> FilterBlock<A>
         requires { block.kind ≡ Filter }
         ensures filter { result ≡ filter_in block.payload }
@@ -54,7 +60,9 @@ impl<A: Allocator> FilterBlock<A> {
         }
     }
 
-    /// Whether a key of this hash may have been set: no means that it was not. It takes no memory.
+    /// Returns whether a key with this hash may have been set.
+    ///
+    /// A `false` means that none was set. The call does not allocate.
     #[inline]
     pub fn maybe_contains_hash(&self, hash: u64) -> bool
         ensures admits { result ≡ admits self.now hash }
@@ -64,7 +72,7 @@ impl<A: Allocator> FilterBlock<A> {
         contains_hash(self.payload.as_slice(), hash)
     }
 
-    /// The length of the payload in bytes: the bits, and the byte before them.
+    /// Returns the length of the payload in bytes: the bits, and the byte before them.
     pub fn size(&self) -> usize
         ensures { result ≡ 1 + length self.now.bits }
     {

@@ -1,9 +1,4 @@
-//! FNV-1a in 64 bits: <http://www.isthe.com/chongo/tech/comp/fnv/>.
-//!
-//! Each byte waits for the one before it, so a hash costs a byte the latency of an exclusive or and
-//! a multiplication. Two hashes in one loop cost no more than one, and four little more:
-//! [`update_both`], [`hash_four`]. Where a hash is only compared, its bytes are walked over from
-//! both ends at once, in half the time: [`has_hash`], [`have_hashes`].
+//! The 64-bit FNV-1a hash: <http://www.isthe.com/chongo/tech/comp/fnv/>.
 ghost use Rattle.std.specs.Prelude.{◌≡◌, ◌↔◌, IsTrue};
 ghost use Rattle.sst_blocks.specs.Fnv.{fnv1a, fnv_back, fnv_basis, fnv_from, fnv_step};
 
@@ -14,19 +9,19 @@ const PRIME: u64 = 0x0100_0000_01b3;
 // PRIME * INVERSE is 1 modulo 2^64.
 const INVERSE: u64 = 0xce96_5057_aff6_957b;
 
-/// A running hash.
+/// A running FNV-1a hash.
 #[derive(Clone, Copy, Debug, PartialEq, Eq)]
 pub struct Fnv1a(u64);
 
 impl Fnv1a {
-    /// The hash of no bytes.
+    /// Returns the hash of no bytes.
     pub fn new() -> Fnv1a
         ensures { result.0 ≡ fnv_basis }
     {
         Fnv1a(BASIS)
     }
 
-    /// Hashes some more bytes.
+    /// Hashes more bytes.
     pub fn update(&mut self, bytes: &[u8])
         ensures { self.new.0 ≡ fnv_from self.old.0 bytes.now }
     {
@@ -37,7 +32,7 @@ impl Fnv1a {
         self.0 = hash;
     }
 
-    /// The hash of the bytes so far.
+    /// Returns the hash of the bytes so far.
     pub fn finish(self) -> u64
         ensures { result ≡ self.0 }
     {
@@ -45,7 +40,9 @@ impl Fnv1a {
     }
 }
 
-/// As [`Fnv1a::update`] of each, in one loop as far as the shorter of the two reaches.
+/// Updates two hashes, in one loop over the length of the shorter run.
+///
+/// Each step waits for the one before it, so two hashes in one loop cost no more than one.
 pub fn update_both(first: &mut Fnv1a, first_bytes: &[u8], second: &mut Fnv1a, second_bytes: &[u8])
     ensures first { first.new.0 ≡ fnv_from first.old.0 first_bytes.now }
     ensures second { second.new.0 ≡ fnv_from second.old.0 second_bytes.now }
@@ -63,7 +60,9 @@ pub fn update_both(first: &mut Fnv1a, first_bytes: &[u8], second: &mut Fnv1a, se
     second.update(&second_bytes[both..]);
 }
 
-/// The FNV-1a hashes of four runs of bytes, in one loop as far as the shortest reaches.
+/// Returns the FNV-1a hashes of four runs of bytes.
+///
+/// One loop covers the length of the shortest run. There it costs little more than one hash.
 pub fn hash_four(first: &[u8], second: &[u8], third: &[u8], fourth: &[u8]) -> (u64, u64, u64, u64)
     ensures first { result.0 ≡ fnv_from fnv_basis first.now }
     ensures second { result.1 ≡ fnv_from fnv_basis second.now }
@@ -91,7 +90,7 @@ pub fn hash_four(first: &[u8], second: &[u8], third: &[u8], fourth: &[u8]) -> (u
     )
 }
 
-// The hash of some bytes behind those of a hash.
+// Continues a hash with more bytes.
 fn hash_on(hash: u64, bytes: &[u8]) -> u64
     ensures { result ≡ fnv_from hash bytes.now }
 {
@@ -114,21 +113,22 @@ fn step_back(hash: u64, byte: u8) -> u64
     hash.wrapping_mul(INVERSE) ^ u64::from(byte)
 }
 
-/// Whether some bytes have this FNV-1a hash. A byte's step can be undone, so the front half is
-/// hashed and the back half taken off the hash that they should have, in one loop: they meet in the
-/// middle where it is theirs.
+/// Returns whether some bytes have this FNV-1a hash, in about half the time of [`hash`].
+///
+/// A step can be undone. One loop hashes the front half and undoes the back half from `sum`. The
+/// hash matches if both meet.
 pub fn has_hash(bytes: &[u8], sum: u64) -> bool
     ensures { IsTrue result ↔ (fnv1a bytes.now ≡ sum) }
 {
     leads(BASIS, bytes, sum)
 }
 
-/// As [`has_hash`] of each of two, in one loop as far as the shorter of the two reaches.
+/// Tests two hashes as [`has_hash`], in one loop over the length of the shorter run.
 pub fn have_hashes(first: &[u8], first_sum: u64, second: &[u8], second_sum: u64) -> (bool, bool)
     ensures first { IsTrue result.0 ↔ (fnv1a first.now ≡ first_sum) }
     ensures second { IsTrue result.1 ↔ (fnv1a second.now ≡ second_sum) }
 {
-    // Two bytes of each end at a time: with one, the loop's own steps would hold up the
+    // Two bytes from each end per iteration: with one, loop overhead would delay the
     // multiplications.
     let twos = first.len().min(second.len()) / 4;
     let mut front = BASIS;
@@ -153,7 +153,7 @@ pub fn have_hashes(first: &[u8], first_sum: u64, second: &[u8], second_sum: u64)
     )
 }
 
-// Whether hashing some bytes behind those of a hash comes to another hash.
+// Returns whether hashing the bytes after `from` results in `to`.
 fn leads(from: u64, bytes: &[u8], to: u64) -> bool
     ensures { IsTrue result ↔ (fnv_from from bytes.now ≡ to) }
 {
@@ -167,7 +167,7 @@ fn leads(from: u64, bytes: &[u8], to: u64) -> bool
     hash_on(front, &bytes[half..bytes.len() - half]) == back
 }
 
-/// The FNV-1a hash of some bytes: of a key, as filters store it.
+/// Returns the FNV-1a hash of some bytes; filters use it for keys.
 pub fn hash(bytes: &[u8]) -> u64
     ensures { result ≡ fnv_from fnv_basis bytes.now }
 {

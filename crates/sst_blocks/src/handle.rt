@@ -1,4 +1,4 @@
-//! Where a block lies.
+//! Block handles: the position and size of a block.
 ghost use Rattle.std.specs.Prelude.{◌≡◌, ◌+◌, ◌<◌, ◌^◌, ◌↔◌, IsTrue, None, map};
 ghost use Rattle.std.specs.Option.{option_map};
 ghost use Rattle.sst_blocks.specs.Handles.{AreStrictHandles, end_of};
@@ -12,7 +12,9 @@ use std::marker::Model;
 #[derive(Clone, Copy, Debug, Default, PartialEq, Eq, PartialOrd, Ord)]
 pub struct BlockOffset(pub u64);
 
-/// Where a block lies: its position and its size with the header, both in bytes.
+/// The position and size of a block, both in bytes.
+///
+/// The size includes the header.
 #[derive(Clone, Copy, Debug, Default, PartialEq, Eq)]
 pub struct BlockHandle {
     offset: BlockOffset,
@@ -30,7 +32,7 @@ impl Model for BlockHandle {
 }
 
 impl BlockHandle {
-    /// A block of `size` bytes, header included, at `offset`.
+    /// Creates the handle of a block at `offset` with `size` bytes, header included.
     pub fn new(offset: BlockOffset, size: u32) -> BlockHandle
         ensures offset { result.offset ≡ offset.0 }
         ensures size { result.size ≡ size }
@@ -38,14 +40,14 @@ impl BlockHandle {
         BlockHandle { offset, size }
     }
 
-    /// The block's position.
+    /// Returns the block's position.
     pub fn offset(&self) -> BlockOffset
         ensures { result.0 ≡ self.now.offset }
     {
         self.offset
     }
 
-    /// The block's size in bytes, header included.
+    /// Returns the block's size in bytes, header included.
     pub fn size(&self) -> u32
         ensures { result ≡ self.now.size }
     {
@@ -53,7 +55,7 @@ impl BlockHandle {
     }
 }
 
-/// A block's handle with the key and the number of the block's last entry.
+/// A block handle with the key and the sequence number of the block's last entry.
 #[derive(Drop)]
 #[derive_where(Debug, PartialEq, Eq)]
 pub struct KeyedBlockHandle<A: Allocator = Global> {
@@ -96,7 +98,7 @@ impl<A: Allocator> Clone for KeyedBlockHandle<A> {
 }
 
 impl<A: Allocator> KeyedBlockHandle<A> {
-    /// A handle of its parts.
+    /// Creates a handle from its parts.
     pub fn new(end_key: UserKey<A>, seqno: SeqNo, handle: BlockHandle) -> KeyedBlockHandle<A>
         ensures { result ≡ record {
           end_key = end_key;
@@ -112,36 +114,38 @@ impl<A: Allocator> KeyedBlockHandle<A> {
         }
     }
 
-    /// The key of the block's last entry.
+    /// Returns the key of the block's last entry.
     pub fn end_key(&self) -> &UserKey<A>
         ensures { result.now ≡ self.now.end_key }
     {
         &self.end_key
     }
 
-    /// The number of the block's last entry.
+    /// Returns the sequence number of the block's last entry.
     pub fn seqno(&self) -> SeqNo
         ensures { result ≡ self.now.seqno }
     {
         self.seqno
     }
 
-    /// The block's position.
+    /// Returns the block's position.
     pub fn offset(&self) -> BlockOffset
         ensures { result.0 ≡ self.now.offset }
     {
         self.inner.offset()
     }
 
-    /// The block's size in bytes, header included.
+    /// Returns the block's size in bytes, header included.
     pub fn size(&self) -> u32
         ensures { result ≡ self.now.size }
     {
         self.inner.size()
     }
 
-    /// Whether the handle may stand behind another in an index block, or at the front where there
-    /// is none: by end key upward, then by number downward.
+    /// Returns whether the handle may come after `last` in an index block.
+    ///
+    /// Handles are ordered by end key ascending, then by sequence number descending. With `None` it
+    /// returns `true`.
     pub fn may_follow(&self, last: Option<&KeyedBlockHandle<A>>) -> bool
         ensures { let before = option_map (λ h. end_of h.now) last.entry in
             result ≡ may_follow before (end_of self.now) }
@@ -158,7 +162,9 @@ impl<A: Allocator> KeyedBlockHandle<A> {
         }
     }
 
-    /// Moves the handle towards the end by `delta` bytes.
+    /// Moves the handle by `delta` bytes towards the end.
+    ///
+    /// The new position must be below 2^64.
     pub fn shift(&mut self, delta: BlockOffset)
         requires { self.old.offset + delta.0 < 2 ^ 64 }
         ensures { self.new ≡ record self.old { offset = self.old.offset + delta.0 } }
@@ -167,7 +173,7 @@ impl<A: Allocator> KeyedBlockHandle<A> {
         self.inner = BlockHandle::new(offset, self.size());
     }
 
-    /// The handle without its key and number.
+    /// Drops the key and the sequence number.
     pub fn into_inner(self) -> BlockHandle
         ensures offset { result.offset ≡ self.offset }
         ensures size { result.size ≡ self.size }
@@ -176,7 +182,9 @@ impl<A: Allocator> KeyedBlockHandle<A> {
     }
 }
 
-/// Whether each handle may stand behind the one before it: what an index block asks of its handles.
+/// Returns whether the handles are in strict order, as an index block requires.
+///
+/// The call is linear in the number of handles.
 pub fn are_strict_handles<A: Allocator>(handles: &[KeyedBlockHandle<A>]) -> bool
     ensures test { result ≡ is_strict_after None (map end_of handles.now) }
     ensures means { IsTrue result ↔ AreStrictHandles handles.now }

@@ -32,12 +32,15 @@ use sst_entries::compare_versions;
 use std::alloc::{AllocError, Allocator, Global};
 use std::marker::Model;
 
-/// What a handle takes beside its end key as it is written, in bytes: its number, its place and the
-/// key's length.
+/// The encoded size of a handle without its end key, in bytes.
+///
+/// It covers the sequence number, the block's offset and size, and the key's length.
 pub const HANDLE_HEAD_LEN: u64 = 24;
 
-/// A block of handles in strict order of their end keys and numbers. It shares the table's bytes,
-/// and its clones share all that it holds.
+/// A block of handles in strict order of end key and sequence number.
+///
+/// It shares the table's bytes; clones share everything. In contracts it is the list of its
+/// handles.
 #[derive(Drop)]
 pub struct IndexBlock<A: Allocator = Global> {
     version: TableVersion,
@@ -63,7 +66,11 @@ impl<A: Allocator> Clone for IndexBlock<A> {
 
     ghost is_clone = { λ b copy. copy ≡ b };
 
-    /// Shares the block. Refused where a count of sharers is refused.
+    /// Returns a block that shares everything.
+    ///
+    /// # Errors
+    ///
+    /// Fails with `AllocError` if a reference count cannot be raised.
     fn clone(&self) -> Result<IndexBlock<A>, AllocError> {
         Ok(IndexBlock {
             version: self.version,
@@ -73,8 +80,9 @@ impl<A: Allocator> Clone for IndexBlock<A> {
     }
 }
 
-/// An upper bound on the length of the block of these handles, with its header, in bytes. It stays
-/// at `u64::MAX` where the sum would pass it.
+/// Returns an upper bound on the length of the block of these handles, in bytes.
+///
+/// The bound includes the header and saturates at `u64::MAX`.
 pub fn index_block_bound<A: Allocator>(handles: &[KeyedBlockHandle<A>]) -> u64
     ensures { result ≡ index_block_bound_of handles.now }
 {
@@ -82,7 +90,7 @@ pub fn index_block_bound<A: Allocator>(handles: &[KeyedBlockHandle<A>]) -> u64
 }
 
 impl<A: Allocator> IndexBlock<A> {
-    /// The handles of a loaded block.
+    /// Returns the handles of a loaded block, which must be of kind `Index`.
     pub fn new(block: Block<A>) -> IndexBlock<A>
         requires { block.kind ≡ Index }
         ensures { result ≡ handles_of block }
@@ -94,7 +102,7 @@ impl<A: Allocator> IndexBlock<A> {
         }
     }
 
-    /// How many handles there are.
+    /// Returns the number of handles.
     pub fn len(&self) -> usize
         ensures value { result ≡ length self.now }
         ensures strict { AreStrictHandles self.now }
@@ -102,14 +110,14 @@ impl<A: Allocator> IndexBlock<A> {
         self.starts.len()
     }
 
-    /// Whether there are no handles.
+    /// Returns whether there are no handles.
     pub fn is_empty(&self) -> bool
         ensures { IsTrue result ↔ (self.now ≡ []) }
     {
         self.len() == 0
     }
 
-    // The handle at a place, without a count of its sharers.
+    // The handle at an index, without raising a reference count.
     #[inline(always)]
     #[tactic(auto, unfolding(crate::specs::Handles::handles_in))]
     fn handle_ref(&self, index: usize) -> HandleRef<'_>
@@ -119,8 +127,13 @@ impl<A: Allocator> IndexBlock<A> {
         item_at(self.version, self.payload.as_slice(), &self.starts, index)
     }
 
-    /// The handle at a place, whose end key shares the block's bytes. Refused
-    /// [`Error::OutOfMemory`] alone.
+    /// Returns the handle at an index; its end key shares the block's bytes.
+    ///
+    /// The index must be below [`IndexBlock::len`].
+    ///
+    /// # Errors
+    ///
+    /// Fails only with [`Error::OutOfMemory`].
     pub fn handle(&self, index: usize) -> Result<KeyedBlockHandle<A>, Error>
         requires { index < length self.now }
         ensures found { IfOk result (λ h. slice_get self.now index ≡ Some h) }
@@ -134,8 +147,9 @@ impl<A: Allocator> IndexBlock<A> {
         Ok(KeyedBlockHandle::new(end_key, handle.seqno, inner))
     }
 
-    /// Where the block lies that the handle at a place names. The end key is not shared, so no
-    /// memory is taken.
+    /// Returns the block handle at an index, without its end key.
+    ///
+    /// The index must be below [`IndexBlock::len`]. The call does not allocate.
     pub fn place_at(&self, index: usize) -> BlockHandle
         requires { index < length self.now }
         ensures { option_map place_of (slice_get self.now index) ≡ Some result }
@@ -144,8 +158,10 @@ impl<A: Allocator> IndexBlock<A> {
         BlockHandle::new(BlockOffset(found.offset), found.size)
     }
 
-    /// How many handles stand before the first that reaches a key and a number: whose end key is
-    /// greater, or equal and numbered below `seqno`.
+    /// Returns the number of handles before the first that reaches a key at `seqno`.
+    ///
+    /// A handle reaches it if its end key is greater, or equal with a sequence number below
+    /// `seqno`. It is a binary search.
     pub fn first_reaching(&self, key: &[u8], seqno: SeqNo) -> usize
         ensures place { result ≡ front_length (λ h. not (reaches key.now seqno h)) self.now }
         ensures within { result ≤ length self.now }
@@ -160,17 +176,19 @@ impl<A: Allocator> IndexBlock<A> {
         )
     }
 
-    /// How many handles stand before the first whose end key is greater than a key.
+    /// Returns the number of handles before the first whose end key is greater than `key`.
     pub fn first_above(&self, key: &[u8]) -> usize
         ensures place { result ≡ front_length (λ h. not (is_above key.now h)) self.now }
         ensures within { result ≤ length self.now }
     {
-        // No entry of the key is numbered below 0.
+        // No sequence number is below 0.
         self.first_reaching(key, 0)
     }
 
-    /// Where the first block lies whose handle reaches a key and a number: it alone may hold the
-    /// newest entry of the key numbered below `seqno`. No memory is taken.
+    /// Returns the handle of the first block that reaches a key at `seqno`.
+    ///
+    /// No other block can contain the newest entry of the key below `seqno`. The call does not
+    /// allocate.
     pub fn find(&self, key: &[u8], seqno: SeqNo) -> Option<BlockHandle>
         ensures { result ≡ option_map place_of (find (reaches key.now seqno) self.now) }
     {
@@ -181,7 +199,7 @@ impl<A: Allocator> IndexBlock<A> {
         Some(self.place_at(index))
     }
 
-    /// The handles, from both ends.
+    /// Returns an iterator over the handles, from both ends.
     pub fn iter<'a>(&'a self) -> Iter<'a, A>
         ensures span { result ≡ whole_span self.now }
         ensures deals { (stops : Error → Bool) → stops OutOfMemory ≡ true →
@@ -191,25 +209,33 @@ impl<A: Allocator> IndexBlock<A> {
             ⟦<Iter<'a, A> as DoubleEndedIterator>⟧.next_back_gives
             ⟦<Iter<'a, A> as Iterator>⟧.can_next
             ⟦<Iter<'a, A> as DoubleEndedIterator>⟧.can_next_back result }
-        // After a refusal every call, at either end, answers `None`.
+        // After an error both ends yield only `None`.
         ensures ends { EndsAtError ⟦<Iter<'a, A> as Iterator>⟧.next_gives
             ⟦<Iter<'a, A> as DoubleEndedIterator>⟧.next_back_gives result }
     {
         Iter::new(self)
     }
 
-    /// Writes the payload of a block of these handles at the end of `buf`. Refused
-    /// [`Error::KeyTooLong`] where an end key is too long, then [`Error::BlockTooLarge`] where
-    /// [`index_block_bound`] is 2^32 or more; and [`Error::OutOfMemory`]. `buf` is then as it was.
+    /// Appends the payload of a block of these handles to `buf`.
+    ///
+    /// The handles must be in strict order.
+    ///
+    /// # Errors
+    ///
+    /// `buf` is unchanged on any error. The faults are, in this order:
+    /// - [`Error::KeyTooLong`]: an end key is too long.
+    /// - [`Error::BlockTooLarge`]: [`index_block_bound`] is 2^32 or more.
+    ///
+    /// If there is none of these, it fails only with [`Error::OutOfMemory`].
     #[tactic(auto, unfolding(crate::specs::Handles::handles_payload))]
     pub fn encode_into(buf: &mut Vec<u8, A>, handles: &[KeyedBlockHandle<A>]) -> Result<(), Error>
         requires { AreStrictHandles handles.now }
         ensures ok { OnOk result (buf.new.items ≡ buf.old.items ++ handles_payload V4 handles.now) }
         ensures unchanged { OnErr result (buf.new.items ≡ buf.old.items) }
         ensures refused { Faults result (handles_fault handles.now) }
-        // What is found before anything is written takes no memory.
+        // Faults of the handles come before any `OutOfMemory`.
         ensures first { FaultsFirst result (handles_fault handles.now) }
-        // What was written spells the handles, and its block's length is the bound.
+        // The payload encodes the handles, and the block's length equals the bound.
         ensures fit { OnOk result (AreSpellableHandles V4 handles.now) }
         ensures reads { OnOk result (handles_in V4 (handles_payload V4 handles.now) ≡
             Some handles.now) }

@@ -1,4 +1,4 @@
-//! What a block holds: entries or handles, one behind the other.
+//! Encoding the items of a block: entries or handles.
 ghost use Rattle.std.specs.Prelude.{◌≡◌, ◌+◌, ◌++◌, ◌<◌, ◌^◌, length, take, vec_len};
 ghost use Rattle.std.specs.Prelude.{IfErr, IfOk, OnErr, OnOk};
 ghost use Rattle.std.specs.List.{AllByRecursion};
@@ -14,7 +14,7 @@ use crate::block::{EMPTY_LEN, Header};
 use crate::number::put_u32;
 use std::alloc::Allocator;
 
-/// An entry or a handle, as a block holds it.
+/// An entry or a handle to encode.
 pub(crate) trait Item {
     ghost use Rattle.std.specs.Prelude.{◌≡◌, ◌+◌, ◌++◌, ◌<◌, ℕ, List, Option, Some, length};
     ghost use Rattle.std.specs.Prelude.{take, vec_len, IfErr, OnOk};
@@ -22,33 +22,33 @@ pub(crate) trait Item {
     ghost use Rattle.sst_entries.specs.declared.error.Error.{Error};
     ghost use Rattle.sst_entries.specs.declared.error.Error.TheVariants.{OutOfMemory};
 
-    // Its bytes, as it is written.
+    // The encoding of the item.
     ghost bytes: { Self → List ℕ };
 
-    // What has such bytes.
+    // The item has an encoding.
     ghost Fits: { Self → Type 0 };
 
-    // No part of it is too long.
+    // No part of the item is too long.
     ghost Short: { Self → Type 0 };
 
-    // Its fault, or else a later one.
+    // The fault of the item, or else a later one.
     ghost fault_or: { Self → Option Error → Option Error };
 
-    // How many bytes it takes.
+    // The length of the encoding in bytes.
     ghost bound: { Self → ℕ };
 
-    /// Refused for the first of its parts that is too long.
+    /// Fails for the first part of the item that is too long.
     fn test(&self) -> Result<(), Error>
         ensures short { OnOk result (Short self.now) }
         ensures fine { OnOk result ((later : Option Error) → fault_or self.now later ≡ later) }
         ensures refused { IfErr result (λ e.
             (later : Option Error) → fault_or self.now later ≡ Some e) };
 
-    /// A length with this item more. It stays at `u64::MAX` where the sum would pass it.
+    /// Returns a length with this item added, saturating at `u64::MAX`.
     fn added_to(&self, len: u64) -> u64
         ensures { result ≡ capped (len + bound self.now) };
 
-    /// Writes the item at the end of `buf`. What `buf` held stays at its front.
+    /// Appends the item to `buf`; on an error, part of it may be appended.
     fn put<A: Allocator>(&self, buf: &mut Vec<u8, A>) -> Result<(), Error>
         requires { Short self.now }
         ensures ok { OnOk result (buf.new.items ≡ buf.old.items ++ bytes self.now) }
@@ -56,13 +56,14 @@ pub(crate) trait Item {
         ensures front { take (vec_len buf.old) buf.new.items ≡ buf.old.items }
         ensures err { IfErr result (λ e. e ≡ OutOfMemory) };
 
-    /// A law: an item takes as many bytes as are said, and they are some. The call does nothing.
+    /// States that the encoding has the bound's length, and is not empty. The call has no effect.
     fn takes()
         ensures { (x : Self) → (length (bytes x) ≡ bound x) × (0 < bound x) };
 }
 
-/// The length of the block of these items, with its header, in bytes. It stays at `u64::MAX` where
-/// the sum would pass it.
+/// Returns the length of the block of these items in bytes, saturating at `u64::MAX`.
+///
+/// The length includes the header.
 pub(crate) fn block_bound<T: Item>(items: &[T]) -> u64
     ensures { result ≡ bound_of T.bound items.now }
 {
@@ -73,8 +74,12 @@ pub(crate) fn block_bound<T: Item>(items: &[T]) -> u64
     bound
 }
 
-/// The length of the block of these items, with its header. Refused for the first item that is too
-/// long, then [`Error::BlockTooLarge`] where the length is 2^32 or more.
+/// Returns the length of the block of these items, header included.
+///
+/// # Errors
+///
+/// Fails for the first item that is too long, then with [`Error::BlockTooLarge`] if the length is
+/// 2^32 or more.
 fn block_len<T: Item>(items: &[T]) -> Result<u64, Error>
     ensures len { IfOk result (λ len. (len ≡ bound_of T.bound items.now) × (len < 2 ^ 32)) }
     ensures short { OnOk result (AllByRecursion T.Short items.now) }
@@ -91,7 +96,7 @@ fn block_len<T: Item>(items: &[T]) -> Result<u64, Error>
     Ok(bound)
 }
 
-/// Writes the count and then each item. What `buf` held stays at its front.
+/// Appends the count, then each item; on an error, part of them may be appended.
 fn put_items<T: Item, A: Allocator>(buf: &mut Vec<u8, A>, items: &[T]) -> Result<(), Error>
     requires short { AllByRecursion T.Short items.now }
     requires few { length items.now < 2 ^ 32 }
@@ -107,14 +112,18 @@ fn put_items<T: Item, A: Allocator>(buf: &mut Vec<u8, A>, items: &[T]) -> Result
     Ok(())
 }
 
-/// Writes the payload of a block of these items at the end of `buf`. Refused for the first item
-/// that is too long, then [`Error::BlockTooLarge`] where the block's length is 2^32 or more; and
-/// [`Error::OutOfMemory`]. `buf` is then as it was.
+/// Appends the payload of a block of these items to `buf`.
+///
+/// # Errors
+///
+/// `buf` is unchanged on any error. It fails for the first item that is too long, then with
+/// [`Error::BlockTooLarge`] if the block's length is 2^32 or more. Else it fails only with
+/// [`Error::OutOfMemory`].
 pub(crate) fn encode<T: Item, A: Allocator>(buf: &mut Vec<u8, A>, items: &[T]) -> Result<(), Error>
     ensures ok { OnOk result (buf.new.items ≡ buf.old.items ++ items_payload T.bytes items.now) }
     ensures unchanged { OnErr result (buf.new.items ≡ buf.old.items) }
     ensures refused { Faults result (items_fault T.fault_or T.bound items.now) }
-    // What is found before anything is written takes no memory.
+    // Faults of the items come before any `OutOfMemory`.
     ensures first { FaultsFirst result (items_fault T.fault_or T.bound items.now) }
     ensures fit { OnOk result (AreFit T.Fits items.now) }
     ensures bound { let len = header_len + length (items_payload T.bytes items.now) in
@@ -124,7 +133,7 @@ pub(crate) fn encode<T: Item, A: Allocator>(buf: &mut Vec<u8, A>, items: &[T]) -
     T::takes();
     let len = block_len(items)?;
     let start = buf.len();
-    // One growth holds the payload.
+    // One growth suffices for the payload.
     buf.reserve(len as usize - Header::LEN as usize)?;
     let outcome = put_items(buf, items);
     if outcome.is_err() {

@@ -1,5 +1,4 @@
-//! The bytes of sorted tables: numbers, hashes and sections; filters of keys; blocks; and what a
-//! table of these is. What users need of `sst_entries` is passed on.
+//! The blocks, filters, sections and options of a sorted table's bytes.
 #![tactic(auto)]
 
 mod block;

@@ -1,4 +1,4 @@
-//! Whatever blocks can be loaded from, and what is asked of one block there.
+//! Sources of blocks, and queries of one block.
 ghost use Rattle.std.specs.Prelude.{◌≡◌};
 ghost use Rattle.sst_blocks.specs.Opened.{none_opened};
 
@@ -10,10 +10,10 @@ use crate::{
 use std::alloc::{Allocator, Global};
 use std::marker::Model;
 
-/// Whatever blocks can be loaded from, one handle at a time.
+/// A source from which blocks are loaded, one handle at a time.
 ///
-/// Whoever has `load` has the other calls: they load the block, and ask it. [`Counted`] has calls
-/// of its own, which take no memory for the places of a block's items.
+/// Only [`LoadBlocks::load`] is required; the other calls load the block and query it. [`Counted`]
+/// overrides them with calls that need no memory for the offsets of items.
 pub trait LoadBlocks {
     ghost use Rattle.std.specs.Prelude.{◌≡◌, Bool, List, ℕ, Option};
     ghost use Rattle.sst_blocks.specs.Asked.{find_told, maybe_told, point_told};
@@ -29,15 +29,19 @@ pub trait LoadBlocks {
     /// The allocator of the blocks.
     type Alloc: Allocator;
 
-    /// The bytes before the trailer that it stands for.
+    /// The bytes before the trailer.
     ghost body: { Self → List ℕ };
 
-    /// How many blocks of each kind were loaded.
+    /// The number of loads of each kind.
     ghost opened: { Self → Opened };
 
-    /// The block of a kind that a handle names, or the first fault, as [`BlockSource::load`]
-    /// answers it over the bytes that the source stands for; want of memory stands in the place of
-    /// the same faults alone.
+    /// Loads the block of a kind that a handle describes.
+    ///
+    /// Each call counts as one load.
+    ///
+    /// # Errors
+    ///
+    /// Fails as [`BlockSource::load`] on the same bytes.
     fn load(&mut self, handle: &BlockHandle, kind: BlockType) -> Result<Block<Self::Alloc>, Error>
         ensures told { let bytes = body self.old in
             Gives (λ (b : Loaded). b) result
@@ -47,9 +51,15 @@ pub trait LoadBlocks {
         ensures body { body self.new ≡ body self.old }
         ensures counted { opened self.new ≡ with_load kind (opened self.old) };
 
-    /// The first entry of a key numbered below `seqno` in the data block that a handle names, or
-    /// the first fault, as [`BlockSource::point_read`] answers it; want of memory stands in the
-    /// place of the same faults as at [`LoadBlocks::load`]. It counts as one load.
+    /// Returns the first entry of a key with a sequence number below `seqno`, in the data block of
+    /// a handle.
+    ///
+    /// Each call counts as one load.
+    ///
+    /// # Errors
+    ///
+    /// Fails as [`BlockSource::point_read`]. [`Error::OutOfMemory`] hides only the errors that it
+    /// can hide in [`LoadBlocks::load`].
     fn point_read(
         &mut self,
         handle: &BlockHandle,
@@ -71,9 +81,14 @@ pub trait LoadBlocks {
         found
     }
 
-    /// Where the first handle leads that reaches a key and a number, in the index block that a
-    /// handle names, or the first fault, as [`BlockSource::find`] answers it; want of memory stands
-    /// in the place of the same faults as at [`LoadBlocks::load`]. It counts as one load.
+    /// Finds the first handle that reaches a key at `seqno`, in the index block of a handle.
+    ///
+    /// It reaches as defined for [`BlockSource::find`]. Each call counts as one load.
+    ///
+    /// # Errors
+    ///
+    /// Fails as [`BlockSource::find`], or with [`Error::OutOfMemory`]. The latter hides only the
+    /// errors that it can hide in [`LoadBlocks::load`].
     fn find(
         &mut self,
         handle: &BlockHandle,
@@ -95,9 +110,14 @@ pub trait LoadBlocks {
         Ok(found)
     }
 
-    /// Whether the filter of the filter block that a handle names may have a hash, or the first
-    /// fault, as [`BlockSource::maybe_contains_hash`] answers it; want of memory stands in the
-    /// place of the same faults as at [`LoadBlocks::load`]. It counts as one load.
+    /// Returns whether the filter in the filter block of a handle may contain a hash.
+    ///
+    /// Each call counts as one load.
+    ///
+    /// # Errors
+    ///
+    /// Fails as [`BlockSource::maybe_contains_hash`], or with [`Error::OutOfMemory`]. The latter
+    /// hides only the errors that it can hide in [`LoadBlocks::load`].
     fn maybe_contains_hash(&mut self, handle: &BlockHandle, hash: u64) -> Result<bool, Error>
         ensures told { let bytes = body self.old in
             Gives (λ (maybe : Bool). maybe) result
@@ -132,7 +152,7 @@ impl<'a, A: Allocator> Model for Counted<'a, A> {
 }
 
 impl<'a, A: Allocator + Clone> Counted<'a, A> {
-    /// Nothing was loaded yet.
+    /// Creates a source with zero counts.
     pub fn new(source: &'a BlockSource<A>) -> Counted<'a, A>
         ensures source { result.0 ≡ source.now }
         ensures none { result.1 ≡ none_opened }
@@ -143,7 +163,7 @@ impl<'a, A: Allocator + Clone> Counted<'a, A> {
         }
     }
 
-    /// How many blocks of each kind were loaded.
+    /// Returns the number of loads of each kind.
     pub fn opened(&self) -> Opened
         ensures { result ≡ self.now.1 }
     {

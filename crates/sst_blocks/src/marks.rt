@@ -1,4 +1,4 @@
-//! Marks of the payloads whose checksum was compared before, and whose grammar was tested.
+//! The verified-block cache, which remembers payloads with a valid checksum or grammar.
 ghost use Rattle.std.specs.Prelude.{◌≡◌, IsTrue, IfOk};
 ghost use Rattle.sst_blocks.specs.Marks.{HasItems, HasSum, Says};
 
@@ -7,15 +7,14 @@ use atomic_table::{Play, Table, TableRule};
 use std::alloc::{AllocError, Allocator, Global};
 use std::marker::Model;
 
-/// How many bytes of a table share a word.
+/// The number of table bytes per cache slot.
 pub(crate) const SPAN: u64 = 2048;
 
-// A payload that starts here or behind is not marked, so that twice a place fits a word with room
-// to spare.
+// Payloads from here on are not cached, so that twice a start fits a slot with room to spare.
 const END: u64 = 1 << 62;
 
-// Each word is 0, or one more than twice the place of a payload that has its checksum, or two more
-// where it is in its grammar.
+// A slot is 0 if empty. Else it is twice the start of a payload, plus 1 for a valid checksum, or
+// plus 2 for a valid grammar as well.
 struct Compared;
 
 impl<A: Allocator> TableRule<u8, Slice<A>, Slice<A>> for Compared {
@@ -26,7 +25,7 @@ impl<A: Allocator> TableRule<u8, Slice<A>, Slice<A>> for Compared {
     ghost first = { λ bytes. bytes };
 }
 
-// What a word that was found says.
+// A slot that is read satisfies the slot invariant.
 struct Found;
 
 impl<A: Allocator> Play<u8, Slice<A>> for Found {
@@ -35,21 +34,22 @@ impl<A: Allocator> Play<u8, Slice<A>> for Found {
     ghost then = { λ _ before found _. Says before.0 found };
 }
 
-// Nothing is said.
+// Nothing is known of the old slot.
 struct Quiet;
 
 impl<A: Allocator> Play<u8, Slice<A>> for Quiet {
     ghost then = { λ _ _ _ _. Unit {0} };
 }
 
-// How many words lie together; at the end of a table's bytes it may be fewer.
+// The number of slots per allocation; the last may have fewer.
 const PART: usize = 1024;
 
 type Words<A> = Table<u8, Slice<A>, Slice<A>, Compared, A>;
 
-/// Marks beside a table's bytes: a word for each [`SPAN`] of them, which has the last payload that
-/// starts there and whose checksum was compared, and whether its grammar was tested. Many may read
-/// and mark at once. A contract sees the bytes.
+/// The verified-block cache of a table's bytes, with a slot per [`SPAN`] bytes.
+///
+/// A slot has the last payload starting there whose checksum matched, and whether its grammar was
+/// checked. Concurrent reads and writes are allowed. In contracts it is the table's bytes.
 #[derive(Drop)]
 pub(crate) struct Marks<A: Allocator = Global> {
     bytes: Slice<A>,
@@ -68,13 +68,13 @@ impl<A: Allocator> Model for Marks<A> {
 }
 
 impl<A: Allocator + Clone> Marks<A> {
-    /// No payload is marked.
+    /// Creates an empty cache.
     pub(crate) fn new(alloc: A, bytes: &Slice<A>) -> Result<Marks<A>, AllocError>
         ensures { IfOk result (λ m. m ≡ bytes.now) }
     {
         let count = bytes.len() / SPAN as usize + 1;
         let parts = count.div_ceil(PART);
-        // Words are laid out by copying: each part from these.
+        // Slots are initialized by copying from these.
         let unmarked = Vec::from_elem(alloc.clone()?, 0u64, count.min(PART))?;
         let mut words = Vec::with_capacity(alloc.clone()?, parts)?;
         for at in 0..parts {
@@ -92,7 +92,7 @@ impl<A: Allocator + Clone> Marks<A> {
         })
     }
 
-    /// The word of the [`SPAN`] in which a payload starts; 0 where there is no word.
+    /// Returns the slot for a payload's start, or 0 if there is none.
     fn word(&self, start: u64) -> u64
         ensures { Says self.now result }
     {
@@ -106,7 +106,7 @@ impl<A: Allocator + Clone> Marks<A> {
         }
     }
 
-    /// Sets the word of the [`SPAN`] in which a payload starts, where there is a word.
+    /// Sets the slot for a payload's start, if there is one.
     fn set_word(&self, start: u64, word: u64)
         requires { Says self.now word }
     {
@@ -118,7 +118,7 @@ impl<A: Allocator + Clone> Marks<A> {
         }
     }
 
-    /// Whether it is marked that the payload which starts here has its checksum.
+    /// Returns whether the payload starting here is known to have a valid checksum.
     pub(crate) fn has_sum(&self, start: u64) -> bool
         ensures { IsTrue result → HasSum self.now start }
     {
@@ -126,8 +126,7 @@ impl<A: Allocator + Clone> Marks<A> {
         0 < word && (word - 1) / 2 == start
     }
 
-    /// Whether it is marked that the payload which starts here has its checksum and is in its
-    /// grammar.
+    /// Returns whether the payload starting here is known to have a valid checksum and grammar.
     pub(crate) fn is_tested(&self, start: u64) -> bool
         ensures sum { IsTrue result → HasSum self.now start }
         ensures items { IsTrue result → HasItems self.now start }
@@ -135,7 +134,7 @@ impl<A: Allocator + Clone> Marks<A> {
         start < END && self.word(start) == 2 * start + 2
     }
 
-    /// Marks that the payload which starts here has its checksum.
+    /// Remembers that the payload starting here has a valid checksum.
     pub(crate) fn mark_sum(&self, start: u64)
         requires { HasSum self.now start }
     {
@@ -144,7 +143,7 @@ impl<A: Allocator + Clone> Marks<A> {
         }
     }
 
-    /// Marks that the payload which starts here has its checksum and is in its grammar.
+    /// Remembers that the payload starting here has a valid checksum and grammar.
     pub(crate) fn mark_tested(&self, start: u64)
         requires sum { HasSum self.now start }
         requires items { HasItems self.now start }

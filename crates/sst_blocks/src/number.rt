@@ -1,4 +1,4 @@
-//! Numbers as bytes, the low byte first.
+//! Little-endian integers.
 ghost use Rattle.std.specs.Prelude.{◌≡◌, ◌++◌, ◌<◌, ◌≤◌, ◌^◌, length, OnOk, OnErr, IfErr};
 ghost use Rattle.sst_blocks.specs.Number.{le4, le8, num2, num4, num8};
 ghost use Rattle.sst_blocks.specs.Version.{key_len_at, key_width};
@@ -9,6 +9,7 @@ use byteorder::{ByteOrder, LittleEndian};
 use sst_entries::Error;
 use std::alloc::Allocator;
 
+/// Reads a little-endian `u16` from the first 2 bytes, which must exist.
 #[inline]
 #[tactic(auto, unfolding(crate::specs::Number::num2))]
 pub fn u16_at(bytes: &[u8]) -> u16
@@ -18,6 +19,7 @@ pub fn u16_at(bytes: &[u8]) -> u16
     LittleEndian::read_u16(bytes)
 }
 
+/// Reads a little-endian `u32` from the first 4 bytes, which must exist.
 #[inline]
 #[tactic(auto, unfolding(crate::specs::Number::num4))]
 pub fn u32_at(bytes: &[u8]) -> u32
@@ -27,6 +29,7 @@ pub fn u32_at(bytes: &[u8]) -> u32
     LittleEndian::read_u32(bytes)
 }
 
+/// Reads a little-endian `u64` from the first 8 bytes, which must exist.
 #[inline]
 #[tactic(auto, unfolding(crate::specs::Number::num8))]
 pub fn u64_at(bytes: &[u8]) -> u64
@@ -36,7 +39,7 @@ pub fn u64_at(bytes: &[u8]) -> u64
     LittleEndian::read_u64(bytes)
 }
 
-/// How many bytes a key length takes.
+/// Returns the size of an encoded key length, in bytes.
 #[inline]
 pub fn key_width(version: TableVersion) -> usize
     ensures { result ≡ key_width version }
@@ -47,6 +50,7 @@ pub fn key_width(version: TableVersion) -> usize
     }
 }
 
+/// Reads the key length of a version from the first bytes, which must exist.
 #[inline]
 pub fn key_len_at(version: TableVersion, bytes: &[u8]) -> usize
     requires { key_width version ≤ length bytes.now }
@@ -59,6 +63,11 @@ pub fn key_len_at(version: TableVersion, bytes: &[u8]) -> usize
     }
 }
 
+/// Appends a `u32`, low byte first.
+///
+/// # Errors
+///
+/// Fails only with [`Error::OutOfMemory`]; `buf` is then unchanged.
 #[tactic(auto, unfolding(crate::specs::Number::le4))]
 pub fn put_u32<A: Allocator>(buf: &mut Vec<u8, A>, n: u32) -> Result<(), Error>
     ensures ok { OnOk result (buf.new.items ≡ buf.old.items ++ le4 n) }
@@ -69,6 +78,11 @@ pub fn put_u32<A: Allocator>(buf: &mut Vec<u8, A>, n: u32) -> Result<(), Error>
     Ok(())
 }
 
+/// Appends a `u64`, low byte first.
+///
+/// # Errors
+///
+/// Fails only with [`Error::OutOfMemory`]; `buf` is then unchanged.
 #[tactic(auto, unfolding(crate::specs::Number::le8))]
 pub fn put_u64<A: Allocator>(buf: &mut Vec<u8, A>, n: u64) -> Result<(), Error>
     ensures ok { OnOk result (buf.new.items ≡ buf.old.items ++ le8 n) }

@@ -1,9 +1,11 @@
-//! Counts of the blocks that were loaded.
+//! Counts of block loads.
 ghost use Rattle.std.specs.Prelude.{◌≡◌};
 
 use crate::BlockType;
 
-/// How many blocks of each kind were loaded. Each count stays at `u64::MAX`.
+/// The number of block loads of each kind.
+///
+/// Each count saturates at `u64::MAX`.
 #[derive(Clone, Copy, Debug, Default, PartialEq, Eq)]
 pub struct Opened {
     /// Loads of data blocks.
@@ -19,7 +21,7 @@ pub struct Opened {
 impl Opened {
     ghost use Rattle.sst_blocks.specs.Opened.{with_load, none_opened};
 
-    /// No loads.
+    /// Returns zero counts.
     pub fn none() -> Opened
         ensures { result ≡ none_opened }
     {

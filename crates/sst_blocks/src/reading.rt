@@ -1,4 +1,4 @@
-//! Reading the items of a payload, in one walk that tests the grammar and says where they begin.
+//! Reading the items of a payload in one pass that checks the grammar and finds their offsets.
 ghost use Rattle.std.specs.Prelude.{◌≡◌, ◌<◌, ◌≤◌, ◌^◌, None, true, false, length, is_some};
 ghost use Rattle.std.specs.Prelude.{IfErr, IfOk, IsTrue};
 ghost use Rattle.sst_blocks.specs.Format.{items_in};
@@ -15,7 +15,7 @@ pub(crate) use find::find_item;
 pub(crate) use places::{front_len, item_at, key_at};
 use std::alloc::Allocator;
 
-/// An entry or a handle whose parts lie in borrowed bytes.
+/// An entry or a handle whose parts are borrowed bytes.
 pub(crate) trait ItemRef<'a>: Copy {
     ghost use Rattle.std.specs.Prelude.{◌≡◌, Option, Some, None};
     ghost use Rattle.std.specs.Option.{option_map};
@@ -25,48 +25,53 @@ pub(crate) trait ItemRef<'a>: Copy {
     ghost use Rattle.sst_entries.specs.Strict.{is_before, may_follow};
     ghost use Rattle.sst_blocks.specs.declared.version.TableVersion.{TableVersion};
 
-    // What it stands for.
+    // The value that it denotes.
     ghost Told: { Type 0 };
 
     ghost told: { Self → Told };
 
-    // How that is spelled and read.
+    // The encoding of that value.
     ghost format: { TableVersion → Format Told };
 
-    // What has a spelling.
+    // The value has an encoding.
     ghost Fits: { TableVersion → Told → Type 0 };
 
-    /// The item at the front of some bytes, and the bytes after it.
+    /// Reads the item at the front of some bytes, and returns the bytes after it.
     fn read(version: TableVersion, bytes: &'a [u8]) -> Option<(Self, &'a [u8])>
         ensures { option_map (λ x. (told x.0, x.1.now)) result ≡
             (format version).read bytes.now };
 
-    /// The key and the number of the item at the front of some bytes.
+    /// Reads the key and the sequence number of the item at the front of some bytes.
     fn read_key(version: TableVersion, bytes: &'a [u8]) -> (&'a [u8], SeqNo)
         requires { (format version).read bytes.now ≡ None → ⊥ }
         ensures { let key = λ (x : Told). key_and_number ((format version).key x) in
             option_map (λ x. key x.0) ((format version).read bytes.now)
             ≡ Some (result.0.now, result.1) };
 
-    /// Whether the item may stand after another, or at the front.
+    /// Returns whether the item may come after another, or first.
     fn may_follow(&self, last: &Option<Self>) -> bool
         ensures { (v : TableVersion) → let key = λ (x : Self). (format v).key (told x) in
             result ≡ may_follow (option_map key last.now) (key self.now) };
 
-    /// Whether a read of a key at a number comes before the item.
+    /// Returns whether a read of a key at `seqno` orders before the item.
     fn is_past(&self, key: &[u8], seqno: SeqNo) -> bool
         ensures { (v : TableVersion) →
             result ≡ is_before (read_place key.now seqno) ((format v).key (told self.now)) };
 
-    /// A law: what is read is spelled so, and what is spelled so is read. The call does nothing.
+    /// States that reading and encoding are inverse. The call has no effect.
     fn is_format(version: TableVersion)
         ensures law { IsFormat (format version) (Fits version) }
         ensures advances { Advances (format version) };
 }
 
-/// Where the items of a payload begin. Refused [`Error::InvalidBlock`] where the payload does not
-/// spell a strict list of items, and [`Error::OutOfMemory`]. Where it was tested before that it
-/// does, no keys are compared.
+/// Returns the offsets of a payload's items.
+///
+/// If `is_tested`, the grammar was checked already, and no keys are compared.
+///
+/// # Errors
+///
+/// Fails with [`Error::InvalidBlock`] if the payload does not encode a strict list of items, else
+/// only with [`Error::OutOfMemory`].
 pub(crate) fn starts_in<'a, R: ItemRef<'a>, A: Allocator>(
     alloc: A,
     version: TableVersion,

@@ -1,4 +1,4 @@
-//! The sections of a table's bytes, and the trailer that says where they lie.
+//! The sections of a table's bytes, and the trailer with their positions.
 ghost use Rattle.std.specs.Prelude.{◌≡◌, ◌++◌, ◌∷◌, [], ℕ, ◌<◌, ◌^◌, length, IfOk, IfErr, OnOk};
 ghost use Rattle.std.specs.Prelude.{OnErr, All};
 ghost use Rattle.std.specs.List.{flat_map};
@@ -23,7 +23,7 @@ pub enum SectionName {
     Data,
     /// The partitions of a partitioned index.
     Index,
-    /// The top level of the index, or the whole of it.
+    /// The top level of the index, or the whole index if it is not partitioned.
     Tli,
     /// The full filter, or the partitions of a partitioned one.
     Filter,
@@ -36,7 +36,7 @@ pub enum SectionName {
 }
 
 impl SectionName {
-    /// The section's place in the trailer.
+    /// Returns the section's index in the trailer, from 0 to 6.
     pub fn place(self) -> usize
         ensures { result ≡ slot_index self }
     {
@@ -44,12 +44,12 @@ impl SectionName {
     }
 }
 
-/// Where a section lies: its position and its length, both in bytes.
+/// The position and the length of a section, both in bytes.
 #[derive(Clone, Copy, Debug, PartialEq, Eq)]
 pub struct Section {
-    /// Where it begins.
+    /// The position of the first byte.
     pub position: u64,
-    /// How long it is.
+    /// The number of bytes.
     pub len: u64,
 }
 
@@ -64,19 +64,19 @@ const NAMES: [SectionName; 7] = [
     SectionName::Meta,
 ];
 
-/// What a trailer ends with.
+/// The magic number at the end of a trailer.
 pub const TRAILER_MARK: [u8; 8] = *b"LSMTSEC1";
 
-/// The length of a trailer in bytes: seven slots of sixteen, and the mark.
+/// The length of a trailer in bytes: seven slots of sixteen, and the magic number.
 pub const TRAILER_LEN: usize = 120;
 
-/// Writes the sections of a table one after another, and the trailer behind them.
+/// A writer of a table's sections, one after another, and of the trailer after them.
 #[derive(Drop)]
 pub struct SectionWriter<A: Allocator = Global> {
     bytes: Vec<u8, A>,
     started: Vec<(SectionName, u64), A>,
-    // The table's checksum lags behind the bytes: those of a block are hashed in the loop that
-    // hashes the next block's payload, where they cost nothing.
+    // The running checksum lags: the bytes of a block are hashed in the loop that hashes the next
+    // payload, at no extra cost.
     hash: Fnv1a,
     hashed: usize,
 }
@@ -96,7 +96,11 @@ impl<A: Allocator> Model for SectionWriter<A> {
 }
 
 impl<A: Allocator + Clone> SectionWriter<A> {
-    /// No bytes, and no section. Refused [`Error::OutOfMemory`] where the allocator does not clone.
+    /// Creates a writer without bytes and sections.
+    ///
+    /// # Errors
+    ///
+    /// Fails only with [`Error::OutOfMemory`], if the allocator does not clone.
     pub fn new(alloc: A) -> Result<SectionWriter<A>, Error>
         ensures ok { IfOk result (λ w. w ≡ record { bytes = []; started = [] }) }
         ensures err { IfErr result (λ e. e ≡ OutOfMemory) }
@@ -110,8 +114,13 @@ impl<A: Allocator + Clone> SectionWriter<A> {
         })
     }
 
-    /// Begins a section at the position reached. Refused [`Error::OutOfMemory`]; nothing changes
-    /// then.
+    /// Starts a section at the current position.
+    ///
+    /// No section of that name may have been started.
+    ///
+    /// # Errors
+    ///
+    /// Fails only with [`Error::OutOfMemory`]; the writer is then unchanged.
     #[tactic(auto, using(crate::proofs::SectionLaws::ascending_start))]
     pub fn start(&mut self, name: SectionName) -> Result<(), Error>
         requires { All (λ s. slot_index s.0 ≡ slot_index name → ⊥) self.old.started }
@@ -125,7 +134,11 @@ impl<A: Allocator + Clone> SectionWriter<A> {
         Ok(())
     }
 
-    /// Writes bytes at the end. Refused [`Error::OutOfMemory`]; nothing changes then.
+    /// Appends bytes.
+    ///
+    /// # Errors
+    ///
+    /// Fails only with [`Error::OutOfMemory`]; the writer is then unchanged.
     pub fn append(&mut self, bytes: &[u8]) -> Result<(), Error>
         ensures ok { let longer = self.old.bytes ++ bytes.now in
             OnOk result (self.new ≡ record self.old { bytes = longer }) }
@@ -136,15 +149,18 @@ impl<A: Allocator + Clone> SectionWriter<A> {
         Ok(())
     }
 
-    /// How many bytes were written.
+    /// Returns the number of bytes written.
     pub fn position(&self) -> u64
         ensures { result ≡ length self.now.bytes }
     {
         self.bytes.len() as u64
     }
 
-    /// The bytes with their trailer, and the checksum of them all. Refused [`Error::OutOfMemory`]
-    /// alone.
+    /// Writes the trailer, and returns all bytes with their checksum.
+    ///
+    /// # Errors
+    ///
+    /// Fails only with [`Error::OutOfMemory`].
     pub fn finish(self) -> Result<(Slice<A>, Checksum), Error>
         ensures bytes { IfOk result (λ x. x.0 ≡ finished self) }
         ensures checksum { IfOk result (λ x. x.1.0 ≡ fnv1a (finished self)) }
@@ -160,8 +176,11 @@ impl<A: Allocator + Clone> SectionWriter<A> {
         Ok((Slice::from_vec(bytes)?, checksum))
     }
 
-    /// Writes two runs of bytes at the end, one after the other. Refused [`Error::OutOfMemory`];
-    /// nothing changes then.
+    /// Appends two runs of bytes, one after the other.
+    ///
+    /// # Errors
+    ///
+    /// Fails only with [`Error::OutOfMemory`]; the writer is then unchanged.
     pub fn append_both(&mut self, front: &[u8], back: &[u8]) -> Result<(), Error>
         ensures ok { let bytes = self.old.bytes ++ front.now ++ back.now in
             OnOk result (self.new ≡ record self.old { bytes = bytes }) }
@@ -174,8 +193,9 @@ impl<A: Allocator + Clone> SectionWriter<A> {
         Ok(())
     }
 
-    /// The checksum of some bytes. The table's own checksum takes in, in the same loop, the bytes
-    /// that it lags behind.
+    /// Returns the FNV-1a checksum of some bytes, which it does not write.
+    ///
+    /// The running checksum of the table catches up in the same loop.
     pub fn checksum_of(&mut self, bytes: &[u8]) -> u64
         ensures value { result ≡ fnv1a bytes.now }
         ensures unchanged { self.new ≡ self.old }
@@ -192,14 +212,15 @@ impl<A: Allocator + Clone> SectionWriter<A> {
     }
 }
 
-/// A law of tables' bytes: the sections that a writer began, each behind the one before it, are
-/// read back from what it finished. The call does nothing.
+/// States that the sections a writer started are read back from the bytes it finished.
+///
+/// This is a lemma for proofs; the call has no effect.
 pub fn finished_sections_read()
     ensures { (w : Written) → AreAscending (length w.bytes) w.started → length w.bytes < 2 ^ 64 →
         ReadsBack w (finished w) }
 {}
 
-/// Where a section lies among those that were started, of which the last reaches up to `end`.
+/// Returns a section among those that were started; the last one ends at `end`.
 fn section_of(end: u64, started: &[(SectionName, u64)], name: SectionName) -> Option<Section>
     ensures { result ≡ section_of end started.now name }
 {
@@ -212,7 +233,7 @@ fn section_of(end: u64, started: &[(SectionName, u64)], name: SectionName) -> Op
             };
             return Some(Section {
                 position: *position,
-                // Sections begin one behind the other, so that nothing is cut off here.
+                // Sections start in ascending order, so this does not saturate.
                 len: next.saturating_sub(*position),
             });
         }
@@ -220,7 +241,7 @@ fn section_of(end: u64, started: &[(SectionName, u64)], name: SectionName) -> Op
     None
 }
 
-/// Writes what the trailer says of a section.
+/// Appends the slot of a section.
 fn put_slot<A: Allocator>(bytes: &mut Vec<u8, A>, section: Option<Section>) -> Result<(), Error>
     ensures ok { OnOk result (bytes.new.items ≡ bytes.old.items ++ slot section) }
     ensures err { IfErr result (λ e. e ≡ OutOfMemory) }
@@ -235,7 +256,7 @@ fn put_slot<A: Allocator>(bytes: &mut Vec<u8, A>, section: Option<Section>) -> R
     Ok(())
 }
 
-/// Writes the trailer of a body of `end` bytes.
+/// Appends the trailer of a body of `end` bytes.
 fn put_trailer<A: Allocator>(
     bytes: &mut Vec<u8, A>,
     end: u64,

@@ -1,4 +1,4 @@
-//! The only way to the blocks of a table's bytes.
+//! The only access to the blocks of a table's bytes.
 ghost use Rattle.std.specs.Prelude.{◌≡◌, ◌↔◌, ◌+◌, ◌*◌, ◌/◌, ◌⊎◌, ◌<◌, ◌≤◌, ◌^◌, List, ℕ, length};
 ghost use Rattle.std.specs.Prelude.{map};
 ghost use Rattle.std.specs.Prelude.{slice_range};
@@ -32,18 +32,18 @@ use std::sync::Arc;
 /// The length of a block header in bytes.
 const HEADER_LEN: usize = Header::LEN as usize;
 
-/// A table's bytes, whose trailer was read. Blocks are loaded from it, and in no other way. A
-/// contract sees the bytes.
+/// The bytes of a table with a valid trailer, through which all its blocks are loaded.
 ///
-/// Of the payloads whose checksum was compared it remembers, together with its clones, the last
-/// that starts in each 2,048 bytes, where there is memory for it, and does not hash those again;
-/// where their grammar was tested too, no keys are compared again. Memory aside, no answer depends
-/// on it.
+/// It has a verified-block cache, shared by its clones. Per 2,048 bytes, the cache remembers the
+/// last payload starting there whose checksum matched. Such a payload is not hashed again. Once its
+/// grammar is checked too, its keys are not compared again. If the cache cannot be allocated, the
+/// source works without one. Except for `OutOfMemory`, no result depends on the cache. In contracts
+/// the source is its bytes.
 #[derive(Drop)]
 pub struct BlockSource<A: Allocator = Global> {
     bytes: Slice<A>,
     alloc: A,
-    // none where there was no memory for them
+    // `None` if the cache could not be allocated.
     marks: Option<Arc<Marks<A>, A>>,
 }
 
@@ -66,10 +66,14 @@ impl<A: Allocator + Clone> Clone for BlockSource<A> {
 
     ghost is_clone = { λ s copy. copy ≡ s };
 
-    /// A source over the same bytes, which both share, so each load of it answers the same. Refused
-    /// for want of memory alone: where the count of the sharers of the bytes is refused, or a clone
-    /// of the allocator. Where the count of the sharers of what is remembered is refused, the clone
-    /// remembers nothing.
+    /// Returns a source over the same bytes, whose loads return the same.
+    ///
+    /// The clone has no verified-block cache if the cache's reference count cannot be raised.
+    ///
+    /// # Errors
+    ///
+    /// Fails with `AllocError` if the reference count of the bytes cannot be raised, or if the
+    /// allocator does not clone.
     fn clone(&self) -> Result<BlockSource<A>, AllocError> {
         Ok(BlockSource {
             bytes: self.bytes.clone()?,
@@ -79,7 +83,7 @@ impl<A: Allocator + Clone> Clone for BlockSource<A> {
     }
 }
 
-// Marks that are shared once more, or none where the count of their sharers is refused.
+// Shares the cache, or returns `None` if its reference count cannot be raised.
 fn shared<A: Allocator>(marks: &Option<Arc<Marks<A>, A>>) -> Option<Arc<Marks<A>, A>>
     ensures { (bytes : List ℕ) →
         MatchOption marks.now (Unit {0}) (λ m. arc_value m ≡ bytes) →
@@ -91,7 +95,7 @@ fn shared<A: Allocator>(marks: &Option<Arc<Marks<A>, A>>) -> Option<Arc<Marks<A>
     }
 }
 
-// Marks of no payload, or none where there is no memory for them.
+// An empty cache, or `None` if it cannot be allocated.
 fn new_marks<A: Allocator + Clone>(alloc: &A, bytes: &Slice<A>) -> Option<Arc<Marks<A>, A>>
     ensures { MatchOption result (Unit {0}) (λ m. arc_value m ≡ bytes.now) }
 {
@@ -112,9 +116,13 @@ fn shared_marks<A: Allocator + Clone>(
 }
 
 impl<A: Allocator + Clone> BlockSource<A> {
-    /// Reads the trailer. Refused [`Error::InvalidTrailer`] where there are fewer than 120 bytes,
-    /// the mark differs or a section passes the end of the body, and not for want of memory: where
-    /// there is none for its marks, it does without.
+    /// Opens a source over a table's bytes by reading the trailer.
+    ///
+    /// # Errors
+    ///
+    /// Fails only with [`Error::InvalidTrailer`]: if there are fewer than 120 bytes, the magic
+    /// number differs, or a section reaches past the body. It never fails with
+    /// [`Error::OutOfMemory`]: without memory for a cache, it has none.
     pub fn new(alloc: A, bytes: Slice<A>) -> Result<BlockSource<A>, Error>
         ensures ok { IfOk result (λ s. s ≡ bytes) }
         ensures short { length bytes < 2 ^ 63 }
@@ -129,7 +137,7 @@ impl<A: Allocator + Clone> BlockSource<A> {
         })
     }
 
-    /// Where the sections lie, read from the trailer.
+    /// Returns the positions and lengths of the sections, read from the trailer.
     pub fn toc(&self) -> Toc
         ensures toc { result ≡ map (section_in self.now) section_names }
         ensures read { trailer_fault self.now ≡ None }
@@ -140,15 +148,17 @@ impl<A: Allocator + Clone> BlockSource<A> {
         }
     }
 
-    /// The bytes that it reads, their trailer too.
+    /// Returns the bytes of the table, trailer included.
     pub fn bytes(&self) -> &Slice<A>
         ensures { result.now ≡ self.now }
     {
         &self.bytes
     }
 
-    /// How many bytes it takes to remember which payloads were tested: a word of 8 for each 2,048
-    /// bytes and one more, or 0 where there was no memory for them.
+    /// Returns the size of the verified-block cache in bytes.
+    ///
+    /// It is 8 bytes per 2,048 bytes of the table, plus 8; or 0 if the cache could not be
+    /// allocated.
     pub fn marks_size(&self) -> usize
         ensures { (result ≡ 0) ⊎ (result ≡ 8 * (length self.now / 2048 + 1)) }
     {
@@ -158,19 +168,29 @@ impl<A: Allocator + Clone> BlockSource<A> {
         }
     }
 
-    /// The allocator that the memory of blocks comes from.
+    /// Returns the allocator for the memory of blocks.
     pub fn allocator(&self) -> &A {
         &self.alloc
     }
 
-    /// The block of a kind that a handle names. Refused with the first fault, in this order:
-    /// [`Error::Truncated`] where the handle's size is below a header's or passes the body,
-    /// [`Error::InvalidHeader`] for the mark or the zero bytes, [`Error::InvalidTag`],
-    /// [`Error::UnsupportedCompression`], [`Error::InvalidHeader`] for lengths that do not agree,
-    /// [`Error::ChecksumMismatch`], [`Error::InvalidBlock`]; and [`Error::OutOfMemory`]. That
-    /// stands in the place of no fault but an [`Error::InvalidBlock`] that takes memory to find: of
-    /// a block of entries or handles that has room for as many as it counts. Each call counts, also
-    /// where it refuses.
+    /// Loads the block of a kind that a handle describes.
+    ///
+    /// Each call counts in `opened`, even if it fails.
+    ///
+    /// # Errors
+    ///
+    /// Fails with the first of these faults:
+    /// - [`Error::Truncated`]: the handle's size is below a header's, or reaches past the body.
+    /// - [`Error::InvalidHeader`]: the magic number or a reserved byte is wrong.
+    /// - [`Error::InvalidTag`]: the block is of another kind.
+    /// - [`Error::UnsupportedCompression`]: the payload is compressed.
+    /// - [`Error::InvalidHeader`]: the lengths disagree.
+    /// - [`Error::ChecksumMismatch`]: the payload has another checksum.
+    /// - [`Error::InvalidBlock`]: the payload violates its grammar.
+    ///
+    /// It also fails with [`Error::OutOfMemory`]. This error can only hide an
+    /// [`Error::InvalidBlock`] that takes memory to find: in a block of entries or handles with
+    /// room for its count.
     pub fn load(
         &self,
         handle: &BlockHandle,
@@ -180,7 +200,7 @@ impl<A: Allocator + Clone> BlockSource<A> {
         ensures told { let body = body_of self.now in
             Gives (λ (b : Loaded). b) result
             (load_told body handle.now.offset handle.now.size kind) }
-        // What is found up to the checksum, and by the payload's count, takes no memory.
+        // Faults in the position, header, checksum or count come before any `OutOfMemory`.
         ensures first { let body = body_of self.now in
             FaultsFirst result (place_fault body handle.now.offset handle.now.size kind) }
         ensures counted { opened.new ≡ with_load kind opened.old }
@@ -190,9 +210,14 @@ impl<A: Allocator + Clone> BlockSource<A> {
         self.block(placed.header, kind, placed.start, placed.end)
     }
 
-    /// The block of a kind that begins at a position, with the size that its header says. Refused
-    /// as [`BlockSource::load`]; a payload that passes the body is [`Error::Truncated`]. Each call
-    /// counts, also where it refuses.
+    /// Loads the block of a kind at a position, with the size that its header stores.
+    ///
+    /// Each call counts in `opened`, even if it fails.
+    ///
+    /// # Errors
+    ///
+    /// Fails as [`BlockSource::load`]. If the header or the payload reaches past the body, the
+    /// error is [`Error::Truncated`].
     pub fn load_at(
         &self,
         position: u64,
@@ -202,7 +227,7 @@ impl<A: Allocator + Clone> BlockSource<A> {
         ensures told { let told = load_at_told (body_of self.now) position kind in
             Gives (λ (b : Loaded). b) result told }
         ensures first { FaultsFirst result (position_fault (body_of self.now) position kind) }
-        // A block ends within memory.
+        // The block ends below 2^63.
         ensures within { IfOk result (λ b. position + header_len + length b.payload < 2 ^ 63) }
         ensures counted { opened.new ≡ with_load kind opened.old }
     {
@@ -216,19 +241,22 @@ impl<A: Allocator + Clone> BlockSource<A> {
         let start = header_start + HEADER_LEN;
         let header = Header::decode(&body[header_start..start], kind)?;
         if header.data_len != header.uncompressed_len {
-            // Two lengths of one payload.
+            // The two lengths disagree.
             return Err(Error::InvalidHeader);
         }
         let len = header.data_len as usize;
         if body.len() - start < len {
-            // The payload passes the body.
+            // The payload reaches past the body.
             return Err(Error::Truncated);
         }
         self.block(header, kind, start, start + len)
     }
 
-    /// Where the payload lies of the block of a kind that a handle names, and its header. Refused
-    /// with what is wrong with the place, the header or its lengths.
+    /// Returns the header and the payload range of the block of a kind that a handle describes.
+    ///
+    /// # Errors
+    ///
+    /// Fails with the first fault in the handle, the header or its lengths.
     fn place(&self, handle: &BlockHandle, kind: BlockType) -> Result<Placed, Error>
         ensures placed { IfOk result (λ p.
             IsPlaced (body_of self.now) handle.now.offset handle.now.size kind p) }
@@ -253,7 +281,7 @@ impl<A: Allocator + Clone> BlockSource<A> {
         if header.data_len != header.uncompressed_len
             || HEADER_LEN + header.data_len as usize != size
         {
-            // Two lengths, or another than the handle's.
+            // The two lengths disagree, or differ from the handle's.
             return Err(Error::InvalidHeader);
         }
         Ok(Placed {
@@ -271,7 +299,7 @@ impl<A: Allocator + Clone> BlockSource<A> {
         &self.bytes.as_slice()[..self.bytes.len() - TRAILER_LEN]
     }
 
-    /// The block whose header was read and whose payload lies from `start` up to `end`.
+    /// Loads the block whose header was read and whose payload is from `start` up to `end`.
     fn block(
         &self,
         header: Header,
@@ -298,9 +326,13 @@ impl<A: Allocator + Clone> BlockSource<A> {
         Ok(block)
     }
 
-    /// Whether it was tested before that the payload from `start` up to `end` is in its grammar,
-    /// where it has the checksum that its header says, and room for what it counts. Refused
-    /// [`Error::ChecksumMismatch`] and [`Error::InvalidBlock`] where it does not.
+    /// Checks the checksum and the count of a payload, unless the cache has it.
+    ///
+    /// Returns whether the cache says that its grammar was checked.
+    ///
+    /// # Errors
+    ///
+    /// Fails with [`Error::ChecksumMismatch`] or [`Error::InvalidBlock`].
     fn test(
         &self,
         header: &Header,
@@ -337,7 +369,7 @@ impl<A: Allocator + Clone> BlockSource<A> {
         Ok(false)
     }
 
-    /// The block of the payload there, which has the right checksum and room for what it counts.
+    /// Opens the block of a payload with a valid checksum and room for its count.
     fn open(
         &self,
         header: &Header,
@@ -368,7 +400,7 @@ impl<A: Allocator + Clone> BlockSource<A> {
         )
     }
 
-    /// Whether it is marked that the payload which starts here has its checksum and is in its
+    /// Returns whether the cache says that the payload starting here has a valid checksum and
     /// grammar.
     fn was_tested(&self, start: usize) -> bool
         ensures sum { IsTrue result → HasSum self.now start }
@@ -380,7 +412,7 @@ impl<A: Allocator + Clone> BlockSource<A> {
         }
     }
 
-    /// Marks that the payload which starts here has its checksum and is in its grammar.
+    /// Caches that the payload starting here has a valid checksum and grammar.
     fn remember_test(&self, start: usize)
         requires sum { HasSum self.now start }
         requires items { HasItems self.now start }
@@ -390,8 +422,7 @@ impl<A: Allocator + Clone> BlockSource<A> {
         }
     }
 
-    /// Whether the payload from `start` up to `end` has the checksum that its header says. What is
-    /// marked is not hashed again.
+    /// Returns whether a payload has its header's checksum; a cached one is not hashed again.
     fn has_sum(&self, checksum: u64, start: usize, end: usize) -> bool
         requires said { IsSaid self.now start end checksum }
         requires within { end ≤ length (body_of self.now) }
@@ -408,7 +439,7 @@ impl<A: Allocator + Clone> BlockSource<A> {
         same
     }
 
-    /// Whether it is marked that the payload which starts here has its checksum.
+    /// Returns whether the cache says that the payload starting here has a valid checksum.
     fn remembers(&self, start: usize) -> bool
         ensures { IsTrue result → HasSum self.now start }
     {
@@ -418,7 +449,7 @@ impl<A: Allocator + Clone> BlockSource<A> {
         }
     }
 
-    /// Marks that the payload which starts here has its checksum.
+    /// Caches that the payload starting here has a valid checksum.
     fn remember(&self, start: usize)
         requires { HasSum self.now start }
     {
@@ -427,11 +458,13 @@ impl<A: Allocator + Clone> BlockSource<A> {
         }
     }
 
-    /// Compares the checksums of the data block at a position and of those behind it, `most` blocks
-    /// at most and no more than four, up to one that is remembered, where that of the first is not
-    /// and there is memory to remember them; those of two or four in one loop. A block whose
-    /// payload ends in the 2,048 bytes in which it starts is the last that is compared. Loading the
-    /// blocks, one after another, answers what it would without.
+    /// Verifies the checksums of up to four consecutive data blocks, the first at `position`.
+    ///
+    /// It hashes two or four blocks in one loop. Below 2, `most` does nothing; below 4, at most two
+    /// blocks are verified. The call does nothing without a cache, or if the first block is in it.
+    ///
+    /// It stops before a block in the cache. It also stops after a block whose payload ends in the
+    /// 2,048 bytes in which it starts. Later loads return the same with or without this call.
     pub fn compare_ahead(&self, position: u64, most: usize) {
         let Some(marks) = &self.marks else {
             return;
@@ -453,12 +486,15 @@ impl<A: Allocator + Clone> BlockSource<A> {
         self.compare_four(marks, first, second, third, fourth);
     }
 
-    /// Compares the checksums of the blocks that these handles name, four at a time in one loop and
-    /// what is left of them by twos, where there is memory to remember them. Left out are blocks
-    /// whose checksum is remembered, handles of another size than the block's header says, and
-    /// blocks whose payload ends in the 2,048 bytes in which it starts: another that starts there
-    /// would take its place among those that are remembered. Loading the blocks answers what it
-    /// would without.
+    /// Verifies the checksums of these blocks, four at a time in one loop, the rest in pairs.
+    ///
+    /// The call does nothing without a cache. It skips:
+    /// - blocks in the cache;
+    /// - blocks whose size in the header differs from the handle's;
+    /// - blocks whose payload ends in the 2,048 bytes in which it starts, since another block could
+    ///   replace their cache entry.
+    ///
+    /// Later loads return the same with or without this call.
     pub fn compare_together(&self, blocks: &[(BlockHandle, BlockType)]) {
         let Some(marks) = &self.marks else {
             return;
@@ -484,9 +520,7 @@ impl<A: Allocator + Clone> BlockSource<A> {
         self.compare_four(marks, first, second, third, None);
     }
 
-    /// Compares the checksums of four payloads, where there are as many in one loop, and marks
-    /// those that have what their headers say. The bytes of fewer are walked over from both ends at
-    /// once.
+    /// Verifies four payloads in one loop and caches the matches; fewer are verified in pairs.
     fn compare_four(
         &self,
         marks: &Marks<A>,
@@ -518,8 +552,7 @@ impl<A: Allocator + Clone> BlockSource<A> {
         self.mark_said(marks, fourth, sums.3 == sum_of(fourth));
     }
 
-    /// Compares the checksums of two payloads in one loop, each from both ends, and marks those
-    /// that have what their headers say.
+    /// Verifies two payloads in one loop, each from both ends, and caches the matches.
     fn compare_both(&self, marks: &Marks<A>, first: Option<Said>, second: Option<Said>)
         requires of { marks.now ≡ self.now }
         requires first { IfSome first (λ s. IsSaid self.now s.start s.end s.checksum) }
@@ -535,9 +568,10 @@ impl<A: Allocator + Clone> BlockSource<A> {
         self.mark_said(marks, second, is_second);
     }
 
-    /// What the header of the block that a handle names says of its payload, as
-    /// [`BlockSource::said_at`] at its position, where the handle's size agrees, the checksum is
-    /// not remembered and the payload passes the 2,048 bytes in which it starts.
+    /// Reads the payload range and checksum of a block that is worth verifying ahead.
+    ///
+    /// The handle's size must agree. The block must not be in the cache, and must leave the 2,048
+    /// bytes in which its payload starts.
     fn said_of(&self, marks: &Marks<A>, handle: &BlockHandle, kind: BlockType) -> Option<Said>
         ensures { IfSome result (λ said. IsSaid self.now said.start said.end said.checksum) }
     {
@@ -551,8 +585,9 @@ impl<A: Allocator + Clone> BlockSource<A> {
         Some(said)
     }
 
-    /// What the header of the block of a kind at a position says of its payload, where a load there
-    /// would come to the checksum: no payload is hashed for a header that is refused.
+    /// Reads the payload range and checksum from the header at a position.
+    ///
+    /// Returns `None` if a load would fail before it compares the checksum.
     fn said_at(&self, position: u64, kind: BlockType) -> Option<Said>
         ensures said { IfSome result (λ said. IsSaid self.now said.start said.end said.checksum) }
         ensures tested { IfSome result (λ said.
@@ -582,26 +617,25 @@ impl<A: Allocator + Clone> BlockSource<A> {
         })
     }
 
-    /// What its header says of the payload of the block behind another, where its checksum is not
-    /// remembered.
+    /// Reads the payload range and checksum of the block after another, unless it is in the cache.
     fn said_behind(&self, marks: &Marks<A>, before: Option<Said>) -> Option<Said>
         ensures { IfSome result (λ said. IsSaid self.now said.start said.end said.checksum) }
     {
         let before = before?;
-        // Only the last payload that starts in a span is remembered, so the next one there would be
-        // hashed for nothing.
+        // The cache keeps only the last payload that starts in a span, so hashing the next one
+        // would be useless.
         if before.start as u64 / SPAN == before.end as u64 / SPAN {
             return None;
         }
         let said = self.said_at(before.end as u64, BlockType::Data)?;
-        // It keeps its mark, which may say more.
+        // Its cache entry stays: it may also say that the grammar was checked.
         if marks.has_sum(said.start as u64) {
             return None;
         }
         Some(said)
     }
 
-    /// The payload of which that is said.
+    /// The bytes of the payload; none for `None`.
     fn payload(&self, said: Option<Said>) -> &[u8]
         requires { IfSome said (λ s. IsSaid self.now s.start s.end s.checksum) }
         ensures { IfSome said (λ s. result.now ≡ slice_range self.now s.start s.end) }
@@ -612,7 +646,7 @@ impl<A: Allocator + Clone> BlockSource<A> {
         }
     }
 
-    /// Marks a payload where it has the checksum that its header says.
+    /// Caches a payload whose checksum matched.
     fn mark_said(&self, marks: &Marks<A>, said: Option<Said>, has_sum: bool)
         requires of { marks.now ≡ self.now }
         requires said { IfSome said (λ s. IsSaid self.now s.start s.end s.checksum) }
@@ -627,7 +661,7 @@ impl<A: Allocator + Clone> BlockSource<A> {
     }
 }
 
-// The checksum that is said, or 0.
+// The stored checksum, or 0 for `None`.
 fn sum_of(said: Option<Said>) -> u64
     ensures { IfSome said (λ s. result ≡ s.checksum) }
 {
@@ -637,7 +671,7 @@ fn sum_of(said: Option<Said>) -> u64
     }
 }
 
-/// Where a payload lies, and its header.
+/// The range of a payload, and its header.
 #[derive(Clone, Copy)]
 struct Placed {
     header: Header,
@@ -645,7 +679,7 @@ struct Placed {
     end: usize,
 }
 
-/// Where a payload lies, and the checksum that its header says.
+/// The range of a payload, and the checksum in its header.
 #[derive(Clone, Copy)]
 struct Said {
     start: usize,

@@ -1,4 +1,4 @@
-//! Where the entries or the handles of a payload begin, and whether it has room for their count.
+//! The offsets of a payload's entries or handles.
 ghost use Rattle.std.specs.Prelude.{◌≡◌, ◌<◌, ◌^◌, Some, length, IfOk, IfErr};
 ghost use Rattle.sst_blocks.specs.Block.{has_room_for};
 ghost use Rattle.std.specs.List.{slice_get};
@@ -10,7 +10,7 @@ use std::alloc::{AllocError, Allocator, Global};
 use std::marker::Model;
 use std::sync::ArcSlice;
 
-/// Whether a payload has a count, and behind it room for as many items of `least` bytes each.
+/// Returns whether a payload has a count, then room for that many items of `least` bytes each.
 #[inline]
 #[tactic(auto, unfolding(crate::specs::Block::has_room_for))]
 pub(crate) fn has_room_for(payload: &[u8], least: usize) -> bool
@@ -24,8 +24,9 @@ pub(crate) fn has_room_for(payload: &[u8], least: usize) -> bool
     least * count <= payload.len() - 4
 }
 
-/// The places in a payload where its entries or handles begin, which all clones of a block share. A
-/// contract sees the list.
+/// The offsets of a payload's entries or handles, shared by all clones of a block.
+///
+/// In contracts it is the list of offsets.
 #[derive(Drop)]
 pub(crate) struct Starts<A: Allocator = Global> {
     places: ArcSlice<u32, A>,
@@ -53,7 +54,11 @@ impl<A: Allocator> Clone for Starts<A> {
 }
 
 impl<A: Allocator + Clone> Starts<A> {
-    /// These places, which are not copied. Refused [`Error::OutOfMemory`] alone.
+    /// Takes the offsets without copying them.
+    ///
+    /// # Errors
+    ///
+    /// Fails only with [`Error::OutOfMemory`].
     pub(crate) fn new(places: Vec<u32, A>) -> Result<Starts<A>, Error>
         ensures ok { IfOk result (λ s. s ≡ places.items) }
         ensures err { IfErr result (λ e. e ≡ OutOfMemory) }
@@ -65,7 +70,7 @@ impl<A: Allocator + Clone> Starts<A> {
 }
 
 impl<A: Allocator> Starts<A> {
-    /// How many there are.
+    /// Returns the number of offsets.
     #[inline(always)]
     pub(crate) fn len(&self) -> usize
         ensures { result ≡ length self.now }
@@ -73,7 +78,7 @@ impl<A: Allocator> Starts<A> {
         self.places.as_slice().len()
     }
 
-    /// The place of an entry or a handle.
+    /// Returns the offset of an entry or a handle.
     #[inline(always)]
     pub(crate) fn at(&self, index: usize) -> usize
         requires { index < length self.now }

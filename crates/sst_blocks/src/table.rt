@@ -1,5 +1,4 @@
-//! What a table is: its id, its label and options, and the items of its meta block. Writers and
-//! readers stand on it.
+//! The ids, info, options and meta items of a table.
 mod id;
 mod item_name;
 mod label;

@@ -1,4 +1,4 @@
-//! What a trailer says of the sections.
+//! The table of contents that a trailer stores.
 ghost use Rattle.std.specs.Prelude.{◌≡◌, ◌*◌, ◌≤◌, None, Some, drop, length, map, slice_index_or};
 ghost use Rattle.std.specs.Prelude.{IfOk};
 ghost use Rattle.std.specs.List.{list_any};
@@ -12,13 +12,15 @@ use crate::{Section, SectionName};
 use sst_entries::Error;
 use std::marker::Model;
 
-/// The length of the seven slots of a trailer in bytes: the mark stands behind them.
+/// The length of a trailer's seven slots in bytes; the magic number comes after them.
 const SLOTS_LEN: usize = TRAILER_LEN - TRAILER_MARK.len();
 
-/// Where each section of a table lies. A contract sees the list of the sections in the trailer's
-/// order.
+/// The positions and lengths of a table's sections.
+///
+/// In contracts it is the list of the sections in the trailer's order.
 #[derive(Clone, Copy, Debug)]
 pub struct Toc {
+    /// The sections in the trailer's order, `None` for those that the table does not have.
     pub sections: [Option<Section>; 7],
 }
 
@@ -34,15 +36,19 @@ impl Model for Toc {
 }
 
 impl Toc {
-    /// Where a section lies, or `None` where the table has none of that name.
+    /// Returns the section of a name, or `None` if the table does not have it.
     pub fn section(&self, name: SectionName) -> Option<Section>
         ensures { result ≡ slice_index_or self.now (slot_index name) None }
     {
         self.sections[name.place()]
     }
 
-    /// Reads the trailer of a table's bytes. Refused [`Error::InvalidTrailer`] where there are
-    /// fewer bytes than a trailer has, the mark differs or a section passes the end of the body.
+    /// Reads the trailer of a table's bytes.
+    ///
+    /// # Errors
+    ///
+    /// Fails with [`Error::InvalidTrailer`] if there are fewer than 120 bytes, the magic number
+    /// differs, or a section reaches past the body.
     pub fn of(bytes: &[u8]) -> Result<Toc, Error>
         ensures toc { IfOk result (λ toc. toc ≡ map (section_in bytes.now) section_names) }
         ensures fault { Refuses result (trailer_fault bytes.now) }
@@ -81,7 +87,7 @@ impl Toc {
         }
     }
 
-    /// Whether some section passes the end of a body.
+    /// Returns whether a section reaches past a body that ends at `end`.
     fn passes(&self, end: usize) -> bool
         ensures { result ≡ list_any (is_past end) self.now }
     {
@@ -89,7 +95,7 @@ impl Toc {
     }
 }
 
-/// What a slot says, or `None` for sixteen bytes ff.
+/// Returns the section of a slot, or `None` for sixteen bytes ff.
 fn section_at(slot: &[u8]) -> Option<Section>
     requires { 16 ≤ length slot.now }
     ensures { result ≡ section_at slot.now }
@@ -103,7 +109,7 @@ fn section_at(slot: &[u8]) -> Option<Section>
     })
 }
 
-/// Whether a section passes the end of a body. The sum is taken without wrapping.
+/// Returns whether a section reaches past a body that ends at `end`, without wrapping.
 fn is_past(end: usize, section: &Option<Section>) -> bool
     ensures { result ≡ is_past end section.now }
 {

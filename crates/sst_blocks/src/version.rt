@@ -2,21 +2,22 @@
 ghost use Rattle.std.specs.Prelude.{◌≡◌, IsTrue, ◌↔◌};
 ghost use Rattle.sst_blocks.specs.Version.{mark, longest_key, version_of};
 
-/// A version of the table format. Every block says by its mark which version's grammar its payload
-/// has.
+/// A version of the table format.
+///
+/// A block's magic number names the version of its payload's grammar.
 #[derive(Clone, Copy, Debug, PartialEq, Eq)]
 pub enum TableVersion {
-    /// Key lengths of two bytes. Read, and never written.
+    /// Key lengths take two bytes; read only, never written.
     V3,
-    /// Key lengths of four bytes. Read and written.
+    /// Key lengths take four bytes; read and written.
     V4,
 }
 
 impl TableVersion {
-    /// The version that is written.
+    /// The version that writers write.
     pub const WRITTEN: TableVersion = TableVersion::V4;
 
-    /// The four bytes that a block of this version begins with.
+    /// Returns the magic number of blocks of this version.
     pub fn mark(self) -> [u8; 4]
         ensures { result ≡ mark self }
     {
@@ -26,7 +27,7 @@ impl TableVersion {
         }
     }
 
-    /// The version of a mark, or `None` for bytes that are none.
+    /// Returns the version of a magic number, or `None` for other bytes.
     pub fn from_mark(bytes: &[u8]) -> Option<TableVersion>
         ensures { result ≡ version_of bytes.now }
     {
@@ -39,7 +40,7 @@ impl TableVersion {
         }
     }
 
-    /// The longest key that a writer of this version takes, in bytes.
+    /// Returns the longest key that a writer of this version accepts, in bytes.
     pub fn longest_key(self) -> usize
         ensures { result ≡ longest_key self }
     {

@@ -1,4 +1,4 @@
--- Refusals: their numbers, and what a call that may want memory promises.
+-- Error codes, and how results relate to expected errors.
 use Rattle.std.specs.Prelude.{◌≡◌, ℕ, Bool, true, false, Option, Some, None, Result, Ok, Err}
 use Rattle.sst_entries.specs.declared.error.Error.{Error}
 use Rattle.sst_entries.specs.declared.error.Error.TheVariants.{OutOfMemory, Truncated}
@@ -16,6 +16,7 @@ use Rattle.sst_entries.specs.declared.error.Error.TheVariants.{UnsupportedCompre
 use Rattle.sst_entries.specs.declared.error.Error.TheVariants.{GlobalSeqNoTooLarge, SeqNoOverflow}
 use Rattle.sst_entries.specs.declared.error.Error.TheVariants.{TableIdsSpent, WriterFailed, Source}
 
+-- The error code of an error.
 abbrev pub number_of : Error → ℕ
 number_of OutOfMemory = 1
 number_of Truncated = 2
@@ -42,36 +43,35 @@ number_of TableIdsSpent = 22
 number_of WriterFailed = 23
 number_of (Source n) = 24
 
--- want of memory
+-- The error is `OutOfMemory`.
 abbrev pub is_memory : Error → Bool
 is_memory OutOfMemory = true
 is_memory e = false
 
--- memory aside, the refusal is the one that is told
+-- Except for `OutOfMemory`, the expected result is this error.
 abbrev pub Fails : {Y : Type 0} → Error → Result Y Error → Type 0
 Fails e told = is_memory e ≡ false → told ≡ Err e
 
--- memory aside, a call answered what is told, its value seen by a view
+-- Except for `OutOfMemory`, a call returns the expected result, its value seen through a view.
 abbrev pub Gives : {X Y : Type 0} → (X → Y) → Result X Error → Result Y Error → Type 0
 Gives view (Ok x) told = told ≡ Ok (view x)
 Gives view (Err e) told = Fails e told
 
--- memory aside, a call refuses exactly with the fault that is told, and succeeds where none is
+-- Except for `OutOfMemory`, a call fails exactly with the expected error, and succeeds without one.
 abbrev pub Faults : {X : Type 0} → Result X Error → Option Error → Type 0
 Faults (Ok x) told = told ≡ None
 Faults (Err e) told = is_memory e ≡ false → told ≡ Some e
 
--- the first fault, or else what comes after it
+-- The expected error if there is one, else the result.
 abbrev pub unless : {A : Type 0} → Option Error → Result A Error → Result A Error
 unless None told = told
 unless (Some e) told = Err e
 
--- a call refuses exactly with the fault that is told, and succeeds where none is
+-- A call fails exactly with the expected error, and succeeds without one.
 abbrev pub Refuses : {X : Type 0} → Result X Error → Option Error → Type 0
 Refuses (Ok x) told = told ≡ None
 Refuses (Err e) told = told ≡ Some e
 
--- a fault that needs no memory to be found comes before any want of memory: where it is told, it is
--- the refusal
+-- An expected error that needs no memory to detect is returned before any `OutOfMemory`.
 abbrev pub FaultsFirst : {X : Type 0} → Result X Error → Option Error → Type 0
 FaultsFirst result told = (e : Error) → told ≡ Some e → Refuses result (Some e)

@@ -1,4 +1,4 @@
--- A point read, and the entries within bounds.
+-- Point reads, and the entries within bounds.
 use Rattle.std.specs.Prelude.{ℕ, Bool, true, ◌&&◌, not, nat_lt, List, [], length, Option, find}
 use Rattle.std.specs.Prelude.{filter}
 use Rattle.std.specs.declared.ops.Bound.{Bound}
@@ -8,39 +8,41 @@ use Rattle.sst_entries.specs.Entry.{Entry, entry}
 use Rattle.sst_entries.specs.Key.{same_key, key_lt}
 use Rattle.sst_entries.specs.Span.{front_length}
 
--- the entry has the key, and a number below the bound
+-- The entry has the key, and a sequence number below the bound.
 abbrev pub is_hit : List ℕ → ℕ → Entry → Bool
 is_hit key bound e = same_key e.user_key key && nat_lt e.seqno bound
 
--- the first entry of the key numbered below the bound
+-- The first entry of the key that is visible at the bound.
 unfoldable pub point : List Entry → List ℕ → ℕ → Option Entry
 point es key bound = find (is_hit key bound) es
 
--- the place in the order at which a read of a key at a bound stands
+-- The position, in the order of entries, of a read of a key at a bound.
 abbrev pub read_place : List ℕ → ℕ → Entry
 read_place key bound = entry key [] bound Value
 
--- the key stands within a lower edge, and within an upper one
+-- The key is within a lower bound.
 abbrev pub is_from : Bound (List ℕ) → List ℕ → Bool
 is_from (Included low) key = not (key_lt key low)
 is_from (Excluded low) key = key_lt low key
 is_from Unbounded key = true
 
+-- The key is within an upper bound.
 abbrev pub is_to : Bound (List ℕ) → List ℕ → Bool
 is_to (Included high) key = not (key_lt high key)
 is_to (Excluded high) key = key_lt key high
 is_to Unbounded key = true
 
--- the entries within both edges
+-- The entries within both bounds.
 abbrev pub within : Bound (List ℕ) → Bound (List ℕ) → List Entry → List Entry
 within low high es = filter (λ e. is_from low e.user_key && is_to high e.user_key) es
 
--- how many entries stand before a lower edge, and how many up to an upper one
+-- The number of entries before a lower bound.
 abbrev pub lower_place : Bound (List ℕ) → List Entry → ℕ
 lower_place (Included low) es = front_length (λ e. key_lt e.user_key low) es
 lower_place (Excluded low) es = front_length (λ e. not (key_lt low e.user_key)) es
 lower_place Unbounded es = 0
 
+-- The number of entries up to an upper bound.
 abbrev pub upper_place : Bound (List ℕ) → List Entry → ℕ
 upper_place (Included high) es = front_length (λ e. not (key_lt high e.user_key)) es
 upper_place (Excluded high) es = front_length (λ e. key_lt e.user_key high) es

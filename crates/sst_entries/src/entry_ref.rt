@@ -1,4 +1,4 @@
-//! Entries whose key and value lie in borrowed bytes.
+//! Borrowed entries.
 ghost use Rattle.std.specs.Prelude.{◌≡◌};
 ghost use Rattle.sst_entries.specs.Kind.{is_tombstone_kind};
 ghost use Rattle.sst_entries.specs.Lending.{entry_cmp, entry_of_ref};
@@ -8,21 +8,21 @@ use crate::{InternalValue, SeqNo, ValueType, compare_versions};
 use std::alloc::Allocator;
 use std::cmp::Ordering;
 
-/// An entry whose key and value lie in borrowed bytes.
+/// An entry whose key and value are borrowed bytes.
 #[derive(Clone, Copy, Debug, PartialEq, Eq)]
 pub struct EntryRef<'a> {
-    /// The key.
+    /// The user key.
     pub user_key: &'a [u8],
-    /// The number of this version of it.
+    /// The sequence number of this version.
     pub seqno: SeqNo,
-    /// The version's kind.
+    /// The kind of the entry.
     pub value_type: ValueType,
     /// The value.
     pub value: &'a [u8],
 }
 
 impl<'a> EntryRef<'a> {
-    /// Whether the entry is one of the two kinds of tombstone.
+    /// Returns whether the entry is a tombstone, weak or not.
     #[inline]
     pub fn is_tombstone(&self) -> bool
         ensures { result ≡ is_tombstone_kind (entry_of_ref self.now).kind }
@@ -30,7 +30,9 @@ impl<'a> EntryRef<'a> {
         self.value_type.is_tombstone()
     }
 
-    /// Compares by key upward, then by number downward. Kind and value are not looked at.
+    /// Compares by key ascending, then by sequence number descending.
+    ///
+    /// Kind and value are ignored.
     #[inline]
     pub fn compare_version(&self, other: &EntryRef<'_>) -> Ordering
         ensures { result ≡ version_cmp (entry_of_ref self.now) (entry_of_ref other.now) }
@@ -38,8 +40,8 @@ impl<'a> EntryRef<'a> {
         compare_versions(self.user_key, self.seqno, other.user_key, other.seqno)
     }
 
-    /// Compares as [`crate::InternalKey`]s are: by key upward, by number downward, and in a
-    /// remaining tie by tag upward.
+    /// Compares in the order of [`crate::InternalKey`]: key ascending, sequence number descending,
+    /// then tag ascending.
     #[inline]
     pub fn compare_key(&self, other: &EntryRef<'_>) -> Ordering
         ensures { result ≡ entry_cmp (entry_of_ref self.now) (entry_of_ref other.now) }
@@ -50,7 +52,7 @@ impl<'a> EntryRef<'a> {
 }
 
 impl<A: Allocator> InternalValue<A> {
-    /// The entry, borrowed.
+    /// Borrows the entry.
     #[inline]
     pub fn as_entry_ref(&self) -> EntryRef<'_>
         ensures { entry_of_ref result ≡ self.now }

@@ -1,20 +1,22 @@
-//! Why a call refused.
+//! The error type of all calls on tables.
 ghost use Rattle.std.specs.Prelude.{◌≡◌};
 ghost use Rattle.sst_entries.specs.Error.{number_of};
 
 use std::alloc::{AllocError, AllocFailed};
 
-/// What an unexpected tag byte stands for.
+/// The kind of tag that [`Error::InvalidTag`] reports.
 #[derive(Clone, Copy, Debug, PartialEq, Eq)]
 pub enum TagName {
     /// The kind byte of a block header.
     BlockType,
 }
 
-/// Why a call refused. Each refusal has a number of its own, see [`Error::number`].
+/// The error of every fallible call on tables and their parts.
+///
+/// Each variant has its own error code, see [`Error::number`].
 #[derive(Debug, Drop, PartialEq, Eq, thiserror::Error)]
 pub enum Error {
-    /// A growth of memory was refused.
+    /// An allocation failed.
     #[error("out of memory")]
     OutOfMemory,
 
@@ -22,23 +24,24 @@ pub enum Error {
     #[error("a block reaches past the sections")]
     Truncated,
 
-    /// A block header has another mark, other zero bytes or lengths that do not agree.
+    /// A block header has an unknown magic number, reserved bytes that are not zero, or lengths
+    /// that disagree.
     #[error("invalid block header")]
     InvalidHeader,
 
-    /// A block of another kind than asked for, with the kind byte that it has.
+    /// A block has another kind than expected; the `u8` is its kind byte.
     #[error("invalid tag {1} for {0:?}")]
     InvalidTag(TagName, u8),
 
-    /// A payload's checksum differs.
+    /// The checksum of a payload does not match its header.
     #[error("checksum mismatch")]
     ChecksumMismatch,
 
-    /// A payload is not in its grammar.
+    /// A payload violates the grammar of its block kind.
     #[error("invalid block payload")]
     InvalidBlock,
 
-    /// A key is longer than a table holds.
+    /// A key exceeds the format's maximum key length.
     #[error("key too long")]
     KeyTooLong,
 
@@ -46,73 +49,73 @@ pub enum Error {
     #[error("value too long")]
     ValueTooLong,
 
-    /// A block's length bound is 2^32 or more.
+    /// The upper bound on a block's length is 2^32 bytes or more.
     #[error("block too large")]
     BlockTooLarge,
 
-    /// A section's length, in a writer its bound, is 2^32 or more.
+    /// A section's length is 2^32 bytes or more; in a writer, its upper bound is.
     #[error("section too large")]
     SectionTooLarge,
 
-    /// No trailer, one with another mark, or a section past the body.
+    /// The trailer is missing, has another magic number, or describes a section past the body.
     #[error("invalid trailer")]
     InvalidTrailer,
 
-    /// A table without its top level index or its meta block.
+    /// The table has no top-level index or no meta block.
     #[error("missing section")]
     MissingSection,
 
-    /// A meta item that is read is not there.
+    /// A required meta item is missing.
     #[error("missing meta item")]
     MetaKeyMissing,
 
-    /// A meta value is shorter than its number.
+    /// A meta value is too short for its integer.
     #[error("invalid meta value")]
     InvalidMetaValue,
 
-    /// A table version that cannot be read.
+    /// The table version is not supported.
     #[error("unsupported table version")]
     UnsupportedTableVersion,
 
-    /// A filter hash that cannot be computed.
+    /// The filter's hash function is not supported.
     #[error("unsupported hash type")]
     UnsupportedHashType,
 
-    /// A checksum that cannot be computed.
+    /// The checksum type is not supported.
     #[error("unsupported checksum type")]
     UnsupportedChecksumType,
 
-    /// An index block with another restart interval than 1.
+    /// The index blocks have a restart interval other than 1.
     #[error("unsupported index restart interval")]
     UnsupportedIndexInterval,
 
-    /// A compression that cannot be undone.
+    /// A compression type is not supported.
     #[error("unsupported compression")]
     UnsupportedCompression,
 
-    /// The highest stored number plus the global number passes `u64`.
+    /// The highest stored sequence number plus the global one exceeds `u64::MAX`.
     #[error("global sequence number too large")]
     GlobalSeqNoTooLarge,
 
-    /// An entry's number plus the global number passes `u64`.
+    /// An entry's sequence number plus the global one exceeds `u64::MAX`.
     #[error("sequence number overflow")]
     SeqNoOverflow,
 
-    /// A table id is needed after the last one was drawn.
+    /// A table id is needed, but all ids are used.
     #[error("table ids spent")]
     TableIdsSpent,
 
-    /// A call on a writer that has refused before.
+    /// The writer has already returned an error.
     #[error("the writer has failed")]
     WriterFailed,
 
-    /// An error of a caller's own iterator or filter.
+    /// A caller's own iterator or filter failed, with a code of its choice.
     #[error("source error {0}")]
     Source(u64),
 }
 
 impl Error {
-    /// The refusal's number, from 1 to 24.
+    /// Returns the error code, from 1 to 24.
     pub fn number(&self) -> u8
         ensures { result ≡ number_of self.now }
     {

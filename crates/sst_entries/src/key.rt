@@ -1,4 +1,4 @@
-//! Keys with their number and kind.
+//! User keys with a sequence number and a kind.
 ghost use Rattle.sst_entries.specs.Key.{key_cmp};
 ghost use Rattle.std.proofs.Common.{rules};
 ghost use Rattle.std.specs.Cmp.{partial_order_from_own_ties};
@@ -9,18 +9,18 @@ use crate::{SeqNo, UserKey, ValueType};
 use std::alloc::{AllocError, Allocator, Global};
 use std::cmp::Ordering;
 
-/// A user key with the number and the kind of one of its versions.
+/// A user key with the sequence number and the kind of one of its versions.
 ///
-/// Keys are ordered bytewise upward, versions of a key by number downward, and a remaining tie by
-/// the tag upward, so that the order agrees with equality.
+/// Keys are ordered bytewise ascending, then by sequence number descending, then by tag ascending.
+/// This order agrees with equality.
 #[derive(Drop)]
 #[derive_where(Debug, PartialEq, Eq, Hash)]
 pub struct InternalKey<A: Allocator = Global> {
-    /// The key.
+    /// The user key.
     pub user_key: UserKey<A>,
-    /// The version's number.
+    /// The sequence number of the version.
     pub seqno: SeqNo,
-    /// The version's kind.
+    /// The kind of the version.
     pub value_type: ValueType,
 }
 
@@ -29,7 +29,11 @@ impl<A: Allocator> Clone for InternalKey<A> {
 
     ghost is_clone = { λ key copy. copy ≡ key };
 
-    /// A share of the key. Refused where its bytes' count of sharers is.
+    /// Returns a key that shares the same bytes.
+    ///
+    /// # Errors
+    ///
+    /// Fails with `AllocError` if the reference count of the bytes cannot be raised.
     fn clone(&self) -> Result<InternalKey<A>, AllocError> {
         Ok(InternalKey {
             user_key: self.user_key.clone()?,

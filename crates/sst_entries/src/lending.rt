@@ -1,10 +1,11 @@
-//! Entries that are lent from where they lie.
+//! The lending iterator over entries.
 ghost use Rattle.std.specs.Prelude.{◌≡◌, ◌<◌, ◌↔◌};
 
 use crate::{EntryRef, Error};
 
-/// Gives entries one after another, from the front, each lent from where it lies until the next is
-/// asked for: nothing is shared and nothing is copied.
+/// An iterator that lends each item by reference until the next call.
+///
+/// It reads from the front. Entries are neither shared nor copied.
 pub trait Lending {
     ghost use Rattle.std.specs.Prelude.{ℕ, Option, None, Result, IfOk, OnErr, IsTrue, is_some};
     ghost use Rattle.std.specs.Option.{option_map};
@@ -13,20 +14,25 @@ pub trait Lending {
     ghost use Rattle.sst_entries.specs.Stream.{Lowers};
     ghost use Rattle.sst_entries.specs.declared.error.Error.{Error};
 
-    // Whether it may be asked for the next entry.
+    // `advance` may be called in this state.
     ghost can_advance: { Self → Type 0 };
 
-    // How it goes on: from what it was, what came, and what it then is, as an iterator's `next`.
+    // One step relates the state before, the item and the state after, as an iterator's `next`.
     ghost advances: { Self → Option (Result Entry Error) → Self → Type 0 };
 
-    // The entry that is lent.
+    // The borrowed entry.
     ghost lent: { Self → Option Entry };
 
-    // How many more may come at most.
+    // An upper bound on the number of items that remain.
     ghost left: { Self → ℕ };
 
-    /// Goes on to the next entry, and answers whether there is one. What was lent before is lent no
-    /// more. An error comes in the place of an entry, and nothing is lent then.
+    /// Advances to the next entry and returns whether there is one.
+    ///
+    /// Afterwards the previous entry is no longer available.
+    ///
+    /// # Errors
+    ///
+    /// An error takes the position of an entry; [`Lending::entry`] then returns `None`.
     fn advance(&mut self) -> Result<bool, Error>
         requires { can_advance self.old }
         ensures goes { advances self.old (came result (lent self.new)) self.new }
@@ -34,7 +40,9 @@ pub trait Lending {
         ensures err { OnErr result (lent self.new ≡ None) }
         ensures lowers { Lowers (came result (lent self.new)) (left self.old) (left self.new) };
 
-    /// The entry that is lent: `None` before the first was asked for, after the last, and after an
+    /// Returns the current entry.
+    ///
+    /// It returns `None` before the first [`Lending::advance`], after the last entry and after an
     /// error.
     fn entry(&self) -> Option<EntryRef<'_>>
         ensures { option_map entry_of_ref result ≡ lent self.now };

@@ -1,5 +1,4 @@
-//! The entries of sorted tables: shared byte slices, keys, entries and their order, errors, and
-//! what the two ends of a list of entries answer.
+//! The entries of sorted tables: byte slices, keys, entries, their order, errors and streams.
 #![tactic(auto)]
 
 mod entry_ref;
@@ -22,5 +21,5 @@ pub use stream::{Direction, IterItem, answer_at, answers_at, from_the_front, sou
 pub use value::InternalValue;
 pub use value_type::ValueType;
 
-/// The number of an entry: of two versions of a key, the one with the greater number is newer.
+/// A sequence number; larger is newer.
 pub type SeqNo = u64;

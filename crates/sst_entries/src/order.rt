@@ -1,4 +1,4 @@
-//! The order of entries by key and number alone.
+//! The order of entries by key and sequence number.
 ghost use Rattle.std.specs.Prelude.{◌≡◌, IsTrue, ◌↔◌, None};
 ghost use Rattle.sst_entries.specs.Point.{read_place};
 ghost use Rattle.sst_entries.specs.Strict.{IsStrict, is_strict_after, version_cmp};
@@ -7,8 +7,9 @@ use crate::{InternalValue, SeqNo};
 use std::alloc::Allocator;
 use std::cmp::Ordering;
 
-/// Compares two versions of keys: by key upward, then by number downward. Kind and value are not
-/// looked at.
+/// Compares two versions by key ascending, then by sequence number descending.
+///
+/// Kind and value are ignored.
 #[inline]
 pub fn compare_versions(key: &[u8], seqno: SeqNo, other_key: &[u8], other_seqno: SeqNo) -> Ordering
     ensures { result ≡ version_cmp (read_place key.now seqno)
@@ -17,8 +18,9 @@ pub fn compare_versions(key: &[u8], seqno: SeqNo, other_key: &[u8], other_seqno:
     key.cmp(other_key).then(other_seqno.cmp(&seqno))
 }
 
-/// Whether each entry comes before the next by key and number alone: what a block or a table asks
-/// of its entries.
+/// Returns whether the entries are in strict order by key and sequence number.
+///
+/// Every block and every table requires this order. The call is linear in the number of entries.
 pub fn are_strict<A: Allocator>(items: &[InternalValue<A>]) -> bool
     ensures test { result ≡ is_strict_after None items.now }
     ensures means { IsTrue result ↔ IsStrict items.now }

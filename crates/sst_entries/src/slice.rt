@@ -1,4 +1,4 @@
-//! Shared runs of bytes.
+//! Immutable byte slices with shared memory.
 ghost use Rattle.std.specs.Prelude.{◌≡◌, ◌<◌, ◌≤◌, ◌^◌, ◌↔◌, [], length, slice_range, IsTrue, IfOk};
 ghost use Rattle.std.specs.Prelude.{IfErr};
 ghost use Rattle.std.specs.Prelude.{nat_eq, refl, Some};
@@ -18,14 +18,15 @@ use std::cmp::Ordering;
 use std::hash::{Hash, Hasher};
 use std::marker::Model;
 
-/// The bytes of a key.
+/// The bytes of a user key.
 pub type UserKey<A = Global> = Slice<A>;
 
 /// The bytes of a value.
 pub type UserValue<A = Global> = Slice<A>;
 
-/// Bytes that are never changed, whose clones and parts share their memory. A contract sees the
-/// list of the bytes. Equality, order and hash are those of the bytes.
+/// An immutable run of bytes whose clones and subslices share its memory.
+///
+/// Equality, order and hash are those of the bytes. In contracts a slice is the list of its bytes.
 #[derive(Drop)]
 #[derive_where(Debug)]
 pub struct Slice<A: Allocator = Global> {
@@ -55,7 +56,7 @@ impl<A: Allocator> Clone for Slice<A> {
 }
 
 impl<A: Allocator> Slice<A> {
-    /// No bytes, and no memory.
+    /// Returns a slice without bytes. It does not allocate.
     pub fn empty() -> Slice<A>
         ensures { result ≡ [] }
     {
@@ -64,7 +65,7 @@ impl<A: Allocator> Slice<A> {
         }
     }
 
-    /// Some bytes that stay for good, which are not copied: no memory is taken.
+    /// Returns a slice of static bytes. It neither copies nor allocates.
     pub fn from_static(bytes: &'static [u8]) -> Slice<A>
         ensures { result ≡ bytes.now }
     {
@@ -73,7 +74,7 @@ impl<A: Allocator> Slice<A> {
         }
     }
 
-    /// The bytes.
+    /// Returns the bytes.
     #[inline]
     pub fn as_slice(&self) -> &[u8]
         ensures { result.now ≡ self.now }
@@ -81,7 +82,7 @@ impl<A: Allocator> Slice<A> {
         self.bytes.as_slice()
     }
 
-    /// Whether these are some bytes, which need be no slice of their own.
+    /// Returns whether the slice equals some bytes.
     #[inline]
     pub fn equals(&self, bytes: &[u8]) -> bool
         ensures { IsTrue result ↔ (self.now ≡ bytes.now) }
@@ -89,7 +90,7 @@ impl<A: Allocator> Slice<A> {
         self.as_slice() == bytes
     }
 
-    /// How many bytes there are.
+    /// Returns the number of bytes.
     #[inline]
     pub fn len(&self) -> usize
         ensures value { result ≡ length self.now }
@@ -98,15 +99,21 @@ impl<A: Allocator> Slice<A> {
         self.bytes.len()
     }
 
-    /// Whether there are no bytes.
+    /// Returns whether there are no bytes.
     pub fn is_empty(&self) -> bool
         ensures { IsTrue result ↔ (self.now ≡ []) }
     {
         self.as_slice().is_empty()
     }
 
-    /// The bytes from `start` up to `end`, which share the memory of these. Refused
-    /// [`Error::OutOfMemory`] where the count of sharers is refused; nothing changes then.
+    /// Returns the bytes from `start` up to `end`, sharing memory.
+    ///
+    /// The caller ensures `start <= end` and `end <= len`.
+    ///
+    /// # Errors
+    ///
+    /// Fails with [`Error::OutOfMemory`] if the reference count cannot be raised; nothing changes
+    /// then.
     pub fn slice(&self, start: usize, end: usize) -> Result<Slice<A>, Error>
         requires ordered { start ≤ end }
         requires within { end ≤ length self.now }
@@ -120,7 +127,11 @@ impl<A: Allocator> Slice<A> {
 }
 
 impl<A: Allocator + Clone> Slice<A> {
-    /// A copy of some bytes. Refused [`Error::OutOfMemory`] alone.
+    /// Copies some bytes into a new slice.
+    ///
+    /// # Errors
+    ///
+    /// Fails only with [`Error::OutOfMemory`].
     pub fn from(alloc: A, bytes: &[u8]) -> Result<Slice<A>, Error>
         ensures ok { IfOk result (λ s. s ≡ bytes.now) }
         ensures err { IfErr result (λ e. e ≡ OutOfMemory) }
@@ -130,8 +141,11 @@ impl<A: Allocator + Clone> Slice<A> {
         })
     }
 
-    /// The bytes of a vector, which is given up and not copied. Refused [`Error::OutOfMemory`]
-    /// alone.
+    /// Takes the bytes of a vector without copying them.
+    ///
+    /// # Errors
+    ///
+    /// Fails only with [`Error::OutOfMemory`].
     pub fn from_vec(vec: Vec<u8, A>) -> Result<Slice<A>, Error>
         ensures ok { IfOk result (λ s. s ≡ vec.items) }
         ensures err { IfErr result (λ e. e ≡ OutOfMemory) }

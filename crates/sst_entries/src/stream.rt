@@ -1,4 +1,4 @@
-//! Streams of results that are taken from both ends.
+//! Streams of results that are read from both ends.
 ghost use Rattle.std.specs.Prelude.{Bool, IfOk, OnErr};
 ghost use Rattle.sst_entries.specs.Stream.{AnswersOf, CanDeal, Deals, DealsInFront, LedBy, Runs};
 ghost use Rattle.sst_entries.specs.Stream.{Steps, nowhere, answer_stops};
@@ -7,19 +7,19 @@ ghost use Rattle.sst_entries.specs.declared.error.Error.{Error};
 use crate::{Error, InternalValue};
 use std::alloc::{AllocError, Allocator, Global};
 
-/// An end of a list. The front comes before the back.
+/// An end of a list; `Front` orders before `Back`.
 #[derive(Clone, Copy, Debug, PartialEq, Eq, PartialOrd, Ord)]
 pub enum Direction {
-    /// The front, which `next` takes from.
+    /// The front, read by `next`.
     Front,
-    /// The back, which `next_back` takes from.
+    /// The back, read by `next_back`.
     Back,
 }
 
-/// What a stream of entries gives: an entry, or the error in its place.
+/// An item of a stream of entries: an entry or an error.
 pub type IterItem<A = Global> = Result<InternalValue<A>, Error>;
 
-/// The answer of a source at an end.
+/// Calls a source once at one end and returns its item.
 pub fn answer_at<I: DoubleEndedIterator<Item = Result<X, Error>>, X>(
     source: &mut I,
     end: Direction,
@@ -34,8 +34,12 @@ pub fn answer_at<I: DoubleEndedIterator<Item = Result<X, Error>>, X>(
     }
 }
 
-/// The answers of a source at a list of ends. Refused where memory runs out; the source is then
-/// where the calls so far have led. It may be asked again in any case.
+/// Calls a source at each end of a list and returns the items.
+///
+/// # Errors
+///
+/// Fails with `AllocError` if allocation fails. The source then keeps the state that the calls so
+/// far produced. It may be called again in either case.
 pub fn answers_at<I: DoubleEndedIterator<Item = Result<X, Error>>, X: Drop, A: Allocator>(
     alloc: A,
     source: &mut I,
@@ -44,7 +48,7 @@ pub fn answers_at<I: DoubleEndedIterator<Item = Result<X, Error>>, X: Drop, A: A
     requires { CanDeal I.next_gives I.next_back_gives I.can_next I.can_next_back source.old }
     ensures ran { IfOk result (λ answers.
         Runs I.next_gives I.next_back_gives source.old ends.now answers.items source.new) }
-    // Up to an error that stops the source, they are the answers that its list deals.
+    // Up to an error that stops the source, the items are those of its list.
     ensures dealt { IfOk result (λ answers.
         AnswersOf I.next_gives I.next_back_gives source.old ends.now answers.items) }
     ensures refused { OnErr result (
@@ -59,7 +63,7 @@ pub fn answers_at<I: DoubleEndedIterator<Item = Result<X, Error>>, X: Drop, A: A
     Ok(answers)
 }
 
-/// A vector's iterator, which deals the vector's items whatever errors are among them.
+/// Returns an iterator that yields the vector's items, errors included.
 pub fn source_of<X: Drop, A: Allocator>(
     items: Vec<Result<X, Error>, A>,
 ) -> std::vec::IntoIter<Result<X, Error>, A>
@@ -71,9 +75,9 @@ pub fn source_of<X: Drop, A: Allocator>(
     items.into_iter()
 }
 
-/// A law for sources of both ends that are taken from the front alone: what such a source deals
-/// from both ends, it deals from the front, and where both ends may be asked, the front may be. The
-/// call does nothing.
+/// States that a double-ended source also yields its list from the front alone.
+///
+/// This is a lemma for proofs; the call has no effect.
 pub fn from_the_front<I: DoubleEndedIterator<Item = Result<X, Error>>, X>(source: &I)
     ensures deals { DealsInFront I.next_gives I.next_back_gives source.now }
     ensures can { CanDeal I.next_gives I.next_back_gives I.can_next I.can_next_back source.now →

@@ -1,4 +1,4 @@
-//! Entries: a key with its number and kind, and a value.
+//! Entries: a key with its sequence number and kind, and a value.
 ghost use Rattle.std.specs.Prelude.{◌≡◌};
 ghost use Rattle.std.specs.Option.{option_map};
 ghost use Rattle.sst_entries.specs.Entry.{entry};
@@ -9,13 +9,17 @@ use crate::{InternalKey, SeqNo, UserKey, UserValue, ValueType, compare_versions}
 use std::alloc::{AllocError, Allocator, Global};
 use std::marker::Model;
 
-/// An entry of a table. A contract sees it as a plain record, without its memory.
+/// An entry of a table.
+///
+/// In contracts it is a plain record, `Entry`.
 #[derive(Drop)]
 #[derive_where(Debug, PartialEq, Eq, PartialOrd, Ord)]
 pub struct InternalValue<A: Allocator = Global> {
-    /// The key, with its number and kind.
+    /// The key, with its sequence number and kind.
     pub key: InternalKey<A>,
-    /// The value. That of a tombstone is empty by custom, which no call asks for.
+    /// The value.
+    ///
+    /// A tombstone's value is empty by convention; no call requires this.
     pub value: UserValue<A>,
 }
 
@@ -42,7 +46,11 @@ impl<A: Allocator> Clone for InternalValue<A> {
 
     ghost is_clone = { λ value copy. copy ≡ value };
 
-    /// A share of the entry. Refused where a count of sharers is.
+    /// Returns an entry that shares the same bytes.
+    ///
+    /// # Errors
+    ///
+    /// Fails with `AllocError` if a reference count cannot be raised.
     fn clone(&self) -> Result<InternalValue<A>, AllocError> {
         Ok(InternalValue {
             key: self.key.clone()?,
@@ -52,7 +60,7 @@ impl<A: Allocator> Clone for InternalValue<A> {
 }
 
 impl<A: Allocator> InternalValue<A> {
-    /// An entry of its parts.
+    /// Creates an entry from its parts.
     pub fn from_components(
         user_key: UserKey<A>,
         value: UserValue<A>,
@@ -71,15 +79,16 @@ impl<A: Allocator> InternalValue<A> {
         }
     }
 
-    /// Whether the entry is one of the two kinds of tombstone.
+    /// Returns whether the entry is a tombstone, weak or not.
     pub fn is_tombstone(&self) -> bool
         ensures { result ≡ is_tombstone_kind self.now.kind }
     {
         self.key.value_type.is_tombstone()
     }
 
-    /// Whether the entry may stand behind another in strict order, or at the front where there is
-    /// none.
+    /// Returns whether the entry comes strictly after `last`, by key and sequence number.
+    ///
+    /// With `None` it returns `true`.
     pub fn may_follow(&self, last: Option<&InternalValue<A>>) -> bool
         ensures { result ≡ may_follow (option_map (λ e. e.now) last.entry) self.now }
     {

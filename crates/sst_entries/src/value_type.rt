@@ -2,28 +2,30 @@
 ghost use Rattle.std.specs.Prelude.{◌≡◌};
 ghost use Rattle.sst_entries.specs.Kind.{tag_of, kind_of, is_tombstone_kind};
 
-/// The kind of an entry. The discriminants are the tags that a block stores.
+/// The kind of an entry.
+///
+/// The discriminants are the tags that blocks store.
 #[derive(Clone, Copy, Debug, PartialEq, Eq, PartialOrd, Ord, Hash)]
 pub enum ValueType {
     /// A value.
     Value = 0,
     /// A deletion of every older version of the key.
     Tombstone = 1,
-    /// A deletion of the one version directly before it.
+    /// A deletion of only the next older version of the key.
     WeakTombstone = 2,
-    /// A value that lies elsewhere, which the entry's value points to.
+    /// A pointer to a value that is stored elsewhere.
     Indirection = 4,
 }
 
 impl ValueType {
-    /// The tag that a block stores for the kind.
+    /// Returns the tag that blocks store for the kind.
     pub fn tag(self) -> u8
         ensures { result ≡ tag_of self }
     {
         self as u8
     }
 
-    /// The kind of a tag, or `None` for a byte that is no tag.
+    /// Returns the kind of a tag, or `None` if the byte is no tag.
     pub fn from_tag(tag: u8) -> Option<ValueType>
         ensures { result ≡ kind_of tag }
     {
@@ -36,7 +38,7 @@ impl ValueType {
         }
     }
 
-    /// Whether the kind is one of the two tombstones.
+    /// Returns whether the kind is a tombstone, weak or not.
     pub fn is_tombstone(self) -> bool
         ensures { result ≡ is_tombstone_kind self }
     {

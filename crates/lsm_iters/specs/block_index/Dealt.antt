@@ -1,11 +1,11 @@
--- Whatever ends are asked, results are dealt up to the first error.
+-- In any order of calls at both ends, results are yielded up to the first error.
 use Rattle.std.specs.Prelude.{◌≡◌, List, [], ◌∷◌, map, Option, Some, None, Result, Ok, Err}
 use Rattle.sst_entries.specs.declared.error.Error.{Error}
 use Rattle.sst_entries.specs.declared.stream.Direction.{Direction}
 use Rattle.sst_entries.specs.Error.{is_memory}
 use Rattle.sst_entries.specs.Stream.{deal, answer_stops, CanDeal, EndsAtError, NoneStops, Runs}
 
--- answers up to and with the first error, and `None` in the place of those behind it
+-- Results up to and with the first error, then `None`.
 abbrev pub ended_at_error : {X : Type 0} → List (Option (Result X Error))
     → List (Option (Result X Error))
 ended_at_error [] = []
@@ -13,8 +13,8 @@ ended_at_error (None ∷ rs) = None ∷ ended_at_error rs
 ended_at_error (Some (Ok x) ∷ rs) = Some (Ok x) ∷ ended_at_error rs
 ended_at_error (Some (Err e) ∷ rs) = Some (Err e) ∷ map (λ _. None) rs
 
--- want of memory aside, the answers at any ends are those of `deal` up to the first error; both
--- ends may be asked however often; and behind an error, want of memory too, comes `None` alone
+-- Except for `OutOfMemory`, the results at any ends are those of `deal` up to the first error.
+-- Calls are always allowed, and after any error each returns `None`.
 pub record DealsEnding {S X : Type 0} (front back : S → Option (Result X Error) → S → Type 0)
     (may may_back : S → Type 0) (s : S) (xs : List (Result X Error)) : Type 0 where
   pub answers : (ends : List Direction) (rs : List (Option (Result X Error))) (t : S)

@@ -1,4 +1,4 @@
--- The three kinds of indexes and of their iterators.
+-- The three kinds of block indexes and of their iterators.
 use Rattle.std.specs.Prelude.{◌≡◌, ℕ, Bool, List, [], Option, None, Result}
 use Rattle.sst_entries.specs.declared.error.Error.{Error}
 use Rattle.sst_entries.specs.declared.stream.Direction.{Direction}
@@ -29,45 +29,44 @@ use Rattle.lsm_iters.specs.block_index.Left.{back_early}
 use Rattle.lsm_iters.specs.block_index.Left.{back_needs, front_early, front_needs, on_demand_left}
 use Rattle.lsm_iters.specs.block_index.Left.{span_left, two_level_left}
 
--- the index of each kind
+-- The index of each kind.
 abbrev pub index_of : {A : Type 0} → BlockIndexImpl A → Index
 index_of (FullIndex handles) = full handles
 index_of (VolatileFull i) = on_demand i.0 i.1
 index_of (LevelsIndex i) = two_level i.0 i.1
 
--- whether there is a reader from an edge on: of a block that stays loaded where it has a handle
--- there, and else always
+-- There is a reader from an edge on: for a pinned block if it has a handle there, otherwise always.
 abbrev pub HasReader : {A : Type 0} → BlockIndexImpl A → Option (List ℕ × ℕ) → Type 0
 HasReader (FullIndex handles) edge = window handles edge None ≡ [] → ⊥
 HasReader (VolatileFull i) edge = Unit {0}
 HasReader (LevelsIndex i) edge = Unit {0}
 
--- what is left of each kind
+-- The handles left, by kind.
 abbrev pub left_of : {A : Type 0} → BlockIndexIterImpl A → Left
 left_of (Full s) = span_left s
 left_of (Volatile s) = on_demand_left s
 left_of (Levels s) = two_level_left s
 
--- these edges were sought, and no step was made
+-- These edges were sought, and no step was made.
 abbrev pub IsSought : {A : Type 0} → BlockIndexIterImpl A → Option (List ℕ × ℕ) → Option (List ℕ)
     → Type 0
 IsSought (Full s) lower upper = IsSpanSought s lower upper
 IsSought (Volatile s) lower upper = IsDemandSought s lower upper
 IsSought (Levels s) lower upper = IsTwoLevelSought s lower upper
 
--- what a seek answers by what it leaves
+-- The result of a seek, by kind.
 abbrev pub SeekAnswers : {A : Type 0} → BlockIndexIterImpl A → Bool → Type 0
 SeekAnswers (Full s) any = AnswersAny s any
 SeekAnswers (Volatile s) any = AnswersTrue s any
 SeekAnswers (Levels s) any = AnswersTrue s any
 
--- whether a seek may want memory, for the edge that it keeps
+-- Whether a seek may allocate, for its copy of the edge.
 abbrev pub TakesMemory : {A : Type 0} → BlockIndexIterImpl A → Type 0
 TakesMemory (Full s) = ⊥
 TakesMemory (Volatile s) = Unit {0}
 TakesMemory (Levels s) = Unit {0}
 
--- one call at the front, and at the back
+-- One step at the front, and one at the back.
 abbrev pub FrontGives : {A : Type 0} → BlockIndexIterImpl A → Option (Result Handle Error)
     → BlockIndexIterImpl A → Type 0
 FrontGives (Full s) r (Full t) = SpanGives front_of s r t
@@ -82,8 +81,8 @@ BackGives (Volatile s) r (Volatile t) = OnDemandGives back_of s r t
 BackGives (Levels s) r (Levels t) = TwoLevelGives back_of back_needs back_early s r t
 BackGives _ r _ = ⊥
 
--- an iterator over what an index has between two edges, which has loaded nothing; whatever ends are
--- asked, it counts no more blocks than the index has between them
+-- A new iterator over an index's handles between two edges, with nothing loaded. In any order of
+-- calls, it loads no more blocks than the index has between them.
 pub record IsReader {A : Type 0} (i : BlockIndexIterImpl A) (index : Index)
     (low : Option (List ℕ × ℕ)) (high : Option (List ℕ)) : Type 0 where
   pub sought : IsSought i low high

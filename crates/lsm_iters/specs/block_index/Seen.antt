@@ -1,4 +1,4 @@
--- What is left of a loaded block, and one call at an end of it.
+-- The handles left of a loaded block, and one step at an end of it.
 use Rattle.std.specs.Prelude.{◌≡◌, List, [], Option, Some, None, Result, Ok, Err}
 use Rattle.std.specs.Option.{option_map}
 use Rattle.sst_entries.specs.declared.error.Error.{Error}
@@ -8,16 +8,15 @@ pub use Rattle.lsm_iters.specs.walk.Ends.{rest_of}
 use Rattle.sst_blocks.specs.Handle.{Handle}
 use Rattle.sst_blocks.specs.Place.{Place, place_of}
 
--- the handle at the end, and the others are left; want of memory where there is a handle, and
--- nothing is left; or nothing, where nothing is left
+-- A step takes the handle at the end, or returns `None` if none is left. It may fail with
+-- `OutOfMemory`; then nothing is left.
 abbrev pub PartGives : (List Handle → Option Handle × List Handle) → List Handle
     → Option (Result Handle Error) → List Handle → Type 0
 PartGives end hs None ts = (hs ≡ []) × (ts ≡ [])
 PartGives end hs (Some (Ok h)) ts = ((end hs).0 ≡ Some h) × (ts ≡ (end hs).1)
 PartGives end hs (Some (Err e)) ts = (e ≡ OutOfMemory) × (hs ≡ [] → ⊥) × (ts ≡ [])
 
--- the handle at the end was taken and its place is told, and the others are left; or nothing, where
--- nothing is left
+-- A step takes the handle at the end and returns its block's offset and size, or `None`.
 pub record PlaceGives (end : List Handle → Option Handle × List Handle) (s : Span Handle)
     (place : Option Place) (t : Span Handle) : Type 0 where
   pub told : place ≡ option_map place_of (end (rest_in s)).0

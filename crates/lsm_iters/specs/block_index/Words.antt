@@ -1,4 +1,4 @@
--- The words of the contracts of block indexes, from one place.
+-- The definitions that contracts of block indexes cite.
 pub use Rattle.sst_entries.specs.Span.{SpanGives, rest_in}
 pub use Rattle.sst_entries.specs.Stream.{back_of, front_of}
 pub use Rattle.sst_blocks.specs.Sections.{body_of}

@@ -1,4 +1,4 @@
--- Parts that are to come, and one load of them.
+-- Parts that are not loaded yet, and one load of them.
 use Rattle.std.specs.Prelude.{◌≡◌, ℕ, suc, ◌+◌, ◌≤◌, false, List, [], ◌∷◌, Option, Some, None}
 use Rattle.std.specs.Prelude.{Result, Ok, Err}
 use Rattle.std.specs.List.{flat_map}
@@ -8,24 +8,24 @@ use Rattle.sst_entries.specs.declared.stream.Direction.{Direction}
 use Rattle.sst_entries.specs.Error.{is_memory}
 use Rattle.lsm_iters.specs.walk.Ends.{Remains, taken_at}
 
--- of a part that is not loaded: its results, or the one error of loading it; and its fault that is
--- found before memory is taken
+-- An unloaded part: its results or the one error of loading it, and its error that precedes
+-- allocation.
 pub record Loading (X : Type 0) : Type 0 where
   pub results : List (Result X Error)
   pub early : Option Error
 
--- the parts to come, with an error in the place of a part that cannot be named; and how many loads
--- may be made beside theirs: to name them, and by each of its own once it is loaded
+-- The unloaded parts, with an error instead of a part whose handle cannot be read. The loads are
+-- those beside the parts' own: for their handles, and within loaded parts.
 pub record Coming (X : Type 0) : Type 0 where
   pub parts : List (Result (Loading X) Error)
   pub loads : ℕ
 
--- none is to come
+-- No part and no load is left.
 pub record IsDone {X : Type 0} (c : Coming X) : Type 0 where
   pub parts : c.parts ≡ []
   pub loads : c.loads ≡ 0
 
--- the results of parts, one behind another
+-- The results of all parts, concatenated.
 abbrev pub results_of : {X : Type 0} → Result (Loading X) Error → List (Result X Error)
 results_of (Ok part) = part.results
 results_of (Err e) = Err e ∷ []
@@ -33,7 +33,7 @@ results_of (Err e) = Err e ∷ []
 abbrev pub all_results : {X : Type 0} → List (Result (Loading X) Error) → List (Result X Error)
 all_results parts = flat_map results_of parts
 
--- what follows only where these have nothing
+-- A count, or an error, that applies only if the list before it is empty.
 abbrev pub none_behind : {X : Type 0} → List X → ℕ → ℕ
 none_behind [] n = n
 none_behind (x ∷ xs) n = 0
@@ -42,21 +42,20 @@ abbrev pub early_behind : {X : Type 0} → List X → Option Error → Option Er
 early_behind [] early = early
 early_behind (x ∷ xs) early = None
 
--- how many of these parts, the next one first, are loaded for an answer: those up to the first that
--- has a result
+-- The number of parts loaded for the next result: those up to the first that is not empty.
 abbrev pub needed : {X : Type 0} → List (Result (Loading X) Error) → ℕ
 needed [] = 0
 needed (Ok part ∷ parts) = suc (none_behind part.results (needed parts))
 needed (Err e ∷ parts) = 0
 
--- the fault among these that is found before memory is taken
+-- The error among these parts that precedes allocation.
 abbrev pub early_among : {X : Type 0} → List (Result (Loading X) Error) → Option Error
 early_among [] = None
 early_among (Ok part ∷ parts) =
     option_or part.early (early_behind part.results (early_among parts))
 early_among (Err e ∷ parts) = None
 
--- a part was named at an end, or the error in a part's place; or none, where none is to come
+-- A step takes the handle of the part at an end, an error instead, or none if none is left.
 abbrev pub Names : {X : Type 0} → Direction → Coming X → Option (Result (Loading X) Error)
     → Coming X → Type 0
 Names at s None t = (s.parts ≡ []) × IsDone t
@@ -66,7 +65,7 @@ Names at s (Some (Err e)) t =
     × (IsDone s → ⊥)
     × IsDone t
 
--- for what was named: the part, or its fault, memory aside; the error in its place; or none
+-- The result of loading the named part: the part or its error, except for `OutOfMemory`.
 abbrev pub Tells : {T X : Type 0} → (T → Remains X) → Option (Result (Loading X) Error)
     → Option (Result T Error) → Type 0
 Tells left None r = r ≡ None
@@ -75,20 +74,20 @@ Tells left (Some (Ok part)) None = ⊥
 Tells left (Some (Ok part)) (Some (Ok loaded)) = (left loaded).results ≡ part.results
 Tells left (Some (Ok part)) (Some (Err e)) = is_memory e ≡ false → Err e ∷ [] ≡ part.results
 
--- the fault of what was named that is found before memory is taken
+-- The named part's error that precedes allocation.
 abbrev pub early_named : {X : Type 0} → Option (Result (Loading X) Error) → Option Error
 early_named None = None
 early_named (Some (Ok part)) = part.early
 early_named (Some (Err e)) = None
 
--- how many loads a part that was loaded may make of its own
+-- The number of loads left within a loaded part.
 abbrev pub own_of : {T X : Type 0} → (T → Remains X) → Option (Result T Error) → ℕ
 own_of left None = 0
 own_of left (Some (Ok loaded)) = (left loaded).loads
 own_of left (Some (Err e)) = 0
 
--- the next part at an end was loaded; its own loads are among those that were to be made; a fault
--- that needs no memory to be found comes before any want of it
+-- One load of the next part at an end. Its own loads were counted before, and an error that
+-- precedes allocation is always returned.
 pub record LoadGives {P T X : Type 0} (left : T → Remains X) (coming : P → Coming X)
     (keeps : P → Option (Result (Loading X) Error) → P → Type 0)
     (at : Direction) (s : P) (r : Option (Result T Error)) (t : P) : Type 0 where
@@ -99,13 +98,13 @@ pub record LoadGives {P T X : Type 0} (left : T → Remains X) (coming : P → C
   pub first : (f : Error) → early_named named ≡ Some f → r ≡ Some (Err f)
   pub kept : keeps s named t
 
--- loads one behind another, by what each named, the last one first
+-- A sequence of loads, by the parts they named, the last load first.
 abbrev pub Loads : {P X : Type 0} → (P → Option (Result (Loading X) Error) → P → Type 0) → P
     → List (Option (Result (Loading X) Error)) → P → Type 0
 Loads keeps s [] t = t ≡ s
 Loads {P = P} keeps s (named ∷ more) t = (u : P) × Loads keeps s more u × keeps u named t
 
--- how many of them loaded a part
+-- The number of parts that they loaded.
 abbrev pub loads_in : {X : Type 0} → List (Option (Result (Loading X) Error)) → ℕ
 loads_in [] = 0
 loads_in (None ∷ more) = loads_in more

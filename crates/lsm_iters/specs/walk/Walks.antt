@@ -1,4 +1,4 @@
--- A walk over parts from both ends, and one step of it.
+-- Double-ended iteration over parts, and one step of it.
 use Rattle.std.specs.Prelude.{◌≡◌, ℕ, ◌+◌, ◌<◌, ◌≤◌, false, List, ◌++◌, length, Option, Some, None}
 use Rattle.std.specs.Prelude.{Result, Ok, Err}
 use Rattle.sst_entries.specs.declared.error.Error.{Error}
@@ -11,7 +11,7 @@ use Rattle.lsm_iters.specs.walk.Ends.{Remains, StepAnswers, remains_in, seen_fro
 use Rattle.lsm_iters.specs.walk.Parts.{Coming, IsDone, Loading, Loads, all_results, early_among}
 use Rattle.lsm_iters.specs.walk.Parts.{early_behind, loads_in, needed, none_behind}
 
--- the part that is loaded at an end, and the one at the other end
+-- The part loaded at this end, and the one at the other end.
 abbrev pub near : {P T : Type 0} → Direction → Walk P T → Option T
 near Front w = w.front
 near Back w = w.back
@@ -20,7 +20,7 @@ abbrev pub far : {P T : Type 0} → Direction → Walk P T → Option T
 far Front w = w.back
 far Back w = w.front
 
--- with another part there
+-- The iteration with that part replaced.
 abbrev pub with_near : {P T : Type 0} → Direction → Walk P T → Option T → Walk P T
 with_near Front w part = record w { front = part }
 with_near Back w part = record w { back = part }
@@ -29,7 +29,7 @@ abbrev pub with_far : {P T : Type 0} → Direction → Walk P T → Option T →
 with_far Front w part = record w { back = part }
 with_far Back w part = record w { front = part }
 
--- what was left was let go
+-- Everything left was dropped, at both ends.
 pub record Ended {P T X : Type 0} (coming : P → Coming X) (ends : P → P → Type 0)
     (s t : Walk P T) : Type 0 where
   pub front : t.front ≡ None
@@ -38,12 +38,12 @@ pub record Ended {P T X : Type 0} (coming : P → Coming X) (ends : P → P → 
   pub kept : ends s.parts t.parts
 
 module _ {P T X : Type 0} (left : T → Remains X) (coming : P → Coming X) where
-  -- how many loads may be made beside those of the parts that are to come
+  -- The number of loads left, except those of the unloaded parts.
   abbrev pub other_loads : Walk P T → ℕ
   other_loads w =
       (remains_in left w.front).loads + (coming w.parts).loads + (remains_in left w.back).loads
 
-  -- what is left: of the part at the front, of the parts to come, and of the part at the back
+  -- The results left: those of the front part, of the unloaded parts and of the back part.
   abbrev pub walk_left : Walk P T → Remains X
   walk_left w =
       let front = remains_in left w.front in
@@ -54,23 +54,22 @@ module _ {P T X : Type 0} (left : T → Remains X) (coming : P → Coming X) whe
         loads = length to_come.parts + other_loads w;
       }
 
-  -- how many parts an answer needs at an end: none where a result of a loaded part stands there
+  -- The number of parts that a step at an end needs: none if the part there has a result.
   abbrev pub needed_at : Direction → Walk P T → ℕ
   needed_at at w =
       let parts = seen_from at (coming w.parts).parts in
       none_behind (remains_in left (near at w)).results (needed parts)
 
-  -- the fault that stands there and is found before memory is taken
+  -- The error at an end that precedes allocation.
   abbrev pub early_at : Direction → Walk P T → Option Error
   early_at at w =
       let parts = seen_from at (coming w.parts).parts in
       early_behind (remains_in left (near at w)).results (early_among parts)
 
-  -- one step at an end, before an error ends the walk; it leaves no more other loads than before.
-  -- It loads the parts that it needs, and no more where it wants memory; where it needs one it does
-  -- not want memory before it asked for it, unless the part at the end may load something of its
-  -- own. Where all of them were loaded, a fault that needs no memory to be found comes before any
-  -- want of it
+  -- One step at an end, before an error ends the iteration. It loads exactly the parts that it
+  -- needs, or fewer if an allocation fails. If the part at the end has no loads of its own, it
+  -- tries at least one that is needed. Once all are loaded, an error that precedes allocation is
+  -- returned.
   pub record WalkTakes (keeps : P → Option (Result (Loading X) Error) → P → Type 0)
       (at : Direction) (s : Walk P T) (r : Option (Result X Error)) (t : Walk P T) : Type 0 where
     pub answer : StepAnswers at (walk_left s) r (walk_left t)
@@ -86,14 +85,14 @@ module _ {P T X : Type 0} (left : T → Remains X) (coming : P → Coming X) whe
     pub first :
         (f : Error) → early_at at s ≡ Some f → loads_in named ≡ needed_at at s → r ≡ Some (Err f)
 
-  -- behind an answer the walk goes on, and an error ends it
+  -- An item leaves the iteration as it is, and an error ends it.
   abbrev pub StopsAtError : (P → P → Type 0) → Option (Result X Error) → Walk P T → Walk P T
       → Type 0
   StopsAtError ends None s t = t ≡ s
   StopsAtError ends (Some (Ok x)) s t = t ≡ s
   StopsAtError ends (Some (Err e)) s t = Ended coming ends s t
 
-  -- one step at an end
+  -- One step at an end, which an error ends for good.
   pub record WalkGives (keeps : P → Option (Result (Loading X) Error) → P → Type 0)
       (ends : P → P → Type 0) (at : Direction) (s : Walk P T) (r : Option (Result X Error))
       (t : Walk P T) : Type 0 where

@@ -1,4 +1,4 @@
--- The words of the contracts of walks, from one place.
+-- The definitions that contracts of `Walk` and `Parts` cite.
 pub use Rattle.lsm_iters.specs.walk.Ends.{IsOver, Remains, StepGives, laid_from, remains_in}
 pub use Rattle.lsm_iters.specs.walk.Ends.{seen_from}
 pub use Rattle.lsm_iters.specs.walk.Ends.{span_remains, taken_at}

@@ -1,4 +1,4 @@
-//! The edges between which an iterator deals.
+//! The bounds that were sought in an index.
 ghost use Rattle.std.specs.Prelude.{◌≡◌, ◌↔◌, IsTrue, Some, None, OnOk, OnErr, IfErr};
 ghost use Rattle.sst_entries.specs.declared.error.Error.TheVariants.{OutOfMemory};
 ghost use Rattle.lsm_iters.specs.block_index.Words.{rest_in, window};
@@ -8,7 +8,7 @@ use sst_blocks::{Error, IndexBlock, SeqNo, Slice, UserKey};
 use std::alloc::Allocator;
 use std::marker::Model;
 
-/// A lower and an upper edge, each where it was sought.
+/// A lower and an upper edge, each if it was sought.
 #[derive(Drop)]
 pub struct Edges<A: Allocator> {
     alloc: A,
@@ -25,7 +25,7 @@ impl<A: Allocator> Model for Edges<A> {
 }
 
 impl<A: Allocator + Clone> Edges<A> {
-    /// No edges.
+    /// Returns no edges.
     pub fn new(alloc: A) -> Edges<A>
         ensures { result ≡ (None, None) }
     {
@@ -36,15 +36,18 @@ impl<A: Allocator + Clone> Edges<A> {
         }
     }
 
-    /// Whether neither edge was sought.
+    /// Returns whether neither edge was sought.
     pub fn are_none(&self) -> bool
         ensures { IsTrue result ↔ (self.now ≡ (None, None)) }
     {
         self.lower.is_none() && self.upper.is_none()
     }
 
-    /// Keeps a copy of the lower edge. Refused [`Error::OutOfMemory`] alone; the edges are then as
-    /// they were.
+    /// Stores a copy of the lower edge.
+    ///
+    /// # Errors
+    ///
+    /// [`Error::OutOfMemory`] only; the edges are then unchanged.
     pub fn set_lower(&mut self, key: &[u8], seqno: SeqNo) -> Result<(), Error>
         ensures ok { OnOk result (self.new ≡ (Some (key.now, seqno), self.old.1)) }
         ensures unchanged { OnErr result (self.new ≡ self.old) }
@@ -55,8 +58,11 @@ impl<A: Allocator + Clone> Edges<A> {
         Ok(())
     }
 
-    /// Keeps a copy of the upper edge. Refused [`Error::OutOfMemory`] alone; the edges are then as
-    /// they were.
+    /// Stores a copy of the upper edge.
+    ///
+    /// # Errors
+    ///
+    /// [`Error::OutOfMemory`] only; the edges are then unchanged.
     pub fn set_upper(&mut self, key: &[u8]) -> Result<(), Error>
         ensures ok { OnOk result (self.new ≡ (self.old.0, Some key.now)) }
         ensures unchanged { OnErr result (self.new ≡ self.old) }
@@ -67,7 +73,7 @@ impl<A: Allocator + Clone> Edges<A> {
         Ok(())
     }
 
-    /// The handles of a block from the lower edge on.
+    /// Returns the handles of a block from the lower edge on.
     fn from_lower(&self, block: IndexBlock<A>) -> OwnedIndexBlockIter<A>
         ensures list { result.list ≡ block }
         ensures rest { rest_in result ≡ window block self.now.0 None }
@@ -82,7 +88,7 @@ impl<A: Allocator + Clone> Edges<A> {
         }
     }
 
-    /// The handles of a block between the edges.
+    /// Returns the handles of a block between the edges.
     pub fn within(&self, block: IndexBlock<A>) -> OwnedIndexBlockIter<A>
         ensures { rest_in result ≡ window block self.now.0 self.now.1 }
     {

@@ -1,4 +1,4 @@
-//! The full index: one block with the handle of every data block, which stays loaded.
+//! The full index: one pinned block with the handle of every data block.
 ghost use Rattle.std.specs.Prelude.{◌≡◌, ◌-◌, Some, None, IfOk, IfErr, MatchOption, [], ◌↔◌};
 ghost use Rattle.std.specs.Prelude.{IsTrue};
 ghost use Rattle.std.specs.Iterator.{at_most};
@@ -15,7 +15,7 @@ use sst_blocks::{Error, IndexBlock, KeyedBlockHandle, Opened, SeqNo};
 use std::alloc::{Allocator, Global};
 use std::marker::Model;
 
-/// An index of one block, which stays loaded. A contract sees its handles.
+/// An index of one pinned block. Contracts see its handles.
 #[derive(Drop)]
 pub struct FullBlockIndex<A: Allocator = Global>(IndexBlock<A>);
 
@@ -29,23 +29,28 @@ impl<A: Allocator> Model for FullBlockIndex<A> {
 }
 
 impl<A: Allocator> FullBlockIndex<A> {
-    /// The index of a loaded block.
+    /// Returns the index of a loaded block.
     pub fn new(block: IndexBlock<A>) -> FullBlockIndex<A>
         ensures { result ≡ block }
     {
         FullBlockIndex(block)
     }
 
-    /// The block of handles.
+    /// Returns the block of handles.
     pub fn inner(&self) -> &IndexBlock<A>
         ensures { result.now ≡ self.now }
     {
         &self.0
     }
 
-    /// The handles from the first on that reaches a key and a number: whose end key is greater, or
-    /// equal and numbered below `seqno`. `None` where there is no such handle. Refused
-    /// [`Error::OutOfMemory`] alone.
+    /// Returns an iterator from the first handle whose end key reaches a key and a sequence number.
+    ///
+    /// An end key reaches them if it is greater than `key`, or equal with a sequence number below
+    /// `seqno`. It returns `None` exactly if there is no such handle.
+    ///
+    /// # Errors
+    ///
+    /// [`Error::OutOfMemory`] only.
     pub fn forward_reader(&self, key: &[u8], seqno: SeqNo) -> Result<Option<Iter<A>>, Error>
         ensures none { IfOk result (λ found. MatchOption found
             (window self.now (Some (key.now, seqno)) None ≡ []) (λ i. rest_in i ≡ [] → ⊥)) }
@@ -69,7 +74,11 @@ impl<A: Allocator> FullBlockIndex<A> {
         }
     }
 
-    /// All handles. Refused [`Error::OutOfMemory`] alone.
+    /// Returns an iterator over all handles.
+    ///
+    /// # Errors
+    ///
+    /// [`Error::OutOfMemory`] only.
     pub fn iter(&self) -> Result<Iter<A>, Error>
         ensures whole { IfOk result (λ i. i ≡ whole_span self.now) }
         ensures between { IfOk result (λ i. IsBetween (span_left i) None None) }
@@ -83,8 +92,9 @@ impl<A: Allocator> FullBlockIndex<A> {
     }
 }
 
-/// The handles of a full index, dealt from both ends. After a call that is refused
-/// [`Error::OutOfMemory`] nothing more comes, from either end.
+/// A double-ended iterator over the handles of a full index.
+///
+/// After [`Error::OutOfMemory`] it is exhausted at both ends.
 #[derive(Drop)]
 pub struct Iter<A: Allocator = Global>(OwnedIndexBlockIter<A>);
 
@@ -98,7 +108,7 @@ impl<A: Allocator> Model for Iter<A> {
 }
 
 impl<A: Allocator> Iter<A> {
-    /// Whether all handles are left: no step was made, and no edge was sought that left one out.
+    /// Returns whether all handles are left: no step was made, and no seek dropped a handle.
     pub(crate) fn is_unsought(&self) -> bool
         ensures { IsTrue result ↔ IsSpanSought self.now None None }
     {

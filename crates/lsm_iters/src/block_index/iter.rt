@@ -1,4 +1,4 @@
-//! The handles of an index block, from both ends, by an iterator that holds the block.
+//! A double-ended iterator over the handles of an index block that it owns.
 ghost use Rattle.std.specs.Prelude.{◌≡◌, ◌+◌, ◌-◌, ◌↔◌, [], IsTrue, Some, None};
 ghost use Rattle.std.specs.Iterator.{at_most};
 ghost use Rattle.lsm_iters.specs.block_index.Words.{DealsLeft, KeepsLowerEdge, KeepsUpperEdge};
@@ -14,9 +14,10 @@ use sst_entries::Direction;
 use std::alloc::{Allocator, Global};
 use std::marker::Model;
 
-/// The handles of an index block that it holds, dealt from both ends. After a call that is refused
-/// [`Error::OutOfMemory`] nothing more comes, from either end. A contract sees the block's handles
-/// and the places between which they are left.
+/// A double-ended iterator over the handles of an index block that it owns.
+///
+/// After [`Error::OutOfMemory`] it is exhausted at both ends. Contracts see the block's handles and
+/// the index range that is left.
 #[derive(Drop)]
 pub struct OwnedIndexBlockIter<A: Allocator = Global> {
     block: IndexBlock<A>,
@@ -37,7 +38,7 @@ impl<A: Allocator> Model for OwnedIndexBlockIter<A> {
 }
 
 impl<A: Allocator> OwnedIndexBlockIter<A> {
-    /// All handles of a block.
+    /// Returns an iterator over all handles of a block.
     pub fn new(block: IndexBlock<A>) -> OwnedIndexBlockIter<A>
         ensures whole { result ≡ whole_span block }
         ensures deals { DealsLeft ⟦<OwnedIndexBlockIter<A> as Iterator>⟧.next_gives
@@ -47,8 +48,10 @@ impl<A: Allocator> OwnedIndexBlockIter<A> {
         OwnedIndexBlockIter { block, from: 0, to }
     }
 
-    /// Drops what stands before the first handle that reaches a key and a number: whose end key is
-    /// greater, or equal and numbered below `seqno`. Answers whether a handle is left.
+    /// Drops the handles before the first whose end key reaches a key and a sequence number.
+    ///
+    /// An end key reaches them if it is greater than `key`, or equal with a sequence number below
+    /// `seqno`. Returns whether a handle is left.
     pub fn seek_lower(&mut self, key: &[u8], seqno: SeqNo) -> bool
         ensures narrowed { let place = reaching_place (key.now, seqno) self.old.list in
             self.new ≡ span_from place self.old }
@@ -62,13 +65,14 @@ impl<A: Allocator> OwnedIndexBlockIter<A> {
         self.from < self.to
     }
 
-    /// Drops what stands behind the first handle whose end key is greater than a key. Answers
-    /// whether a handle is left. The number is not looked at: versions of the key may go on in the
-    /// block of a handle that ends with the key.
+    /// Drops the handles after the first whose end key is greater than a key.
+    ///
+    /// Returns whether a handle is left. The sequence number is ignored: versions of the key may
+    /// continue in the block after a handle that ends with the key.
     pub fn seek_upper(&mut self, key: &[u8], _seqno: SeqNo) -> bool
         ensures narrowed { self.new ≡ span_to (1 + above_place key.now self.old.list) self.old }
         ensures left { IsTrue result ↔ (rest_in self.new ≡ [] → ⊥) }
-        // Of what was left, the part that stands in the list's window up to the key.
+        // The handles left are those within the list's window up to the key.
         ensures kept { let upper = window self.old.list None (Some key.now) in
             rest_in self.new ≡ rest_in (record self.old { list = upper }) }
         ensures both { KeepsLowerEdge key.now self.old self.new }
@@ -80,8 +84,9 @@ impl<A: Allocator> OwnedIndexBlockIter<A> {
         self.from < self.to
     }
 
-    /// Takes the first handle, and answers where its block lies. The end key is not shared, so no
-    /// memory is taken.
+    /// Takes the first handle and returns its block's offset and size.
+    ///
+    /// It does not allocate, since the end key is not shared.
     pub(crate) fn next_place(&mut self) -> Option<BlockHandle>
         ensures { PlaceGives front_of self.old result self.new }
     {
@@ -93,8 +98,9 @@ impl<A: Allocator> OwnedIndexBlockIter<A> {
         Some(place)
     }
 
-    /// Takes the last handle, and answers where its block lies. The end key is not shared, so no
-    /// memory is taken.
+    /// Takes the last handle and returns its block's offset and size.
+    ///
+    /// It does not allocate, since the end key is not shared.
     pub(crate) fn next_place_back(&mut self) -> Option<BlockHandle>
         ensures { PlaceGives back_of self.old result self.new }
     {
@@ -106,8 +112,9 @@ impl<A: Allocator> OwnedIndexBlockIter<A> {
         Some(place)
     }
 
-    /// Takes the handle at an end, and answers where its block lies, as [`Self::next_place`] and
-    /// [`Self::next_place_back`] do.
+    /// Takes the handle at an end and returns its block's offset and size.
+    ///
+    /// It does not allocate.
     pub(crate) fn take_place(&mut self, at: Direction) -> Option<BlockHandle>
         ensures { PlaceGives (taken_at at) self.old result self.new }
     {
@@ -117,21 +124,21 @@ impl<A: Allocator> OwnedIndexBlockIter<A> {
         }
     }
 
-    /// Whether all handles of the block are left.
+    /// Returns whether all handles of the block are left.
     pub(crate) fn is_whole(&self) -> bool
         ensures { IsTrue result ↔ (rest_in self.now ≡ self.now.list) }
     {
         self.to.saturating_sub(self.from) == self.block.len()
     }
 
-    /// Whether no handle is left.
+    /// Returns whether no handle is left.
     pub(crate) fn is_empty(&self) -> bool
         ensures { IsTrue result ↔ (rest_in self.now ≡ []) }
     {
         self.to <= self.from
     }
 
-    /// Lets go what is left.
+    /// Drops the handles that are left.
     pub(crate) fn end(&mut self)
         ensures rest { rest_in self.new ≡ [] }
         ensures list { self.new.list ≡ self.old.list }
@@ -159,7 +166,7 @@ impl<A: Allocator> Iterator for OwnedIndexBlockIter<A> {
                 Some(Ok(handle))
             }
             Err(refusal) => {
-                // Nothing more comes.
+                // Exhausted after an error.
                 self.from = self.to;
                 Some(Err(refusal))
             }
@@ -182,7 +189,7 @@ impl<A: Allocator> DoubleEndedIterator for OwnedIndexBlockIter<A> {
                 Some(Ok(handle))
             }
             Err(refusal) => {
-                // Nothing more comes.
+                // Exhausted after an error.
                 self.to = self.from;
                 Some(Err(refusal))
             }

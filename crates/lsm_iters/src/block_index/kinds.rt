@@ -1,4 +1,4 @@
-//! What every block index gives, and the three kinds of them.
+//! The traits of block indexes and their three kinds.
 ghost use Rattle.std.specs.Prelude.{◌≡◌, ℕ, Bool, List, Option, [], Some, None, false, MatchOption};
 ghost use Rattle.std.specs.Prelude.{◌↔◌, IsTrue, OnOk, OnErr, IfOk, IfErr};
 ghost use Rattle.std.specs.Iterator.{at_most};
@@ -15,32 +15,37 @@ use crate::block_index::volatile::{self, VolatileBlockIndex};
 use sst_blocks::{Error, KeyedBlockHandle, Opened, SeqNo};
 use std::alloc::{Allocator, Global};
 
-/// Handles of an index, dealt from both ends, between edges that may be sought. An edge is to be
-/// sought once, and before the first step: what a later seek leaves is open, except that what is
-/// over stays over.
+/// A double-ended iterator over the handles of an index, between edges that may be sought.
 ///
-/// After an error of a step or of a seek, [`Error::OutOfMemory`] among them, a step answers `None`,
-/// at either end.
+/// Seek each edge at most once, before the first step. The result of a later seek is unspecified,
+/// except that an exhausted iterator stays exhausted.
+///
+/// After an error of a step or a seek, [`Error::OutOfMemory`] included, it is exhausted at both
+/// ends.
 pub trait BlockIndexIter<A: Allocator>: DoubleEndedIterator<
     Item = Result<KeyedBlockHandle<A>, Error>,
 > {
-    // What it still deals.
+    // The handles and errors that it still yields.
     ghost left: { Self → Left };
 
     // These edges were sought, and no step was made.
     ghost sought: { Self → Option (List ℕ × ℕ) → Option (List ℕ) → Type 0 };
 
-    // What a seek answers by what it leaves.
+    // The results that a seek may return, by the handles left.
     ghost seek_answers: { Self → Bool → Type 0 };
 
-    // Whether a seek may want memory, for the edge that it keeps.
+    // Whether a seek may allocate, for its copy of the edge.
     ghost takes_memory: { Self → Type 0 };
 
-    /// Drops what stands before the first handle that reaches a key and a number: whose end key is
-    /// greater, or equal and numbered below `seqno`. It answers false only where nothing is left,
-    /// and loads nothing. Refused [`Error::OutOfMemory`] alone, and not at all where the whole
-    /// index stays loaded. A refusal ends it: nothing more comes, from either end, and nothing more
-    /// is loaded or counted; a later seek brings nothing back.
+    /// Drops the handles before the first whose end key reaches a key and a sequence number.
+    ///
+    /// An end key reaches them if it is greater than `key`, or equal with a sequence number below
+    /// `seqno`. Returns false only if nothing is left. It loads nothing.
+    ///
+    /// # Errors
+    ///
+    /// [`Error::OutOfMemory`] only, and never with a pinned full index. After the error it is
+    /// exhausted at both ends and loads nothing more; a later seek does not change that.
     fn seek_lower(&mut self, key: &[u8], seqno: SeqNo) -> Result<bool, Error>
         ensures sought { (upper : Option (List ℕ)) → sought self.old None upper →
             OnOk result (sought self.new (Some (key.now, seqno)) upper) }
@@ -48,25 +53,30 @@ pub trait BlockIndexIter<A: Allocator>: DoubleEndedIterator<
             OnOk result (IsBetween (left self.new) (Some (key.now, seqno)) upper) }
         ensures answers { IfOk result (λ any. seek_answers self.new any) }
         ensures none { IfOk result (λ any. any ≡ false → (left self.new).results ≡ []) }
-        // A seek does not bring back what has ended.
+        // A seek does not revive an exhausted iterator.
         ensures over { IsEnded (left self.old) → IsEnded (left self.new) }
-        // Whatever ends are asked from here on, what is left is dealt up to the first error.
+        // In any order of calls at both ends, the results left are yielded up to the first error.
         ensures deals { DealsEnding Self.next_gives Self.next_back_gives Self.can_next
             Self.can_next_back self.new (left self.new).results }
         ensures index { (left self.new).index ≡ (left self.old).index }
         ensures opened { (left self.new).opened ≡ (left self.old).opened }
-        // Whatever ends are asked after a refusal, each call answers `None` and loads nothing.
+        // After an error, each call at either end returns `None` and loads nothing.
         ensures ended { OnErr result (IsEnded (left self.new)) }
         ensures stays { OnErr result
             (StaysEnded Self.next_gives Self.next_back_gives left self.new) }
         ensures refused { OnErr result (takes_memory self.old) }
-        // An index that stays loaded goes on to want none.
+        // A pinned full index never allocates in a seek, in any later state.
         ensures wants { takes_memory self.new → takes_memory self.old }
         ensures err { IfErr result (λ e. e ≡ OutOfMemory) };
 
-    /// Drops what stands behind the first handle whose end key is greater than a key. The number is
-    /// not looked at: versions of the key may go on in the block of a handle that ends with the
-    /// key. It answers and is refused as [`BlockIndexIter::seek_lower`].
+    /// Drops the handles after the first whose end key is greater than a key.
+    ///
+    /// The sequence number is ignored: versions of the key may continue in the block after a handle
+    /// that ends with the key. Returns false only if nothing is left. It loads nothing.
+    ///
+    /// # Errors
+    ///
+    /// Those of [`BlockIndexIter::seek_lower`], with the same state after an error.
     fn seek_upper(&mut self, key: &[u8], seqno: SeqNo) -> Result<bool, Error>
         ensures sought { (lower : Option (List ℕ × ℕ)) → sought self.old lower None →
             OnOk result (sought self.new lower (Some key.now)) }
@@ -86,22 +96,28 @@ pub trait BlockIndexIter<A: Allocator>: DoubleEndedIterator<
         ensures wants { takes_memory self.new → takes_memory self.old }
         ensures err { IfErr result (λ e. e ≡ OutOfMemory) };
 
-    /// How many blocks of each kind were loaded.
+    /// Returns how many blocks of each kind were loaded.
     fn opened(&self) -> Opened
         ensures { result ≡ (left self.now).opened };
 }
 
-/// An index: from keys to the handles of data blocks.
+/// A block index: from keys to the handles of data blocks.
 pub trait BlockIndex<A: Allocator> {
-    // What it has between two edges.
+    // Its handles between two edges.
     ghost index: { Self → Index };
 
     // Whether there is a reader from an edge on.
     ghost has_reader: { Self → Option (List ℕ × ℕ) → Type 0 };
 
-    /// The handles from the first on that reaches a key and a number: whose end key is greater, or
-    /// equal and numbered below `seqno`. `None` only where there is no such handle, and only of an
-    /// index that stays loaded. Nothing is loaded. Refused [`Error::OutOfMemory`] alone.
+    /// Returns an iterator from the first handle whose end key reaches a key and a sequence number.
+    ///
+    /// An end key reaches them if it is greater than `key`, or equal with a sequence number below
+    /// `seqno`. It returns `None` only if there is no such handle, and only for a pinned full
+    /// index. Nothing is loaded.
+    ///
+    /// # Errors
+    ///
+    /// [`Error::OutOfMemory`] only.
     fn forward_reader(
         &self,
         key: &[u8],
@@ -114,20 +130,26 @@ pub trait BlockIndex<A: Allocator> {
             IfOk result (λ found. MatchOption found (has → ⊥) (λ i. has)) }
         ensures err { IfErr result (λ e. e ≡ OutOfMemory) };
 
-    /// All handles. Nothing is loaded. Refused [`Error::OutOfMemory`] alone.
+    /// Returns an iterator over all handles.
+    ///
+    /// Nothing is loaded.
+    ///
+    /// # Errors
+    ///
+    /// [`Error::OutOfMemory`] only.
     fn iter(&self) -> Result<BlockIndexIterImpl<A>, Error>
         ensures all { IfOk result (λ i. IsReader i (index self.now) None None) }
         ensures err { IfErr result (λ e. e ≡ OutOfMemory) };
 }
 
-/// An index of one of three kinds.
+/// A block index of one of three kinds.
 #[derive(Drop)]
 pub enum BlockIndexImpl<A: Allocator = Global> {
-    /// One block, which stays loaded.
+    /// One pinned block.
     Full(FullBlockIndex<A>),
-    /// One block, which is loaded on demand.
+    /// One block, loaded on demand.
     VolatileFull(VolatileBlockIndex<A>),
-    /// A top level, which stays loaded, over partitions.
+    /// A pinned top level over partitions.
     TwoLevel(TwoLevelBlockIndex<A>),
 }
 
@@ -166,20 +188,21 @@ impl<A: Allocator + Clone> BlockIndex<A> for BlockIndexImpl<A> {
     }
 }
 
-/// The iterator of an index of one of three kinds.
+/// The iterator of a [`BlockIndexImpl`].
 #[derive(Drop)]
 pub enum BlockIndexIterImpl<A: Allocator = Global> {
-    /// Of a block that stays loaded.
+    /// Iterates over a pinned block.
     Full(full::Iter<A>),
-    /// Of a block that the first step loads.
+    /// Iterates over a block that the first step loads.
     Volatile(volatile::Iter<A>),
-    /// Of two levels.
+    /// Iterates over a two-level index.
     TwoLevel(two_level::Iter<A>),
 }
 
 impl<A: Allocator + Clone> BlockIndexIterImpl<A> {
-    /// Whether an edge may be sought: none was, and no step was made. Over an index that stays loaded
-    /// a seek that left no handle out counts as none.
+    /// Returns whether no edge was sought and no step was made.
+    ///
+    /// With a pinned full index, a seek that dropped no handle does not count.
     pub fn is_unsought(&self) -> bool
         ensures { IsTrue result ↔ IsSought self.now None None }
     {
@@ -190,7 +213,7 @@ impl<A: Allocator + Clone> BlockIndexIterImpl<A> {
         }
     }
 
-    /// A step at the front, by the kind.
+    /// Steps at the front, by kind.
     #[inline]
     fn step(&mut self) -> Option<Result<KeyedBlockHandle<A>, Error>>
         ensures { FrontGives self.old result self.new }
@@ -202,7 +225,7 @@ impl<A: Allocator + Clone> BlockIndexIterImpl<A> {
         }
     }
 
-    /// A step at the back, by the kind.
+    /// Steps at the back, by kind.
     #[inline]
     fn step_back(&mut self) -> Option<Result<KeyedBlockHandle<A>, Error>>
         ensures { BackGives self.old result self.new }

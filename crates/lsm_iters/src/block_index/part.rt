@@ -1,4 +1,4 @@
-//! What is left of a partition.
+//! The handles left of an index block.
 ghost use Rattle.std.specs.Prelude.{◌≡◌, ◌∷◌, [], Err, false, IfOk, IfErr};
 ghost use Rattle.sst_entries.specs.Error.{FaultsFirst, is_memory};
 ghost use Rattle.sst_entries.specs.Stream.{ok_results};
@@ -14,7 +14,7 @@ use sst_blocks::{
 use std::alloc::Allocator;
 use std::marker::Model;
 
-/// What is left of a partition, and nothing where none is loaded. A contract sees the handles.
+/// The handles left of an index block; none if no block is loaded. Contracts see the handles.
 #[derive(Drop)]
 pub struct Part<A: Allocator> {
     iter: Option<OwnedIndexBlockIter<A>>,
@@ -31,21 +31,23 @@ impl<A: Allocator> Model for Part<A> {
 }
 
 impl<A: Allocator> Part<A> {
-    /// Of no partition.
+    /// Returns a part without handles.
     pub fn none() -> Part<A>
         ensures { result ≡ [] }
     {
         Part { iter: None }
     }
 
-    /// Of the block that is dealt.
+    /// Returns a part with the handles that an iterator still yields.
     pub fn of(iter: OwnedIndexBlockIter<A>) -> Part<A>
         ensures { result ≡ rest_in iter }
     {
         Part { iter: Some(iter) }
     }
 
-    /// Takes the first handle. After a refusal nothing is left.
+    /// Takes the first handle.
+    ///
+    /// After an error nothing is left.
     pub fn next(&mut self) -> Option<Result<KeyedBlockHandle<A>, Error>>
         ensures { PartGives front_of self.old result self.new }
     {
@@ -55,7 +57,9 @@ impl<A: Allocator> Part<A> {
         }
     }
 
-    /// Takes the last handle. After a refusal nothing is left.
+    /// Takes the last handle.
+    ///
+    /// After an error nothing is left.
     pub fn next_back(&mut self) -> Option<Result<KeyedBlockHandle<A>, Error>>
         ensures { PartGives back_of self.old result self.new }
     {
@@ -66,8 +70,13 @@ impl<A: Allocator> Part<A> {
     }
 }
 
-/// What the index block at a place holds between the edges. Refused as [`BlockSource::load`]; each
-/// call counts, also where it refuses.
+/// Loads an index block and returns its handles between the edges.
+///
+/// Each call counts as a load, also if it fails.
+///
+/// # Errors
+///
+/// Those of [`BlockSource::load`].
 pub fn load_handles<A: Allocator + Clone>(
     source: &BlockSource<A>,
     handle: &BlockHandle,
@@ -78,7 +87,7 @@ pub fn load_handles<A: Allocator + Clone>(
         IfOk result (λ hs. ok_results (rest_in hs) ≡ told handle.now) }
     ensures err { let told = block_between (body_of source.now) edges.now.0 edges.now.1 in
         IfErr result (λ e. is_memory e ≡ false → Err e ∷ [] ≡ told handle.now) }
-    // What is found before memory is taken comes before any want of it.
+    // An error that is found before allocating is returned rather than `OutOfMemory`.
     ensures first { FaultsFirst result (block_early (body_of source.now) handle.now) }
     ensures counted { opened.new ≡ with_index_loads 1 opened.old }
 {
@@ -86,8 +95,13 @@ pub fn load_handles<A: Allocator + Clone>(
     Ok(edges.within(IndexBlock::new(block)))
 }
 
-/// What of the index block at a place lies between the edges, as what is left of a partition.
-/// Refused as [`BlockSource::load`]; each call counts, also where it refuses.
+/// Loads an index block and returns its handles between the edges as a [`Part`].
+///
+/// Each call counts as a load, also if it fails.
+///
+/// # Errors
+///
+/// Those of [`BlockSource::load`].
 pub fn load_part<A: Allocator + Clone>(
     source: &BlockSource<A>,
     handle: &BlockHandle,

@@ -1,4 +1,4 @@
-//! The partitions of an index of two levels that are not loaded.
+//! The partitions of a two-level index that are not loaded yet.
 ghost use Rattle.lsm_iters.specs.block_index.Partitions.{EndsPartitions, KeepsPartitions};
 ghost use Rattle.lsm_iters.specs.block_index.Partitions.{coming_partitions};
 
@@ -10,7 +10,7 @@ use sst_blocks::{BlockSource, Error, Opened};
 use sst_entries::Direction;
 use std::alloc::Allocator;
 
-/// The partitions that a top level still names, each cut to two edges when it is loaded.
+/// The partitions whose handles a top level still yields; each is cut to two edges when loaded.
 #[derive(Drop)]
 pub struct Partitions<A: Allocator> {
     pub source: BlockSource<A>,

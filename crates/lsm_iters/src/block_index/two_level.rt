@@ -1,5 +1,4 @@
-//! The index of two levels: a top level that stays loaded, and partitions that each iterator loads
-//! one after another.
+//! The two-level index: a pinned top level over partitions that each iterator loads one by one.
 ghost use Rattle.std.specs.Prelude.{◌≡◌, ◌↔◌, [], IsTrue, Some, None, IfOk, IfErr};
 ghost use Rattle.std.specs.Iterator.{at_most};
 ghost use Rattle.sst_entries.specs.declared.error.Error.TheVariants.{OutOfMemory};
@@ -21,9 +20,10 @@ use sst_entries::Direction;
 use std::alloc::{Allocator, Global};
 use std::marker::Model;
 
-/// An index of two levels: the handles of the top level name partitions, which hold the handles of
-/// the data blocks. The top level stays loaded. A contract sees the bytes before the trailer and
-/// the handles of the top level.
+/// A two-level index: a pinned top level over partitions.
+///
+/// The handles of the top level name partitions, which hold the handles of the data blocks.
+/// Contracts see the bytes before the trailer and the handles of the top level.
 #[derive(Drop)]
 pub struct TwoLevelBlockIndex<A: Allocator = Global> {
     alloc: A,
@@ -42,7 +42,7 @@ impl<A: Allocator> Model for TwoLevelBlockIndex<A> {
 }
 
 impl<A: Allocator + Clone> TwoLevelBlockIndex<A> {
-    /// The index of a top level that was loaded from a source.
+    /// Returns the index of a top level that was loaded from a source.
     pub fn new(
         alloc: A,
         source: BlockSource<A>,
@@ -57,9 +57,14 @@ impl<A: Allocator + Clone> TwoLevelBlockIndex<A> {
         }
     }
 
-    /// The handles from the first on that reaches a key and a number: whose end key is greater, or
-    /// equal and numbered below `seqno`. There is always a reader, and nothing is loaded. Refused
-    /// [`Error::OutOfMemory`] alone.
+    /// Returns an iterator from the first handle whose end key reaches a key and a sequence number.
+    ///
+    /// An end key reaches them if it is greater than `key`, or equal with a sequence number below
+    /// `seqno`. It always returns an iterator, even if there is no such handle. Nothing is loaded.
+    ///
+    /// # Errors
+    ///
+    /// [`Error::OutOfMemory`] only.
     pub fn forward_reader(&self, key: &[u8], seqno: SeqNo) -> Result<Iter<A>, Error>
         ensures sought { IfOk result (λ i. IsTwoLevelSought i (Some (key.now, seqno)) None) }
         ensures between { let edge = Some (key.now, seqno) in
@@ -78,7 +83,13 @@ impl<A: Allocator + Clone> TwoLevelBlockIndex<A> {
         sought.and(Ok(iter))
     }
 
-    /// All handles. Nothing is loaded. Refused [`Error::OutOfMemory`] alone.
+    /// Returns an iterator over all handles.
+    ///
+    /// Nothing is loaded.
+    ///
+    /// # Errors
+    ///
+    /// [`Error::OutOfMemory`] only.
     pub fn iter(&self) -> Result<Iter<A>, Error>
         ensures unsought { IfOk result (λ i. i ≡ new_two_level self.now.0 self.now.1) }
         ensures between { IfOk result (λ i. IsBetween (two_level_left i) None None) }
@@ -103,7 +114,7 @@ impl<A: Allocator + Clone> TwoLevelBlockIndex<A> {
     }
 }
 
-// Whether nothing is left of a partition, where one is loaded.
+// Returns whether no handle is left of a partition; true if none is loaded.
 fn is_over<A: Allocator>(part: &Option<OwnedIndexBlockIter<A>>) -> bool
     ensures { IsTrue result ↔ (rest_of part.now ≡ []) }
 {
@@ -113,11 +124,13 @@ fn is_over<A: Allocator>(part: &Option<OwnedIndexBlockIter<A>>) -> bool
     }
 }
 
-/// The handles of an index of two levels, dealt from both ends. A partition is loaded where a step
-/// first needs it, and no step loads more than it needs; each load is counted; where one cannot be
-/// loaded, the fault comes in the place of its handles, and one that needs no memory to be found
-/// comes before any want of it for this partition. After an error of a step or of a seek,
-/// [`Error::OutOfMemory`] among them, nothing more comes, from either end.
+/// A double-ended iterator over the handles of a two-level index.
+///
+/// It loads a partition when a step first needs it, and counts each load. No step loads more than
+/// it needs. If a partition cannot be loaded, it yields the error instead of its handles. An error
+/// that is found without allocating takes precedence over [`Error::OutOfMemory`] of the same
+/// partition. After an error of a step or a seek, `OutOfMemory` included, it is exhausted at both
+/// ends.
 #[derive(Drop)]
 pub struct Iter<A: Allocator = Global> {
     walk: Walk<Partitions<A>, OwnedIndexBlockIter<A>>,
@@ -133,7 +146,7 @@ impl<A: Allocator> Model for Iter<A> {
 }
 
 impl<A: Allocator + Clone> Iter<A> {
-    /// Whether no edge was sought, and no step was made.
+    /// Returns whether no edge was sought and no step was made.
     pub(crate) fn is_unsought(&self) -> bool
         ensures { IsTrue result ↔ IsTwoLevelSought self.now None None }
     {
@@ -142,7 +155,7 @@ impl<A: Allocator + Clone> Iter<A> {
         whole && is_over(&self.walk.front) && is_over(&self.walk.back)
     }
 
-    /// The answer at an end.
+    /// Returns the next item at an end.
     #[inline(always)]
     fn answer(&mut self, at: Direction) -> Option<Result<KeyedBlockHandle<A>, Error>>
         ensures { TwoLevelGives (taken_at at) (needs_at at) (fault_at at) self.old result self.new }
@@ -150,7 +163,7 @@ impl<A: Allocator + Clone> Iter<A> {
         self.walk.step(at)
     }
 
-    /// Lets go what is left.
+    /// Drops the handles that are left.
     fn end(&mut self)
         ensures { self.new ≡ record self.old { tops = []; front = []; back = [] } }
     {

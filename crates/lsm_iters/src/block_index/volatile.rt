@@ -1,4 +1,4 @@
-//! The index on demand: one block with the handle of every data block, which each iterator loads.
+//! The volatile index: one block with the handle of every data block, loaded by each iterator.
 ghost use Rattle.std.specs.Prelude.{◌≡◌, ◌↔◌, [], IsTrue, Some, None, IfOk, IfErr};
 ghost use Rattle.std.specs.Iterator.{at_most};
 ghost use Rattle.sst_entries.specs.declared.error.Error.TheVariants.{OutOfMemory};
@@ -15,8 +15,10 @@ use sst_blocks::{BlockHandle, BlockSource, Error, KeyedBlockHandle, Opened, SeqN
 use std::alloc::{Allocator, Global};
 use std::marker::Model;
 
-/// An index of one block, which is loaded on demand: by the first step of each iterator, once. A
-/// contract sees the bytes before the trailer and the block's place.
+/// An index of one block that is loaded on demand.
+///
+/// The first step of each iterator loads it, once. Contracts see the bytes before the trailer and
+/// the block's handle.
 #[derive(Drop)]
 pub struct VolatileBlockIndex<A: Allocator = Global> {
     alloc: A,
@@ -35,7 +37,9 @@ impl<A: Allocator> Model for VolatileBlockIndex<A> {
 }
 
 impl<A: Allocator + Clone> VolatileBlockIndex<A> {
-    /// The index whose block a handle names. Nothing is loaded.
+    /// Returns the index whose block a handle names.
+    ///
+    /// Nothing is loaded.
     pub fn new(alloc: A, source: BlockSource<A>, handle: BlockHandle) -> VolatileBlockIndex<A>
         ensures { result ≡ (body_of source, handle) }
     {
@@ -46,9 +50,14 @@ impl<A: Allocator + Clone> VolatileBlockIndex<A> {
         }
     }
 
-    /// The handles from the first on that reaches a key and a number: whose end key is greater, or
-    /// equal and numbered below `seqno`. There is always a reader, and nothing is loaded. Refused
-    /// [`Error::OutOfMemory`] alone.
+    /// Returns an iterator from the first handle whose end key reaches a key and a sequence number.
+    ///
+    /// An end key reaches them if it is greater than `key`, or equal with a sequence number below
+    /// `seqno`. It always returns an iterator, even if there is no such handle. Nothing is loaded.
+    ///
+    /// # Errors
+    ///
+    /// [`Error::OutOfMemory`] only.
     pub fn forward_reader(&self, key: &[u8], seqno: SeqNo) -> Result<Iter<A>, Error>
         ensures sought { let unsought = new_on_demand self.now.0 self.now.1 in
             IfOk result (λ i. i ≡ record unsought { lower = Some (key.now, seqno) }) }
@@ -65,7 +74,13 @@ impl<A: Allocator + Clone> VolatileBlockIndex<A> {
         sought.and(Ok(iter))
     }
 
-    /// All handles. Nothing is loaded. Refused [`Error::OutOfMemory`] alone.
+    /// Returns an iterator over all handles.
+    ///
+    /// Nothing is loaded.
+    ///
+    /// # Errors
+    ///
+    /// [`Error::OutOfMemory`] only.
     pub fn iter(&self) -> Result<Iter<A>, Error>
         ensures unsought { IfOk result (λ i. i ≡ new_on_demand self.now.0 self.now.1) }
         ensures between { IfOk result (λ i. IsBetween (on_demand_left i) None None) }
@@ -87,10 +102,11 @@ impl<A: Allocator + Clone> VolatileBlockIndex<A> {
     }
 }
 
-/// The handles of an index on demand, dealt from both ends. The first step loads the block, once;
-/// where that is refused, the fault comes in the place of the handles, and one that needs no memory
-/// to be found comes before any want of it. After an error of a step or of a seek,
-/// [`Error::OutOfMemory`] among them, nothing more comes, from either end.
+/// A double-ended iterator over the handles of a volatile index.
+///
+/// The first step loads the block, once. If that fails, it yields the error instead of the handles.
+/// An error that is found without allocating takes precedence over [`Error::OutOfMemory`]. After an
+/// error of a step or a seek, `OutOfMemory` included, it is exhausted at both ends.
 #[derive(Drop)]
 pub struct Iter<A: Allocator = Global> {
     source: BlockSource<A>,
@@ -117,7 +133,7 @@ impl<A: Allocator> Model for Iter<A> {
 }
 
 impl<A: Allocator + Clone> Iter<A> {
-    /// Whether no edge was sought, and no step was made.
+    /// Returns whether no edge was sought and no step was made.
     pub(crate) fn is_unsought(&self) -> bool
         ensures { IsTrue result ↔ IsDemandSought self.now None None }
     {
@@ -126,7 +142,7 @@ impl<A: Allocator + Clone> Iter<A> {
 }
 
 impl<A: Allocator> Iter<A> {
-    /// Lets go what is left; nothing is loaded any more.
+    /// Drops the handles that are left; nothing is loaded any more.
     fn end(&mut self)
         ensures { self.new ≡ record self.old { part = Some [] } }
     {

@@ -1,4 +1,5 @@
--- A point read of a table, over any bytes: a key is admitted, its data block is found, and is read.
+-- A point read over any bytes: the filter admits the key, the index finds its data block, which is
+-- read.
 use Rattle.std.specs.Prelude.{◌≡◌, ℕ, ◌+◌, ◌-◌, ◌^◌, ◌≤◌, nat_lt, Bool, true, false, List, Option}
 use Rattle.std.specs.Prelude.{Some, None, if◌then◌else◌}
 use Rattle.std.specs.Option.{option_map}
@@ -18,19 +19,18 @@ use Rattle.sst_blocks.specs.filter.KeyHash.{hash_of}
 use Rattle.sst_blocks.specs.Sections.{body_of}
 use Rattle.lsm_readers.specs.point.Read.{Read, known, block_read, read_map, read_then}
 
--- whether the filter block at a place may have a hash
+-- Whether a filter block admits a hash.
 abbrev pub block_admits : List ℕ → ℕ → Place → Read Bool
 block_admits body hash place =
     read_map (λ block. admits (filter_in block.payload) hash) (block_read body place Filter)
 
--- the same of a filter's partition: where there is none, no
+-- Whether a filter partition admits a hash; false if there is none.
 abbrev pub part_admits : List ℕ → ℕ → Option Place → Read Bool
 part_admits body hash None = known false
 part_admits body hash (Some place) = block_admits body hash place
 
--- whether a table's filter may have a key of a hash: with a top level its partition is asked, which
--- the key at the highest bound leads to; else its one block, which stays loaded or is loaded by
--- each read; without a filter, yes
+-- Whether a table's filter admits a key: by the key's partition, or by its one block, pinned or
+-- loaded. Without a filter it does.
 abbrev pub filter_admits : List ℕ → Option (List Handle) → Option BloomFilter → Option Place
     → List ℕ
     → ℕ → Read Bool
@@ -40,8 +40,8 @@ filter_admits body None (Some filter) place key hash = known (admits filter hash
 filter_admits body None None (Some place) key hash = block_admits body hash place
 filter_admits body None None None key hash = known true
 
--- whether a key may have an entry below a bound: a stored number is below it, and the filter may
--- have it
+-- Whether a key may have an entry visible at a snapshot: some stored seqno is below it, and the
+-- filter admits the key.
 abbrev pub admission : List ℕ → Parts → List ℕ → ℕ → Read Bool
 admission body parts key bound =
     let pinned = parts.pinned in
@@ -49,47 +49,47 @@ admission body parts key bound =
     then filter_admits body pinned.filter_tops pinned.filter parts.regions.filter key (hash_of key)
     else known false
 
--- where the first data block lies that reaches a key at a bound, if the key is admitted
+-- The first data block that reaches a key at a snapshot, if the key is admitted.
 abbrev pub handle_for : List ℕ → Parts → List ℕ → ℕ → Bool → Read (Option Place)
 handle_for body parts key bound false = known None
 handle_for body parts key bound true = handle_by body parts.pinned.index parts.regions.tli key bound
 
--- where the one data block lies that a read of a key below a stored number rests on
+-- The one data block that a point read of a key at a snapshot of stored seqnos needs.
 abbrev pub admitted_handle : List ℕ → Parts → List ℕ → ℕ → Read (Option Place)
 admitted_handle body parts key bound =
     read_then (admission body parts key bound) (handle_for body parts key bound)
 
--- the first match in the block at a place, its number lifted
+-- The first match in a data block, global seqno applied.
 abbrev pub match_at : List ℕ → ℕ → List ℕ → ℕ → Place → Read (Option Entry)
 match_at body g key bound place =
     read_map (λ block. option_map (lifted g) (point (entries_of block) key bound))
     (block_read body place Data)
 
--- the same of a place, where there is one
+-- The first match in a data block, if there is a block.
 abbrev pub match_in : List ℕ → ℕ → List ℕ → ℕ → Option Place → Read (Option Entry)
 match_in body g key bound None = known None
 match_in body g key bound (Some place) = match_at body g key bound place
 
--- a point read over the bytes before the trailer, whose numbers are below the bound once they are
--- lifted
+-- A point read over the bytes before the trailer: the newest version visible once the global seqno
+-- is applied.
 unfoldable pub answer : List ℕ → ℕ → Parts → List ℕ → ℕ → Read (Option Entry)
 answer body g parts key bound =
     let low = bound - g in
     read_then (admitted_handle body parts key low) (match_in body g key low)
 
--- a point read of an opened table
+-- A point read of an opened table.
 abbrev pub table_answer : OpenTable → List ℕ → ℕ → Read (Option Entry)
 table_answer t key bound = answer (body_of t.bytes) t.global_seqno t.parts key bound
 
--- how many filter blocks: none where a full filter stays loaded, or there is no filter
+-- A bound on the filter blocks loaded: none if a full filter is pinned or there is none.
 abbrev pub most_filter_loads : Option (List Handle) → Option BloomFilter → Option Place → ℕ
 most_filter_loads (Some tops) filter place = 1
 most_filter_loads None (Some filter) place = 0
 most_filter_loads None None (Some place) = 1
 most_filter_loads None None None = 0
 
--- the counts before and after a point read: at most one data block, one index block and one filter
--- block were loaded, and none that stays loaded
+-- A point read loads at most one data block, one index block and one filter block, and none that is
+-- pinned.
 pub record LoadsFew (parts : Parts) (old new : Opened) : Type 0 where
   pub data_few : new.data_loads ≤ old.data_loads + 1
   pub index_few : new.index_loads ≤ old.index_loads + most_index_loads parts.pinned.index

@@ -1,4 +1,4 @@
--- Point reads of some queries, over any bytes, in whatever order they are made.
+-- Point reads of some queries, over any bytes, in any order.
 use Rattle.std.specs.Prelude.{◌≡◌, ℕ, ◌-◌, ◌<◌, Bool, true, false, List, length, slice_index_or}
 use Rattle.std.specs.Prelude.{Option, None, Result, Ok}
 use Rattle.sst_entries.specs.declared.error.Error.{Error}
@@ -8,19 +8,18 @@ use Rattle.lsm_readers.specs.declared.many.Query.{Query}
 use Rattle.lsm_readers.specs.point.Answer.{admitted_handle, answer}
 use Rattle.lsm_readers.specs.point.Parts.{Parts}
 
--- what a point read for a query tells
+-- The result of a point read for a query.
 abbrev pub query_told : {A : Type 0} → List ℕ → ℕ → Parts → Query A → Result (Option Entry) Error
 query_told body g parts q = (answer body g parts q.key q.seqno).told
 
--- a lookup of a query that stands at a place of its list: a point read for it rests on the block
--- of a handle
+-- A lookup of the query at an index of the list: its point read needs the block of this handle.
 pub record IsLookup {A : Type 0} (body : List ℕ) (g : ℕ) (parts : Parts) (queries : List (Query A))
     (l : Lookup) : Type 0 where
   pub within : l.at < length queries
   pub told : (q : Query A) → q ≡ slice_index_or queries l.at q →
       (admitted_handle body parts q.key (q.seqno - g)).told ≡ Ok l.handle
 
--- of some queries, those that are marked were answered: each has what a function tells
+-- The queries flagged as done were answered: each has its function's result.
 pub record AreFound {X Y : Type 0} (f : X → Result (Option Y) Error) (queries : List X)
     (found : List (Option Y)) (done : List Bool) : Type 0 where
   pub found_len : length found ≡ length queries

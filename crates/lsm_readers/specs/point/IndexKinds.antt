@@ -1,4 +1,4 @@
--- What depends on the kind of a table's index: what of it stays loaded, and what that gives.
+-- Definitions by kind of a table's index: its pinned blocks, and lookups through them.
 use Rattle.std.specs.Prelude.{ℕ, ◌-◌, Bool, List, find, Option, Some, None, is_some, Result, Ok}
 use Rattle.std.specs.Prelude.{if◌then◌else◌}
 use Rattle.std.specs.Option.{option_map}
@@ -30,8 +30,7 @@ use Rattle.lsm_readers.specs.declared.pinned.PinnedBlockIndex.TheVariants.{TwoLe
 use Rattle.lsm_readers.specs.declared.regions.ParsedRegions.{ParsedRegions}
 use Rattle.lsm_readers.specs.point.Read.{◌>>=◌, Read, block_read, known, read_map}
 
--- what of an index stays loaded: the handles of a full one, nothing of one that each read loads, or
--- the handles of the top level of one with partitions
+-- The pinned handles: those of a full index, none of a volatile one, or those of a top level.
 pub data PinnedIndex : Type 0 where
   full : List Handle → PinnedIndex
   volatile : PinnedIndex
@@ -44,12 +43,13 @@ pinned_index_of (TopsKept tops) = two_level tops
 
 -- ---- opening an index
 
--- the handles of the index block at a place
+-- The handles of an index block.
 abbrev pub handles_told : List ℕ → Place → Result (List Handle) Error
 handles_told body place =
     load_told body place.offset place.size IndexBlock >>= λ block. Ok (handles_of block)
 
--- the index: its top level where it has partitions, else the whole where it is to stay loaded
+-- The index opened: its top level if it has partitions, otherwise the whole block if it is to be
+-- pinned.
 abbrev pub index_told : List ℕ → ParsedRegions → Bool → Result PinnedIndex Error
 index_told body regions pin =
     if is_some regions.index
@@ -57,15 +57,13 @@ index_told body regions pin =
     else (if pin then (handles_told body regions.tli >>= λ handles. Ok (full handles))
     else Ok volatile)
 
--- what stays loaded of an index as it was written, whose partitions begin at a position: of a full
--- one its handles where it is to stay loaded, and else nothing; of one with partitions the handles
--- of its top level
+-- The pinned part of a written index whose partitions start at an offset.
 abbrev pub index_said : IndexKind → TableVersion → ℕ → List Handle → List (List Handle) → Bool
     → PinnedIndex
 index_said FullIndex v at hs parts pin = if pin then full hs else volatile
 index_said (PartitionedIndex size) v at hs parts pin = two_level (index_tops v at parts)
 
--- the payload length of the index block that stays loaded, by its place, or 0 where none does
+-- The payload length of the pinned index block, or 0 if none is pinned.
 abbrev pub index_len : PinnedIndex → Place → ℕ
 index_len (full handles) tli = tli.size - header_len
 index_len volatile tli = 0
@@ -73,46 +71,43 @@ index_len (two_level tops) tli = tli.size - header_len
 
 -- ---- a lookup by an index
 
--- where the first handle leads that reaches a key at a bound
+-- The block of the first handle that reaches a key at a snapshot.
 abbrev pub place_in : List Handle → List ℕ → ℕ → Option Place
 place_in handles key bound = option_map place_of (find (reaches key bound) handles)
 
--- where the handle leads that the index block at a place has for a key at a bound
+-- The block that an index block has for a key at a snapshot.
 abbrev pub handle_in_block : List ℕ → List ℕ → ℕ → Place → Read (Option Place)
 handle_in_block body key bound place =
     read_map (λ block. place_in (handles_of block) key bound) (block_read body place IndexBlock)
 
--- where the handle leads that the partition at a place has for a key at a bound; nowhere where
--- there is no partition
+-- The block that a partition has for a key at a snapshot, if there is a partition.
 abbrev pub handle_in_part : List ℕ → List ℕ → ℕ → Option Place → Read (Option Place)
 handle_in_part body key bound None = known None
 handle_in_part body key bound (Some place) = handle_in_block body key bound place
 
--- where the first data block lies that reaches a key at a bound: by the handles that stay loaded,
--- by the one block of the index, or by the one partition that the top level leads to
+-- The first data block that reaches a key at a snapshot. The pinned handles, the one index block or
+-- one partition finds it.
 abbrev pub handle_by : List ℕ → PinnedIndex → Place → List ℕ → ℕ → Read (Option Place)
 handle_by body (full handles) tli key bound = known (place_in handles key bound)
 handle_by body volatile tli key bound = handle_in_block body key bound tli
 handle_by body (two_level tops) tli key bound =
     handle_in_part body key bound (place_in tops key bound)
 
--- how many index blocks a point read loads at most: none where the whole index stays loaded
+-- A bound on the index blocks that a point read loads: none for a pinned full index.
 abbrev pub most_index_loads : PinnedIndex → ℕ
 most_index_loads (full handles) = 0
 most_index_loads volatile = 1
 most_index_loads (two_level tops) = 1
 
--- ---- an index over what stays loaded, and its kind
+-- ---- an index over the pinned blocks, and its kind
 
--- the handles that stay loaded; or those of the one block at a place, on demand; or those of the
--- partitions that the handles of the top level name
+-- The index over pinned handles, over a block on demand, or over the partitions of a top level.
 abbrev pub index_over : List ℕ → PinnedIndex → Place → Index
 index_over body (full handles) tli = full_index handles
 index_over body volatile tli = on_demand body tli
 index_over body (two_level tops) tli = two_level_index body tops
 
--- an index stays loaded whole, or each of its iterators loads it, or a top level leads to
--- partitions
+-- The kinds of index: pinned whole, loaded by each iterator, or a top level over partitions.
 pub data Kind : Type 0 where
   whole : Kind
   on_each_read : Kind
@@ -123,13 +118,13 @@ index_kind_of (Full index) = whole
 index_kind_of (VolatileFull index) = on_each_read
 index_kind_of (TwoLevel index) = partitioned
 
--- the kind of the index over what stays loaded
+-- The kind of index over these pinned blocks.
 abbrev pub kind_kept : PinnedIndex → Kind
 kind_kept (full handles) = whole
 kind_kept volatile = on_each_read
 kind_kept (two_level tops) = partitioned
 
--- the kind where there are partitions or none, and the index was to stay loaded or was not
+-- The kind of index, by whether it has partitions and whether it is to be pinned.
 abbrev pub kind_for : Bool → Bool → Kind
 kind_for has_partitions pin =
     if has_partitions then partitioned else (if pin then whole else on_each_read)

@@ -7,16 +7,16 @@ use Rattle.lsm_readers.specs.point.Answer.{table_answer}
 use Rattle.lsm_readers.specs.point.Read.{◌>>=◌}
 use Rattle.lsm_readers.specs.point.Table.{OpenTable}
 
--- the answer to each query in order, or the refusal of the earliest that has one
+-- The result of each query in order, or the error of the earliest that fails.
 abbrev pub answers_to : {X Y : Type 0} → (X → Result Y Error) → List X → Result (List Y) Error
 answers_to f [] = Ok []
 answers_to f (x ∷ xs) = f x >>= λ y. answers_to f xs >>= λ ys. Ok (y ∷ ys)
 
--- what a point read for a query tells
+-- The result of a point read for a query.
 abbrev pub found_told : {A : Type 0} → OpenTable → Query A → Result (Option Entry) Error
 found_told t q = (table_answer t q.key q.seqno).told
 
--- what point reads for some queries tell
+-- The results of point reads for some queries.
 abbrev pub many_told : {A : Type 0} → OpenTable → List (Query A)
     → Result (List (Option Entry)) Error
 many_told t queries = answers_to (found_told t) queries

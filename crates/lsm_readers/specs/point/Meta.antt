@@ -1,4 +1,4 @@
--- What a meta block tells of its table, item by item, or the first fault.
+-- Decoding a meta block item by item, up to the first error.
 use Rattle.std.specs.Prelude.{ℕ, ◌-◌, ◌^◌, ◌==◌, ◌||◌, nat_lt, nat_eq, List, [], ◌∷◌, length}
 use Rattle.std.specs.Prelude.{slice_index, Option, Some, None, Result, Ok, Err, if◌then◌else◌}
 use Rattle.std.specs.Cmp.Lexicographic.{pointwise}
@@ -26,7 +26,7 @@ use Rattle.lsm_readers.specs.declared.meta.Numbers.{Numbers}
 use Rattle.lsm_readers.specs.declared.meta.ParsedMeta.{ParsedMeta}
 use Rattle.lsm_readers.specs.point.Read.{◌>>=◌}
 
--- what a table says of itself
+-- The facts that a table's meta block states.
 pub record Facts : Type 0 where
   pub table_version : ℕ
   pub id : ℕ
@@ -59,8 +59,8 @@ facts_of m = record {
   weak_tombstone_reclaimable = m.weak_tombstone_reclaimable;
 }
 
--- what a table says of itself, by what is read: its version, the moment, its numbers, its keys, and
--- the lowest and the highest number of its entries
+-- The facts assembled from the version, the timestamp, the counts, the key range and the seqno
+-- range.
 abbrev pub facts_with : ℕ → ℕ → Numbers → Interval → ℕ × ℕ → Facts
 facts_with table_version created_at n key_range seqnos = record {
   table_version = table_version;
@@ -78,8 +78,7 @@ facts_with table_version created_at n key_range seqnos = record {
   weak_tombstone_reclaimable = n.weak_tombstone_reclaimable;
 }
 
--- the numbers of the table of a list, and what it says of itself: it has so many data blocks and
--- index blocks, the data blocks of so many bytes
+-- The counts and the facts of the table of a list, for these numbers of blocks and data bytes.
 abbrev pub numbers_said : Label → ListFacts → ℕ → ℕ → ℕ → Numbers
 numbers_said label f blocks index_blocks size = record {
   id = label.table_id;
@@ -99,46 +98,46 @@ facts_said v label es blocks index_blocks size =
     (numbers_said label f blocks index_blocks size)
     (interval f.min_key f.max_key) (f.lowest, f.highest)
 
--- the value of the item of a name, where there is one
+-- The value of an item, or `MetaKeyMissing`.
 abbrev pub value_told : Option Entry → Result (List ℕ) Error
 value_told None = Err MetaKeyMissing
 value_told (Some e) = Ok e.value
 
--- the first item of a name, whatever its kind
+-- The value of the first item of a name, of any value type.
 unfoldable pub item_told : List Entry → ItemName → Result (List ℕ) Error
 item_told es name = value_told (point es (name_of name) (2 ^ 64 - 1))
 
--- a number of eight or sixteen bytes; bytes past it are passed over
+-- A number of 8 or 16 bytes; further bytes are ignored.
 abbrev pub number8_told : List ℕ → Result ℕ Error
 number8_told value = if nat_lt (length value) 8 then Err InvalidMetaValue else Ok (num8 value)
 
 abbrev pub number16_told : List ℕ → Result ℕ Error
 number16_told value = if nat_lt (length value) 16 then Err InvalidMetaValue else Ok (num16 value)
 
--- the item of a name as a number of eight bytes
+-- The item of a name as a number of 8 bytes.
 unfoldable pub u64_told : List Entry → ItemName → Result ℕ Error
 u64_told es name = item_told es name >>= number8_told
 
--- one byte, which has to be this one, else a fault
+-- The value must be exactly this byte.
 abbrev pub one_byte_told : List ℕ → ℕ → Error → Result (Unit {0}) Error
 one_byte_told value byte fault =
     if pointwise nat_eq value (byte ∷ []) then Ok tt else Err fault
 
--- an item that has to be one byte, else a fault
+-- The item's value must be exactly this byte.
 unfoldable pub byte_told : List Entry → ItemName → ℕ → Error → Result (Unit {0}) Error
 byte_told es name byte fault = item_told es name >>= λ value. one_byte_told value byte fault
 
--- a first byte that has to be this one, else a fault
+-- The value's first byte must be this one.
 abbrev pub first_byte_told : List ℕ → ℕ → Error → Result (Unit {0}) Error
 first_byte_told value byte fault =
     if nat_lt (length value) 1 then Err InvalidMetaValue
     else (if slice_index value 0 == byte then Ok tt else Err fault)
 
--- an item whose first byte has to be this one, else a fault
+-- The first byte of the item's value must be this one.
 unfoldable pub first_told : List Entry → ItemName → ℕ → Error → Result (Unit {0}) Error
 first_told es name byte fault = item_told es name >>= λ value. first_byte_told value byte fault
 
--- the version, one byte, 3 or 4
+-- The table version: one byte, 3 or 4.
 abbrev pub version_number_told : List ℕ → Result ℕ Error
 version_number_told value =
     if pointwise nat_eq value (3 ∷ []) || pointwise nat_eq value (4 ∷ [])
@@ -148,14 +147,14 @@ version_number_told value =
 unfoldable pub version_told : List Entry → Result ℕ Error
 version_told es = item_told es item.TableVersion >>= version_number_told
 
--- the hash, the checksum and the index have to be those that are known
+-- The hash type, the checksum type and the index restart interval must be supported.
 unfoldable pub kinds_told : List Entry → Result (Unit {0}) Error
 kinds_told es =
     byte_told es item.FilterHashType filter_hash_type UnsupportedHashType >>= λ _.
     byte_told es item.ChecksumType 1 UnsupportedChecksumType >>= λ _.
     first_told es item.RestartIntervalIndex 1 UnsupportedIndexInterval
 
--- no block is compressed
+-- No block is compressed.
 unfoldable pub compressions_told : List Entry → Result (Unit {0}) Error
 compressions_told es =
     first_told es item.CompressionData 0 UnsupportedCompression >>= λ _.
@@ -164,8 +163,8 @@ compressions_told es =
 unfoldable pub created_told : List Entry → Result ℕ Error
 created_told es = item_told es item.CreatedAt >>= number16_told
 
--- the numbers that are read before the moment, in this order; the count of filter blocks is read
--- behind that of index blocks for its refusal alone
+-- The counts, decoded in this order before the timestamp. The filter block count is decoded for its
+-- error only.
 unfoldable pub numbers_told : List Entry → Result Numbers Error
 numbers_told es =
     u64_told es item.TableId >>= λ id.
@@ -188,21 +187,21 @@ numbers_told es =
       weak_tombstone_reclaimable = weak_tombstone_reclaimable;
     })
 
--- the first and the last key
+-- The first and the last key.
 unfoldable pub keys_told : List Entry → Result Interval Error
 keys_told es =
     item_told es item.KeyMin >>= λ min.
     item_told es item.KeyMax >>= λ max.
     Ok (interval min max)
 
--- the lowest and the highest number
+-- The lowest and the highest seqno.
 unfoldable pub seqnos_told : List Entry → Result (ℕ × ℕ) Error
 seqnos_told es =
     u64_told es item.SeqnoMin >>= λ min.
     u64_told es item.SeqnoMax >>= λ max.
     Ok (min, max)
 
--- what is read behind the version and the numbers, in this order
+-- The items decoded after the version and the counts, in this order.
 unfoldable pub rest_told : List Entry → ℕ → Numbers → Result Facts Error
 rest_told es table_version numbers =
     created_told es >>= λ created_at.
@@ -211,7 +210,7 @@ rest_told es table_version numbers =
     compressions_told es >>= λ _.
     Ok (facts_with table_version created_at numbers key_range seqnos)
 
--- all that is read, in this order
+-- All items, decoded in this order.
 unfoldable pub facts_told : List Entry → Result Facts Error
 facts_told es =
     version_told es >>= λ table_version.
@@ -219,12 +218,12 @@ facts_told es =
     numbers_told es >>= λ numbers.
     rest_told es table_version numbers
 
--- what the meta block at a place tells: it is loaded, then its items are read
+-- The facts of a meta block: it is loaded, then decoded.
 abbrev pub meta_told : List ℕ → Place → Result Facts Error
 meta_told body place =
     load_told body place.offset place.size Meta >>= λ block. facts_told (entries_of block)
 
--- the value of an item of the meta block at a place, whatever the others are
+-- The value of one item of a meta block, whatever the others are.
 abbrev pub meta_item_told : List ℕ → Place → ItemName → Result (List ℕ) Error
 meta_item_told body place name =
     load_told body place.offset place.size Meta >>= λ block. item_told (entries_of block) name

@@ -1,5 +1,4 @@
--- What a table is recovered to: what it says of itself, where its parts lie, and which blocks stay
--- loaded.
+-- The result of opening a table: its facts, its regions, and its pinned blocks.
 use Rattle.std.specs.Prelude.{ℕ, ◌+◌, ◌-◌, ◌^◌, ◌&&◌, nat_lt, Bool, List, [], length, map, Option}
 use Rattle.std.specs.Prelude.{Some, None, is_none, Result, Ok, Err, if◌then◌else◌}
 use Rattle.std.specs.Option.{option_or}
@@ -19,8 +18,8 @@ use Rattle.lsm_readers.specs.point.Meta.{Facts, meta_told}
 use Rattle.lsm_readers.specs.point.Regions.{regions_told}
 use Rattle.lsm_readers.specs.point.Read.{◌>>=◌}
 
--- which blocks stay loaded: those of the index, the top level of a filter with partitions, and the
--- one block of a full filter
+-- The pinned blocks: those of the index, a partitioned filter's top level, and a full filter's
+-- block.
 pub record Pinned : Type 0 where
   pub index : PinnedIndex
   pub filter_tops : Option (List Handle)
@@ -31,23 +30,23 @@ pub record Parts : Type 0 where
   pub regions : ParsedRegions
   pub pinned : Pinned
 
--- the top level of a filter, where it has one
+-- The top level of a filter, if it has one.
 abbrev pub tops_told : List ℕ → Option Place → Result (Option (List Handle)) Error
 tops_told body None = Ok None
 tops_told body (Some place) = handles_told body place >>= λ tops. Ok (Some tops)
 
--- the filter of the block at a place, where there is one
+-- The filter of a block, if there is one.
 abbrev pub filter_told : List ℕ → Option Place → Result (Option BloomFilter) Error
 filter_told body None = Ok None
 filter_told body (Some place) =
     load_told body place.offset place.size Filter >>= λ block. Ok (Some (filter_in block.payload))
 
--- where the filter's block lies that stays loaded: that of a full filter, where it is to stay
+-- The filter block to be pinned: that of a full filter, if requested.
 abbrev pub pinned_filter : ParsedRegions → Bool → Option Place
 pinned_filter regions pin =
     if pin && is_none regions.filter_tli then regions.filter else None
 
--- the blocks that stay loaded, in the order in which their faults are told
+-- The pinned blocks, loaded in the order in which their errors are reported.
 unfoldable pub pinned_told : List ℕ → ParsedRegions → Bool → Bool → Result Pinned Error
 pinned_told body regions pin_filter pin_index =
     index_told body regions pin_index >>= λ index.
@@ -55,20 +54,20 @@ pinned_told body regions pin_filter pin_index =
     filter_told body (pinned_filter regions pin_filter) >>= λ filter.
     Ok (record { index = index; filter_tops = filter_tops; filter = filter })
 
--- the highest number passes u64
+-- The facts, or `GlobalSeqNoTooLarge` if the highest seqno overflows with the global one added.
 abbrev pub facts_fitting : Facts → ℕ → Result Facts Error
 facts_fitting facts g =
     if nat_lt (2 ^ 64 - 1) (facts.seqno_max + g) then Err GlobalSeqNoTooLarge else Ok facts
 
--- what the meta block says, where the global number fits
+-- The meta block's facts, if the global seqno fits.
 abbrev pub fitting_told : List ℕ → Place → ℕ → Result Facts Error
 fitting_told body place g = meta_told body place >>= λ facts. facts_fitting facts g
 
--- where the parts lie, by the sections that the trailer names
+-- The table's regions, by the sections that the trailer names.
 abbrev pub places_told : List ℕ → Result ParsedRegions Error
 places_told bytes = regions_told (map (section_in bytes) section_names)
 
--- the regions, the meta block, the global number and what stays loaded, in this order
+-- The regions, the meta block, the global seqno check and the pinned blocks, in this order.
 unfoldable pub parts_told : List ℕ → ℕ → Bool → Bool → Result Parts Error
 parts_told bytes g pin_filter pin_index =
     places_told bytes >>= λ regions.
@@ -77,13 +76,13 @@ parts_told bytes g pin_filter pin_index =
     pinned_told (body_of bytes) regions pin_filter pin_index >>= λ pinned.
     Ok (record { facts = facts; regions = regions; pinned = pinned })
 
--- what opening some bytes tells: the trailer first
+-- The result of opening some bytes, trailer first.
 abbrev pub recovered_told : List ℕ → ℕ → Bool → Bool → Result Parts Error
 recovered_told bytes g pin_filter pin_index =
     unless (trailer_fault bytes) (parts_told bytes g pin_filter pin_index)
 
--- the fault of opening that is found before memory is taken: of the trailer, the regions, or the
--- meta block up to the room for its count
+-- The error of opening that precedes allocation: of the trailer, the regions, or the meta block's
+-- early checks.
 abbrev pub early_in : List ℕ → Result ParsedRegions Error → Option Error
 early_in body (Ok regions) = place_fault body regions.metadata.offset regions.metadata.size Meta
 early_in body (Err e) = Some e
@@ -91,7 +90,7 @@ early_in body (Err e) = Some e
 abbrev pub early_fault : List ℕ → Option Error
 early_fault bytes = option_or (trailer_fault bytes) (early_in (body_of bytes) (places_told bytes))
 
--- the key range that a table's bytes tell: that of the meta block, whatever stays loaded
+-- The key range in a table's meta block, whichever blocks are pinned.
 abbrev pub range_in : Result Facts Error → Interval
 range_in (Ok facts) = facts.key_range
 range_in (Err e) = interval [] []
@@ -100,12 +99,12 @@ abbrev pub key_range_told : List ℕ → Interval
 key_range_told bytes =
     range_in (places_told bytes >>= λ regions. meta_told (body_of bytes) regions.metadata)
 
--- the size of a part, or 0 where it is absent
+-- The size of a region, or 0 if it is absent.
 abbrev pub place_size : Option Place → ℕ
 place_size None = 0
 place_size (Some p) = p.size
 
--- the payload length of the filter that stays loaded, or 0 where none does
+-- The payload length of the pinned filter, or 0 if none is pinned.
 abbrev pub filter_len : Option BloomFilter → ℕ
 filter_len None = 0
 filter_len (Some filter) = length (payload_of filter)

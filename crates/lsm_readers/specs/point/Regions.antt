@@ -1,4 +1,4 @@
--- Where the parts of a table lie, from what its trailer says of the sections.
+-- The regions of a table, from the sections in its trailer.
 use Rattle.std.specs.Prelude.{◌^◌, nat_le, List, Option, Some, None, Result, Ok, Err}
 use Rattle.std.specs.Prelude.{slice_index_or, if◌then◌else◌}
 use Rattle.sst_entries.specs.declared.error.Error.{Error}
@@ -12,18 +12,18 @@ use Rattle.sst_blocks.specs.Sections.{slot_index}
 use Rattle.lsm_readers.specs.point.Read.{◌>>=◌}
 use Rattle.lsm_readers.specs.declared.regions.ParsedRegions.{ParsedRegions}
 
--- a section as a place, whose size is below 2^32
+-- A section as an offset and a size, which must be below 2^32.
 abbrev pub region_told : Section → Result Place Error
 region_told s =
     if nat_le (2 ^ 32) s.len then Err SectionTooLarge
     else Ok (record { offset = s.position; size = s.len })
 
--- a section that may be absent
+-- A section that may be absent.
 abbrev pub optional_told : Option Section → Result (Option Place) Error
 optional_told None = Ok None
 optional_told (Some s) = region_told s >>= λ p. Ok (Some p)
 
--- a section that must be there
+-- A section that must be present.
 abbrev pub needed_told : Option Section → Result Place Error
 needed_told None = Err MissingSection
 needed_told (Some s) = region_told s
@@ -31,7 +31,7 @@ needed_told (Some s) = region_told s
 abbrev pub section_named : List (Option Section) → SectionName → Option Section
 section_named toc name = slice_index_or toc (slot_index name) None
 
--- the parts, in the order in which their faults are told
+-- The regions, in the order in which their errors are reported.
 unfoldable pub regions_told : List (Option Section) → Result ParsedRegions Error
 regions_told toc =
     optional_told (section_named toc FilterTli) >>= λ filter_tli.

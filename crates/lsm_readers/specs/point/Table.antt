@@ -1,4 +1,4 @@
--- An opened table without its memory.
+-- An opened table, without its memory layout.
 use Rattle.std.specs.Prelude.{◌≡◌, ℕ, ◌<◌, ◌^◌, Bool, List, length, Ok}
 use Rattle.lsm_readers.specs.declared.inner.Inner.{Inner}
 use Rattle.lsm_readers.specs.declared.inner.PinnedBlocks.{PinnedBlocks}
@@ -6,7 +6,7 @@ use Rattle.lsm_readers.specs.point.IndexKinds.{pinned_index_of}
 use Rattle.lsm_readers.specs.point.Meta.{facts_of}
 use Rattle.lsm_readers.specs.point.Parts.{Parts, Pinned, recovered_told}
 
--- which blocks stay loaded
+-- The pinned blocks of a table.
 abbrev pub pinned_of : {A : Type 0} → PinnedBlocks A → Pinned
 pinned_of blocks = record {
   index = pinned_index_of blocks.index;
@@ -25,7 +25,7 @@ parts_of inner = record {
   };
 }
 
--- its bytes, what it was opened with, and what it was recovered to
+-- Its bytes, the arguments of opening it, and the parts found.
 pub record OpenTable : Type 0 where
   pub bytes : List ℕ
   pub global_seqno : ℕ
@@ -42,18 +42,18 @@ table_of bytes inner = record {
   parts = parts_of inner;
 }
 
--- the table was recovered from its bytes, whichever blocks were to stay loaded
+-- The table was recovered from its bytes, for some choice of pinned blocks.
 pub record IsRecovered (t : OpenTable) : Type 0 where
   pub pin_filter : Bool
   pub pin_index : Bool
   pub told : recovered_told t.bytes t.global_seqno pin_filter pin_index ≡ Ok t.parts
 
--- and its bytes are in memory
+-- The table was recovered, and its bytes fit in memory.
 pub record IsOpen (t : OpenTable) : Type 0 where
   pub recovered : IsRecovered t
   pub short : length t.bytes < 2 ^ 63
 
--- a table was opened with these pins, that of the filter and that of the index
+-- The table was opened with these pins, of the filter and of the index.
 abbrev pub OpenedWith : OpenTable → Bool → Bool → Type 0
 OpenedWith t pin_filter pin_index =
     recovered_told t.bytes t.global_seqno pin_filter pin_index ≡ Ok t.parts

@@ -1,4 +1,4 @@
--- The words of clauses, from one place.
+-- The definitions that contracts of point reads cite.
 pub use Rattle.sst_entries.specs.Entry.{Entry}
 pub use Rattle.sst_entries.specs.Error.{FaultsFirst, Gives}
 pub use Rattle.sst_entries.specs.Point.{point}

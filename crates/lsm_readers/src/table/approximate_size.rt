@@ -1,4 +1,4 @@
-//! How many bytes the data blocks of a range take.
+//! The approximate size of a key range in a table's file.
 ghost use Rattle.std.specs.Prelude.{◌≡◌, ◌≤◌, ◌<◌, ◌^◌, List, ℕ, Option, None, Result, IfErr};
 ghost use Rattle.std.specs.Prelude.{IfOk, OnOk};
 ghost use Rattle.std.specs.Iterator.{IsFinite};
@@ -18,35 +18,41 @@ use std::alloc::Allocator;
 use std::ops::Bound;
 
 impl<A: Allocator + Clone> Table<A> {
-    /// About how many bytes of the table's file a range takes: the sizes of the data blocks that
-    /// [`Table::range`] may load for these bounds, together, each with its header; `u64::MAX` where
-    /// the handles of damaged bytes say more than that.
+    /// Returns the approximate size of a key range in the table's file, in bytes.
     ///
-    /// Blocks count whole, and the last one may have no key within the bounds, as where a key
-    /// between two others is asked for. An excluded bound takes the blocks of its key, as an
-    /// included one does. Where the lower bound is above the upper one, at most one block counts.
-    /// What the index, the filter and the meta block take is not counted.
+    /// It is the total size of the data blocks that [`Table::range`] may load for these bounds,
+    /// headers included. It saturates at `u64::MAX`, which only handles of damaged bytes can
+    /// exceed. The index, the filter and the meta block do not count.
     ///
-    /// The table's index alone is asked, and no data block is loaded: of an index that stays loaded
-    /// nothing is, of one that does not its block, or the partitions between the bounds. Refused
-    /// with the first fault of loading these, and [`Error::OutOfMemory`]; nothing changes then.
+    /// - Blocks count whole. The last one may have no key within the bounds.
+    /// - An excluded bound counts the blocks of its key, as an included one does.
+    /// - If the lower bound is above the upper one, at most one block counts.
+    ///
+    /// The call reads the index only and loads no data block. A pinned full index loads nothing.
+    /// Otherwise the call loads the index block, or the partitions between the bounds.
+    ///
+    /// # Errors
+    ///
+    /// The first fault of loading index blocks, or [`Error::OutOfMemory`]. The table does not
+    /// change.
     pub fn approximate_size(&self, lower: Bound<&[u8]>, upper: Bound<&[u8]>) -> Result<u64, Error>
-        // Memory aside, it is told by what the index has between the edges of the bounds.
+        // Except for `OutOfMemory`, the result follows from the index between the edges of the
+        // bounds.
         ensures told { let size =
             size_told self.now (key_bound lower.entry) (key_bound upper.entry) in
             Gives (λ (n : ℕ). n) result size }
-        // On bytes that store a list it is the sizes of the blocks between the bounds,
+        // On bytes that store a list it is the total size of the blocks between the bounds.
         ensures list { (es : List Entry) (t : StoresList self.now.bytes es) →
             let size = size_within t (key_bound lower.entry) (key_bound upper.entry) in
             IfOk result (λ n. n ≡ size) }
-        // no more than all data blocks take,
+        // On such bytes it is at most the size of all data blocks.
         ensures most { (es : List Entry) → StoresList self.now.bytes es →
             IfOk result (λ n. n ≤ self.now.parts.facts.file_size) }
-        // and nothing but want of memory refuses it.
+        // On such bytes it fails with `OutOfMemory` only.
         ensures err { (es : List Entry) → StoresList self.now.bytes es →
             IfErr result (λ e. e ≡ OutOfMemory) }
     {
-        // They say how the sizes of a list's blocks are bounded.
+        // These facts bound the sizes of a list's blocks.
         self.tells_its_list();
         self.size_fits();
         let index = self.block_index()?;
@@ -55,7 +61,7 @@ impl<A: Allocator + Clone> Table<A> {
         sum_sizes(handles?)
     }
 
-    /// A law, which does nothing: a table says that its data blocks take fewer than 2^64 bytes.
+    /// States for proofs that the size of the data blocks fits in `u64`, and does nothing.
     fn size_fits(&self)
         ensures { self.now.parts.facts.file_size < 2 ^ 64 }
     {
@@ -63,8 +69,8 @@ impl<A: Allocator + Clone> Table<A> {
     }
 }
 
-/// The handles that an index has between the edges of two bounds. Nothing is loaded. Refused
-/// [`Error::OutOfMemory`] alone.
+/// The handles that an index has between the edges of two bounds. Nothing is loaded. Fails with
+/// [`Error::OutOfMemory`] only.
 fn handles_within<A: Allocator + Clone>(
     index: &BlockIndexImpl<A>,
     lower: Bound<&[u8]>,
@@ -96,7 +102,7 @@ fn seek<A: Allocator + Clone>(
     seek_upper(handles, upper)
 }
 
-/// Seeks the edge of a lower bound, where there is one.
+/// Seeks the edge of a lower bound, if there is one.
 fn seek_lower<A: Allocator + Clone>(
     handles: &mut BlockIndexIterImpl<A>,
     lower: Bound<&[u8]>,
@@ -114,7 +120,7 @@ fn seek_lower<A: Allocator + Clone>(
     }
 }
 
-/// Seeks the edge of an upper bound, where there is one.
+/// Seeks the edge of an upper bound, if there is one.
 fn seek_upper<A: Allocator + Clone>(
     handles: &mut BlockIndexIterImpl<A>,
     upper: Bound<&[u8]>,
@@ -133,8 +139,8 @@ fn seek_upper<A: Allocator + Clone>(
     }
 }
 
-/// The sizes of the blocks that the handles left in an iterator name, together, or `u64::MAX` where
-/// that is less. Refused with the first error.
+/// Sums the block sizes of the remaining handles, saturating at `u64::MAX`. Fails with the first
+/// error.
 fn sum_sizes<I: BlockIndexIter<A> + Drop, A: Allocator>(handles: I) -> Result<u64, Error>
     requires can { I.can_next handles }
     requires finite { IsFinite (I.remaining handles) }

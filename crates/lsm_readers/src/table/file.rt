@@ -1,4 +1,4 @@
-//! What a table is kept by, and what its meta block says beside what opening reads.
+//! A table's bytes, and the items of its meta block that opening does not read.
 ghost use Rattle.std.specs.Prelude.{◌≡◌, ◌+◌, ◌*◌, ◌/◌, ◌⊎◌, IfErr, IfOk, List, length, ℕ};
 ghost use Rattle.sst_blocks.specs.declared.block_type.BlockType.TheVariants.{Meta};
 ghost use Rattle.sst_entries.specs.declared.error.Error.TheVariants.{OutOfMemory};
@@ -10,8 +10,13 @@ use sst_blocks::{Error, ItemName, Slice, UserValue};
 use std::alloc::Allocator;
 
 impl<A: Allocator + Clone> Table<A> {
-    /// The bytes that the table was opened from, which are shared, so that they can be kept or
-    /// sent. Refused [`Error::OutOfMemory`] where the count of their sharers is refused.
+    /// Returns the bytes that the table was opened from.
+    ///
+    /// They are shared, so a caller can store or send them.
+    ///
+    /// # Errors
+    ///
+    /// [`Error::OutOfMemory`] if the reference count cannot be taken.
     pub fn bytes(&self) -> Result<Slice<A>, Error>
         ensures bytes { IfOk result (λ bytes. bytes ≡ self.now.bytes) }
         ensures err { IfErr result (λ e. e ≡ OutOfMemory) }
@@ -19,31 +24,39 @@ impl<A: Allocator + Clone> Table<A> {
         Ok(self.source.bytes().clone()?)
     }
 
-    /// How many bytes the table's file has, its trailer too.
+    /// Returns the length of the table's file in bytes, trailer included.
     pub fn file_len(&self) -> usize
         ensures { result ≡ length self.now.bytes }
     {
         self.source.bytes().len()
     }
 
-    /// How many bytes it takes to remember which blocks were tested, for all handles of the table
-    /// together: a word of 8 for each 2,048 bytes of the file and one more, or 0 where there was no
-    /// memory for them. What stays loaded is a share of the file's bytes.
+    /// Returns the size of the verified-block cache in bytes.
+    ///
+    /// The cache records which blocks had their checksums compared. All handles of the table share
+    /// it. It has 8 bytes for each full 2,048 bytes of the file, and 8 more. It is 0 if the cache
+    /// could not be allocated. Pinned blocks share the file's bytes.
     pub fn marks_size(&self) -> usize
         ensures { (result ≡ 0) ⊎ (result ≡ 8 * (length self.now.bytes / 2048 + 1)) }
     {
         self.source.marks_size()
     }
 
-    /// The value of any item of the meta block, also of those that opening does not read: the
-    /// level, the count of keys, the length of keys and values, the restart intervals. The block is
-    /// loaded for it. Refused as loading a block is, then [`Error::MetaKeyMissing`] where it has no
-    /// such item; and [`Error::OutOfMemory`].
+    /// Returns the value of any item of the meta block.
+    ///
+    /// Opening does not read all items. Others are the level, the key count, the length of keys and
+    /// values, and the restart intervals. The call loads the meta block.
+    ///
+    /// # Errors
+    ///
+    /// Fails as [`load_item`] does: with the first fault of loading the block, then with
+    /// [`Error::MetaKeyMissing`] if it has no such item. It can also fail with
+    /// [`Error::OutOfMemory`].
     pub fn meta_item(&self, name: ItemName) -> Result<UserValue<A>, Error>
         ensures told { let place = self.now.parts.regions.metadata in
             Gives (λ (value : List ℕ). value) result
             (meta_item_told (body_of self.now.bytes) place name) }
-        // What is found before memory is taken is the refusal, whatever memory there is.
+        // A fault that is found before any allocation takes precedence over `OutOfMemory`.
         ensures early { let place = self.now.parts.regions.metadata in
             FaultsFirst result
             (place_fault (body_of self.now.bytes) place.offset place.size Meta) }

@@ -13,9 +13,11 @@ use sst_blocks::{EntryPlace, EntryRef, Error, Opened, SeqNo};
 use std::alloc::Allocator;
 
 impl<A: Allocator + Clone> Table<A> {
-    /// Where the first entry of a key numbered below `seqno` is stored, its number with the global
-    /// number added, and how many blocks were loaded for it. The result borrows nothing:
-    /// [`Table::entry_at`] borrows the entry from the table.
+    /// Returns the position of the newest version of `key` visible at `seqno`, and the loads by
+    /// kind.
+    ///
+    /// The position's seqno has the global seqno applied. `key_hash` must be [`Table::key_hash`] of
+    /// the key. The result borrows nothing: [`Table::entry_at`] borrows the entry from the table.
     ///
     /// # Errors
     ///
@@ -29,9 +31,9 @@ impl<A: Allocator + Clone> Table<A> {
         requires { key_hash ≡ hash_of key.now }
         ensures told { Gives (option_map (entry_placed self.now.bytes)) result.0
             (table_answer self.now key.now seqno).told }
-        // A fault that is found before memory is taken comes before `OutOfMemory`.
+        // A fault that is found before any allocation takes precedence over `OutOfMemory`.
         ensures early { FaultsFirst result.0 (table_answer self.now key.now seqno).early }
-        // Where no block is loaded the read does not fail.
+        // If no block is loaded, the read does not fail.
         ensures calm { (table_answer self.now key.now seqno).loads ≡ [] → IsOk result.0 }
         ensures opened { let loads = (table_answer self.now key.now seqno).loads in
             Opens result.0 loads none_opened result.1 }
@@ -39,7 +41,8 @@ impl<A: Allocator + Clone> Table<A> {
         ensures open { IsOpen self.now }
         // The entry is within the table's bytes.
         ensures placed { IfOk result.0 (λ found. IfSome found (IsPlacedIn self.now.bytes)) }
-        // On bytes that store a list it is the first match in the list, its numbers lifted.
+        // On bytes that store a list it is the newest visible version in the list, global seqno
+        // applied.
         ensures list { (es : List Entry) → StoresList self.now.bytes es →
             let found = point (lift es self.now.global_seqno) key.now seqno in
             Gives (option_map (entry_placed self.now.bytes)) result.0 (Ok found) }
@@ -48,9 +51,11 @@ impl<A: Allocator + Clone> Table<A> {
         place_in(&self.source, inner, key, seqno, key_hash)
     }
 
-    /// The entry at a place that [`Table::get_place`] of this table returned, borrowed from the
-    /// table. A place of another table has some bytes of this one, or `None` where they end before
-    /// it.
+    /// Returns the entry at a position that [`Table::get_place`] of this table returned, borrowed
+    /// from the table.
+    ///
+    /// A position of another table yields some bytes of this one, or `None` if it is past their
+    /// end.
     #[inline]
     pub fn entry_at(&self, place: &EntryPlace) -> Option<EntryRef<'_>>
         ensures { option_map entry_of_ref result ≡ placed_in self.now.bytes place.now }
@@ -58,7 +63,7 @@ impl<A: Allocator + Clone> Table<A> {
         self.source.entry_at(place)
     }
 
-    // What was found, borrowed.
+    // Borrows the entry at the position found.
     fn found_at(
         &self,
         found: Result<Option<EntryPlace>, Error>,
@@ -74,8 +79,10 @@ impl<A: Allocator + Clone> Table<A> {
         }
     }
 
-    /// The first entry of a key numbered below `seqno`, borrowed from the table, and how many
-    /// blocks were loaded for it. Returns what [`Table::get_ref`] returns.
+    /// Returns the newest version of `key` visible at `seqno`, borrowed from the table, and the
+    /// loads by kind.
+    ///
+    /// The version and the errors are those of [`Table::get_ref`].
     pub fn get_ref_counted(
         &self,
         key: &[u8],
@@ -85,15 +92,16 @@ impl<A: Allocator + Clone> Table<A> {
         requires { key_hash ≡ hash_of key.now }
         ensures told { Gives (option_map entry_of_ref) result.0
             (table_answer self.now key.now seqno).told }
-        // A fault that is found before memory is taken comes before `OutOfMemory`.
+        // A fault that is found before any allocation takes precedence over `OutOfMemory`.
         ensures early { FaultsFirst result.0 (table_answer self.now key.now seqno).early }
-        // Where no block is loaded the read does not fail.
+        // If no block is loaded, the read does not fail.
         ensures calm { (table_answer self.now key.now seqno).loads ≡ [] → IsOk result.0 }
         ensures opened { let loads = (table_answer self.now key.now seqno).loads in
             Opens result.0 loads none_opened result.1 }
         ensures few { LoadsFew self.now.parts none_opened result.1 }
         ensures open { IsOpen self.now }
-        // On bytes that store a list it is the first match in the list, its numbers lifted.
+        // On bytes that store a list it is the newest visible version in the list, global seqno
+        // applied.
         ensures list { (es : List Entry) → StoresList self.now.bytes es →
             let found = point (lift es self.now.global_seqno) key.now seqno in
             Gives (option_map entry_of_ref) result.0 (Ok found) }
@@ -102,15 +110,16 @@ impl<A: Allocator + Clone> Table<A> {
         (self.found_at(found), opened)
     }
 
-    /// The first entry of a key numbered below `seqno`, its number with the global number added,
-    /// borrowed from the table: what [`Table::get`] returns, with no reference count taken.
-    /// `key_hash` is the key's [`Table::key_hash`].
+    /// Returns the newest version of `key` visible at `seqno`, borrowed from the table.
+    ///
+    /// It is the entry that [`Table::get`] returns, global seqno applied, without taking a
+    /// reference count. `key_hash` must be [`Table::key_hash`] of the key. The read loads at most
+    /// one filter block, one index block and one data block.
     ///
     /// # Errors
     ///
-    /// The first fault of loading the blocks that the read needs, at most one of the filter, one of
-    /// the index and one of data, or [`Error::OutOfMemory`]. Where no block is loaded, it does not
-    /// fail.
+    /// The first fault of loading these blocks, or [`Error::OutOfMemory`]. If no block is loaded,
+    /// the read does not fail.
     pub fn get_ref(
         &self,
         key: &[u8],
@@ -122,7 +131,8 @@ impl<A: Allocator + Clone> Table<A> {
             (table_answer self.now key.now seqno).told }
         ensures early { FaultsFirst result (table_answer self.now key.now seqno).early }
         ensures calm { (table_answer self.now key.now seqno).loads ≡ [] → IsOk result }
-        // On bytes that store a list it is the first match in the list, its numbers lifted.
+        // On bytes that store a list it is the newest visible version in the list, global seqno
+        // applied.
         ensures list { (es : List Entry) → StoresList self.now.bytes es →
             let found = point (lift es self.now.global_seqno) key.now seqno in
             Gives (option_map entry_of_ref) result (Ok found) }

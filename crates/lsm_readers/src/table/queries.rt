@@ -1,4 +1,4 @@
-//! Many point reads of one table.
+//! Point reads of many keys in one table.
 ghost use Rattle.std.specs.Prelude.{◌≡◌, IsOk, List, Ok, [], map};
 ghost use Rattle.lsm_readers.specs.point.Many.{many_told};
 ghost use Rattle.lsm_readers.specs.Words.{Entry, Gives, IsOpen, StoresList, lift, point};
@@ -7,7 +7,6 @@ use crate::{Inner, Query, Table, many_in};
 use sst_blocks::{Error, InternalValue};
 use std::alloc::Allocator;
 
-// What reads for the queries tell, or the refusal of the earliest that has one.
 fn answers<A: Allocator + Clone>(
     table: &Table<A>,
     queries: &[Query<A>],
@@ -20,25 +19,30 @@ fn answers<A: Allocator + Clone>(
     many_in(&table.source, inner, queries)
 }
 
-/// What [`Table::get`] answers to each of some queries, in their order, each with its key's own
-/// hash. Queries may stand in any order and repeat. They are looked up in the order of their keys:
-/// the checksums of their data blocks are compared several in one loop, and a block in which
-/// several keys stand is loaded once for them where there is memory for its entries' places.
-/// Refused with the error of the earliest query that has one, and [`Error::OutOfMemory`]; then
-/// there is no answer at all, and the table is as it was. The list takes memory first, so any
-/// refusal may be that, also where `get` would find a fault before memory is taken or would load
-/// nothing. A list of no queries takes none, and is refused only where a clone of the allocator is.
+/// Returns the newest visible version of each query's key, in the order of the queries.
+///
+/// Each result is that of [`Table::get`] with the hash of the query's key. Queries may be in any
+/// order and may repeat. They are looked up in key order. The checksums of their data blocks are
+/// compared several in one loop. A block that several keys need is loaded once, if memory for its
+/// entry offsets is available.
+///
+/// # Errors
+///
+/// The error of the earliest query that has one, or [`Error::OutOfMemory`]. No result is returned
+/// then, and the table does not change. The list is allocated first, so `OutOfMemory` can replace
+/// any other error. It can also occur if `get` would load nothing. Without queries, the call fails
+/// only if a clone of the allocator does.
 pub fn get_many<A: Allocator + Clone>(
     table: &Table<A>,
     queries: &[Query<A>],
 ) -> Result<Vec<Option<InternalValue<A>>, A>, Error>
     ensures told { Gives (λ found. found.items) result (many_told table.now queries.now) }
-    // On bytes that store a list it is each query's first match in the list, its numbers lifted,
-    // and nothing but want of memory refuses it.
+    // On bytes that store a list it is each query's newest visible version in the list, global
+    // seqno applied. It fails with `OutOfMemory` only.
     ensures list { (es : List Entry) → StoresList table.now.bytes es →
         let all = lift es table.now.global_seqno in
         Gives (λ found. found.items) result (Ok (map (λ q. point all q.key q.seqno) queries.now)) }
-    // A list of no queries is not refused, unless a clone of the allocator is.
+    // Without queries it fails only if a clone of the allocator does.
     ensures calm { queries.now ≡ [] → ((alloc : A) → A.is_infallible alloc) → IsOk result }
 {
     answers(table, queries)

@@ -1,4 +1,4 @@
-//! Ranges of a table, from both ends.
+//! Range reads of a table, from both ends.
 ghost use Rattle.std.specs.Prelude.{◌≡◌, List, ℕ, IfOk, IfErr};
 ghost use Rattle.std.specs.declared.ops.Bound.{Bound};
 ghost use Rattle.std.specs.declared.ops.Bound.TheVariants.{Unbounded};
@@ -15,20 +15,26 @@ use std::alloc::Allocator;
 use std::ops::Bound;
 
 impl<A: Allocator + Clone> Table<A> {
-    /// All entries in order, from both ends, their numbers with the global number added. Nothing is
-    /// loaded yet. Refused [`Error::OutOfMemory`] alone.
+    /// Opens an iterator over all entries in order, from both ends, global seqno applied.
+    ///
+    /// The call loads nothing.
+    ///
+    /// # Errors
+    ///
+    /// [`Error::OutOfMemory`] only.
     pub fn iter(&self) -> Result<Iter<A>, Error>
         ensures is { IfOk result (IsRangeOf self.now Unbounded Unbounded) }
         ensures deals { let gives = ⟦<Iter<A> as Iterator>⟧.next_gives in
             let back_gives = ⟦<Iter<A> as DoubleEndedIterator>⟧.next_back_gives in
             let told = range_told self.now Unbounded Unbounded in
             IfOk result (λ i. DealsEnding gives back_gives (λ _. Unit {0}) (λ _. Unit {0}) i told) }
-        // On bytes that store a list it is the list, its numbers lifted.
+        // On bytes that store a list it yields the list, global seqno applied.
         ensures list { let gives = ⟦<Iter<A> as Iterator>⟧.next_gives in
             let back_gives = ⟦<Iter<A> as DoubleEndedIterator>⟧.next_back_gives in
             (es : List Entry) → StoresList self.now.bytes es → let g = self.now.global_seqno in
             IfOk result (DealsAll gives back_gives es g) }
-        // From the front it lends the same, also where it is asked from the back in between.
+        // As a lending iterator it yields the same at the front, also with calls at the back in
+        // between.
         ensures lends { let advances = ⟦<Iter<A> as Lending>⟧.advances in
             let back_gives = ⟦<Iter<A> as DoubleEndedIterator>⟧.next_back_gives in
             let told = range_told self.now Unbounded Unbounded in IfOk result (λ i.
@@ -37,8 +43,8 @@ impl<A: Allocator + Clone> Table<A> {
             let back_gives = ⟦<Iter<A> as DoubleEndedIterator>⟧.next_back_gives in
             (es : List Entry) → StoresList self.now.bytes es → let g = self.now.global_seqno in
             IfOk result (DealsAll advances back_gives es g) }
-        // It loads at most all data blocks, and the index blocks that lead to them, also where it
-        // lends.
+        // It loads at most all data blocks, and the index blocks that lead to them. As a lending
+        // iterator it loads no more.
         ensures few { let gives = ⟦<Iter<A> as Iterator>⟧.next_gives in
             let back_gives = ⟦<Iter<A> as DoubleEndedIterator>⟧.next_back_gives in
             (es : List Entry) (t : StoresList self.now.bytes es) →
@@ -56,30 +62,37 @@ impl<A: Allocator + Clone> Table<A> {
         self.range(Bound::Unbounded, Bound::Unbounded)
     }
 
-    /// The entries whose keys lie within both bounds, in order, from both ends, their numbers with
-    /// the global number added. Where the lower bound is above the upper one there are none.
-    /// Nothing is loaded yet: the first step seeks the bounds in the index, and each data block is
-    /// loaded where a step first needs it. Refused [`Error::OutOfMemory`] alone.
+    /// Opens an iterator over the entries within both bounds, from both ends, global seqno applied.
+    ///
+    /// The entries are in order. If the lower bound is above the upper one, there are none. The
+    /// call loads nothing. The first step seeks the bounds in the index. Each data block is loaded
+    /// by the first step that needs it.
+    ///
+    /// # Errors
+    ///
+    /// [`Error::OutOfMemory`] only.
     pub fn range(
         &self,
         lower: Bound<UserKey<A>>,
         upper: Bound<UserKey<A>>,
     ) -> Result<Iter<A>, Error>
-        // It reads the table's bytes by the table's index, with these bounds, and has made no step.
+        // It reads the table's bytes through the table's index with these bounds, and has made no
+        // step.
         ensures is { IfOk result (IsRangeOf self.now lower upper) }
-        // Whatever ends are asked, it deals what the blocks between the bounds have, up to the
-        // first error.
+        // For any sequence of calls at the two ends, it yields the entries of the blocks between
+        // the bounds, up to the first error.
         ensures deals { let gives = ⟦<Iter<A> as Iterator>⟧.next_gives in
             let back_gives = ⟦<Iter<A> as DoubleEndedIterator>⟧.next_back_gives in
             let told = range_told self.now lower upper in
             IfOk result (λ i. DealsEnding gives back_gives (λ _. Unit {0}) (λ _. Unit {0}) i told) }
-        // On bytes that store a list it is the list's entries within the bounds, their numbers
-        // lifted.
+        // On bytes that store a list it yields the list's entries within the bounds, global seqno
+        // applied.
         ensures list { let gives = ⟦<Iter<A> as Iterator>⟧.next_gives in
             let back_gives = ⟦<Iter<A> as DoubleEndedIterator>⟧.next_back_gives in
             (es : List Entry) → StoresList self.now.bytes es → let g = self.now.global_seqno in
             IfOk result (DealsWithin gives back_gives lower upper es g) }
-        // From the front it lends the same, also where it is asked from the back in between.
+        // As a lending iterator it yields the same at the front, also with calls at the back in
+        // between.
         ensures lends { let advances = ⟦<Iter<A> as Lending>⟧.advances in
             let back_gives = ⟦<Iter<A> as DoubleEndedIterator>⟧.next_back_gives in
             let told = range_told self.now lower upper in IfOk result (λ i.
@@ -88,8 +101,8 @@ impl<A: Allocator + Clone> Table<A> {
             let back_gives = ⟦<Iter<A> as DoubleEndedIterator>⟧.next_back_gives in
             (es : List Entry) → StoresList self.now.bytes es → let g = self.now.global_seqno in
             IfOk result (DealsWithin advances back_gives lower upper es g) }
-        // It loads at most the data blocks between the bounds, and the index blocks that lead
-        // there, also where it lends.
+        // It loads at most the data blocks between the bounds, and the index blocks that lead to
+        // them. As a lending iterator it loads no more.
         ensures few { let gives = ⟦<Iter<A> as Iterator>⟧.next_gives in
             let back_gives = ⟦<Iter<A> as DoubleEndedIterator>⟧.next_back_gives in
             (es : List Entry) (t : StoresList self.now.bytes es) →
@@ -122,7 +135,7 @@ impl<A: Allocator + Clone> Table<A> {
         iter
     }
 
-    /// The entries of all blocks that the table's index names, before bounds are set.
+    /// The entries of all blocks in the table's index, before bounds are set.
     fn unbounded_by(&self, index: &BlockIndexImpl<A>) -> Result<Iter<A>, Error>
         requires { index_read index.now ≡ table_index self.now }
         ensures is { IfOk result (IsRangeOf self.now Unbounded Unbounded) }
@@ -136,7 +149,7 @@ impl<A: Allocator + Clone> Table<A> {
     }
 }
 
-/// Sets a lower bound, where there is one.
+/// Sets a lower bound, if there is one.
 fn set_lower<A: Allocator + Clone>(iter: &mut Iter<A>, lower: Bound<UserKey<A>>)
     ensures { (t : OpenTable) (high : Bound (List ℕ)) → IsRangeOf t Unbounded high iter.old →
         IsRangeOf t lower high iter.new }
@@ -148,7 +161,7 @@ fn set_lower<A: Allocator + Clone>(iter: &mut Iter<A>, lower: Bound<UserKey<A>>)
     }
 }
 
-/// Sets an upper bound, where there is one.
+/// Sets an upper bound, if there is one.
 fn set_upper<A: Allocator + Clone>(iter: &mut Iter<A>, upper: Bound<UserKey<A>>)
     ensures { (t : OpenTable) (low : Bound (List ℕ)) → IsRangeOf t low Unbounded iter.old →
         IsRangeOf t low upper iter.new }

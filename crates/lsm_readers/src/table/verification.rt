@@ -1,4 +1,4 @@
-//! Verifying a table by steps.
+//! Verifying a table step by step.
 ghost use Rattle.std.specs.Prelude.{◌≡◌, ◌+◌, IfErr, IfNone, IfOk, IfSome, List, Ok, false, length};
 ghost use Rattle.std.specs.Prelude.{true};
 ghost use Rattle.lsm_readers.specs.Findings.{IsFirstFinding};
@@ -17,9 +17,10 @@ use sst_blocks::Error;
 use std::alloc::{Allocator, Global};
 use std::marker::Model;
 
-/// A verification of a table that is made by steps, each of which reads one further block: see
-/// [`Table::verification`]. It has a share of the table, which may be let go of before it. A
-/// contract sees the table, and what is left to read of it.
+/// A verification of a table in steps, each of which reads one more block.
+///
+/// [`Table::verification`] starts it. It shares the table, so that other handles may be dropped
+/// first. Contracts see the table and the blocks that are left to read.
 #[derive(Drop)]
 pub struct Verification<A: Allocator = Global> {
     table: Table<A>,
@@ -38,11 +39,11 @@ impl<A: Allocator> Model for Verification<A> {
       left = v.left;
     } };
 
-    // What is found first in what is left is what is found first in the whole.
+    // The first fault in the rest is the first fault in the whole table.
     ghost invariant = { λ v. IsOfTable v.table (ahead_of v.table.parts v.stage) v.left };
 }
 
-/// A verification of a table, which has read nothing yet.
+/// A verification of a table that has read nothing yet.
 fn begin<A: Allocator + Clone>(table: Table<A>) -> Verification<A>
     ensures { result ≡ verifying table }
 {
@@ -55,8 +56,13 @@ fn begin<A: Allocator + Clone>(table: Table<A>) -> Verification<A>
 }
 
 impl<A: Allocator + Clone> Table<A> {
-    /// A verification of the table that is made by steps, so that progress can be shown, and so
-    /// that it can be stopped. Nothing is read yet. Refused with [`Error::OutOfMemory`] alone.
+    /// Starts a verification of the table in steps.
+    ///
+    /// Steps let a caller show progress or stop early. The call reads nothing.
+    ///
+    /// # Errors
+    ///
+    /// [`Error::OutOfMemory`] only.
     pub fn verification(&self) -> Result<Verification<A>, Error>
         ensures ok { IfOk result (λ v. v ≡ verifying self.now) }
         ensures err { IfErr result (λ e. e ≡ refusal.OutOfMemory) }
@@ -64,7 +70,7 @@ impl<A: Allocator + Clone> Table<A> {
         Ok(begin(self.clone()?))
     }
 
-    /// What is still to be read of the counts before anything was.
+    /// The counts that are left before the first step.
     fn unread(&self) -> Unread<A>
         ensures { result ≡ (verifying self.now).left }
     {
@@ -72,7 +78,7 @@ impl<A: Allocator + Clone> Table<A> {
         unread_table(inner)
     }
 
-    /// What the table says that it has.
+    /// The counts that the meta block claims.
     fn says(&self) -> Verified
         ensures { result ≡ verified_of self.now.parts.facts }
     {
@@ -83,15 +89,15 @@ impl<A: Allocator + Clone> Table<A> {
         }
     }
 
-    /// How many bytes the data blocks have, as the table says.
+    /// The size of the data blocks in bytes, as the meta block claims it.
     fn said_size(&self) -> u64
         ensures { result ≡ self.now.parts.facts.file_size }
     {
         self.inner.metadata.file_size
     }
 
-    /// Reads a further block or, where none is left, tests the end, and answers `true`. Where it
-    /// answers or is refused nothing changes.
+    /// Reads one more block or, if none is left, checks the end and returns `true`. On `true` and
+    /// on an error nothing changes.
     fn read_next(&self, stage: &mut Stage<A>, left: &mut Unread<A>) -> Result<bool, VerifyError>
         ensures open { IsOpen self.now }
         ensures goes { let parts = self.now.parts in IfOk result (λ ends. ends ≡ false →
@@ -118,56 +124,61 @@ impl<A: Allocator + Clone> Table<A> {
 }
 
 impl<A: Allocator + Clone> Verification<A> {
-    /// Reads one further block, and all that it holds: a block of the filter, of the index, or a
-    /// data block; `None` says that more is to be read. Where no block is left it reads no further
-    /// one, but for a data block that no handle names, and answers what [`Table::verify`] does.
-    /// Refused with what is wrong first in the table, and where it is, and
-    /// [`VerifyError::OutOfMemory`], which says nothing of the table.
+    /// Reads and checks one more block: a filter block, an index block or a data block.
     ///
-    /// Where it answers or is refused nothing changes: a step that wanted memory can be made again,
-    /// and a further step finds again what was found.
+    /// Returns `None` if it read a block. If no block is left, it checks the end and returns the
+    /// result of [`Table::verify`]. It then reads no block, except to look for a data block without
+    /// a handle.
     ///
-    /// It takes memory for a few blocks at a time, and holds a block or two of the index between
-    /// the steps.
+    /// A step allocates for a few blocks at a time. One or two index blocks stay in memory between
+    /// steps.
+    ///
+    /// # Errors
+    ///
+    /// - [`VerifyError::Found`] with the first fault in the table and its position.
+    /// - [`VerifyError::OutOfMemory`]. Nothing is known about the table then.
+    ///
+    /// After a result or an error the verification is unchanged. A step that failed with
+    /// `OutOfMemory` can be repeated. A further step reports the same fault again.
     pub fn step(&mut self) -> Result<Option<Verified>, VerifyError>
         ensures table { self.new.table ≡ self.old.table }
-        // It reads a further block as long as one is left,
+        // It reads a block as long as one is left.
         ensures goes { IfOk result (λ v. IfNone v (steps_of self.old ≡ 1 + steps_of self.new)) }
         ensures ends { IfOk result (λ v. IfSome v (λ _. steps_of self.old ≡ 0)) }
-        // and this one alone, which is the next in the order of `Table::verify`:
+        // It reads only that block, the next in the order of `Table::verify`.
         ensures reads { let t = self.old.table in IfOk result (λ v. IfNone v
             (ReadsNext (body_of t.bytes) t.parts self.old.ahead self.old.left self.new.ahead
             self.new.left)) }
-        // what is left of the data blocks' sizes goes down by that of the block, where it is one,
+        // If it is a data block, the remaining size decreases by its size.
         ensures sizes { IfOk result (λ v. IfNone v (self.old.left.counts.size ≡
             next_size self.old.ahead + self.new.left.counts.size)) }
-        // and the answer is that of `Table::verify`: what is wrong first is found, memory aside.
+        // The result is that of `Table::verify`: the first fault, except for `OutOfMemory`.
         ensures told { let t = self.old.table in IfOk result (λ v. IfSome v (λ v.
             table_found (body_of t.bytes) t.parts ≡ Ok v)) }
         ensures refused { let t = self.old.table in
             IfErr result (λ e. Misses e (table_found (body_of t.bytes) t.parts)) }
-        // What is found is wrong in the next block, or at the end where none is left.
+        // A fault is in the next block, or at the end if none is left.
         ensures next { let t = self.old.table in IfErr result (λ e. Misses e
             (next_found (body_of t.bytes) t.parts self.old.ahead self.old.left)) }
-        // A fault of the next block which takes no memory to be found is told whatever memory there
-        // is, and so is one at the end, but for a data block that no handle names.
+        // A fault of the next block that is found before any allocation takes precedence over
+        // `OutOfMemory`. At the end this holds too, except for a data block without a handle.
         ensures early { let t = self.old.table in FindsFirst result
             (step_early (body_of t.bytes) t.parts self.old.ahead self.old.left) }
-        // At the end memory is wanted only to see that a table without entries has no data block.
+        // At the end only the check that an empty table has no data block allocates.
         ensures calm { let t = self.old.table in
             StepsCalmly (body_of t.bytes) self.old.ahead self.old.left →
             IfErr result (λ e. is_found e ≡ true) }
-        // Where it answers or is refused nothing changes.
+        // After a result or an error nothing changes.
         ensures answered { IfOk result (λ v. IfSome v (λ _. self.new ≡ self.old)) }
         ensures unchanged { IfErr result (λ _. self.new ≡ self.old) }
-        // What is found is wrong there, and all that is read before it is sound.
+        // The fault is at its position, and all that is read before it is valid.
         ensures first { let t = self.old.table in IfErr result (λ e. (f : Finding) → e ≡ Found f →
             IsFirstFinding (body_of t.bytes) t.parts f) }
-        // A table that is verified stores a list, which has as many entries and data blocks.
+        // A verified table stores a list with these counts of entries and data blocks.
         ensures sound { let bytes = self.old.table.bytes in IfOk result (λ v. IfSome v (λ v.
             (es : List Entry) × (t : StoresList bytes es) × (v.item_count ≡ length es) ×
             (v.data_block_count ≡ length t.handles))) }
-        // One that stores a list is verified, memory aside.
+        // A table that stores a list fails with `OutOfMemory` only.
         ensures complete { (es : List Entry) → StoresList self.old.table.bytes es →
             IfErr result (λ e. e ≡ OutOfMemory) }
     {
@@ -177,7 +188,9 @@ impl<A: Allocator + Clone> Verification<A> {
         Ok(None)
     }
 
-    /// How many bytes the data blocks have that were read, of [`ParsedMeta::file_size`] in all.
+    /// Returns the size of the data blocks that were read, in bytes.
+    ///
+    /// [`ParsedMeta::file_size`] is the size of all of them.
     ///
     /// [`ParsedMeta::file_size`]: crate::ParsedMeta::file_size
     pub fn bytes_read(&self) -> u64

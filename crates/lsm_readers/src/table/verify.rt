@@ -1,4 +1,4 @@
-//! Whether a table's bytes store a list.
+//! Verifying that a table's bytes store a list.
 ghost use Rattle.std.specs.Prelude.{◌≡◌, ◌≢◌, List, length, IfErr, IfOk};
 ghost use Rattle.std.specs.Result.{IsErrAnd};
 ghost use Rattle.sst_blocks.specs.Fnv.{fnv1a};
@@ -16,28 +16,32 @@ use sst_blocks::Checksum;
 use std::alloc::Allocator;
 
 impl<A: Allocator + Clone> Table<A> {
-    /// Reads the whole table once, and says whether its bytes store a list, whoever wrote them: its
-    /// filter's blocks, the blocks of its index, whatever of them stays loaded, and behind each
-    /// handle of a data block that block, entry by entry. Refused with what is wrong first in this
-    /// order, and where it is, and [`VerifyError::OutOfMemory`], which says nothing of the table.
+    /// Reads the whole table once, and checks that its bytes store a list, whoever wrote them.
     ///
-    /// It takes memory for a few blocks at a time.
+    /// It reads the filter blocks, then the index blocks. After each handle of a data block it
+    /// reads that block, entry by entry. Blocks are read from the bytes even if they are pinned. It
+    /// allocates for a few blocks at a time.
+    ///
+    /// # Errors
+    ///
+    /// - [`VerifyError::Found`] with the first fault in this order and its position.
+    /// - [`VerifyError::OutOfMemory`]. Nothing is known about the table then.
     pub fn verify(&self) -> Result<Verified, VerifyError>
-        // What is wrong first is found, memory aside.
+        // Except for `OutOfMemory`, it reports the first fault.
         ensures told { Finds (λ (v : Verification). v) result
             (table_found (body_of self.now.bytes) self.now.parts) }
-        // A fault of the first block that is loaded which takes no memory to be found is told
-        // whatever memory there is.
+        // A fault of the first loaded block that is found before any allocation takes precedence
+        // over `OutOfMemory`.
         ensures early { FindsFirst result
             (table_early (body_of self.now.bytes) self.now.parts) }
-        // What is found is wrong there, and all that is read before it is sound.
+        // The fault is at its position, and all that is read before it is valid.
         ensures first { IfErr result (λ e. (f : Finding) → e ≡ Found f →
             IsFirstFinding (body_of self.now.bytes) self.now.parts f) }
-        // A table that is verified stores a list, which has as many entries and data blocks.
+        // A verified table stores a list with these counts of entries and data blocks.
         ensures sound { IfOk result (λ v. (es : List Entry) ×
             (t : StoresList self.now.bytes es) × (v.item_count ≡ length es) ×
             (v.data_block_count ≡ length t.handles)) }
-        // One that stores a list is verified, memory aside.
+        // A table that stores a list fails with `OutOfMemory` only.
         ensures complete { (es : List Entry) → StoresList self.now.bytes es →
             IfErr result (λ e. e ≡ OutOfMemory) }
     {
@@ -45,16 +49,21 @@ impl<A: Allocator + Clone> Table<A> {
         verify_table(&self.source, inner)
     }
 
-    /// [`Table::verify`] of a table whose bytes are to have a checksum, as writing a table gives
-    /// it: the FNV-1a sum of the whole file. It is compared first: where the bytes have another,
-    /// that is found, [`Fault::OtherChecksum`](crate::Fault::OtherChecksum), and no block is read.
+    /// Compares the checksum of the table's bytes, then verifies it as [`Table::verify`] does.
+    ///
+    /// `checksum` is the FNV-1a hash of the whole file, as writing a table returns it.
+    ///
+    /// # Errors
+    ///
+    /// [`Fault::OtherChecksum`](crate::Fault::OtherChecksum) if the bytes have another checksum. No
+    /// block is read then. Otherwise the errors are those of [`Table::verify`].
     pub fn verify_with(&self, checksum: Checksum) -> Result<Verified, VerifyError>
-        // Another checksum is found, whatever memory there is,
+        // Another checksum is reported, whatever memory there is.
         ensures other { fnv1a self.now.bytes ≢ checksum.0 →
             IsErrAnd result (λ e. e ≡ Found other_checksum) }
-        // and a table that is verified has this one.
+        // A verified table has this checksum.
         ensures same { IfOk result (λ _. fnv1a self.now.bytes ≡ checksum.0) }
-        // Where it is the one, the answer is that of `Table::verify`.
+        // If the checksum matches, the result is that of `Table::verify`.
         ensures told { fnv1a self.now.bytes ≡ checksum.0 → Finds (λ (v : Verification). v) result
             (table_found (body_of self.now.bytes) self.now.parts) }
         ensures early { fnv1a self.now.bytes ≡ checksum.0 → FindsFirst result

@@ -1,4 +1,4 @@
-//! Reading blocks of handles, and the data blocks that these name.
+//! Reading index blocks, and the data blocks of their handles.
 ghost use Rattle.std.specs.Prelude.{◌≡◌, ◌<◌, List, IfErr, IfOk, Some, length, true};
 ghost use Rattle.std.specs.List.{slice_get};
 ghost use Rattle.lsm_readers.specs.declared.verify.VerifyError.TheVariants.{OutOfMemory};
@@ -22,7 +22,7 @@ use sst_blocks::{
 };
 use std::alloc::Allocator;
 
-/// Tests that a handle names the block at a position.
+/// Checks that a data block's handle starts at the expected offset.
 fn test_place(at: u64, offset: u64) -> Result<(), VerifyError>
     ensures told { Finds (λ (_ : _). tt) result (place_found at offset) }
     ensures calm { IfErr result (λ e. is_found e ≡ true) }
@@ -34,7 +34,7 @@ fn test_place(at: u64, offset: u64) -> Result<(), VerifyError>
     }
 }
 
-/// Counts a data block of a size.
+/// Subtracts a data block from the counts.
 #[tactic(auto, unfolding(crate::specs::Verify::block_spent))]
 fn count_block(meta: u64, size: u32, counts: Counts) -> Result<Counts, VerifyError>
     ensures told { Finds (λ (c : CountsLeft). c) result (block_spent meta size counts) }
@@ -49,7 +49,7 @@ fn count_block(meta: u64, size: u32, counts: Counts) -> Result<Counts, VerifyErr
     })
 }
 
-/// The data block of a handle, which has an entry.
+/// Loads the data block of a handle, and checks that it has an entry.
 pub(super) fn load_chunk<A: Allocator + Clone>(
     source: &BlockSource<A>,
     handle: &BlockHandle,
@@ -60,7 +60,7 @@ pub(super) fn load_chunk<A: Allocator + Clone>(
         FindsFirst result (early_at body section.Data handle.now block.Data) }
 {
     let at = handle.offset().0;
-    // The blocks behind it will be asked next: their checksums cost little more with this one's.
+    // The next blocks are needed soon. Comparing their checksums with this one's costs little more.
     source.compare_ahead(at, 4);
     let mut opened = Opened::none();
     let block = match source.load(handle, BlockType::Data, &mut opened) {
@@ -73,7 +73,7 @@ pub(super) fn load_chunk<A: Allocator + Clone>(
     Ok(block)
 }
 
-/// The handles of the index block at a place in a section.
+/// Loads the index block at a handle in a section.
 pub(super) fn load_part<A: Allocator + Clone>(
     source: &BlockSource<A>,
     section: SectionName,
@@ -90,7 +90,7 @@ pub(super) fn load_part<A: Allocator + Clone>(
     }
 }
 
-/// Tests that a handle of a block in a section names this key and this number.
+/// Checks the key and the seqno in the handle of a block in a section.
 fn test_end<A: Allocator>(
     section: SectionName,
     handle: &KeyedBlockHandle<A>,
@@ -110,7 +110,7 @@ fn test_end<A: Allocator>(
     }
 }
 
-/// Tests that a handle names the entry that was read last.
+/// Checks that a handle has the key and the seqno of the last entry read.
 fn test_last<A: Allocator>(
     handle: &KeyedBlockHandle<A>,
     last: &Option<InternalValue<A>>,
@@ -129,7 +129,7 @@ fn test_last<A: Allocator>(
     }
 }
 
-/// Counts the data block at a place, which is to begin where the block before it ended.
+/// Counts a data block, and checks that it starts where the one before it ended.
 #[tactic(auto, unfolding(crate::specs::Verify::counted_found))]
 pub(super) fn count_at<A: Allocator>(
     inner: &Inner<A>,
@@ -146,7 +146,7 @@ pub(super) fn count_at<A: Allocator>(
     count_block(meta, place.size(), counts)
 }
 
-/// Reads the entries of the data block of a handle, which is to name the last of them.
+/// Reads the entries of a data block, and checks the last of them against its handle.
 #[tactic(auto, unfolding(crate::specs::Verify::contents_found))]
 pub(super) fn read_contents<A: Allocator + Clone>(
     source: &BlockSource<A>,
@@ -163,7 +163,7 @@ pub(super) fn read_contents<A: Allocator + Clone>(
     Ok(())
 }
 
-/// Reads the data block of a handle, which is to begin where the block before it ended.
+/// Reads a data block, and checks that it starts where the one before it ended.
 #[tactic(auto, unfolding(crate::specs::Verify::block_found))]
 fn read_block<A: Allocator + Clone>(
     source: &BlockSource<A>,
@@ -181,7 +181,7 @@ fn read_block<A: Allocator + Clone>(
     read_contents(source, inner, left, handle, &block)
 }
 
-/// The handle at a place in a block. Refused for want of memory alone.
+/// The handle at an index in a block. Fails with `OutOfMemory` only.
 pub(super) fn handle_at<A: Allocator>(
     handles: &IndexBlock<A>,
     index: usize,
@@ -196,7 +196,7 @@ pub(super) fn handle_at<A: Allocator>(
     }
 }
 
-/// Reads the data blocks of some handles, one after another.
+/// Reads the data blocks of some handles, in order.
 fn read_blocks<A: Allocator + Clone>(
     source: &BlockSource<A>,
     inner: &Inner<A>,
@@ -213,7 +213,7 @@ fn read_blocks<A: Allocator + Clone>(
     Ok(())
 }
 
-/// Tests that a handle of a top level names the last of the handles of its partition.
+/// Checks a handle of a top level against the last handle of its partition.
 pub(super) fn test_top<A: Allocator>(
     top: &KeyedBlockHandle<A>,
     handles: &IndexBlock<A>,
@@ -233,8 +233,7 @@ pub(super) fn test_top<A: Allocator>(
     )
 }
 
-/// Reads the partition of the index that a handle of its top level names, and the data blocks of
-/// its handles.
+/// Reads an index partition by its handle in the top level, and the data blocks of its handles.
 #[tactic(auto, unfolding(crate::specs::Verify::part_found))]
 fn read_part<A: Allocator + Clone>(
     source: &BlockSource<A>,
@@ -251,7 +250,7 @@ fn read_part<A: Allocator + Clone>(
     read_blocks(source, inner, left, &handles)
 }
 
-/// Reads the partitions of the index that the handles of a top level name, one after another.
+/// Reads the index partitions of a top level, in order.
 fn read_parts<A: Allocator + Clone>(
     source: &BlockSource<A>,
     inner: &Inner<A>,
@@ -268,8 +267,8 @@ fn read_parts<A: Allocator + Clone>(
     Ok(())
 }
 
-/// Reads the index from the table's bytes, whatever of it stays loaded, and the data blocks of its
-/// handles.
+/// Reads the index and the data blocks of its handles. The index is read from the table's bytes
+/// even if it is pinned.
 #[tactic(auto, unfolding(crate::specs::Verify::index_found))]
 pub(super) fn read_index<A: Allocator + Clone>(
     source: &BlockSource<A>,

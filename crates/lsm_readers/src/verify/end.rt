@@ -1,4 +1,4 @@
-//! The blocks of the filter, and what is compared once all is read.
+//! Checking the filter blocks, and the totals after all blocks are read.
 ghost use Rattle.std.specs.Prelude.{◌≡◌, IfErr, IsOk, [], None, Some, map, true};
 ghost use Rattle.sst_entries.specs.declared.error.Error.{Error};
 ghost use Rattle.sst_blocks.specs.declared.block_type.BlockType.TheVariants as block;
@@ -18,7 +18,7 @@ use sst_blocks::{
 };
 use std::alloc::Allocator;
 
-/// Tests that a filter's block loads.
+/// Checks that a filter block loads.
 pub(super) fn test_filter<A: Allocator + Clone>(
     source: &BlockSource<A>,
     place: &BlockHandle,
@@ -37,7 +37,7 @@ pub(super) fn test_filter<A: Allocator + Clone>(
     }
 }
 
-/// Tests that the filters load that the handles of a top level name, one after another.
+/// Checks that the filter partitions of a top level load, in order.
 fn test_parts<A: Allocator + Clone>(
     source: &BlockSource<A>,
     tops: &IndexBlock<A>,
@@ -53,7 +53,7 @@ fn test_parts<A: Allocator + Clone>(
     Ok(())
 }
 
-/// Tests that each block of the filter loads.
+/// Checks that each block of the filter loads.
 pub(super) fn test_filters<A: Allocator + Clone>(
     source: &BlockSource<A>,
     inner: &Inner<A>,
@@ -63,7 +63,7 @@ pub(super) fn test_filters<A: Allocator + Clone>(
     ensures early { let parts = parts_of inner.now in
         let places = filter_places parts.pinned.filter_tops parts.regions.filter in
         FindsFirst result (early_filters (body_of source.now) places None) }
-    // Where there is no block nothing is refused.
+    // Without a filter block it does not fail.
     ensures calm { let parts = parts_of inner.now in
         filter_places parts.pinned.filter_tops parts.regions.filter ≡ [] → IsOk result }
 {
@@ -76,7 +76,7 @@ pub(super) fn test_filters<A: Allocator + Clone>(
     }
 }
 
-/// Tests that a number of the meta block at a position is the one that was read.
+/// Checks a number in the meta block at an offset against the one that was read.
 fn test_same(meta: u64, item: ItemName, said: u64, read: u64) -> Result<(), VerifyError>
     ensures told { Finds (λ (_ : _). tt) result (same_found meta item said read) }
     ensures calm { IfErr result (λ e. is_found e ≡ true) }
@@ -88,8 +88,7 @@ fn test_same(meta: u64, item: ItemName, said: u64, read: u64) -> Result<(), Veri
     }
 }
 
-/// Tests that nothing is left of what a meta block says, and that its lowest and highest number are
-/// those that were read.
+/// Checks that no count is left to read, and that the lowest and the highest seqno match.
 #[tactic(auto, unfolding(crate::specs::Verify::counts_found))]
 fn test_counts<A: Allocator>(inner: &Inner<A>, counts: &Counts) -> Result<(), VerifyError>
     ensures told { Finds (λ (_ : _). tt) result (counts_found (parts_of inner.now) counts.now) }
@@ -112,10 +111,10 @@ fn test_counts<A: Allocator>(inner: &Inner<A>, counts: &Counts) -> Result<(), Ve
     test_same(meta, ItemName::SeqnoMax, highest, counts.highest)
 }
 
-/// Tests that no data block lies at the first position.
+/// Checks that there is no data block at offset 0.
 fn test_unnamed<A: Allocator + Clone>(source: &BlockSource<A>) -> Result<(), VerifyError>
     ensures told { Finds (λ (_ : _). tt) result (unnamed_found (body_of source.now)) }
-    // A load that is refused before memory is taken is no want of memory.
+    // A load that fails before any allocation does not fail with `OutOfMemory`.
     ensures calm { (e : Error) → position_fault (body_of source.now) 0 block.Data ≡ Some e →
         IsOk result }
 {
@@ -130,7 +129,7 @@ fn test_unnamed<A: Allocator + Clone>(source: &BlockSource<A>) -> Result<(), Ver
     }
 }
 
-/// Tests a key of the meta block.
+/// Checks a key in the meta block at an offset against the one that was read.
 fn test_range_key(meta: u64, item: ItemName, said: &[u8], read: &[u8]) -> Result<(), VerifyError>
     ensures told { Finds (λ (_ : _). tt) result (key_same meta item said.now read.now) }
     ensures calm { IfErr result (λ e. is_found e ≡ true) }
@@ -142,7 +141,7 @@ fn test_range_key(meta: u64, item: ItemName, said: &[u8], read: &[u8]) -> Result
     }
 }
 
-/// Tests the end of a table whose entries were read, the last of them, if any, among them.
+/// Checks the totals of a table after its entries were read.
 #[tactic(auto, unfolding(crate::specs::Verify::end_found))]
 pub(super) fn test_left<A: Allocator + Clone>(
     source: &BlockSource<A>,
@@ -151,7 +150,7 @@ pub(super) fn test_left<A: Allocator + Clone>(
 ) -> Result<(), VerifyError>
     ensures told { Finds (λ (_ : _). tt) result
         (end_found (body_of source.now) (parts_of inner.now) left.now) }
-    // What is found before memory is taken is the refusal, whatever memory there is.
+    // A fault that is found before any allocation takes precedence over `OutOfMemory`.
     ensures early { FindsFirst result (end_early (parts_of inner.now) left.now) }
     ensures calm { EndsCalmly (body_of source.now) left.now.last →
         IfErr result (λ e. is_found e ≡ true) }

@@ -1,4 +1,4 @@
-//! Reading entries.
+//! Reading the entries of a data block.
 ghost use Rattle.std.specs.Prelude.{◌≡◌, ◌<◌, IfErr, IfOk, Some, length, true};
 ghost use Rattle.std.specs.List.{slice_get};
 ghost use Rattle.lsm_readers.specs.declared.verify.VerifyError.TheVariants.{OutOfMemory};
@@ -17,7 +17,7 @@ use sst_blocks::{
 };
 use std::alloc::Allocator;
 
-/// What is left of a count of the meta block at a position, once some of it is read.
+/// Subtracts from a count of the meta block at an offset. Fails if too little is left.
 pub(super) fn spend(meta: u64, item: ItemName, left: u64, by: u64) -> Result<u64, VerifyError>
     ensures told { Finds (λ n. n) result (spent meta item left by) }
     ensures calm { IfErr result (λ e. is_found e ≡ true) }
@@ -28,7 +28,7 @@ pub(super) fn spend(meta: u64, item: ItemName, left: u64, by: u64) -> Result<u64
     Ok(left - by)
 }
 
-/// Whether an entry is the first of its key, by the entry directly before it.
+/// Whether an entry is the first of its key, given the entry directly before it.
 fn starts_key<A: Allocator>(last: &Option<InternalValue<A>>, entry: &InternalValue<A>) -> bool
     ensures { result ≡ starts_key last.now entry.now }
 {
@@ -38,7 +38,6 @@ fn starts_key<A: Allocator>(last: &Option<InternalValue<A>>, entry: &InternalVal
     }
 }
 
-/// Whether an entry is a weak tombstone.
 fn is_weak<A: Allocator>(entry: &InternalValue<A>) -> bool
     ensures { result ≡ is_weak entry.now }
 {
@@ -59,7 +58,7 @@ fn is_reclaimable<A: Allocator>(last: &Option<InternalValue<A>>, entry: &Interna
     }
 }
 
-/// Whether an entry may stand behind the one before it.
+/// Whether an entry is in order after the one before it.
 fn may_follow<A: Allocator>(last: &Option<InternalValue<A>>, entry: &InternalValue<A>) -> bool
     ensures { result ≡ may_follow last.now entry.now }
 {
@@ -69,7 +68,7 @@ fn may_follow<A: Allocator>(last: &Option<InternalValue<A>>, entry: &InternalVal
     }
 }
 
-/// Tests an entry's number, and that it follows on the one before it.
+/// Checks an entry's seqno, and that it is in order after the one before it.
 fn test_order<A: Allocator>(
     at: u64,
     last: &Option<InternalValue<A>>,
@@ -89,7 +88,7 @@ fn test_order<A: Allocator>(
     }
 }
 
-/// Tests that the first entry of all has the key that the meta block names as the least.
+/// Checks that the first entry of the table has the minimum key in the meta block.
 fn test_first<A: Allocator>(
     inner: &Inner<A>,
     last: &Option<InternalValue<A>>,
@@ -107,7 +106,7 @@ fn test_first<A: Allocator>(
     }
 }
 
-/// Whether the filter may have a key, by its blocks in the table's bytes.
+/// Whether the filter may contain a key, by its blocks in the table's bytes.
 fn admits<A: Allocator + Clone>(
     source: &BlockSource<A>,
     inner: &Inner<A>,
@@ -129,7 +128,8 @@ fn admits<A: Allocator + Clone>(
     }
 }
 
-/// Tests that the filter admits the key of an entry that is the first of its key.
+/// Checks that the filter does not exclude the key of an entry. Only the first entry of a key is
+/// checked.
 fn test_key<A: Allocator + Clone>(
     source: &BlockSource<A>,
     inner: &Inner<A>,
@@ -151,7 +151,7 @@ fn test_key<A: Allocator + Clone>(
     }
 }
 
-/// Counts an entry.
+/// Subtracts an entry from the counts.
 #[tactic(auto, unfolding(crate::specs::Verify::entry_spent))]
 fn count_entry<A: Allocator>(
     meta: u64,
@@ -187,7 +187,7 @@ fn count_entry<A: Allocator>(
     })
 }
 
-/// Tests an entry of the data block at a position. What is left of the counts behind it.
+/// Checks an entry of the data block at an offset, and returns the counts that are left after it.
 #[tactic(auto, unfolding(crate::specs::Verify::entry_tested))]
 fn test_entry<A: Allocator + Clone>(
     source: &BlockSource<A>,
@@ -207,7 +207,7 @@ fn test_entry<A: Allocator + Clone>(
     count_entry(meta, &left.last, entry, left.counts)
 }
 
-/// Reads an entry of the data block at a position.
+/// Reads an entry of the data block at an offset.
 #[tactic(auto, unfolding(crate::specs::Verify::entry_found))]
 fn read_entry<A: Allocator + Clone>(
     source: &BlockSource<A>,
@@ -226,7 +226,7 @@ fn read_entry<A: Allocator + Clone>(
     Ok(())
 }
 
-/// The entry at a place in a block. Refused for want of memory alone.
+/// The entry at an index in a block. Fails with `OutOfMemory` only.
 fn entry_at<A: Allocator>(
     block: &DataBlock<A>,
     index: usize,
@@ -241,7 +241,7 @@ fn entry_at<A: Allocator>(
     }
 }
 
-/// Reads the entries of the data block at a position, one after another.
+/// Reads the entries of the data block at an offset, in order.
 pub(super) fn read_entries<A: Allocator + Clone>(
     source: &BlockSource<A>,
     inner: &Inner<A>,

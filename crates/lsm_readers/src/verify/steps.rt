@@ -1,4 +1,4 @@
-//! Reading a whole table by steps, a block each.
+//! Reading a whole table in steps of one block each.
 ghost use Rattle.std.specs.Prelude.{◌≡◌, ◌∷◌, ◌<◌, ◌-◌, ◌^◌, [], List, IfErr, IfOk, IfNone};
 ghost use Rattle.std.specs.Prelude.{IfSome, IsOk, Ok, Some, drop, false, length, true};
 ghost use Rattle.std.specs.List.{slice_get};
@@ -23,11 +23,11 @@ use sst_blocks::{BlockHandle, BlockSource, IndexBlock, SectionName};
 use std::alloc::{Allocator, Global};
 use std::marker::Model;
 
-/// The handles of an index block that are left. A contract sees their list.
+/// The handles of an index block that are left. Contracts see their list.
 #[derive(Drop)]
 pub(crate) struct HandlesLeft<A: Allocator = Global> {
     block: Option<IndexBlock<A>>,
-    // the place of the next handle in the block
+    // The index of the next handle in the block.
     index: usize,
 }
 
@@ -41,12 +41,12 @@ impl<A: Allocator> Model for HandlesLeft<A> {
     ghost view = { λ h. handles_ahead h.index h.block };
 }
 
-/// What is left to read of a table.
+/// The blocks of a table that are left to read.
 #[derive(Drop)]
 pub(crate) enum Stage<A: Allocator = Global> {
-    /// The filter's blocks from a place on, and then the index.
+    /// The filter blocks from an index on, then the index.
     Filter(usize),
-    /// The data blocks of some handles, and then some partitions of the index.
+    /// The data blocks of some handles, then some partitions of the index.
     Index {
         handles: HandlesLeft<A>,
         tops: HandlesLeft<A>,
@@ -54,7 +54,7 @@ pub(crate) enum Stage<A: Allocator = Global> {
 }
 
 impl<A: Allocator> Stage<A> {
-    /// Nothing was read yet.
+    /// The stage before anything is read.
     pub(crate) fn start() -> Stage<A>
         ensures { (parts : Parts) → ahead_of parts result ≡ before_index (places_in parts) }
     {
@@ -63,7 +63,7 @@ impl<A: Allocator> Stage<A> {
 }
 
 impl<A: Allocator> Unread<A> {
-    /// What is left of the sizes of the data blocks.
+    /// The total size of the data blocks that are left, in bytes.
     pub(crate) fn size_left(&self) -> u64
         ensures { result ≡ self.now.counts.size }
     {
@@ -71,7 +71,7 @@ impl<A: Allocator> Unread<A> {
     }
 }
 
-/// How many handles a block has, where there is one.
+/// The number of handles in a block, or 0 without one.
 fn count_in<A: Allocator>(block: &Option<IndexBlock<A>>) -> usize
     ensures { result ≡ length (handles_ahead 0 block.now) }
 {
@@ -102,8 +102,8 @@ impl<A: Allocator> HandlesLeft<A> {
         }
     }
 
-    /// The next of them, where one is left: their block, and its place there. It is not shared, so
-    /// no memory is taken.
+    /// The next handle, if one is left, as its block and its index there. The handle is not cloned,
+    /// so nothing is allocated.
     fn next(&self) -> Option<(&IndexBlock<A>, usize)>
         ensures some { IfSome result (λ next.
             slice_get next.0.now next.1 ≡ slice_get self.now 0) }
@@ -116,7 +116,7 @@ impl<A: Allocator> HandlesLeft<A> {
         }
     }
 
-    /// Leaves out the next of them, where one is left.
+    /// Skips the next handle, if one is left.
     fn pass(&mut self)
         ensures { self.new ≡ drop 1 self.old }
     {
@@ -126,7 +126,7 @@ impl<A: Allocator> HandlesLeft<A> {
     }
 }
 
-/// A copy of what is still to be read. Refused for want of memory alone.
+/// A copy of the counts and the last entry. Fails with `OutOfMemory` only.
 fn copy_left<A: Allocator>(left: &Unread<A>) -> Result<Unread<A>, VerifyError>
     ensures ok { IfOk result (λ copy. copy ≡ left.now) }
     ensures err { IfErr result (λ e. e ≡ OutOfMemory) }
@@ -140,10 +140,10 @@ fn copy_left<A: Allocator>(left: &Unread<A>) -> Result<Unread<A>, VerifyError>
     }
 }
 
-/// Reads the data block of the handle at a place in a block of them. What is left behind it.
+/// Reads the data block of the handle at an index, and returns the counts that are left after it.
 ///
-/// The block is loaded by its place, and then memory is taken for its handle: so what is found
-/// before memory is taken is the refusal, whatever memory there is.
+/// The block is loaded before the handle is cloned. So a fault that is found before any allocation
+/// takes precedence over `OutOfMemory`.
 fn read_at<A: Allocator + Clone>(
     source: &BlockSource<A>,
     inner: &Inner<A>,
@@ -170,8 +170,7 @@ fn read_at<A: Allocator + Clone>(
     Ok(read)
 }
 
-/// Reads the data block of the first of some handles, where one is left. Where that is refused
-/// nothing changes.
+/// Reads the data block of the next handle, if one is left. On an error nothing changes.
 fn step_block<A: Allocator + Clone>(
     source: &BlockSource<A>,
     inner: &Inner<A>,
@@ -206,8 +205,8 @@ fn step_block<A: Allocator + Clone>(
     Ok(true)
 }
 
-/// The partition of the index that the handle at a place in its top level names. It is loaded as
-/// [`read_at`] loads a data block.
+/// Loads the index partition of the handle at an index in the top level. As in [`read_at`], the
+/// block is loaded before the handle is cloned.
 fn load_partition<A: Allocator + Clone>(
     source: &BlockSource<A>,
     tops: &IndexBlock<A>,
@@ -227,8 +226,8 @@ fn load_partition<A: Allocator + Clone>(
     Ok(handles)
 }
 
-/// Reads the partition of the first of some handles of a top level, where one is left. Where that
-/// is refused nothing changes.
+/// Reads the partition of the next handle in the top level, if one is left. On an error nothing
+/// changes.
 fn step_part<A: Allocator + Clone>(
     source: &BlockSource<A>,
     tops: &mut HandlesLeft<A>,
@@ -254,8 +253,8 @@ fn step_part<A: Allocator + Clone>(
     Ok(Some(handles))
 }
 
-/// Reads the next data block or, where the partition at hand has none left, the next partition; or
-/// else tests the end, and answers `true`. Where it answers or is refused nothing changes.
+/// Reads the next data block or, if the current partition has none left, the next partition. If
+/// none is left, it checks the end and returns `true`. On `true` and on an error nothing changes.
 fn step_index<A: Allocator + Clone>(
     source: &BlockSource<A>,
     inner: &Inner<A>,
@@ -299,7 +298,7 @@ fn step_index<A: Allocator + Clone>(
     }
 }
 
-/// Where the filter's block at a place among them lies, where there is one.
+/// The handle of the filter block at an index, if there is one.
 fn filter_at<A: Allocator>(inner: &Inner<A>, index: usize) -> Option<BlockHandle>
     ensures place { result ≡ slice_get (places_in (parts_of inner.now)) index }
     ensures room { IfSome result (λ _. index < 2 ^ 64 - 1) }
@@ -322,7 +321,7 @@ fn filter_at<A: Allocator>(inner: &Inner<A>, index: usize) -> Option<BlockHandle
     }
 }
 
-/// Reads the block of the index, or its top level.
+/// Reads the block of a full index, or the top level of a partitioned one.
 fn open_index<A: Allocator + Clone>(
     source: &BlockSource<A>,
     inner: &Inner<A>,
@@ -351,7 +350,7 @@ fn open_index<A: Allocator + Clone>(
     }
 }
 
-/// Reads the filter's block at a place among them or, behind all of them, that of the index.
+/// Reads the filter block at an index or, after the last, the index block.
 fn step_filter<A: Allocator + Clone>(
     source: &BlockSource<A>,
     inner: &Inner<A>,
@@ -380,8 +379,8 @@ fn step_filter<A: Allocator + Clone>(
     }
 }
 
-/// Reads a further block of a table or, where none is left, tests the end, and answers `true`.
-/// Where it answers or is refused nothing changes.
+/// Reads one more block of a table or, if none is left, checks the end and returns `true`. On
+/// `true` and on an error nothing changes.
 pub(crate) fn step_stage<A: Allocator + Clone>(
     source: &BlockSource<A>,
     inner: &Inner<A>,
@@ -397,10 +396,10 @@ pub(crate) fn step_stage<A: Allocator + Clone>(
         (stage.new ≡ stage.old) × (left.new ≡ left.old)) }
     ensures refused { let parts = parts_of inner.now in let ahead = ahead_of parts stage.old in
         IfErr result (λ e. Misses e (rest_found (body_of source.now) parts ahead left.old)) }
-    // What is found is wrong in the next block, or at the end.
+    // A fault is in the next block, or at the end.
     ensures next { let parts = parts_of inner.now in let ahead = ahead_of parts stage.old in
         IfErr result (λ e. Misses e (next_found (body_of source.now) parts ahead left.old)) }
-    // What is found before memory is taken is the refusal, whatever memory there is.
+    // A fault that is found before any allocation takes precedence over `OutOfMemory`.
     ensures early { let parts = parts_of inner.now in let ahead = ahead_of parts stage.old in
         FindsFirst result (step_early (body_of source.now) parts ahead left.old) }
     ensures calm { let ahead = ahead_of (parts_of inner.now) stage.old in

@@ -1,4 +1,4 @@
--- A compaction that lends, with a filter and a callback.
+-- A lending compaction with a filter and a callback.
 use Rattle.std.specs.Prelude.{◌≡◌, ◌⊎◌, ℕ, ◌+◌, Bool, true, false, ◌&&◌, ◌||◌, cond, nat_lt, List}
 use Rattle.std.specs.Prelude.{[], ◌∷◌, ◌++◌, Option, Some, None, Result, Ok, Err}
 use Rattle.std.specs.Prelude.{if◌then◌else◌}
@@ -28,71 +28,71 @@ use Rattle.lsm_sorted.specs.declared.compaction.lending.Lends.{Lends}
 use Rattle.lsm_sorted.specs.declared.compaction.lending.Lends.TheVariants.{Nothing, Source, Held}
 use Rattle.lsm_sorted.specs.declared.compaction.lending.LendingCompaction.{LendingCompaction}
 
--- ---- what is lent of a list
+-- ---- the output for a list
 
--- whether a head stays depends on what follows it: below the watermark that of a weak tombstone, at
--- or above it that of each tombstone that may go
+-- whether keeping a head depends on the next item: below the watermark for a weak tombstone, else
+-- for any tombstone under eviction
 abbrev pub has_to_wait : Rules → Entry → Bool
 has_to_wait rules x = if nat_lt x.seqno rules.watermark then is_weak_kind x.kind
     else rules.evict && is_tombstone_kind x.kind
 
--- the last head goes by its kind; where it waits and an error comes, it is lost
+-- the last head is removed by its kind; if it has to wait and an error follows, it is lost
 abbrev pub gone_of_lent : Rules → Option Entry → Option Error → Entry → Bool
 gone_of_lent rules (Some next) e x = goes rules.evict x.kind (Some next)
 gone_of_lent rules None None x = goes rules.evict x.kind None
 gone_of_lent rules None (Some e) x = has_to_wait rules x || goes rules.evict x.kind None
 
--- what is lent of the versions of a key: what their heads give, and the error that follows
+-- the lending output for the versions of a key: that of their heads, then the error that follows
 abbrev pub lent_outs_of : Rules → Versions → List R
 lent_outs_of rules v = given rules
     (gone_of_lent rules (first (entries (expired rules.watermark v.versions))) v.error)
     (heads rules.watermark v.versions) ++ error_of v.error
 
--- all that is lent of a list of results, once a filter was asked
+-- the whole lending output for a list of results after filtering
 abbrev pub lent_outs_by : Rules → List JudgedItem → List R
 lent_outs_by rules js = concat_by (lent_outs_of rules) (by_key js)
 
--- the same where it keeps all
+-- the same where the filter keeps all
 abbrev pub lent_outs : Rules → List R → List R
 lent_outs rules rs = lent_outs_by rules (as_they_are rs)
 
--- the list without the entries in front that this key hides, if one hides any
+-- the list without its next entries that this key hides, if any
 abbrev pub past_hidden : Option (List ℕ) → List R → List R
 past_hidden None rs = rs
 past_hidden (Some key) rs = after_key key rs
 
--- an entry, if there is one, before others
+-- an optional entry before others
 abbrev pub entry_before : Option Entry → List R → List R
 entry_before None rs = rs
 entry_before (Some x) rs = Ok x ∷ rs
 
--- a number, and one more where this is true
+-- a number, plus one if `more`
 abbrev pub one_more_if : Bool → ℕ → ℕ
 one_more_if more n = cond more (n + 1) n
 
--- an answer as a list, or nothing where none came
+-- the result of a call as a list, empty for `None`
 abbrev pub listed_answer : Option R → List R
 listed_answer None = []
 listed_answer (Some r) = r ∷ []
 
 -- ---- its state
 
--- an entry with this kind and this value in place of its own
+-- an entry with its kind and value replaced
 abbrev pub put_into : Entry → ValueType → List ℕ → Entry
 put_into x kind value = entry x.user_key value x.seqno kind
 
--- the entries in front that this key hides, if one hides any
+-- the next entries that this key hides, if any
 abbrev pub hidden_in : Option (List ℕ) → List R → List Entry
 hidden_in None rs = []
 hidden_in (Some key) rs = of_key key rs
 
--- where a source answered nothing, nothing more is to come of it
+-- once a source returned `None`, it has no more results
 abbrev pub EndsAtNone : List (Option R) → List R → Type 0
 EndsAtNone [] rest = Unit {0}
 EndsAtNone (None ∷ rs) rest = (results_in rs ++ rest ≡ []) × EndsAtNone rs rest
 EndsAtNone (Some x ∷ rs) rest = EndsAtNone rs rest
 
--- an entry came
+-- the result is an entry
 abbrev pub is_entry : Option R → Bool
 is_entry None = false
 is_entry (Some (Ok x)) = true
@@ -106,39 +106,39 @@ module _ {S F C A : Type 0} where
   abbrev pub lent_callback : LendingCompaction S F C A → C
   lent_callback s = s.callback
 
-  -- what it reads from
+  -- its source
   abbrev pub lender : LendingCompaction S F C A → S
   lender s = s.source
 
-  -- the key of which what comes next is hidden
+  -- the key whose next versions are hidden
   abbrev pub hidden_key : LendingCompaction S F C A → Option (List ℕ)
   hidden_key s = cond s.hides (Some s.key.items) None
 
-  -- what is lent, by where it lies
+  -- the borrowed entry, by its location: the source or the internal buffer
   abbrev pub lent_where : (S → Option Entry) → Lends → LendingCompaction S F C A → Option Entry
   lent_where lent Nothing s = None
   lent_where lent Source s = option_map (zeroed s.rules) (lent s.source)
   lent_where lent (Held n kind) s = Some (zeroed s.rules (entry s.key.items s.value.items n kind))
 
-  -- what is lent
+  -- the borrowed entry
   abbrev pub lent_compacted : (S → Option Entry) → LendingCompaction S F C A → Option Entry
   lent_compacted lent s = lent_where lent s.lends s
 
-  -- how many may come at most
+  -- the maximum number of remaining results
   abbrev pub compacted_left : (S → ℕ) → LendingCompaction S F C A → ℕ
   compacted_left left s = cond s.is_over 0 (one_more_if s.is_pending (left s.source))
 
-  -- what is still looked at, where the source has still to deal rs
+  -- the list yet to process, given the source's remaining results
   abbrev pub looked_at : (S → Option Entry) → LendingCompaction S F C A → List R → List R
   looked_at lent s rs = cond s.is_pending (entry_before (lent s.source) rs) rs
 
-  -- the source may be asked
+  -- the source may be called
   abbrev pub MayLendCompacted : (S → Option R → S → Type 0) → (S → Type 0)
       → LendingCompaction S F C A → Type 0
   MayLendCompacted advances can s = CanDeal advances nowhere can can s.source
 
--- a whole compaction that lends of a list of results: as `Compacted`, but a head is lent before the
--- error that follows it, unless it has to wait
+-- a whole lending compaction of a list of results: as `Compacted`, but a head is yielded before the
+-- error that follows it. A head that has to wait is lost instead.
 pub record CompactedLent {F C : Type 0} (gives : F → Entry → Result Verdict Error → F → Type 0)
     (gets : C → Entry → C → Type 0) (rules : Rules) (f : F) (c : C) (xs gave : List R) (g : F)
     (d : C) : Type 0 where
@@ -149,15 +149,15 @@ pub record CompactedLent {F C : Type 0} (gives : F → Entry → Result Verdict 
   pub says : SaysOf gives f (asked rules judged) g
   pub reports : GetsAll gets c (reported rules judged) d
 
--- the rest of a compaction: what it gives, of what it asks the filter, what it reports, and its list
+-- the rest of a compaction: its output, its filter calls, its reports and its list
 pub record Later : Type 0 where
   pub gives : List R
   pub asks : List Judged
   pub reports : List Entry
   pub rest : List JudgedItem
 
--- a compaction up to its rest: for some verdicts of all entries of the list it gave, asked and
--- reported, after those that are hidden, all that they lead to but that of the rest
+-- a compaction up to its rest. For some verdicts, its output, filter calls and reports (hidden
+-- entries first), followed by the rest's, are those of the whole.
 pub record CompactedTo {F C : Type 0} (gives : F → Entry → Result Verdict Error → F → Type 0)
     (gets : C → Entry → C → Type 0) (later : Later) (rules : Rules) (f : F) (c : C)
     (hidden : List Entry) (xs gave : List R) (g : F) (d : C) : Type 0 where
@@ -174,12 +174,12 @@ pub record CompactedTo {F C : Type 0} (gives : F → Entry → Result Verdict Er
   pub begun : List JudgedItem
   pub begun_are : begun ++ later.rest ≡ judged
 
--- no rest
+-- an empty rest
 abbrev pub nothing_later : Later
 nothing_later = record { gives = []; asks = []; reports = []; rest = [] }
 
--- the rest where these are not passed yet, as it is without a filter; a key hides its entries in
--- front of them
+-- the rest for an unprocessed list, as without a filter; its first entries that a key hides are
+-- only reported
 abbrev pub later_of : Rules → Option (List ℕ) → List R → Later
 later_of rules key left =
     let js : List JudgedItem = as_they_are (past_hidden key left) in
@@ -190,7 +190,7 @@ later_of rules key left =
       rest = js;
     }
 
--- a compaction of a list gave these and has not passed all of the list
+-- a compaction yielded these results and has not processed the whole list
 pub record CompactedPart {F C : Type 0} (gives : F → Entry → Result Verdict Error → F → Type 0)
     (gets : C → Entry → C → Type 0) (rules : Rules) (f : F) (c : C) (xs gave : List R) (g : F)
     (d : C) : Type 0 where
@@ -200,12 +200,13 @@ pub record CompactedPart {F C : Type 0} (gives : F → Entry → Result Verdict 
 
 module _ {F C : Type 0} (gives : F → Entry → Result Verdict Error → F → Type 0)
     (gets : C → Entry → C → Type 0) {S A : Type 0} where
-  -- from here on: what is hidden of xs is reported, and the others are compacted, up to the rest
+  -- from here on: the next hidden entries of xs are reported, and the others are compacted, up to
+  -- the rest
   abbrev pub WillCompact : Later → LendingCompaction S F C A → List R → List R → F → C → Type 0
   WillCompact later s xs gave g d = CompactedTo gives gets later s.rules s.filter s.callback
       (hidden_in (hidden_key s) xs) (past_hidden (hidden_key s) xs) gave g d
 
-  -- from here on: an entry that the filter left as this head, and then these, are compacted
+  -- from here on: an entry that passed the filter as this head is compacted, then the others
   pub record SettlesFirst (later : Later) (head : Entry) (s : LendingCompaction S F C A)
       (xs gave : List R) (g : F) (d : C) : Type 0 where
     pub at : (x : Entry) (v : Result Verdict Error) (f : F) (c : C)
@@ -215,9 +216,8 @@ module _ {F C : Type 0} (gives : F → Entry → Result Verdict Error → F → 
 
   module _ (advances : S → Option R → S → Type 0) (lent : S → Option Entry)
       (s : LendingCompaction S F C A) where
-    -- a step gave r, or nothing yet: what the source answered in it, and whether an error ends the
-    -- stream; and r, and what a compaction does from t on, is what one does from s on, whatever the
-    -- source has still to deal
+    -- a step returned r, or nothing yet: the source's results in it, and whether an error ended the
+    -- stream. The step, then a compaction from t, is a compaction from s.
     pub record StepsCompacted (r : Option R) (t : LendingCompaction S F C A) : Type 0 where
       pub answers : List (Option R)
       pub gave : GaveEach advances s.source answers t.source
@@ -230,7 +230,7 @@ module _ {F C : Type 0} (gives : F → Entry → Result Verdict Error → F → 
           → WillCompact later s (looked_at lent s (results_in answers ++ rest))
           (listed_answer r ++ more) g d
 
-    -- the same of a head that the filter left, before what the source still deals
+    -- the same for a head that passed the filter, before the source's remaining results
     pub record SettlesCompacted (head : Entry) (r : Option R) (t : LendingCompaction S F C A)
         : Type 0 where
       pub answers : List (Option R)
@@ -242,22 +242,23 @@ module _ {F C : Type 0} (gives : F → Entry → Result Verdict Error → F → 
           → EndsAtNone answers rest → WillCompact later t (looked_at lent t rest) more g d
           → SettlesFirst later head s (results_in answers ++ rest) (listed_answer r ++ more) g d
 
-    -- an entry to look at, where there is one: else the source has ended
+    -- fetches the next entry to process. If none is pending and no error is returned, the source's
+    -- last result was `None`.
     pub record FetchesCompacted (r : Option R) (t : LendingCompaction S F C A) : Type 0 where
       pub step : StepsCompacted r t
       pub ended : r ≡ None → t.is_pending ≡ false → EndsIn None step.answers
       pub idle : s.is_pending ≡ false → NothingCame step.answers → r ≡ None
 
-    -- a call that answered r: nothing, where the source answered nothing at last; nothing too where
-    -- nothing waited to be looked at and no more came; and behind any but an entry nothing waits
+    -- a call that returned r: `None` only after the source's `None`, and always if nothing is
+    -- pending and the source yields nothing. An item stays pending only after an entry.
     pub record CallsCompacted (r : Option R) (t : LendingCompaction S F C A) : Type 0 where
       pub step : StepsCompacted r t
       pub ended : r ≡ None → EndsIn None step.answers
       pub idle : s.is_pending ≡ false → NothingCame step.answers → r ≡ None
       pub rests : is_entry r ≡ false → t.is_pending ≡ false
 
--- one call: it may be asked again; one that is over stays so, answers nothing and leaves its source,
--- its filter and its callback alone
+-- one call: it may be called again. Once it has ended, it returns `None` and leaves its source,
+-- filter and callback unchanged.
 pub record AdvancesCompacted {S : Type 0} (advances : S → Option R → S → Type 0)
     (lent : S → Option Entry) (can : S → Type 0) {F C A : Type 0}
     (gives : F → Entry → Result Verdict Error → F → Type 0) (gets : C → Entry → C → Type 0)
@@ -268,7 +269,7 @@ pub record AdvancesCompacted {S : Type 0} (advances : S → Option R → S → T
   pub ended : s.is_over ≡ true → (r ≡ None) × (t.is_over ≡ true) × (t.source ≡ s.source)
       × (t.filter ≡ s.filter) × (t.callback ≡ s.callback)
 
--- one that was not asked yet
+-- a compaction before any call
 abbrev pub fresh_of : {S F C A : Type 0} → S → Rules → F → C → LendingCompaction S F C A
     → LendingCompaction S F C A
 fresh_of source rules f c s = record {
@@ -286,13 +287,13 @@ fresh_of source rules f c s = record {
 
 -- ---- all its calls
 
--- a source deals these entries, without errors
+-- a source yields these entries, without errors
 abbrev pub DealsEntries : {S : Type 0} → (S → Option R → S → Type 0) → (Error → Bool) → S
     → List Entry → Type 0
 DealsEntries advances stops s xs = Deals (answer_stops stops) advances nowhere s (ok_results xs)
 
--- of any list of entries without errors that the source deals: calls up to the one where nothing
--- comes give, ask and report what a compaction of the list does
+-- for any list of entries without errors: calls until `None` yield, filter and report as a
+-- compaction of it does
 pub record CompactsLent {S T F C : Type 0} (advances : S → Option R → S → Type 0) (source : S)
     (next : T → Option R → T → Type 0) (s : T) (rules : Rules)
     (gives : F → Entry → Result Verdict Error → F → Type 0) (gets : C → Entry → C → Type 0) (f : F)
@@ -303,10 +304,9 @@ pub record CompactsLent {S T F C : Type 0} (advances : S → Option R → S → 
       → Yields next s gave t → next t None u
       → Compacted gives gets rules f c (ok_results xs) gave (filter_in u) (callback_in u)
 
--- of any list of results that the source deals: calls up to the one where nothing comes give, ask
--- and report what a compaction that lends does of it; calls up to an error, that error among what
--- they give, do so of a part in front, and the rest is what the source has still to deal; and any
--- calls do so of all but what is not passed yet
+-- for any list of results: calls until `None` yield, filter and report as a lending compaction of
+-- it. Calls up to an error do so for a prefix, whose rest the source still yields; any calls do so
+-- up to an unprocessed rest.
 pub record CompactsLentResults {S T F C : Type 0} (advances : S → Option R → S → Type 0)
     (source : S) (next : T → Option R → T → Type 0) (s : T) (rules : Rules)
     (gives : F → Entry → Result Verdict Error → F → Type 0) (gets : C → Entry → C → Type 0) (f : F)
@@ -329,18 +329,18 @@ pub record CompactsLentResults {S T F C : Type 0} (advances : S → Option R →
       → AllByRecursion (λ r. result_stops stops r ≡ false) gave → Yields next s gave t
       → CompactedPart gives gets rules f c xs gave (filter_in t) (callback_in t)
 
--- ---- where the filter keeps every entry and the callback ignores what it gets
+-- ---- if the filter keeps every entry and the callback does nothing
 
 module _ {S T : Type 0} (advances : S → Option R → S → Type 0) (source : S)
     (next : T → Option R → T → Type 0) (t : T) (rules : Rules) where
-  -- where want of memory stops its reader: of any list of results what is lent of it, and the
-  -- errors in their places
+  -- except for `OutOfMemory`: for any list of results, it yields the lending output, with the
+  -- errors in order
   pub record DealsCompactedResults : Type 0 where
     pub deals : (stops : Error → Bool) (xs : List R) → stops OutOfMemory ≡ true
         → Deals (answer_stops stops) advances nowhere source xs
         → Deals (answer_stops stops) next nowhere t (lent_outs rules xs)
 
-  -- the same without errors: the entries that a compaction keeps
+  -- the same without errors: it yields the entries that a compaction keeps
   pub record DealsCompactedEntries : Type 0 where
     pub deals : (stops : Error → Bool) (xs : List Entry) → stops OutOfMemory ≡ true
         → Deals (answer_stops stops) advances nowhere source (ok_results xs)

@@ -1,4 +1,4 @@
--- What a stream that lends says of the errors of its source, and of its end.
+-- The guarantee of a lending stream for the errors of its source, and for its end.
 use Rattle.std.specs.Prelude.{◌≡◌, ◌⊎◌, Bool, true, false, List, [], ◌∷◌, ◌++◌, Option, Some, None}
 use Rattle.std.specs.Prelude.{Result, Ok, Err}
 use Rattle.std.specs.List.{AllByRecursion}
@@ -11,40 +11,40 @@ use Rattle.lsm_sorted.specs.merge.MergeLaws.{every_error}
 use Rattle.lsm_sorted.specs.Compaction.{Verdict}
 use Rattle.lsm_sorted.specs.Hears.{GaveEach}
 
--- no answer is an error
+-- no result is an error
 abbrev pub NoFaults : List (Option R) → Type 0
 NoFaults answers = NoneStops (answer_stops every_error) answers
 
--- nothing was answered, each time
+-- every result is `None`
 abbrev pub NothingCame : List (Option R) → Type 0
 NothingCame answers = AllByRecursion (λ a. a ≡ None) answers
 
--- this is the last answer, and none before it is an error
+-- this is the last result, and none before it is an error
 abbrev pub EndsIn : Option R → List (Option R) → Type 0
 EndsIn r answers = (before : List (Option R)) × NoFaults before × (answers ≡ before ++ r ∷ [])
 
--- a call passes on what its source answered in it: an error, or nothing, as the last of its
--- answers, and an entry where none of them is an error
+-- a call passes on its source's results: an error or `None` if it is the last one, an entry if none
+-- is an error
 abbrev pub Passes : Option R → List (Option R) → Type 0
 Passes None answers = EndsIn None answers
 Passes (Some (Ok x)) answers = NoFaults answers
 Passes (Some (Err e)) answers = EndsIn (Some (Err e)) answers
 
--- on the way to an answer: no error of the source so far, or it is the last of its answers
+-- before the call returns: no error of the source so far, or an error that is its last result
 abbrev pub Passing : Option R → List (Option R) → Type 0
 Passing None answers = NoFaults answers
 Passing (Some r) answers = Passes (Some r) answers
 
--- memory is refused to the stream itself, and its source answered no error
+-- the stream itself runs out of memory, and its source returned no error
 abbrev pub WantsItself : Option R → List (Option R) → Type 0
 WantsItself r answers = (r ≡ Some (Err OutOfMemory)) × NoFaults answers
 
--- calls that answer nothing, and do not ask the source
+-- calls that return `None` without calling the source
 abbrev pub AllOver : List (Option R) → List (List (Option R)) → Type 0
 AllOver rs calls = NothingCame rs × AllByRecursion (λ answers. answers ≡ []) calls
 
--- answers to calls, with what the source answered in each: passed on, until memory is refused to
--- the stream itself
+-- results of calls, with the source's results in each: passed on until the stream itself runs out
+-- of memory
 abbrev pub PassesAll : List (Option R) → List (List (Option R)) → Type 0
 PassesAll [] [] = Unit {0}
 PassesAll (r ∷ rs) (answers ∷ calls) = (Passes r answers × PassesAll rs calls)
@@ -52,14 +52,14 @@ PassesAll (r ∷ rs) (answers ∷ calls) = (Passes r answers × PassesAll rs cal
 PassesAll [] (answers ∷ calls) = ⊥
 PassesAll (r ∷ rs) [] = ⊥
 
--- the next call answers nothing where its source answers nothing
+-- the next call returns `None` if its source does
 abbrev pub NextIdles : List (Option R) → List (List (Option R)) → Type 0
 NextIdles (r ∷ rs) (answers ∷ calls) = NothingCame answers → r ≡ None
 NextIdles [] calls = Unit {0}
 NextIdles (r ∷ rs) [] = ⊥
 
--- behind the stream's own want of memory nothing comes, and behind a call that answered nothing
--- nothing comes while the source answers nothing
+-- after its own `OutOfMemory` the stream is exhausted; after `None` it returns `None` while its
+-- source does
 abbrev pub StaysOver : List (Option R) → List (List (Option R)) → Type 0
 StaysOver [] [] = Unit {0}
 StaysOver (r ∷ rs) (answers ∷ calls) = (WantsItself r answers → AllOver rs calls)
@@ -67,15 +67,15 @@ StaysOver (r ∷ rs) (answers ∷ calls) = (WantsItself r answers → AllOver rs
 StaysOver [] (answers ∷ calls) = ⊥
 StaysOver (r ∷ rs) [] = ⊥
 
--- a source was asked in calls of a stream, and gave these answers in each
+-- a source returned these results in each call of a stream
 abbrev pub GaveInCalls : {S : Type 0} → (S → Option R → S → Type 0) → S → List (List (Option R))
     → S → Type 0
 GaveInCalls ask s [] t = s ≡ t
 GaveInCalls {S} ask s (answers ∷ calls) t =
     (j : S) × GaveEach ask s answers j × GaveInCalls ask j calls t
 
--- however often a stream is asked, whatever its source answers: a law of its answers and what the
--- source, which it reads from, answered in each call
+-- for any number of calls, whatever the source returns: a law of the results and the source's
+-- results in each call
 pub record AlwaysTells {S T : Type 0} (Law : List (Option R) → List (List (Option R)) → Type 0)
     (advances : S → Option R → S → Type 0) (source : S) (source_of : T → S)
     (next : T → Option R → T → Type 0) (t : T) : Type 0 where
@@ -85,8 +85,8 @@ pub record AlwaysTells {S T : Type 0} (Law : List (Option R) → List (List (Opt
 
 module _ {S T : Type 0} (advances : S → Option R → S → Type 0) (source_of : T → S) (over : T → Bool)
     (quiet : T → Bool) where
-  -- a call of a stream that is not over: what its source answered in it is passed on, or memory is
-  -- refused, which ends it; a quiet one, as it is where nothing came, wakes where the source does
+  -- a call of a stream that has not ended: it passes on its source's results, or ends with
+  -- `OutOfMemory`. A quiet stream returns `None` while its source does.
   pub record Listens (s : T) (r : Option R) (t : T) : Type 0 where
     pub answers : List (Option R)
     pub gave : GaveEach advances (source_of s) answers (source_of t)
@@ -94,7 +94,7 @@ module _ {S T : Type 0} (advances : S → Option R → S → Type 0) (source_of 
     pub idle : quiet s ≡ true → NothingCame answers → r ≡ None
     pub rests : r ≡ None → quiet t ≡ true
 
-  -- a call: one that is over stays so, answers nothing and leaves its source alone
+  -- a call: once ended, it returns `None` and does not call its source
   pub record CallTells (s : T) (r : Option R) (t : T) : Type 0 where
     pub live : over s ≡ false → Listens s r t
     pub ended : over s ≡ true
@@ -102,7 +102,7 @@ module _ {S T : Type 0} (advances : S → Option R → S → Type 0) (source_of 
 
 -- ---- with a filter, whose errors are passed on too
 
--- an error that a filter says of an entry
+-- an error that a filter returns for an entry
 pub record FilterSays {F : Type 0} (gives : F → Entry → Result Verdict Error → F → Type 0)
     (e : Error) : Type 0 where
   pub filter : F
@@ -111,23 +111,23 @@ pub record FilterSays {F : Type 0} (gives : F → Entry → Result Verdict Error
   pub says : gives filter entry (Err e) then
 
 module _ (Says : Error → Type 0) where
-  -- an error that is said, and the source answered none
+  -- one of the `Says` errors is returned, and the source returned none
   pub record SaysItself (r : Option R) (answers : List (Option R)) : Type 0 where
     pub error : Error
     pub is : r ≡ Some (Err error)
     pub says : Says error
     pub none : NoFaults answers
 
-  -- a call passes on what its source answered in it, or an error that is said
+  -- a call passes on its source's results, or returns a `Says` error
   abbrev pub PassesOr : Option R → List (Option R) → Type 0
   PassesOr r answers = Passes r answers ⊎ SaysItself r answers
 
-  -- the same on the way to an answer
+  -- the same before the call returns
   abbrev pub PassingOr : Option R → List (Option R) → Type 0
   PassingOr r answers = Passing r answers ⊎ SaysItself r answers
 
-  -- answers to calls, with what the source answered in each: passed on or said, until memory is
-  -- refused to the stream itself
+  -- results of calls, with the source's results in each: passed on, or `Says` errors, until the
+  -- stream itself runs out of memory
   abbrev pub PassesAllOr : List (Option R) → List (List (Option R)) → Type 0
   PassesAllOr [] [] = Unit {0}
   PassesAllOr (r ∷ rs) (answers ∷ calls) = (PassesOr r answers × PassesAllOr rs calls)
@@ -135,8 +135,8 @@ module _ (Says : Error → Type 0) where
   PassesAllOr [] (answers ∷ calls) = ⊥
   PassesAllOr (r ∷ rs) [] = ⊥
 
-  -- behind want of memory, where that is not said, nothing comes, and behind a call that answered
-  -- nothing nothing comes while the source answers nothing
+  -- after its own `OutOfMemory`, unless that is a `Says` error, it is exhausted; after `None` it
+  -- returns `None` while its source does
   abbrev pub StaysOverOr : List (Option R) → List (List (Option R)) → Type 0
   StaysOverOr [] [] = Unit {0}
   StaysOverOr (r ∷ rs) (answers ∷ calls) =

@@ -1,4 +1,4 @@
--- One call of a merger, by what it asks of its sources.
+-- One call of a merger, by its calls of its sources.
 use Rattle.std.specs.Prelude.{◌≡◌, ◌⊎◌, ℕ, zero, suc, ◌+◌, ◌<◌, ◌≤◌, Bool, true, false, List, []}
 use Rattle.std.specs.Prelude.{◌∷◌, length, map, All, IsPermutation, slice_index_or, slice_set}
 use Rattle.std.specs.Prelude.{Option, Some, None, Result, Ok, Err}
@@ -13,12 +13,12 @@ use Rattle.lsm_sorted.specs.declared.merge.Merger.{Merger}
 use Rattle.lsm_sorted.specs.merge.Ends.{R, new_ends, Asked}
 use Rattle.lsm_sorted.specs.merge.Merge.{entry_of, turn_cmp, is_ready, SameRoom}
 
--- the first of these items, seen from an end
+-- this item is first among these, from an end
 abbrev pub Leads : {A : Type 0} → Direction → HeapItem A → List (HeapItem A) → Type 0
 Leads Front h hs = All (λ y. is_gt (turn_cmp h y) ≡ false) hs
 Leads Back h hs = All (λ y. is_gt (turn_cmp y h) ≡ false) hs
 
--- an entry that was taken from an end of source i is held, and nothing else is new
+-- an entry taken from an end of source i is held, and nothing else changes
 abbrev pub Puts : {A : Type 0} → Direction → ℕ → Option R → List (HeapItem A) → List (HeapItem A)
     → Type 0
 Puts end i None old new = new ≡ old
@@ -27,34 +27,34 @@ Puts {A} end i (Some (Ok x)) old new =
     (h : HeapItem A) × (entry_of h ≡ x) × (h.source ≡ i) × (h.end ≡ end)
     × IsPermutation (h ∷ old) new
 
--- an error, if a source gave one
+-- the error that a source returned, if any
 abbrev pub error_told : Option R → Result (Unit {0}) Error
 error_told None = Ok tt
 error_told (Some (Ok x)) = Ok tt
 error_told (Some (Err e)) = Err e
 
--- an end is ready from now on
+-- an end becomes ready
 abbrev pub made_ready : {S A : Type 0} → Direction → Merger S A → Merger S A
 made_ready Front m = record m { front_ready = true }
 made_ready Back m = record m { back_ready = true }
 
--- an entry, unless a source gave an error
+-- an entry, unless a source returned an error
 abbrev pub entry_told : Entry → Result (Unit {0}) Error → Result (Option Entry) Error
 entry_told x (Ok u) = Ok (Some x)
 entry_told x (Err e) = Err e
 
--- the answer of a call
+-- the result of a call
 abbrev pub answer_told : Result (Option Entry) Error → Option R
 answer_told (Ok None) = None
 answer_told (Ok (Some x)) = Some (Ok x)
 answer_told (Err e) = Some (Err e)
 
--- an error ends the merger
+-- an error exhausts the merger
 abbrev pub ended_at : {S A : Type 0} → Result (Option Entry) Error → Merger S A → Merger S A
 ended_at (Ok o) m = m
 ended_at (Err e) m = record m { failed = true }
 
--- the sources and all but what is held are as they were
+-- the sources and all but the held items are unchanged
 pub record SameSources {S A : Type 0} (m n : Merger S A) : Type 0 where
   pub sources : n.sources ≡ m.sources
   pub room : n.heap.room ≡ m.heap.room
@@ -62,13 +62,13 @@ pub record SameSources {S A : Type 0} (m n : Merger S A) : Type 0 where
   pub back_ready : n.back_ready ≡ m.back_ready
   pub failed : n.failed ≡ m.failed
 
--- nothing is held
+-- no item is held
 pub record HoldsNone {S A : Type 0} (m n : Merger S A) : Type 0 where
   pub was : m.heap.items ≡ []
   pub is : n.heap.items ≡ []
   pub same : SameSources m n
 
--- the first of what is held, seen from an end, was taken out
+-- the first held item, from an end, was removed
 pub record Pops {S A : Type 0} (end : Direction) (m : Merger S A) (h : HeapItem A)
     (n : Merger S A) : Type 0 where
   pub leads : Leads end h m.heap.items
@@ -76,7 +76,7 @@ pub record Pops {S A : Type 0} (end : Direction) (m : Merger S A) (h : HeapItem 
   pub same : SameSources m n
 
 module _ {S : Type 0} (ask : S → Option R → S → Type 0) (end : Direction) where
-  -- source i was asked once at this end: its entry is held, its error told
+  -- source i was called once at this end: its entry is held, or its error is returned
   pub record AsksSource {A : Type 0} (i : ℕ) (m : Merger S A) (r : Result (Unit {0}) Error)
       (n : Merger S A) : Type 0 where
     pub within : i < length m.sources.items
@@ -90,37 +90,37 @@ module _ {S : Type 0} (ask : S → Option R → S → Type 0) (end : Direction) 
     pub told : r ≡ error_told answer
     pub same : SameRoom m n
 
-  -- each source below i was asked once, in turn, and gave no error
+  -- each source below i was called once, in turn, and returned no error
   abbrev pub AsksEach : {A : Type 0} → ℕ → Merger S A → Merger S A → Type 0
   AsksEach zero m n = n ≡ m
   AsksEach {A} (suc i) m n = (j : Merger S A) × AsksEach i m j × AsksSource i j (Ok tt) n
 
-  -- each source was asked once
+  -- each source was called once
   pub record AsksAll {A : Type 0} (m n : Merger S A) : Type 0 where
     pub last : Merger S A
     pub each : AsksEach (length m.sources.items) m last
     pub ready : n ≡ made_ready end last
 
-  -- a source gave an error, and none before it
+  -- a source returned an error, and none before it
   pub record FailsAt {A : Type 0} (e : Error) (m n : Merger S A) : Type 0 where
     pub place : ℕ
     pub before : Merger S A
     pub each : AsksEach place m before
     pub fails : AsksSource place before (Err e) n
 
-  -- by whether the end is ready: nothing is asked, or each source is
+  -- if the end is ready, no source is called; else each is
   abbrev pub FillsIf : {A : Type 0} → Bool → Merger S A → Result (Unit {0}) Error → Merger S A
       → Type 0
   FillsIf true m r n = (r ≡ Ok tt) × (n ≡ m)
   FillsIf false m (Ok u) n = AsksAll m n
   FillsIf false m (Err e) n = FailsAt e m n
 
-  -- at the first call at this end, and at no other, each source is asked
+  -- the first call at this end, and no other, calls each source
   pub record Fills {A : Type 0} (m : Merger S A) (r : Result (Unit {0}) Error) (n : Merger S A) :
       Type 0 where
     pub fill : FillsIf (is_ready end m) m r n
 
-  -- the first of what is held was taken out, and its source, no other, was asked for the next
+  -- the first held item was removed, and only its source was called for the next
   pub record TakesLead {A : Type 0} (m : Merger S A) (r : Result (Option Entry) Error)
       (n : Merger S A) : Type 0 where
     pub lead : HeapItem A
@@ -130,14 +130,14 @@ module _ {S : Type 0} (ask : S → Option R → S → Type 0) (end : Direction) 
     pub asks : AsksSource lead.source mid answer n
     pub told : r ≡ entry_told (entry_of lead) answer
 
-  -- nothing is held, or the first that is held is taken; what failed before is the answer
+  -- no item is held, or the first one is taken; an earlier error is the result
   abbrev pub TakesLeadIf : {A : Type 0} → Result (Unit {0}) Error → Merger S A
       → Result (Option Entry) Error
       → Merger S A → Type 0
   TakesLeadIf (Ok u) m r n = ((r ≡ Ok None) × HoldsNone m n) ⊎ TakesLead m r n
   TakesLeadIf (Err e) m r n = (r ≡ Err e) × (n ≡ m)
 
-  -- once the end is ready, one turn
+  -- one turn, once the end is ready
   pub record TakesStep {A : Type 0} (m : Merger S A) (r : Result (Option Entry) Error)
       (n : Merger S A) : Type 0 where
     pub fill : Result (Unit {0}) Error
@@ -145,7 +145,7 @@ module _ {S : Type 0} (ask : S → Option R → S → Type 0) (end : Direction) 
     pub fills : Fills m fill filled
     pub turns : TakesLeadIf fill filled r n
 
-  -- a step, where no source failed
+  -- a step, if no source failed
   pub record AnswersCall {A : Type 0} (m : Merger S A) (r : Option R) (n : Merger S A) : Type 0
     where
       pub step : Result (Option Entry) Error
@@ -154,12 +154,12 @@ module _ {S : Type 0} (ask : S → Option R → S → Type 0) (end : Direction) 
       pub answer : r ≡ answer_told step
       pub state : n ≡ ended_at step led
 
-  -- by whether an error was met before: `None` alone, or a step
+  -- after an error: `None` alone; else a step
   abbrev pub CallsIf : {A : Type 0} → Bool → Merger S A → Option R → Merger S A → Type 0
   CallsIf true m r n = (r ≡ None) × (n ≡ m)
   CallsIf false m r n = AnswersCall m r n
 
-  -- one call at this end. It asks nothing of any source at the other end
+  -- one call at this end, which calls no source at the other end
   pub record Calls {A : Type 0} (May : Merger S A → Type 0) (m : Merger S A) (r : Option R)
       (n : Merger S A) : Type 0 where
     pub may : May n

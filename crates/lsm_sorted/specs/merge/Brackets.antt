@@ -1,6 +1,5 @@
--- Tournaments over slots: full binary trees whose leaves are the slots, in which each inner node
--- names the winner of its two children. Node 1 is the root, and the children of node n are 2n and
--- 2n + 1.
+-- Tournaments over slots: full binary trees, whose leaves are the slots and whose inner nodes name
+-- the winner of their children. Node 1 is the root, and the children of node n are 2n and 2n + 1.
 use Rattle.std.specs.Prelude.{◌≡◌, ◌⊎◌, ℕ, ◌+◌, ◌*◌, ◌^◌, ◌<◌, Bool, true, false, List, [], ◌∷◌}
 use Rattle.std.specs.Prelude.{◌++◌, Option, Some, None, length, slice_index, slice_set}
 use Rattle.std.specs.declared.cmp.Ordering.{Ordering}
@@ -13,18 +12,18 @@ use Rattle.lsm_sorted.specs.merge.Order.{toward}
 use Rattle.lsm_sorted.specs.merge.Slots.{Places, slot_at}
 use Rattle.lsm_sorted.specs.merge.Tournament.{height}
 
--- the second place comes before the first: an empty one comes last
+-- the second slot beats the first: an empty slot loses
 abbrev pub is_beaten : {T : Type 0} → (T → T → Ordering) → Option T → Option T → Bool
 is_beaten cmp x None = false
 is_beaten cmp None (Some y) = true
 is_beaten cmp (Some x) (Some y) = is_gt (cmp x y)
 
--- the slot is beaten by none
+-- no slot beats this one
 abbrev pub IsUnbeaten : {T : Type 0} → (T → T → Ordering) → List (Option T) → ℕ → Type 0
 IsUnbeaten cmp slots s =
     (k : ℕ) → k < length slots → is_beaten cmp (slot_at slots s) (slot_at slots k) ≡ false
 
--- the nodes name slots, and the leaves name one each
+-- the nodes name slots, and each leaf names its own
 pub record IsBracket (leaves : ℕ) (nodes : List ℕ) : Type 0 where
   pub size : length nodes ≡ 2 * leaves
   pub within : (n : ℕ) → n < length nodes → slice_index nodes n < leaves
@@ -43,7 +42,7 @@ pub record IsDecided {T : Type 0} (cmp : T → T → Ordering) (slots : List (Op
 abbrev pub AllDecided : {T : Type 0} → (T → T → Ordering) → List (Option T) → List ℕ → Type 0
 AllDecided cmp slots nodes = (n : ℕ) → 0 < n → n < length slots → IsDecided cmp slots nodes n
 
--- of two empty slots the first wins
+-- the first child wins, as between two empty slots
 pub record IsUnplayed {Z : Type 0} (leaves : ℕ) (b : Bracket Z) : Type 0 where
   pub nodes : IsBracket leaves b.nodes.items
   pub first : (n : ℕ) → 0 < n → n < leaves
@@ -55,20 +54,20 @@ pub record IsWon {T Z : Type 0} (cmp : T → T → Ordering) (slots : List (Opti
   pub nodes : IsBracket (length slots) b.nodes.items
   pub decided : AllDecided (toward b.end cmp) slots b.nodes.items
 
--- each node named the winner below it while this slot held something else
+-- each node named the winner below it before this slot changed
 pub record WasWon {T Z : Type 0} (cmp : T → T → Ordering) (slots : List (Option T)) (s : ℕ)
     (b : Bracket Z) : Type 0 where
   pub within : s < length slots
   pub was : Option T
   pub won : IsWon cmp (slice_set slots s was) b
 
--- won, or won before this slot has changed
+-- decided, or decided before this slot changed
 abbrev pub IsWonBut : {T Z : Type 0} → Option ℕ → (T → T → Ordering) → List (Option T)
     → Bracket Z → Type 0
 IsWonBut None cmp slots b = IsWon cmp slots b
 IsWonBut (Some s) cmp slots b = WasWon cmp slots s b
 
--- a bracket that may have been asked: if it was, it is won
+-- a bracket that may be played: if it is, it is decided
 pub record IsKept {T Z : Type 0} (changed : Option ℕ) (cmp : T → T → Ordering)
     (slots : List (Option T)) (b : Bracket Z) : Type 0 where
   pub nodes : IsBracket (length slots) b.nodes.items
@@ -82,7 +81,7 @@ pub record AreKept {T Z : Type 0} (changed : Option ℕ) (cmp : T → T → Orde
   pub front : IsKept changed cmp slots b.front
   pub back : IsKept changed cmp slots b.back
 
--- the bracket of this end is played from now on, and the other one if it was
+-- the bracket of this end becomes played, and the other does not change
 abbrev pub PlaysEnd : {Z : Type 0} → Direction → Brackets Z → Brackets Z → Type 0
 PlaysEnd Front old new = (new.front.is_played ≡ true) × (new.back.is_played ≡ old.back.is_played)
 PlaysEnd Back old new = (new.front.is_played ≡ old.front.is_played) × (new.back.is_played ≡ true)
@@ -92,7 +91,7 @@ abbrev pub is_played_at : {Z : Type 0} → Direction → Brackets Z → Bool
 is_played_at Front b = b.front.is_played
 is_played_at Back b = b.back.is_played
 
--- the slot that is taken next
+-- the free slot to be used next
 pub record IsNext {T : Type 0} (slots : Places T) (s : ℕ) : Type 0 where
   pub others : List ℕ
   pub last : slots.free ≡ others ++ s ∷ []
@@ -101,8 +100,8 @@ abbrev pub IsNextIf : {T : Type 0} → Places T → Option ℕ → Type 0
 IsNextIf slots None = Unit {0}
 IsNextIf slots (Some s) = IsNext slots s
 
--- there is a leaf for each slot and no more than needed, and what was asked is won, but for the
--- slot that was emptied last, which is the next to be taken
+-- there is a leaf for each slot, and as few as possible. Played brackets are decided, except for
+-- the slot emptied last, which is used next.
 pub record IsTournament {T Z : Type 0} (cmp : T → T → Ordering) (slots : Places T)
     (b : Brackets Z) : Type 0 where
   pub leaves : length slots.places ≡ 2 ^ height slots.room

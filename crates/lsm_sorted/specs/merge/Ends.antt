@@ -1,4 +1,4 @@
--- An iterator that is not called again once it gave `None`.
+-- An iterator that is not called again after `None`.
 use Rattle.std.specs.Prelude.{◌≡◌, ℕ, Bool, true, false, cond, List, [], Option, None, Result}
 use Rattle.std.specs.Prelude.{is_none}
 use Rattle.std.specs.Iterator.{Count, IsFinite, size}
@@ -14,16 +14,16 @@ abbrev pub R : Type 0
 R = Result Entry Error
 
 module _ {S : Type 0} (stops : Error → Bool) (front back : S → Option R → S → Type 0) where
-  -- what it still deals, by whether it has ended
+  -- the remaining results, by whether it has ended
   abbrev pub LeftIf : Bool → S → List R → Type 0
   LeftIf true s xs = xs ≡ []
   LeftIf false s xs = Deals (answer_stops stops) front back s xs
 
-  -- what it still deals
+  -- the remaining results
   pub record Left (s : Ends S) (xs : List R) : Type 0 where
     pub lists : LeftIf s.done s.iter xs
 
--- a call gave what stood at its end
+-- a call returned the item at its end
 abbrev pub DealsAt : Direction → (Error → Bool) → {T : Type 0} → (T → List R → Type 0) → T
     → Option R → T → Type 0
 DealsAt Front stops Has = DealsFirst stops Has
@@ -35,11 +35,11 @@ module _ {S : Type 0} (front back : S → Option R → S → Type 0) where
   GoesIf can can_back left true s = Unit {0}
   GoesIf can can_back left false s = CanDeal front back can can_back s × IsFinite (left s)
 
-  -- it may be called at both ends, and it ends
+  -- it may be called at both ends, and is finite
   pub record Goes (can can_back : S → Type 0) (left : S → Count) (s : Ends S) : Type 0 where
     pub ready : GoesIf can can_back left s.done s.iter
 
--- how many items come at most
+-- the maximum number of remaining items
 abbrev pub ends_size : {S : Type 0} → (S → Count) → Ends S → ℕ
 ends_size left s = cond s.done 0 (size (left s.iter))
 
@@ -53,7 +53,7 @@ abbrev pub AskedIf : {S : Type 0} → (S → Option R → S → Type 0) → Bool
 AskedIf ask true s r t = (r ≡ None) × (t ≡ s)
 AskedIf ask false s r t = ask s.iter r t.iter × (t.done ≡ is_none r)
 
--- the iterator was asked once, in this way; one that has ended was left alone
+-- the iterator was called once; one that has ended was not called
 pub record Asked {S : Type 0} (ask : S → Option R → S → Type 0) (s : Ends S) (r : Option R)
     (t : Ends S) : Type 0 where
   pub call : AskedIf ask s.done s r t

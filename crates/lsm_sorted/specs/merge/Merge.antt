@@ -1,4 +1,4 @@
--- A merger of sources: what it holds, how often it may be called, and what calls of it give.
+-- A merger of sources: its held items, the number of calls it allows, and their results.
 use Rattle.std.specs.Prelude.{◌≡◌, ℕ, ◌+◌, ◌<◌, ◌≤◌, ◌==◌, ◌⊎◌, Bool, true, false, cond, List, []}
 use Rattle.std.specs.Prelude.{◌∷◌, length, All, Contains, IsPermutation, count_by, Option, Some}
 use Rattle.std.specs.Prelude.{None, Result, Ok, Err, MatchResult, sum_by}
@@ -24,12 +24,12 @@ use Rattle.lsm_sorted.specs.merge.Ends.{R, Goes, ends_size}
 abbrev pub entry_of : {A : Type 0} → HeapItem A → Entry
 entry_of h = entry h.key.user_key h.value h.key.seqno h.key.value_type
 
--- the front before the back
+-- the front sorts before the back
 abbrev pub end_number : Direction → ℕ
 end_number Front = 0
 end_number Back = 1
 
--- by key, then by source, then the front before the back
+-- order by key, then by source, then the front before the back
 abbrev pub turn_cmp : {A : Type 0} → HeapItem A → HeapItem A → Ordering
 turn_cmp {A = A} = then_cmp (on (λ (h : HeapItem A). h.key) key_cmp)
     (then_cmp (on (λ (h : HeapItem A). h.source) nat_cmp)
@@ -43,36 +43,36 @@ turn_total {A = A} = then_total (on_total (λ (h : HeapItem A). h.key)
     (then_total (on_total (λ (h : HeapItem A). h.source) nat_cmp_total)
     (on_total (λ (h : HeapItem A). end_number h.end) nat_cmp_total))
 
--- how many entries of source k a merger holds
+-- the number of held entries from source k
 abbrev pub held_of : {S A : Type 0} → ℕ → Merger S A → ℕ
 held_of k m = count_by (λ h. h.source == k) m.heap.items
 
--- whether the sources were asked at this end
+-- whether the sources were called at this end
 abbrev pub is_ready : {S A : Type 0} → Direction → Merger S A → Bool
 is_ready Front m = m.front_ready
 is_ready Back m = m.back_ready
 
--- ---- room, for any sources
+-- ---- capacity, for any sources
 
--- one more item than before, from an end of source i, or none
+-- at most one more item than before, from an end of source i
 abbrev pub Adds : {A : Type 0} → Direction → ℕ → List (HeapItem A) → List (HeapItem A) → Type 0
 Adds {A} end i old new =
     (old ≡ new) ⊎ ((h : HeapItem A) × (h.source ≡ i) × (h.end ≡ end) × IsPermutation (h ∷ old) new)
 
--- how many calls may still give something
+-- the number of calls that may still return a result
 abbrev pub merge_total : {S A : Type 0} → (S → Count) → Merger S A → ℕ
 merge_total left m = sum_by (ends_size left) m.sources.items + length m.heap.items
 
 abbrev pub merge_size : {S A : Type 0} → (S → Count) → Merger S A → ℕ
 merge_size left m = cond m.failed 0 (merge_total left m)
 
--- no more calls may give something than before, and fewer after an error
+-- the number of such calls does not grow, and falls after an error
 abbrev pub LowersTotal : {S A X : Type 0} → (S → Count) → Merger S A → Result X Error → Merger S A
     → Type 0
 LowersTotal left s r t = MatchResult r
     (λ _. merge_total left t ≤ merge_total left s) (λ _. merge_total left t < merge_total left s)
 
--- what a take leaves as it was
+-- the state that a take does not change
 pub record SameRoom {S A : Type 0} (s t : Merger S A) : Type 0 where
   pub count : length t.sources.items ≡ length s.sources.items
   pub room : t.heap.room ≡ s.heap.room
@@ -82,7 +82,8 @@ pub record SameRoom {S A : Type 0} (s t : Merger S A) : Type 0 where
 
 module _ {S : Type 0} (front back : S → Option R → S → Type 0) (can can_back : S → Type 0)
     (left : S → Count) where
-  -- the sources may be called, at most this many entries are held, and of source k at most limit k
+  -- the sources may be called, and at most this many entries are held, at most `limit k` from
+  -- source k
   pub record Bounded {A : Type 0} (limit : ℕ → ℕ) (most : ℕ) (m : Merger S A) : Type 0 where
     pub sources : All (Goes front back can can_back left) m.sources.items
     pub known : All (λ h. h.source < length m.sources.items) m.heap.items
@@ -90,7 +91,7 @@ module _ {S : Type 0} (front back : S → Option R → S → Type 0) (can can_ba
     pub few : length m.heap.items ≤ most
     pub each : (k : ℕ) → held_of k m ≤ limit k
 
-  -- one entry a source for each end that is ready
+  -- one held entry per source for each end that is ready
   abbrev pub HasPlaces : {A : Type 0} → Merger S A → Type 0
   HasPlaces m = Bounded
       (λ k. cond m.front_ready 1 0 + cond m.back_ready 1 0)
@@ -107,8 +108,8 @@ module _ {S : Type 0} (front back : S → Option R → S → Type 0) (can can_ba
 
 -- ---- calls
 
--- answers to calls are those that are told, up to an error: that is one of the errors, and `None`
--- follows. `None` comes earlier only where there are no errors
+-- the results of calls are the expected ones, up to one of the errors, after which `None` follows.
+-- `None` comes earlier only without errors.
 abbrev pub Follows : List Error → List (Option R) → List (Option R) → Type 0
 Follows errors told [] = told ≡ []
 Follows errors [] (r ∷ rs) = ⊥
@@ -117,13 +118,13 @@ Follows errors (d ∷ told) (Some (Ok x) ∷ rs) = (d ≡ Some (Ok x)) × Follow
 Follows errors (d ∷ told) (Some (Err e) ∷ rs) = Contains errors e
     × AllByRecursion (λ r. r ≡ None) rs
 
--- for every list of ends, the answers are those of dealing xs, up to one of the errors
+-- for every list of ends, the results are those of yielding xs, up to one of the errors
 pub record DealsUntil {S : Type 0} (stops : Error → Bool) (front back : S → Option R → S → Type 0)
     (s : S) (xs : List Entry) (errors : List Error) : Type 0 where
   pub answers : (ends : List Direction) (rs : List (Option R)) (t : S) → Runs front back s ends rs t
       → NoneStops (answer_stops stops) rs → Follows errors (deal (ok_results xs) ends) rs
 
--- wherever calls lead, at most this many entries of each source are held
+-- after any calls, at most this many entries of each source are held
 pub record HoldsAtMost {S A : Type 0} (most : ℕ) (front back : Merger S A → Option R → Merger S A
     → Type 0) (m : Merger S A) : Type 0 where
   pub at : (ends : List Direction) (rs : List (Option R)) (t : Merger S A)

@@ -1,4 +1,4 @@
--- What is promised of runs of calls of a merger of sources.
+-- Guarantees for sequences of calls of a merger.
 use Rattle.std.specs.Prelude.{◌≡◌, ℕ, ◌<◌, ◌≤◌, Bool, true, List, [], ◌∷◌, ◌++◌, length, All}
 use Rattle.std.specs.Prelude.{count_by, slice_index_or, Option, Some, None, Ok, Err}
 use Rattle.std.specs.List.{AllZip, AllByRecursion}
@@ -14,22 +14,22 @@ use Rattle.lsm_sorted.specs.merge.Union.{Ascends, entries_among, all_errors, uni
 use Rattle.lsm_sorted.specs.merge.InPlace.{merge_of}
 use Rattle.lsm_sorted.specs.merge.Merge.{DealsUntil}
 
--- each entry is at most as often in xs as in ys
+-- each item is at most as often in xs as in ys
 pub record IsWithinBag {A : Type 0} (xs ys : List A) : Type 0 where
   pub count : (p : A → Bool) → count_by p xs ≤ count_by p ys
 
--- two parts of a list, the first of them the nearer to this end
+-- two parts of a list, the first being nearer to this end
 abbrev pub join_at : {A : Type 0} → Direction → List A → List A → List A
 join_at Front near far = near ++ far
 join_at Back near far = far ++ near
 
--- all but the one that is farthest from this end
+-- all but the item farthest from this end
 abbrev pub but_farthest : {A : Type 0} → Direction → List A → List A
 but_farthest Front = but_last
 but_farthest Back = but_first
 
--- in the list of some source, seen from this end, the error stands behind entries that were given,
--- all but the farthest of them
+-- in some source's list, from this end, the error follows entries that were yielded, except
+-- possibly for the farthest of them
 pub record ComesLate (end : Direction) (lists : List (List R)) (given : List Entry)
     (e : Error) : Type 0 where
   pub place : ℕ
@@ -40,64 +40,64 @@ pub record ComesLate (end : Direction) (lists : List (List R)) (given : List Ent
       (join_at end (Err e ∷ []) beyond)
   pub gave : IsWithinBag (but_farthest end passed) given
 
--- so does each error among answers, of which these entries were given earlier
+-- the same holds for each error among the results, given the entries yielded before
 abbrev pub ErrorsComeLate : Direction → List (List R) → List Entry → List (Option R) → Type 0
 ErrorsComeLate end lists given [] = Unit {0}
 ErrorsComeLate end lists given (None ∷ rs) = ErrorsComeLate end lists given rs
 ErrorsComeLate end lists given (Some (Ok x) ∷ rs) = ErrorsComeLate end lists (x ∷ given) rs
 ErrorsComeLate end lists given (Some (Err e) ∷ rs) = ComesLate end lists given e
 
--- calls at one end alone
+-- calls at one end only
 abbrev pub RunsAt : {T A : Type 0} → Direction → (T → Option A → T → Type 0) → T → List Direction
     → List (Option A) → T → Type 0
 RunsAt Front call = Runs call nowhere
 RunsAt Back call = Runs nowhere call
 
--- whatever error is answered, a list is no longer followed
+-- as `stops`: any error ends the guarantee
 abbrev pub every_error : Error → Bool
 every_error e = true
 
 module _ {S : Type 0} (front back : S → Option R → S → Type 0) where
-  -- each source deals one of these lists, which are sorted
+  -- each source yields one of these lists, which are sorted
   pub record DealSorted (stops : Error → Bool) (its : List S) (lists : List (List R)) : Type 0 where
     pub deal : AllZip (Deals (answer_stops stops) front back) its lists
     pub ascend : AllByRecursion (λ rs. Ascends (entries_among rs)) lists
 
-  -- what sorted sources have together is dealt in order, where they have no errors
+  -- if no source has an error, the union of sorted sources is yielded in order
   pub record DealsMerged {T : Type 0} (its : List S) (next next_back : T → Option R → T → Type 0)
       (m : T) : Type 0 where
     pub deals : (stops : Error → Bool) (lists : List (List R)) → DealSorted stops its lists
         → all_errors lists ≡ []
         → Deals (answer_stops stops) next next_back m (ok_results (union_of lists))
 
-  -- whatever errors are among it, as long as none of them is the answer
+  -- if the sources have errors, the same holds as long as no error is returned
   pub record DealsBeforeErrors {T : Type 0} (its : List S)
       (next next_back : T → Option R → T → Type 0) (m : T) : Type 0 where
     pub deals : (stops : Error → Bool) (lists : List (List R)) → DealSorted stops its lists
         → Deals (answer_stops every_error) next next_back m (ok_results (union_of lists))
 
-  -- with errors among it, up to one of them
+  -- if the sources have errors, the union is yielded up to one of them
   pub record DealsUntilError {T : Type 0} (its : List S)
       (next next_back : T → Option R → T → Type 0) (m : T) : Type 0 where
     pub deals : (stops : Error → Bool) (lists : List (List R)) → DealSorted stops its lists
         → DealsUntil stops next next_back m (union_of lists) (all_errors lists)
 
-  -- calls at one end alone meet an error only once all entries before it, seen from there, were
-  -- given, but for the farthest
+  -- calls at one end only return an error after all entries before it, from that end, except
+  -- possibly for the farthest
   pub record MeetsErrorsLate {T : Type 0} (its : List S) (end : Direction)
       (call : T → Option R → T → Type 0) (m : T) : Type 0 where
     pub meets : (stops : Error → Bool) (lists : List (List R)) → DealSorted stops its lists
         → (ends : List Direction) (rs : List (Option R)) (t : T) → RunsAt end call m ends rs t
         → NoneStops (answer_stops stops) rs → ErrorsComeLate end lists [] rs
 
-  -- what sorted sources have together is dealt in order up to the first error, which stands right
-  -- behind the entry before it in its source, and with it
+  -- the merge of sorted sources is yielded in order up to and including the first error, which
+  -- directly follows the preceding entry of its source
   pub record DealsInPlace {T : Type 0} (its : List S) (next next_back : T → Option R → T → Type 0)
       (m : T) : Type 0 where
     pub deals : (stops : Error → Bool) (lists : List (List R)) → DealSorted stops its lists
         → Deals (answer_stops stops) next next_back m (merge_of lists)
 
-  -- where the sources may be asked and end, so may the merger be asked
+  -- if the sources may be called and are finite, the merger may be called
   pub record CanMerge {T : Type 0} (can can_back : S → Type 0) (left : S → Count) (its : List S)
       (next next_back : T → Option R → T → Type 0) (can_next can_next_back : T → Type 0)
       (m : T) : Type 0 where

@@ -1,25 +1,24 @@
--- Places for items.
+-- Slots for items.
 use Rattle.std.specs.Prelude.{◌≡◌, ◌≢◌, ℕ, ◌+◌, ◌<◌, List, [], ◌∷◌, Option, Some, None, length}
 use Rattle.std.specs.Prelude.{slice_index, slice_index_or}
 
--- the places, how many of them may be taken, and the free ones, of which the last is taken first
+-- the slots, the capacity, and the free slots, of which the last is used first
 pub record Places (T : Type 0) : Type 0 where
   pub places : List (Option T)
   pub room : ℕ
   pub free : List ℕ
 
--- the items in the places that are taken
+-- the items in the occupied slots
 abbrev pub occupants : {T : Type 0} → List (Option T) → List T
 occupants [] = []
 occupants (None ∷ places) = occupants places
 occupants (Some x ∷ places) = x ∷ occupants places
 
--- what a slot holds
+-- the item in a slot, if any
 abbrev pub slot_at : {T : Type 0} → List (Option T) → ℕ → Option T
 slot_at places k = slice_index_or places k None
 
--- beside the items, as many slots are listed as there is room for; they are empty, and none is
--- listed twice
+-- the free list has a distinct empty slot for each item that still fits the capacity
 pub record IsFreeList {T : Type 0} (places : List (Option T)) (free : List ℕ)
     (room : ℕ) : Type 0 where
   pub count : length (occupants places) + length free ≡ room

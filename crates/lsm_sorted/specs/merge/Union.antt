@@ -10,32 +10,32 @@ use Rattle.sst_entries.specs.declared.key.InternalKey.{InternalKey}
 use Rattle.sst_entries.specs.declared.error.Error.{Error}
 use Rattle.lsm_sorted.specs.merge.Ends.{R}
 
--- the key, the number and the kind of an entry
+-- the key, the sequence number and the kind of an entry
 abbrev pub internal_key_of : Entry → InternalKey (Unit {0})
 internal_key_of e = record { user_key = e.user_key; seqno = e.seqno; value_type = e.kind }
 
--- entries in the order of their keys
+-- the order of entries by internal key
 abbrev pub item_cmp : Entry → Entry → Ordering
 item_cmp = on internal_key_of key_cmp
 
--- an entry is not behind another in that order
+-- an entry does not sort after another
 abbrev pub AtMost : Entry → Entry → Type 0
 AtMost x y = is_gt (item_cmp x y) ≡ false
 
--- no entry is smaller than an earlier one
+-- the entries are sorted; ties are allowed
 abbrev pub Ascends : List Entry → Type 0
 Ascends [] = Unit {0}
 Ascends (x ∷ xs) = AllByRecursion (AtMost x) xs × Ascends xs
 
--- each entry is as often in one as in the other: every test passes equally often
+-- the lists have the same items with the same multiplicity: every test passes equally often
 pub record SameBag {A : Type 0} (xs ys : List A) : Type 0 where
   pub count : (p : A → Bool) → count_by p xs ≡ count_by p ys
 
--- x is among xs
+-- xs contains x
 pub record IsAmong {A : Type 0} (x : A) (xs : List A) : Type 0 where
   pub at : (p : A → Bool) → p x ≡ true → 0 < count_by p xs
 
--- the entries of lists of results, and their errors
+-- the entries and the errors of lists of results
 abbrev pub entries_among : List R → List Entry
 entries_among [] = []
 entries_among (Ok x ∷ rs) = x ∷ entries_among rs
@@ -54,26 +54,26 @@ abbrev pub all_errors : List (List R) → List Error
 all_errors [] = []
 all_errors (rs ∷ rss) = errors_among rs ++ all_errors rss
 
--- a sorted list that has each entry as often as the lists have it together
+-- a sorted list with exactly the entries of the lists, with multiplicity
 pub record IsUnion (lists : List (List R)) (xs : List Entry) : Type 0 where
   pub ascends : Ascends xs
   pub same : SameBag xs (all_entries lists)
 
--- the entries with no earlier entry of their key
+-- the first entry of each key
 abbrev pub newest : List Entry → List Entry
 newest [] = []
 newest (x ∷ xs) = x ∷ filter (λ y. not (same_key y.user_key x.user_key)) (newest xs)
 
--- x put before the first of xs that it is not above
+-- x inserted before the first of xs that it does not sort after
 abbrev pub insert_sorted : Entry → List Entry → List Entry
 insert_sorted x [] = x ∷ []
 insert_sorted x (y ∷ ys) = cond (is_gt (item_cmp x y)) (y ∷ insert_sorted x ys) (x ∷ y ∷ ys)
 
--- the entries sorted; those that tie stay as they stand
+-- the entries sorted; a stable sort
 abbrev pub sort_entries : List Entry → List Entry
 sort_entries [] = []
 sort_entries (x ∷ xs) = insert_sorted x (sort_entries xs)
 
--- the entries of all lists sorted; those that tie, list by list
+-- the entries of all lists sorted; ties keep the order of the lists
 abbrev pub union_of : List (List R) → List Entry
 union_of lists = sort_entries (all_entries lists)

@@ -1,5 +1,5 @@
--- The words of the contracts of a merger, those of the crate below among them, so that a file asks
--- for them once.
+-- The definitions for contracts of mergers, with those of the crate below, so that a file imports
+-- them from one module.
 pub use Rattle.sst_entries.specs.Entry.{Entry}
 pub use Rattle.sst_entries.specs.Stream.{Steps, nowhere, EndsAtError}
 pub use Rattle.sst_entries.specs.Strict.{IsStrict}

@@ -17,19 +17,19 @@ pub record Interval : Type 0 where
 abbrev pub interval : List ℕ → List ℕ → Interval
 interval low high = record { min = low; max = high }
 
--- a key is not above another
+-- a key is less than or equal to another
 abbrev pub key_le : List ℕ → List ℕ → Bool
 key_le a b = not (key_lt b a)
 
--- the least key is not above the greatest
+-- the minimum key is not above the maximum
 abbrev pub is_well_formed : Interval → Bool
 is_well_formed r = key_le r.min r.max
 
--- the key lies in the interval
+-- the interval contains the key
 abbrev pub has_key : Interval → List ℕ → Bool
 has_key r k = key_le r.min k && key_le k r.max
 
--- the other interval lies inside this one
+-- the interval contains the other one
 abbrev pub has_range : Interval → Interval → Bool
 has_range r other = key_le r.min other.min && key_le other.max r.max
 
@@ -42,25 +42,25 @@ abbrev pub are_disjoint : List Interval → Bool
 are_disjoint [] = true
 are_disjoint (x ∷ xs) = not (list_any (overlaps x) xs) && are_disjoint xs
 
--- the intervals that references point to
+-- the intervals that these references borrow
 abbrev pub intervals : List (Bor Interval) → List Interval
 intervals rs = map (λ r. r.now) rs
 
--- some key lies in both intervals
+-- the intervals have a key in common
 abbrev pub ShareKey : Interval → Interval → Type 0
 ShareKey a b = (k : List ℕ) × IsTrue (has_key a k) × IsTrue (has_key b k)
 
--- whether an interval reaches past both bounds: it does not end before the lower one, nor start
--- past the upper one
+-- an interval overlaps two bounds: it does not end before the lower one, nor start past the upper
+-- one
 abbrev pub overlaps_bounds : Bound (List ℕ) → Bound (List ℕ) → Interval → Bool
 overlaps_bounds low high r = is_from low r.max && is_to high r.min
 
--- no key of an interval lies within two bounds
+-- no key of an interval is within two bounds
 abbrev pub IsOutside : Bound (List ℕ) → Bound (List ℕ) → Interval → Type 0
 IsOutside low high r =
     (k : List ℕ) → IsTrue (has_key r k) → IsTrue (is_from low k) → IsTrue (is_to high k) → ⊥
 
--- a bound of bytes, by the bytes that it points to
+-- a bound with a borrowed key, as a bound of bytes
 abbrev pub key_bound : Bound (Bor (List ℕ)) → Bound (List ℕ)
 key_bound (Included k) = Included k.now
 key_bound (Excluded k) = Excluded k.now
@@ -73,7 +73,7 @@ pub record IsHull (ranges : List Interval) (r : Interval) : Type 0 where
   pub has_min : Contains (map (λ x. x.min) ranges) r.min
   pub has_max : Contains (map (λ x. x.max) ranges) r.max
 
--- the span of some intervals, from the empty key to the empty key where there are none
+-- the hull of some intervals; from the empty key to the empty key if there are none
 abbrev pub IsAggregate : List Interval → Interval → Type 0
 IsAggregate [] r = r ≡ interval [] []
 IsAggregate (x ∷ xs) r = IsHull (x ∷ xs) r

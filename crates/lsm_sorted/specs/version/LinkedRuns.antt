@@ -1,4 +1,4 @@
--- Links: tables of an input that are packed beside their places.
+-- Links: references to tables of an input, which are packed with their positions.
 use Rattle.std.specs.Prelude.{◌≡◌, ◌<◌, true, List, [], map, Contains, IsPermutation, Some}
 use Rattle.std.specs.List.{AllByRecursion}
 use Rattle.lsm_sorted.specs.version.KeyRange.{Interval, overlaps}
@@ -8,16 +8,16 @@ use Rattle.lsm_sorted.specs.version.Links.{TableWithPlace, table_with_place}
 use Rattle.lsm_sorted.specs.declared.version.optimize.Link.{Link}
 
 module _ {T : Type 0} where
-  -- the table of a link, with its place
+  -- the table of a link, with its position
   abbrev pub table_of_link : Link T → TableWithPlace T
   table_of_link link = table_with_place link.table.now link.run link.index
 
-  -- each link's table stands at its place
+  -- each link's table is at its position in the input
   abbrev pub AreAtPlaces : List (List T) → List (Link T) → Type 0
   AreAtPlaces runs links =
       AllByRecursion (λ link. table_at runs link.run link.index ≡ Some link.table.now) links
 
-  -- runs of links to some tables, packed one table after the other
+  -- runs of links to some tables, packed one after another
   pub record ArePackedLinks (range : T → Interval) (ts : List (TableWithPlace T))
       (packed : List (List (Link T))) : Type 0 where
     pub links : List (Link T)
@@ -31,7 +31,7 @@ module _ {T : Type 0} where
   abbrev pub link_range : (T → Interval) → Link T → Interval
   link_range range link = range link.table.now
 
-  -- those of some links that overlap a link are from earlier runs
+  -- all links that overlap this one are from earlier runs
   abbrev pub AreEarlier : (T → Interval) → List (Link T) → Link T → Type 0
   AreEarlier range links above =
       (x : Link T) → Contains links x →

@@ -1,4 +1,4 @@
--- Tables that are packed from runs of their own.
+-- Tables packed from one run each.
 use Rattle.std.specs.Prelude.{◌<◌, ℕ, suc, List, [], ◌∷◌, length}
 use Rattle.lsm_sorted.specs.version.KeyRange.{Interval}
 use Rattle.lsm_sorted.specs.version.Packing.{ArePacked, ArePlaced, IsChain, IsLeastSize}
@@ -7,23 +7,23 @@ use Rattle.lsm_sorted.specs.version.Packing.{SameTables, tables_in}
 use Rattle.lsm_sorted.specs.declared.version.packed.Packed.{Packed}
 use Rattle.lsm_sorted.specs.declared.version.packed.Placed.{Placed}
 
--- a table and its place
+-- a table and its index
 abbrev pub placed : {T : Type 0} → ℕ → T → Placed T
 placed place table = record { place = place; table = table }
 
--- tables with their places, each in a run of its own
+-- tables with their indexes, each in its own run
 abbrev pub alone : {T : Type 0} → ℕ → List T → List (List (Placed T))
 alone place [] = []
 alone place (t ∷ ts) = (placed place t ∷ []) ∷ alone (suc place) ts
 
--- runs of these tables, as few as there can be while each key keeps the order of its tables; and a
--- chain of tables that overlap each other in turn, as long as there must be runs
+-- the fewest runs of these tables that keep the order of each key's tables. The chain of
+-- successively overlapping tables shows that no fewer suffice.
 pub record IsPackedOf {T A : Type 0} (range : T → Interval) (tables : List T) (p : Packed T A)
     : Type 0 where
   pub same : SameTables (alone 0 tables) p.runs.items
   pub order : SameHolders (λ t. range t.table) (alone 0 tables) p.runs.items
-  -- of several each run is in order and has a table, and each table stands one run behind the last
-  -- run of an earlier one that it overlaps, or in the first;
+  -- with several tables, each run is in order and not empty. A table is one run after the last run
+  -- with an earlier table that it overlaps, or in the first.
   pub ordered : 1 < length (alone 0 tables) → ArePacked (λ t. range t.table) p.runs.items
   pub behind : 1 < length (alone 0 tables) →
       ArePlaced (λ t. range t.table) (tables_in (alone 0 tables)) p.runs.items

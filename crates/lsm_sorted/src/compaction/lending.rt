@@ -1,5 +1,5 @@
-//! Compaction by reference: entries stay in their place in memory, and versions and tombstones that
-//! no reader needs are left out.
+//! Compaction by reference: entries are borrowed, and versions and tombstones that no reader needs
+//! are dropped.
 ghost use Rattle.std.specs.Prelude.{◌≡◌, ◌<◌, ◌≤◌, ◌&&◌, true, false, cond, if◌then◌else◌};
 ghost use Rattle.std.specs.Prelude.{Bool, List, Result, nat_lt};
 ghost use Rattle.std.specs.Prelude.{IfErr, IfOk, IsSome, None, Ok, OnErr, Some, is_some};
@@ -34,23 +34,32 @@ use crate::compaction::stream::{NoCallback, NoFilter, StreamFilterVerdict};
 use sst_entries::{EntryRef, Error, Lending, SeqNo, ValueType};
 use std::alloc::{Allocator, Global};
 
-/// A filter that may change or leave out the entries of a compaction, each lent from where it lies.
+/// A filter that may change or drop borrowed entries during a compaction.
+///
+/// The compaction calls it for each entry that is neither a tombstone nor hidden by a newer
+/// version.
 pub trait LentFilter<A: Allocator> {
-    // The filter says this of an entry, and is then as said.
+    // `gives f x v g`: filter `f` returns `v` for entry `x` and becomes `g`.
     ghost gives: { Self → Entry → Result Verdict Error → Self → Type 0 };
 
-    /// Says what becomes of an entry. Any error is passed on by the compaction.
+    /// Returns the verdict on an entry.
+    ///
+    /// # Errors
+    ///
+    /// The compaction passes on any error.
     fn filter_ref(&mut self, entry: &EntryRef<'_>) -> Result<StreamFilterVerdict<A>, Error>
         ensures { gives self.old (entry_of_ref entry.now) (said result) self.new };
 }
 
-/// A callback that receives every entry that a compaction drops or replaces, lent from where it
-/// lies.
+/// A callback that receives, borrowed, the entries that a compaction removes or changes.
+///
+/// These are the entries that the filter drops or replaces, and the older versions that a newer one
+/// hides. Tombstones that the compaction itself drops are not reported.
 pub trait LentCallback {
-    // The callback takes an entry, and is then as said.
+    // `gets c x d`: callback `c` receives entry `x` and becomes `d`.
     ghost gets: { Self → Entry → Self → Type 0 };
 
-    /// Receives an entry, as it was before any filter.
+    /// Receives an entry as it was before the filter.
     fn on_dropped_ref(&mut self, kv: &EntryRef<'_>)
         ensures { gets self.old (entry_of_ref kv.now) self.new };
 }
@@ -69,54 +78,60 @@ impl LentCallback for NoCallback {
     fn on_dropped_ref(&mut self, _kv: &EntryRef<'_>) {}
 }
 
-// Where the entry lies that is lent.
+// The source of the current entry.
 #[derive(Clone, Copy)]
 enum Lends {
-    // None is lent.
+    // There is no current entry.
     Nothing,
-    // The source lends it.
+    // It is borrowed from the source.
     Source,
-    // Its key and value lie in the buffers; its number and its kind.
+    // Its key and value are in the buffers; it has this seqno and kind.
     Held(SeqNo, ValueType),
 }
 
-/// Lends what a compaction keeps of a source that lends its entries in order, by the rules of
-/// [`CompactionStream`](crate::compaction::stream::CompactionStream). Of each key the newest
-/// version below the watermark hides the older ones, tombstones may go, and numbers may become 0.
-/// A filter may change or drop each entry that is neither a tombstone nor hidden; a dropped entry
-/// hides nothing. A callback gets each entry that is dropped, changed or hidden, as it was before
-/// the filter, at the moment when the compaction passes it.
+/// A lending iterator over the entries of a source that a compaction keeps.
 ///
-/// Most entries are lent from the source, before it is called for the next one. Two kinds wait for
-/// the entry that follows them: a weak tombstone below the watermark, and, at or above it, each
-/// tombstone that may go. They are lent from two buffers, for key and value, and so is an entry that
-/// the filter changes. The buffer for keys also has the key of an entry below the watermark, whose
-/// older versions are hidden. Both buffers are reused, so memory is allocated only to grow them.
+/// The source must yield its entries in order. The rules are those of
+/// [`CompactionStream`](crate::compaction::stream::CompactionStream). The newest version of a key
+/// below the watermark hides the older ones. Tombstones may be dropped, and seqnos may become 0.
+///
+/// A filter may change or drop each entry that is neither a tombstone nor hidden. An entry that it
+/// drops hides nothing. A callback receives each entry that the filter drops or changes, and each
+/// hidden entry. It receives them as they were before the filter, when the compaction passes them.
+///
+/// Most entries are borrowed from the source, before it is advanced. Two kinds wait for the entry
+/// that follows:
+///
+/// - a weak tombstone below the watermark;
+/// - a tombstone at or above the watermark, if tombstones are evicted.
+///
+/// They are copied into two buffers, for key and value. So is an entry that the filter changes. The
+/// key buffer also holds the key of an entry below the watermark, whose older versions are hidden.
+/// Both buffers are reused, so memory is allocated only to grow them.
 ///
 /// # Errors
 ///
-/// An error of the source or of the filter is passed on in its place. An error of the source takes
-/// the place of an entry that waits, and it ends the hiding of older versions. An allocation failure
-/// of the compaction itself is [`Error::OutOfMemory`] in the place of the entry; the compaction is
-/// over then.
+/// An error of the source or the filter is passed on in order. An error of the source replaces an
+/// entry that waits, and ends the hiding of older versions. If a buffer cannot grow, `advance`
+/// fails with [`Error::OutOfMemory`] in place of the entry. The compaction is then exhausted.
 #[derive(Drop)]
 pub struct LendingCompaction<L, F = NoFilter, C = NoCallback, A: Allocator = Global> {
     source: L,
     rules: Rules,
     filter: F,
     callback: C,
-    // The key of the entry that was kept last, and the value, where it had to wait or was changed.
+    // The key of the last kept entry, and its value if it waited or was changed.
     key: Vec<u8, A>,
     value: Vec<u8, A>,
     lends: Lends,
     // Whether the next versions of the key are hidden.
     hides: bool,
-    // Whether what the source lends has still to be looked at.
+    // Whether the source's current entry is still to be processed.
     is_pending: bool,
     is_over: bool,
 }
 
-// Whether what follows an entry says whether it stays.
+// Whether the next entry decides if this one stays.
 #[inline(always)]
 fn has_to_wait(rules: &Rules, entry: &EntryRef<'_>) -> bool
     ensures { result ≡ has_to_wait rules.now (entry_of_ref entry.now) }
@@ -128,7 +143,7 @@ fn has_to_wait(rules: &Rules, entry: &EntryRef<'_>) -> bool
     }
 }
 
-// Whether an entry that need not wait goes.
+// Whether an entry that need not wait is dropped.
 #[inline(always)]
 fn goes_at_once(rules: &Rules, entry: &EntryRef<'_>) -> bool
     ensures { result ≡ (rules.now.evict && is_tombstone_kind (entry_of_ref entry.now).kind) }
@@ -136,7 +151,7 @@ fn goes_at_once(rules: &Rules, entry: &EntryRef<'_>) -> bool
     rules.evict && entry.is_tombstone()
 }
 
-// A number as it is given.
+// A seqno as it is yielded.
 #[inline(always)]
 fn zeroed(rules: &Rules, seqno: SeqNo) -> SeqNo
     ensures { result ≡
@@ -149,7 +164,7 @@ fn zeroed(rules: &Rules, seqno: SeqNo) -> SeqNo
     }
 }
 
-// Puts these bytes into a buffer in place of its own.
+// Replaces the contents of a buffer.
 #[inline(always)]
 fn remember<A: Allocator>(buffer: &mut Vec<u8, A>, bytes: &[u8]) -> Result<(), Error>
     ensures bytes { IfOk result (λ _. buffer.new.items ≡ bytes.now) }
@@ -160,7 +175,6 @@ fn remember<A: Allocator>(buffer: &mut Vec<u8, A>, bytes: &[u8]) -> Result<(), E
     Ok(())
 }
 
-// Whether an entry is a version of a key.
 #[inline(always)]
 fn is_version<A: Allocator>(key: &Vec<u8, A>, entry: &EntryRef<'_>) -> bool
     ensures { result ≡ same_key (entry_of_ref entry.now).user_key key.now.items }
@@ -168,7 +182,7 @@ fn is_version<A: Allocator>(key: &Vec<u8, A>, entry: &EntryRef<'_>) -> bool
     entry.user_key == key.as_slice()
 }
 
-// Whether an entry is a version of a key of which the next are hidden.
+// Whether an entry is hidden.
 #[inline(always)]
 fn is_given<A: Allocator>(hides: bool, key: &Vec<u8, A>, entry: &EntryRef<'_>) -> bool
     ensures { result ≡
@@ -177,7 +191,6 @@ fn is_given<A: Allocator>(hides: bool, key: &Vec<u8, A>, entry: &EntryRef<'_>) -
     hides && is_version(key, entry)
 }
 
-// Whether a kind is a value.
 #[inline(always)]
 fn is_value(kind: ValueType) -> bool
     ensures { result ≡ is_value kind }
@@ -185,8 +198,8 @@ fn is_value(kind: ValueType) -> bool
     matches!(kind, ValueType::Value)
 }
 
-// What the filter says of an entry; a tombstone is kept without asking it. An entry that it changes
-// or drops is reported.
+// The filter's verdict on an entry. A tombstone is kept without a call. An entry that the filter
+// changes or drops is reported.
 #[inline(always)]
 fn ask<F: LentFilter<A>, C: LentCallback, A: Allocator>(
     filter: &mut F,
@@ -208,32 +221,33 @@ fn ask<F: LentFilter<A>, C: LentCallback, A: Allocator>(
 }
 
 impl<L: Lending, A: Allocator> LendingCompaction<L, NoFilter, NoCallback, A> {
-    /// A compaction of all that the source still has, without a filter and a callback. It does not
-    /// call the source yet.
+    /// Creates a compaction of the source's remaining entries, without a filter and a callback.
+    ///
+    /// The call does not advance the source.
     ///
     /// # Errors
     ///
-    /// [`Error::OutOfMemory`] where the allocator cannot be cloned for the second buffer.
+    /// [`Error::OutOfMemory`] if the allocator cannot be cloned for the second buffer.
     pub fn new(alloc: A, source: L, rules: Rules) -> Result<Self, Error>
     where
         L: Drop,
         A: Clone,
-        // Nothing is lent yet.
+        // It has no current entry yet.
         ensures none { IfOk result (λ c. ⟦<LendingCompaction<L, NoFilter, NoCallback, A> as Lending>⟧.lent c ≡ None) }
-        // Of a list without errors, the entries that a compaction keeps.
+        // For a list without errors, it yields the entries that a compaction keeps.
         ensures kept { IfOk result (λ c. DealsCompactedEntries L.advances source
             ⟦<LendingCompaction<L, NoFilter, NoCallback, A> as Lending>⟧.advances c rules) }
-        // With errors among it, what it keeps between them, and each error in its place.
+        // With errors, it yields the entries kept between them, and each error in order.
         ensures places { IfOk result (λ c. DealsCompactedResults L.advances source
             ⟦<LendingCompaction<L, NoFilter, NoCallback, A> as Lending>⟧.advances c rules) }
-        // Over any source, each of its errors as it is, and no other but its own want of memory.
+        // For any source, it passes on each error. Its only error of its own is `OutOfMemory`.
         ensures faults { IfOk result (AlwaysTells PassesAll L.advances source lender
             ⟦<LendingCompaction<L, NoFilter, NoCallback, A> as Lending>⟧.advances) }
-        // Behind its own want of memory nothing comes. Where nothing came, it asks the source
-        // again, and nothing comes while that gives nothing.
+        // After its own `OutOfMemory` it is exhausted. After the end it advances the source again,
+        // and yields nothing while the source yields nothing.
         ensures over { IfOk result (AlwaysTells StaysOver L.advances source lender
             ⟦<LendingCompaction<L, NoFilter, NoCallback, A> as Lending>⟧.advances) }
-        // Where the source may be asked for as long as wanted, so may it.
+        // It can be advanced as often as the source can.
         ensures can { CanDeal L.advances nowhere L.can_advance L.can_advance source →
             IfOk result (CanDeal ⟦<LendingCompaction<L, NoFilter, NoCallback, A> as Lending>⟧.advances nowhere
             ⟦<LendingCompaction<L, NoFilter, NoCallback, A> as Lending>⟧.can_advance
@@ -252,36 +266,38 @@ impl<L: Lending, F: LentFilter<A> + Drop, C: LentCallback + Drop, A: Allocator> 
     C,
     A,
 > {
-    /// A compaction of all that the source still has, as this filter leaves it; this callback gets
-    /// the rest. It calls none of the three yet.
+    /// Creates a compaction of the source's remaining entries, with a filter and a callback.
+    ///
+    /// The call does not advance the source, and calls neither the filter nor the callback.
     ///
     /// # Errors
     ///
-    /// [`Error::OutOfMemory`] where the allocator cannot be cloned for the second buffer.
+    /// [`Error::OutOfMemory`] if the allocator cannot be cloned for the second buffer.
     pub fn with(alloc: A, source: L, rules: Rules, filter: F, callback: C) -> Result<Self, Error>
     where
         L: Drop,
         A: Clone,
-        // Nothing is lent yet.
+        // It has no current entry yet.
         ensures none { IfOk result (λ c.
             ⟦<LendingCompaction<L, F, C, A> as Lending>⟧.lent c ≡ None) }
-        // Of a list without errors, what a compaction gives, asks and reports.
+        // For a list without errors, it yields, filters and reports as a compaction does.
         ensures whole { IfOk result (λ s. CompactsLent L.advances source
             ⟦<LendingCompaction<L, F, C, A> as Lending>⟧.advances s rules F.gives C.gets
             filter callback lent_filter lent_callback) }
-        // With errors among it, the same between them, and each error in its place.
+        // With errors, the same between them, and each error in order.
         ensures places { IfOk result (λ s. CompactsLentResults L.advances source
             ⟦<LendingCompaction<L, F, C, A> as Lending>⟧.advances s rules F.gives C.gets
             filter callback lender lent_filter lent_callback) }
-        // Over any source, each of its errors as it is, and no other but one that the filter says
-        // and its own want of memory.
+        // For any source, it passes on each error. Its only other errors are the filter's and its
+        // own `OutOfMemory`.
         ensures faults { IfOk result (AlwaysTells (PassesAllOr (FilterSays F.gives)) L.advances
             source lender ⟦<LendingCompaction<L, F, C, A> as Lending>⟧.advances) }
-        // Behind its own want of memory nothing comes. Where nothing came, it asks the source
-        // again, and nothing comes while that gives nothing.
+        // After its own `OutOfMemory` it is exhausted; this is stated for filters that never return
+        // `OutOfMemory`. After the end it advances the source again, and yields nothing while the
+        // source yields nothing.
         ensures over { IfOk result (AlwaysTells (StaysOverOr (FilterSays F.gives)) L.advances
             source lender ⟦<LendingCompaction<L, F, C, A> as Lending>⟧.advances) }
-        // Where the source may be asked for as long as wanted, so may it.
+        // It can be advanced as often as the source can.
         ensures can { CanDeal L.advances nowhere L.can_advance L.can_advance source →
             IfOk result (CanDeal ⟦<LendingCompaction<L, F, C, A> as Lending>⟧.advances
             nowhere ⟦<LendingCompaction<L, F, C, A> as Lending>⟧.can_advance
@@ -293,7 +309,7 @@ impl<L: Lending, F: LentFilter<A> + Drop, C: LentCallback + Drop, A: Allocator> 
         Self::fresh(alloc, source, rules, filter, callback)
     }
 
-    // A compaction that was not called yet.
+    // A compaction before its first call.
     fn fresh(alloc: A, source: L, rules: Rules, filter: F, callback: C) -> Result<Self, Error>
     where
         L: Drop,
@@ -316,14 +332,14 @@ impl<L: Lending, F: LentFilter<A> + Drop, C: LentCallback + Drop, A: Allocator> 
         })
     }
 
-    /// The callback.
+    /// Returns the callback.
     pub fn callback(&self) -> &C
         ensures { result.now ≡ lent_callback self.now }
     {
         &self.callback
     }
 
-    /// The callback, for which the compaction is given up.
+    /// Drops the compaction and returns the callback.
     pub fn into_callback(self) -> C
     where
         L: Drop,
@@ -332,7 +348,7 @@ impl<L: Lending, F: LentFilter<A> + Drop, C: LentCallback + Drop, A: Allocator> 
         self.callback
     }
 
-    // Sees that there is an entry to look at, and answers whether there is one.
+    // Ensures that an entry is pending, and returns whether there is one.
     #[inline(always)]
     fn fetch(&mut self) -> Result<bool, Error>
         requires may { MayLendCompacted L.advances L.can_advance self.old }
@@ -365,7 +381,8 @@ impl<L: Lending, F: LentFilter<A> + Drop, C: LentCallback + Drop, A: Allocator> 
         }
     }
 
-    // Asks the source for what follows a head whose key is kept, and says whether that goes.
+    // Advances the source after a head whose key is in the buffer. Returns whether the head is
+    // dropped.
     fn lets_go(&mut self, seqno: SeqNo) -> Result<bool, Error>
         requires may { MayLendCompacted L.advances L.can_advance self.old }
         requires live { self.old.is_over ≡ false }
@@ -401,7 +418,7 @@ impl<L: Lending, F: LentFilter<A> + Drop, C: LentCallback + Drop, A: Allocator> 
         Ok(is_value(next.value_type))
     }
 
-    // Lends the head that lies in the buffers, and which has to wait, or lets it go.
+    // Makes the waiting head in the buffers current, or drops it.
     fn settle(&mut self, seqno: SeqNo, kind: ValueType) -> Result<bool, Error>
         requires may { MayLendCompacted L.advances L.can_advance self.old }
         requires live { self.old.is_over ≡ false }
@@ -428,7 +445,7 @@ impl<L: Lending, F: LentFilter<A> + Drop, C: LentCallback + Drop, A: Allocator> 
         Ok(true)
     }
 
-    // Lends the head that is looked at, as it is, and which has to wait, or lets it go.
+    // Makes the pending head current as it is, or drops it. The head has to wait, so it is copied.
     fn wait(&mut self) -> Result<bool, Error>
         requires may { MayLendCompacted L.advances L.can_advance self.old }
         requires live { self.old.is_over ≡ false }
@@ -466,7 +483,7 @@ impl<L: Lending, F: LentFilter<A> + Drop, C: LentCallback + Drop, A: Allocator> 
         self.settle(seqno, kind)
     }
 
-    // Lends the head that is looked at, of this kind and with this value, or lets it go.
+    // Makes the pending head current with this kind and value, or drops it.
     fn replace(&mut self, kind: ValueType, value: &[u8]) -> Result<bool, Error>
         requires may { MayLendCompacted L.advances L.can_advance self.old }
         requires live { self.old.is_over ≡ false }
@@ -520,7 +537,7 @@ impl<L: Lending, F: LentFilter<A> + Drop, C: LentCallback + Drop, A: Allocator> 
         Ok(true)
     }
 
-    // Looks at the entry that the source lends, and answers whether one is lent for it.
+    // Processes the source's current entry, and returns whether it yields one.
     #[inline(always)]
     fn look(&mut self) -> Result<bool, Error>
         requires may { MayLendCompacted L.advances L.can_advance self.old }
@@ -582,7 +599,7 @@ impl<L: Lending, F: LentFilter<A> + Drop, C: LentCallback + Drop, A: Allocator> 
         Ok(true)
     }
 
-    // Goes on to the next entry that is kept.
+    // Advances to the next entry that is kept.
     fn go_on(&mut self) -> Result<bool, Error>
         requires may { MayLendCompacted L.advances L.can_advance self.old }
         requires live { self.old.is_over ≡ false }

@@ -1,4 +1,4 @@
-//! A stream of entries that leaves out what no reader needs.
+//! A stream of entries without those that no reader needs.
 ghost use Rattle.std.specs.Prelude.{◌≡◌, ◌≤◌, nat_lt, Bool, false, List, Some, None, Result, Ok};
 ghost use Rattle.std.specs.Prelude.{IfOk};
 ghost use Rattle.std.specs.Iterator.{at_most, IsFinite};
@@ -18,39 +18,49 @@ use crate::give_up::give_up;
 use sst_entries::{Error, InternalValue, IterItem, SeqNo, UserValue, ValueType};
 use std::alloc::{Allocator, Global};
 
-/// A callback that receives every entry that a compaction drops or replaces.
+/// A callback that receives the entries that a compaction removes or changes.
+///
+/// These are the entries that the filter drops or replaces, and the older versions that a newer one
+/// hides. Tombstones that the compaction itself drops are not reported.
 pub trait DroppedKvCallback<A: Allocator> {
-    // The callback takes an entry, and is then as said.
+    // `gets c x d`: callback `c` receives entry `x` and becomes `d`.
     ghost gets: { Self → Entry → Self → Type 0 };
 
-    /// Receives an entry, as it was before any filter.
+    /// Receives an entry as it was before the filter.
     fn on_dropped(&mut self, kv: &InternalValue<A>)
         ensures { gets self.old kv.now self.new };
 }
 
-/// What a [`StreamFilter`] says of an entry.
+/// The verdict of a [`StreamFilter`] on an entry.
 #[derive(Drop)]
 #[derive_where(Debug)]
 pub enum StreamFilterVerdict<A: Allocator = Global> {
-    /// The entry stays as it is.
+    /// Keeps the entry as it is.
     Keep,
-    /// The entry gets this kind and this value.
+    /// Replaces the kind and the value of the entry.
     Replace((ValueType, UserValue<A>)),
-    /// The entry is left out, and no tombstone takes its place.
+    /// Drops the entry, without a tombstone in its place.
     Drop,
 }
 
-/// A filter that may change or leave out the entries of a compaction.
+/// A filter that may change or drop entries during a compaction.
+///
+/// The compaction calls it for each entry that is neither a tombstone nor hidden by a newer
+/// version.
 pub trait StreamFilter<A: Allocator> {
-    // The filter says this of an entry, and is then as said.
+    // `gives f x v g`: filter `f` returns `v` for entry `x` and becomes `g`.
     ghost gives: { Self → Entry → Result Verdict Error → Self → Type 0 };
 
-    /// Says what becomes of an entry. Any error is passed on by the compaction.
+    /// Returns the verdict on an entry.
+    ///
+    /// # Errors
+    ///
+    /// The compaction passes on any error.
     fn filter_item(&mut self, item: &InternalValue<A>) -> Result<StreamFilterVerdict<A>, Error>
         ensures { gives self.old item.now (said result) self.new };
 }
 
-/// The filter that keeps every entry.
+/// A filter that keeps every entry.
 #[derive(Clone, Copy, Debug)]
 pub struct NoFilter;
 
@@ -62,7 +72,7 @@ impl<A: Allocator> StreamFilter<A> for NoFilter {
     }
 }
 
-/// The callback that ignores what it receives.
+/// A callback that ignores every entry.
 #[derive(Clone, Copy, Debug)]
 pub struct NoCallback;
 
@@ -72,11 +82,18 @@ impl<A: Allocator> DroppedKvCallback<A> for NoCallback {
     fn on_dropped(&mut self, _kv: &InternalValue<A>) {}
 }
 
-/// Leaves out of a stream of entries what no reader needs any more.
+/// An iterator that drops the entries of a source that no reader needs.
 ///
-/// The entries come by key upward, and the versions of a key from the newest down. No reader may
-/// stand below the threshold, so of each key the newest version below it is the oldest that counts:
-/// the versions after it are dropped. Errors are passed on in their places.
+/// The source must yield its keys in ascending order, and the versions of a key from the newest
+/// down. No reader may read at a seqno below the threshold. So the newest version of a key below it
+/// hides all older ones, and these are dropped. A weak tombstone below the threshold is dropped too
+/// if the next version of its key is a value.
+///
+/// # Errors
+///
+/// An error of the source or the filter is passed on, and the stream continues after it. An error
+/// of the source drops the entry that was read but not yet yielded. An error of the filter drops
+/// the entry that it was called for.
 #[derive(Drop)]
 pub struct CompactionStream<I: Iterator, F = NoFilter, C = NoCallback> {
     inner: Ahead<I>,
@@ -88,8 +105,9 @@ pub struct CompactionStream<I: Iterator, F = NoFilter, C = NoCallback> {
 }
 
 impl<I: Iterator<Item = IterItem<A>>, A: Allocator> CompactionStream<I, NoFilter, NoCallback> {
-    /// A stream over entries, for readers that stand at the threshold or above. It keeps every
-    /// tombstone and every number, asks no filter and calls no callback.
+    /// Creates a stream over entries, for readers at the threshold or above.
+    ///
+    /// It evicts no tombstones and zeroes no seqnos. It has no filter and no callback.
     pub fn new(iter: I, gc_seqno_threshold: SeqNo) -> Self
         ensures starts { compaction_outlook result ≡ before_any iter }
         ensures compacts { (stops : Error → Bool) (xs : List R) →
@@ -116,7 +134,7 @@ impl<I: Iterator<Item = IterItem<A>>, A: Allocator> CompactionStream<I, NoFilter
 }
 
 impl<I: Iterator<Item = IterItem<A>>, F, C, A: Allocator> CompactionStream<I, F, C> {
-    /// The stream with this filter in place of its own.
+    /// Returns the stream with this filter in place of its own.
     pub fn with_filter<NF>(self, filter: NF) -> CompactionStream<I, NF, C>
     where
         F: Drop,
@@ -143,7 +161,7 @@ impl<I: Iterator<Item = IterItem<A>>, F, C, A: Allocator> CompactionStream<I, F,
         }
     }
 
-    /// The stream with this callback in place of its own.
+    /// Returns the stream with this callback in place of its own.
     pub fn with_drop_callback<NC>(self, callback: NC) -> CompactionStream<I, F, NC>
     where
         C: Drop,
@@ -162,8 +180,10 @@ impl<I: Iterator<Item = IterItem<A>>, F, C, A: Allocator> CompactionStream<I, F,
         }
     }
 
-    /// The stream, which now lets a tombstone go where no older version of its key follows, or
-    /// keeps every such tombstone. A tombstone may go only where nothing older lies elsewhere.
+    /// Sets whether a tombstone is dropped if no older version of its key is kept.
+    ///
+    /// A weak tombstone stays if it hides a next version that is not a value. Set this only if no
+    /// older version of the keys exists elsewhere.
     pub fn evict_tombstones(mut self, b: bool) -> Self
         ensures source { source_of result ≡ source_of self }
         ensures rules { rules_of result ≡ record {
@@ -179,8 +199,9 @@ impl<I: Iterator<Item = IterItem<A>>, F, C, A: Allocator> CompactionStream<I, F,
         self
     }
 
-    /// The stream, which now gives numbers below the threshold as 0, or every number as it is.
-    /// A small number takes less space where numbers are stored with a varying length.
+    /// Sets whether seqnos below the threshold are yielded as 0.
+    ///
+    /// A small seqno takes less space where seqnos are stored with variable length.
     pub fn zero_seqnos(mut self, b: bool) -> Self
         ensures source { source_of result ≡ source_of self }
         ensures rules { rules_of result ≡ record {
@@ -196,14 +217,14 @@ impl<I: Iterator<Item = IterItem<A>>, F, C, A: Allocator> CompactionStream<I, F,
         self
     }
 
-    /// The callback.
+    /// Returns the callback.
     pub fn callback(&self) -> &C
         ensures { result.now ≡ callback_of self.now }
     {
         &self.dropped_callback
     }
 
-    /// The callback, for which the stream is given up.
+    /// Drops the stream and returns the callback.
     pub fn into_callback(self) -> C
     where
         I: Drop,
@@ -220,8 +241,8 @@ fn has_key_of<A: Allocator>(x: &InternalValue<A>, head: &InternalValue<A>) -> bo
     x.key.user_key == head.key.user_key
 }
 
-// The head as a verdict leaves it, or none where the verdict drops it. A head that is changed or
-// dropped is reported.
+// The head after a verdict, or `None` if the verdict drops it. A head that is changed or dropped is
+// reported.
 fn apply_verdict<C: DroppedKvCallback<A>, A: Allocator>(
     callback: &mut C,
     mut head: InternalValue<A>,
@@ -252,7 +273,7 @@ impl<
     C: DroppedKvCallback<A>,
     A: Allocator,
 > CompactionStream<I, F, C> {
-    // The head as the filter leaves it, or none where the filter drops it.
+    // The head after the filter, or `None` if the filter drops it.
     fn filtered(&mut self, head: InternalValue<A>) -> Result<Option<InternalValue<A>>, Error>
         ensures source { source_of self.new ≡ source_of self.old }
         ensures rules { rules_of self.new ≡ rules_of self.old }
@@ -266,7 +287,7 @@ impl<
         Ok(apply_verdict(&mut self.dropped_callback, head, verdict))
     }
 
-    // Takes the entries of the head's key that are next, and reports them.
+    // Reads the next entries of the head's key, and reports them.
     fn drain_key(&mut self, head: &InternalValue<A>) -> Result<(), Error>
         requires { MayCompact I.next_gives I.can_next I.remaining self.old }
         ensures may { MayCompact I.next_gives I.can_next I.remaining self.new }
@@ -296,8 +317,8 @@ impl<
         }
     }
 
-    // Whether the head goes, which depends on what follows it. Where no reader can want an older
-    // version, those are drained.
+    // Whether the head is dropped, which depends on the entry after it. Older versions that no
+    // reader needs are drained.
     fn lets_go(&mut self, head: &InternalValue<A>) -> Result<bool, Error>
         requires { MayCompact I.next_gives I.can_next I.remaining self.old }
         ensures may { MayCompact I.next_gives I.can_next I.remaining self.new }
@@ -331,8 +352,8 @@ impl<
         goes
     }
 
-    // Reports this version and the older ones that are next, and says whether the head goes, which
-    // hides them.
+    // Reports this version and the older ones after it, which the head hides. Returns whether the
+    // head is dropped.
     #[inline(never)]
     fn drain_hidden(
         &mut self,
@@ -368,14 +389,14 @@ impl<I: Iterator<Item = IterItem<A>>, F, C, A: Allocator> CompactionStream<I, F,
         head.key.seqno < self.gc_seqno_threshold
     }
 
-    // Whether a head goes that no older version follows.
+    // Whether a head is dropped that no older version follows.
     fn goes_alone(&self, head: &InternalValue<A>) -> bool
         ensures { result ≡ goes (rules_of self.now).evict head.now.kind None }
     {
         self.evict_tombstones && head.is_tombstone()
     }
 
-    // Whether a head goes that hides this version and all older ones.
+    // Whether a head is dropped that hides this version and all older ones.
     fn goes_before(&self, head: &InternalValue<A>, next: &InternalValue<A>) -> bool
         ensures { result ≡ goes (rules_of self.now).evict head.now.kind (Some next.now) }
     {
@@ -386,7 +407,7 @@ impl<I: Iterator<Item = IterItem<A>>, F, C, A: Allocator> CompactionStream<I, F,
         }
     }
 
-    // The head as it is emitted.
+    // The head as the stream yields it.
     fn zeroed(&self, mut head: InternalValue<A>) -> InternalValue<A>
         ensures { result ≡ zeroed (rules_of self.now) head }
     {
@@ -441,14 +462,16 @@ impl<
     C: DroppedKvCallback<A> + Drop,
     A: Allocator,
 > CompactionStream<I, F, C> {
-    /// What a stream does over a whole list, from now until it answers `None`: what it gives is
-    /// what the verdicts of its filter let of each key, the filter is asked of nothing but the
-    /// heads that are no tombstones, and the callback receives exactly what is reported. Every call
-    /// leaves a stream that may be called again. The call does nothing: its contract says so.
+    /// States what a stream does from this call until it returns `None`.
+    ///
+    /// It yields the entries of each key as the verdicts of its filter leave them. It calls the
+    /// filter only for heads that are not tombstones. The callback receives exactly the reported
+    /// entries. After each call the stream may be called again. This call does nothing: its
+    /// contract states the law.
     pub fn whole_run(&self)
         ensures gives { CompactsWhole I.next_gives
             ⟦<CompactionStream<I, F, C> as Iterator>⟧.next_gives self.now F.gives C.gets }
-        // Before any call, it does so whatever its source gives, refusals too.
+        // Before any call, this holds for any source, errors included.
         ensures heard { CompactsHeard I.next_gives
             ⟦<CompactionStream<I, F, C> as Iterator>⟧.next_gives self.now F.gives C.gets }
         ensures can { MayCompact I.next_gives I.can_next I.remaining self.now →
@@ -463,29 +486,37 @@ impl<
     C: DroppedKvCallback<A> + Drop,
     A: Allocator,
 > CompactionStream<I, NoFilter, C> {
-    /// What a stream without a filter deals: of any list of results what is given of it, and of
-    /// entries without errors those that are kept. The call does nothing: its contract says so.
+    /// States what a stream without a filter yields.
+    ///
+    /// For any list of results, it yields the output of the compaction rules. For entries without
+    /// errors, these are the entries kept. The call does nothing: its contract states the law.
     pub fn unfiltered_run(&self)
         ensures outs { DealsOuts I.next_gives
             ⟦<CompactionStream<I, NoFilter, C> as Iterator>⟧.next_gives self.now }
         ensures kept { DealsKept I.next_gives
             ⟦<CompactionStream<I, NoFilter, C> as Iterator>⟧.next_gives self.now }
-        // Before any call, whatever its source gives, refusals too.
+        // Before any call, this holds for any source, errors included.
         ensures heard { GivesOuts I.next_gives
             ⟦<CompactionStream<I, NoFilter, C> as Iterator>⟧.next_gives self.now }
     {}
 }
 
-/// The laws of what is kept.
+/// States what readers see after a compaction without a filter.
 ///
-/// A reader whose bound is the watermark or above, or above every version of its key, sees the same
-/// of every key in what is kept of a sorted list as in the list, whatever is evicted and zeroed. Of
-/// a list in which each entry comes before the next by key, or by number downward, what is kept is
-/// such a list again. And where a part of the entries is compacted and others stay, a reader whose
-/// bound is the watermark or above sees the same in both together, if nothing is evicted or zeroed
-/// and the part has no weak tombstone, or if of each key all others are newer than the part.
+/// Whatever is evicted and zeroed, a reader sees the same in the kept entries as in the sorted
+/// list. This holds if its bound is the watermark or above, or above every version of its key.
 ///
-/// The call does nothing: its contract says so.
+/// If each entry comes before the next by key, or by descending seqno, the same holds of the kept
+/// entries.
+///
+/// If a part of the entries is compacted and the rest stays, a reader at the watermark or above
+/// sees the same in both together. Conditions:
+///
+/// - no key has one seqno twice;
+/// - nothing is evicted or zeroed and the part has no weak tombstone, or of each key all entries of
+///   the rest are newer.
+///
+/// The call does nothing: its contract states the laws.
 pub fn read_law()
     ensures reads { ReadLaw }
     ensures strict { StaysStrict }

@@ -1,4 +1,4 @@
-//! An iterator that is not called again once it gave `None`, since it then promises nothing.
+//! An iterator that is not polled again after `None`, since it then promises nothing.
 ghost use Rattle.sst_entries.specs.declared.error.Error.{Error};
 ghost use Rattle.sst_entries.specs.declared.stream.Direction.{Direction};
 ghost use Rattle.sst_entries.specs.declared.stream.Direction.TheVariants.{Front, Back};
@@ -10,20 +10,19 @@ ghost use Rattle.lsm_sorted.specs.merge.Ends.{Left, Goes, Asked, DealsAt, ends_s
 use sst_entries::{Direction, IterItem};
 use std::alloc::Allocator;
 
-/// An end at which iterators are asked.
+/// An end at which iterators are polled.
 pub trait End<I: Iterator> {
-    // What a call at the back gives, and where there may be one.
+    // The relation of a call at the back, and the states that allow one.
     ghost back_gives: { I → Option I.Item → I → Type 0 };
 
     ghost can_back: { I → Type 0 };
 
     ghost end: { Direction };
 
-    // Which end it is.
     fn end() -> Direction
         ensures { result ≡ end };
 
-    // What stands there.
+    // Polls the iterator at this end.
     fn ask(iter: &mut I) -> Option<I::Item>
         requires { CanDeal I.next_gives back_gives I.can_next can_back iter.old }
         ensures steps { Steps I.next_gives back_gives end iter.old result iter.new }
@@ -69,7 +68,7 @@ impl<I: DoubleEndedIterator> End<I> for AtBack {
     }
 }
 
-/// An iterator that has ended at both ends once either end gave `None`.
+/// An iterator that is exhausted at both ends once either end returns `None`.
 #[derive(Drop)]
 pub struct Ends<I> {
     pub iter: I,
@@ -86,7 +85,7 @@ impl<I> Ends<I> {
 }
 
 impl<I: Iterator<Item = IterItem<A>>, A: Allocator> Ends<I> {
-    // What stands at an end.
+    // Polls the iterator at an end.
     #[inline(always)]
     pub fn ask<E: End<I>>(&mut self) -> Option<IterItem<A>>
         requires { Goes I.next_gives E.back_gives I.can_next E.can_back I.remaining self.old }
@@ -105,7 +104,7 @@ impl<I: Iterator<Item = IterItem<A>>, A: Allocator> Ends<I> {
         answer
     }
 
-    // The next item of an iterator that is taken from the front alone.
+    // The next item of an iterator that is polled at the front only.
     pub fn next_in_front(&mut self) -> Option<IterItem<A>>
         requires { Goes I.next_gives nowhere I.can_next I.can_next I.remaining self.old }
         ensures goes { Goes I.next_gives nowhere I.can_next I.can_next I.remaining self.new }
@@ -120,7 +119,7 @@ impl<I: Iterator<Item = IterItem<A>>, A: Allocator> Ends<I> {
 }
 
 impl<I: DoubleEndedIterator<Item = IterItem<A>>, A: Allocator> Ends<I> {
-    // The first item, of an iterator that is taken from both ends.
+    // The first item of an iterator that is polled at both ends.
     pub fn next(&mut self) -> Option<IterItem<A>>
         requires { Goes I.next_gives I.next_back_gives I.can_next I.can_next_back I.remaining
             self.old }
@@ -135,7 +134,7 @@ impl<I: DoubleEndedIterator<Item = IterItem<A>>, A: Allocator> Ends<I> {
         self.next_in_front()
     }
 
-    // The last.
+    // The last item of an iterator that is polled at both ends.
     pub fn next_back(&mut self) -> Option<IterItem<A>>
         requires { Goes I.next_gives I.next_back_gives I.can_next I.can_next_back I.remaining
             self.old }

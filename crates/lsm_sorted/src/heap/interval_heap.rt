@@ -1,4 +1,4 @@
-//! A priority queue with two ends, as an interval heap.
+//! A double-ended priority queue, as an interval heap.
 ghost use Rattle.std.specs.Prelude.{◌≡◌, ◌⊎◌, ℕ, ◌+◌, ◌*◌, ◌/◌, ◌%◌, ◌<◌, ◌≤◌, [], ◌∷◌, length};
 ghost use Rattle.std.specs.Prelude.{IfOk, IfErr, IfNone, IfSome, IsPermutation, MatchOption};
 ghost use Rattle.sst_entries.specs.declared.error.Error.TheVariants.{OutOfMemory};
@@ -12,13 +12,13 @@ use sst_entries::{Direction, Error};
 use std::alloc::{Allocator, Global};
 use std::marker::Model;
 
-/// A priority queue that gives up its least and its greatest item.
+/// A double-ended priority queue, implemented as an interval heap.
 ///
-/// It is an interval heap (van Leeuwen and Wood, "Interval Heaps", The Computer Journal 36, 1993):
-/// one vector, seen as a tree whose node i has the items at 2i and 2i + 1, the ends of an interval
-/// that all the intervals below it lie in. By that form a push or a pop takes a number of
-/// comparisons that grows with the logarithm of the length; no clause says so. Memory is taken by
-/// [`IntervalHeap::with_capacity`] alone. Which of equal items comes first is open.
+/// See van Leeuwen and Wood, "Interval Heaps", The Computer Journal 36, 1993. One vector is seen as
+/// a tree whose node i has the items at 2i and 2i + 1. They are the ends of an interval that
+/// contains all intervals of the nodes below it. So a push or a pop takes a logarithmic number of
+/// comparisons; this is not proved. Only [`IntervalHeap::with_capacity`] allocates. The order of
+/// equal items is unspecified.
 #[derive(Drop)]
 pub struct IntervalHeap<T: Ord, A: Allocator = Global> {
     items: Vec<T, A>,
@@ -37,9 +37,11 @@ impl<T: Ord, A: Allocator> Model for IntervalHeap<T, A> {
 }
 
 impl<T: Ord, A: Allocator> IntervalHeap<T, A> {
-    /// An empty heap with room for `capacity` items.
+    /// Creates an empty heap with room for `capacity` items.
     ///
-    /// `Error::OutOfMemory` where memory is refused, and no other error.
+    /// # Errors
+    ///
+    /// [`Error::OutOfMemory`] only.
     pub fn with_capacity(alloc: A, capacity: usize) -> Result<Self, Error>
         ensures empty { IfOk result (λ h. h.items ≡ []) }
         ensures room { IfOk result (λ h. h.room ≡ capacity) }
@@ -50,14 +52,16 @@ impl<T: Ord, A: Allocator> IntervalHeap<T, A> {
         })
     }
 
-    /// How many items there are.
+    /// Returns the number of items.
     pub fn len(&self) -> usize
         ensures { result ≡ length self.now.items }
     {
         self.items.len()
     }
 
-    /// Takes in an item, for which there is room.
+    /// Inserts an item.
+    ///
+    /// The heap must have room for it.
     pub fn push(&mut self, item: T)
         requires { length self.old.items < self.old.room }
         ensures items { IsPermutation (item ∷ self.old.items) self.new.items }
@@ -67,7 +71,7 @@ impl<T: Ord, A: Allocator> IntervalHeap<T, A> {
         order_last(&mut self.items);
     }
 
-    /// Takes out an item that no other is less than, or `None` from an empty heap.
+    /// Removes and returns an item that no other is less than, or `None` if the heap is empty.
     pub fn pop_min(&mut self) -> Option<T>
         ensures none { IfNone result (self.old.items ≡ []) }
         ensures unchanged { IfNone result (self.new.items ≡ []) }
@@ -78,7 +82,7 @@ impl<T: Ord, A: Allocator> IntervalHeap<T, A> {
         self.pop(Direction::Front)
     }
 
-    /// Takes out an item that no other is greater than, or `None` from an empty heap.
+    /// Removes and returns an item that no other is greater than, or `None` if the heap is empty.
     pub fn pop_max(&mut self) -> Option<T>
         ensures none { IfNone result (self.old.items ≡ []) }
         ensures unchanged { IfNone result (self.new.items ≡ []) }
@@ -89,7 +93,7 @@ impl<T: Ord, A: Allocator> IntervalHeap<T, A> {
         self.pop(Direction::Back)
     }
 
-    // Takes out the first item as seen from an end.
+    // Removes the first item as seen from an end.
     fn pop(&mut self, end: Direction) -> Option<T>
         ensures none { IfNone result (self.old.items ≡ []) }
         ensures unchanged { IfNone result (self.new.items ≡ []) }

@@ -1,5 +1,5 @@
-//! A priority queue with two ends, as two tournaments over the same slots, each of which is played
-//! only once its end was asked.
+//! A double-ended priority queue, as two tournaments over the same slots, each played from the
+//! first pop at its end on.
 ghost use Rattle.std.specs.Prelude.{◌≡◌, ◌+◌, ◌<◌, [], ◌∷◌, length, true, false, IfOk, IfErr};
 ghost use Rattle.std.specs.Prelude.{IfNone, IfSome, IsPermutation};
 ghost use Rattle.sst_entries.specs.declared.error.Error.TheVariants.{OutOfMemory};
@@ -18,15 +18,16 @@ use sst_entries::{Direction, Error};
 use std::alloc::{Allocator, Global};
 use std::marker::Model;
 
-/// A [`Tournament`](crate::Tournament) in which the matches of an end are played from the first pop
-/// at that end on.
+/// A [`Tournament`](crate::Tournament) that plays the matches of an end from the first pop at that
+/// end on.
 ///
-/// That first pop plays them all, one comparison fewer than there are slots at most (`2^h`, the
-/// least power of two that is the capacity or more). From then on each push and pop, at either end,
-/// takes `h` comparisons for that end at most. So where only [`LazyTournament::pop_min`] is called,
-/// no match is ever played for the greatest item, and a push before the first pop compares nothing.
-/// Memory is taken by [`LazyTournament::with_capacity`] alone. Which of equal items comes first is
-/// open.
+/// The first pop at an end plays all its matches. This takes at most one comparison fewer than
+/// there are slots. Their number is `2^h`, the least power of two that is the capacity or more.
+/// After that, each push and pop, at either end, takes at most `h` comparisons for that end.
+///
+/// So if only [`LazyTournament::pop_min`] is called, no match is played for the greatest item. A
+/// push before the first pop compares nothing. Only [`LazyTournament::with_capacity`] allocates.
+/// The order of equal items is unspecified.
 #[derive(Drop)]
 pub struct LazyTournament<T: Ord, A: Allocator = Global> {
     slots: Slots<T, A>,
@@ -52,9 +53,13 @@ impl<T: Ord, A: Allocator> Model for LazyTournament<T, A> {
 }
 
 impl<T: Ord, A: Allocator + Clone> LazyTournament<T, A> {
-    /// An empty tournament with room for `capacity` items, of which no end was asked.
+    /// Creates an empty tournament with room for `capacity` items.
     ///
-    /// `Error::OutOfMemory` where memory is refused, and no other error.
+    /// Neither end plays matches yet.
+    ///
+    /// # Errors
+    ///
+    /// [`Error::OutOfMemory`] only.
     pub fn with_capacity(alloc: A, capacity: usize) -> Result<Self, Error>
         ensures empty { IfOk result (λ t. t.items ≡ []) }
         ensures room { IfOk result (λ t. t.room ≡ capacity) }
@@ -66,7 +71,7 @@ impl<T: Ord, A: Allocator + Clone> LazyTournament<T, A> {
         Self::new(alloc, capacity, false)
     }
 
-    // An empty one, at both ends of which matches are played from the start, or at none.
+    // An empty tournament that plays matches at both ends from the start, or at none.
     pub(crate) fn new(alloc: A, capacity: usize, is_played: bool) -> Result<Self, Error>
         ensures empty { IfOk result (λ t. t.items ≡ []) }
         ensures room { IfOk result (λ t. t.room ≡ capacity) }
@@ -75,7 +80,7 @@ impl<T: Ord, A: Allocator + Clone> LazyTournament<T, A> {
         ensures back { IfOk result (λ t. t.plays_back ≡ is_played) }
         ensures err { IfErr result (λ e. e ≡ OutOfMemory) }
     {
-        // More than 2^63 slots fit no memory.
+        // More than 2^63 slots do not fit in memory.
         let Some(leaves) = capacity.checked_next_power_of_two() else {
             return Err(Error::OutOfMemory);
         };
@@ -88,21 +93,23 @@ impl<T: Ord, A: Allocator + Clone> LazyTournament<T, A> {
 }
 
 impl<T: Ord, A: Allocator> LazyTournament<T, A> {
-    /// How many items there are.
+    /// Returns the number of items.
     pub fn len(&self) -> usize
         ensures { result ≡ length self.now.items }
     {
         self.slots.len()
     }
 
-    /// How often two items were compared: from 0, and `u64::MAX` once it was that often.
+    /// Returns the number of comparisons of two items so far, saturating at `u64::MAX`.
     pub fn steps(&self) -> u64
         ensures { result ≡ self.now.steps }
     {
         self.brackets.steps
     }
 
-    /// Takes in an item, for which there is room.
+    /// Inserts an item.
+    ///
+    /// The queue must have room for it.
     pub fn push(&mut self, item: T)
         requires { length self.old.items < self.old.room }
         ensures items { IsPermutation (item ∷ self.old.items) self.new.items }
@@ -115,7 +122,7 @@ impl<T: Ord, A: Allocator> LazyTournament<T, A> {
         self.brackets.follow(self.slots.as_slice(), slot);
     }
 
-    /// Takes out an item that no other is less than, or `None` from an empty queue.
+    /// Removes and returns an item that no other is less than, or `None` if the queue is empty.
     pub fn pop_min(&mut self) -> Option<T>
         ensures none { IfNone result (self.old.items ≡ []) }
         ensures unchanged { IfNone result (self.new.items ≡ []) }
@@ -130,7 +137,7 @@ impl<T: Ord, A: Allocator> LazyTournament<T, A> {
         self.pop(Direction::Front)
     }
 
-    /// Takes out an item that no other is greater than, or `None` from an empty queue.
+    /// Removes and returns an item that no other is greater than, or `None` if the queue is empty.
     pub fn pop_max(&mut self) -> Option<T>
         ensures none { IfNone result (self.old.items ≡ []) }
         ensures unchanged { IfNone result (self.new.items ≡ []) }
@@ -145,8 +152,8 @@ impl<T: Ord, A: Allocator> LazyTournament<T, A> {
         self.pop(Direction::Back)
     }
 
-    // Takes out the first item as seen from an end. The matches above the slot that it empties are
-    // left to the next call: a push takes that slot, so a pop and a push play them once.
+    // Removes the first item as seen from an end. The matches above the slot that it empties are
+    // left to the next call. A push takes that slot, so a pop and a push play them once.
     fn pop(&mut self, end: Direction) -> Option<T>
         ensures none { IfNone result (self.old.items ≡ []) }
         ensures unchanged { IfNone result (self.new.items ≡ []) }

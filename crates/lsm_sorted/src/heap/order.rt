@@ -1,11 +1,11 @@
-// Items compared as seen from an end: the least of them is the front.
+// Comparison of items as seen from an end: at the front, the least comes first.
 ghost use Rattle.std.specs.Prelude.{◌≡◌};
 ghost use Rattle.std.specs.Ordering.{is_gt};
 ghost use Rattle.lsm_sorted.specs.merge.Order.{toward};
 
 use sst_entries::Direction;
 
-// Whether y comes before x, seen from this end. Equal items come before neither.
+// Whether `y` comes before `x`, seen from this end. Equal items come before neither.
 #[inline]
 pub(crate) fn is_before<T: Ord>(end: Direction, y: &T, x: &T) -> bool
     ensures { result ≡ is_gt (toward end T.cmp x.now y.now) }

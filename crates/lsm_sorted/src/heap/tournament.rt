@@ -1,4 +1,4 @@
-//! A priority queue with two ends, as two tournaments over the same slots.
+//! A double-ended priority queue, as two tournaments over the same slots.
 ghost use Rattle.std.specs.Prelude.{◌≡◌, ◌*◌, ◌<◌, [], ◌∷◌, length, IfOk, IfErr, IfNone, IfSome};
 ghost use Rattle.std.specs.Prelude.{IsPermutation};
 ghost use Rattle.sst_entries.specs.declared.error.Error.TheVariants.{OutOfMemory};
@@ -10,18 +10,20 @@ use sst_entries::Error;
 use std::alloc::{Allocator, Global};
 use std::marker::Model;
 
-/// A priority queue that gives up its least and its greatest item.
+/// A double-ended priority queue, implemented as two tournaments over the same slots.
 ///
-/// Each item has a slot, and two tournaments are played over the slots: one that the least item
-/// wins, and one that the greatest wins (trees of winners: Knuth, "The Art of Computer
-/// Programming", volume 3, "Sorting by Selection"). A pop leaves the matches above the slot that it
-/// empties to the next call: a push takes that slot, so a pop and a push play them once. A push or
-/// a pop plays the matches above one slot again, which takes `h` comparisons for each tournament at
-/// most, where `2^h` is the least power of two that is the capacity or more. Memory is taken by
-/// [`Tournament::with_capacity`] alone. Which of equal items comes first is open.
+/// Each item has a slot. The least item wins one tournament, and the greatest wins the other. See
+/// "trees of winners" in Knuth, "The Art of Computer Programming", volume 3, "Sorting by
+/// Selection".
+///
+/// A push or a pop plays the matches above one slot again. This takes at most `h` comparisons for
+/// each tournament. `2^h` is the least power of two that is the capacity or more. A pop leaves the
+/// matches above the slot that it empties to the next call. A push takes that slot, so a pop and a
+/// push play them once. Only [`Tournament::with_capacity`] allocates. The order of equal items is
+/// unspecified.
 #[derive(Drop)]
 pub struct Tournament<T: Ord, A: Allocator = Global> {
-    // Both of its ends play from the start.
+    // It plays both ends from the start.
     queue: LazyTournament<T, A>,
 }
 
@@ -37,9 +39,11 @@ impl<T: Ord, A: Allocator> Model for Tournament<T, A> {
 }
 
 impl<T: Ord, A: Allocator + Clone> Tournament<T, A> {
-    /// An empty tournament with room for `capacity` items.
+    /// Creates an empty tournament with room for `capacity` items.
     ///
-    /// `Error::OutOfMemory` where memory is refused, and no other error.
+    /// # Errors
+    ///
+    /// [`Error::OutOfMemory`] only.
     pub fn with_capacity(alloc: A, capacity: usize) -> Result<Self, Error>
         ensures empty { IfOk result (λ h. h.items ≡ []) }
         ensures room { IfOk result (λ h. h.room ≡ capacity) }
@@ -53,21 +57,23 @@ impl<T: Ord, A: Allocator + Clone> Tournament<T, A> {
 }
 
 impl<T: Ord, A: Allocator> Tournament<T, A> {
-    /// How many items there are.
+    /// Returns the number of items.
     pub fn len(&self) -> usize
         ensures { result ≡ length self.now.items }
     {
         self.queue.len()
     }
 
-    /// How often two items were compared: from 0, and `u64::MAX` once it was that often.
+    /// Returns the number of comparisons of two items so far, saturating at `u64::MAX`.
     pub fn steps(&self) -> u64
         ensures { result ≡ self.now.steps }
     {
         self.queue.steps()
     }
 
-    /// Takes in an item, for which there is room.
+    /// Inserts an item.
+    ///
+    /// The queue must have room for it.
     pub fn push(&mut self, item: T)
         requires { length self.old.items < self.old.room }
         ensures items { IsPermutation (item ∷ self.old.items) self.new.items }
@@ -77,7 +83,7 @@ impl<T: Ord, A: Allocator> Tournament<T, A> {
         self.queue.push(item);
     }
 
-    /// Takes out an item that no other is less than, or `None` from an empty queue.
+    /// Removes and returns an item that no other is less than, or `None` if the queue is empty.
     pub fn pop_min(&mut self) -> Option<T>
         ensures none { IfNone result (self.old.items ≡ []) }
         ensures unchanged { IfNone result (self.new.items ≡ []) }
@@ -89,7 +95,7 @@ impl<T: Ord, A: Allocator> Tournament<T, A> {
         self.queue.pop_min()
     }
 
-    /// Takes out an item that no other is greater than, or `None` from an empty queue.
+    /// Removes and returns an item that no other is greater than, or `None` if the queue is empty.
     pub fn pop_max(&mut self) -> Option<T>
         ensures none { IfNone result (self.old.items ≡ []) }
         ensures unchanged { IfNone result (self.new.items ≡ []) }

@@ -1,4 +1,4 @@
-//! The order of keys, found from eight bytes at a time.
+//! Comparison of keys, eight bytes at a time.
 ghost use Rattle.std.specs.Prelude.{◌≡◌};
 ghost use Rattle.std.specs.Ordering.{nat_cmp};
 ghost use Rattle.std.specs.Cmp.Lexicographic.{slice_cmp};
@@ -10,7 +10,7 @@ use sst_entries::{EntryRef, InternalKey};
 use std::alloc::Allocator;
 use std::cmp::Ordering;
 
-// As slices are compared. Eight bytes are compared at once, as one number.
+// Compares as slices do, eight bytes at once as one number.
 #[inline(always)]
 fn compare_bytes(first: &[u8], second: &[u8]) -> Ordering
     ensures { result ≡ slice_cmp nat_cmp first.now second.now }
@@ -33,20 +33,22 @@ fn compare_bytes(first: &[u8], second: &[u8]) -> Ordering
     }
 }
 
-// As `InternalKey::cmp`, for a merge the one comparison of which there are many.
+// Compares as `InternalKey::cmp` does. A merge makes many of these comparisons.
 #[inline(always)]
 pub(crate) fn compare_keys<A: Allocator>(x: &InternalKey<A>, y: &InternalKey<A>) -> Ordering
     ensures { result ≡ key_cmp x.now y.now }
 {
-    // The rest is looked at in a tie alone.
+    // The rest is compared only on a tie.
     match compare_bytes(x.user_key.as_slice(), y.user_key.as_slice()) {
         Ordering::Equal => y.seqno.cmp(&x.seqno).then(x.value_type.cmp(&y.value_type)),
         found => found,
     }
 }
 
-/// Compares the keys of borrowed entries, as a [`Merger`](crate::Merger) compares those of its own:
-/// by key up, number down and kind. Eight bytes of the keys are compared at once.
+/// Compares the keys of borrowed entries, as a [`Merger`](crate::Merger) compares those of its own.
+///
+/// The order is by ascending key, then by descending seqno, then by kind. Eight bytes of the keys
+/// are compared at once.
 #[inline(always)]
 pub fn compare_refs(x: &EntryRef<'_>, y: &EntryRef<'_>) -> Ordering
     ensures { result ≡ item_cmp (entry_of_ref x.now) (entry_of_ref y.now) }

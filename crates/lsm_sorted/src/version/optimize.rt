@@ -1,4 +1,4 @@
-//! Packing runs into as few as there can be.
+//! Packing runs into as few as possible.
 ghost use Rattle.std.specs.Prelude.{◌≡◌, ◌≢◌, ◌<◌, ◌≤◌, ◌∷◌, ◌++◌, ⊤, true, List, [], length};
 ghost use Rattle.std.specs.Prelude.{reverse, Contains, IsSome, IfOk, IfErr, IfSome, MatchOption};
 ghost use Rattle.std.specs.Prelude.{OnOk, None, Ok, Some};
@@ -23,14 +23,22 @@ use crate::{KeyRange, Ranged, Run};
 use sst_entries::Error;
 use std::alloc::Allocator;
 
-/// Packs the tables of some runs into as few runs as there can be, so that each key keeps the order
-/// of its tables. At most one run comes back as it is. Else each table, in run order, goes behind
-/// the last new run that has a table which overlaps it, or into the first; tables are moved, none
-/// is cloned.
+/// Packs the tables of some runs into as few runs as possible, with the tables of each key in the
+/// same order.
 ///
-/// A table is tried against each new run from the last one down, by two binary searches among the
-/// run's tables, so n tables in r new runs take at most about n times r times log n comparisons of
-/// keys. Refused [`Error::OutOfMemory`] alone; the runs are given up then.
+/// At most one run is returned unchanged. Otherwise the tables are moved, in run order, into new
+/// runs. Each goes into the run after the last new run that has a table overlapping it. If none
+/// has, it goes into the first. No table is cloned.
+///
+/// The order of each key's tables is kept if all ranges are well-formed. The number of runs is
+/// least if also each run has a table and its ranges do not overlap.
+///
+/// The new runs are searched from the last one down, with two binary searches in each. So n tables
+/// in r new runs take at most about n times r times log n comparisons of keys.
+///
+/// # Errors
+///
+/// [`Error::OutOfMemory`] only. The runs are then dropped.
 pub fn optimize_runs<T: Clone + Ranged + Drop, A: Allocator + Clone>(
     alloc: A,
     runs: Vec<Run<T, A>, A>,
@@ -54,7 +62,7 @@ pub fn optimize_runs<T: Clone + Ranged + Drop, A: Allocator + Clone>(
     }
 }
 
-// Puts the tables of some runs in, one after the other.
+// Inserts the tables of some runs, one after another.
 fn pack<T: Ranged + Drop, A: Allocator + Clone>(
     alloc: &A,
     runs: Vec<Run<T, A>, A>,
@@ -71,7 +79,7 @@ fn pack<T: Ranged + Drop, A: Allocator + Clone>(
     Ok(packed)
 }
 
-// Puts tables in, one after the other.
+// Inserts tables, one after another.
 fn place_all<T: Ranged + Drop, A: Allocator + Clone>(
     alloc: &A,
     packed: &mut Vec<Run<T, A>, A>,
@@ -89,10 +97,16 @@ fn place_all<T: Ranged + Drop, A: Allocator + Clone>(
     Ok(())
 }
 
-/// A chain: places, as run and place in it, of tables each of which overlaps the next one, which is
-/// in a later run. Where no ranges in a run overlap and all are well-formed, it is as long as the
-/// number of runs that [`optimize_runs`] gives, so that no fewer can do. There is a place for some
-/// table where there is one. Refused [`Error::OutOfMemory`] alone.
+/// Returns a chain of tables, each of which overlaps the next one, which is in a later run.
+///
+/// Each pair is the index of a run and of a table in it. The chain is empty only if there are no
+/// tables. Suppose each run has a table and ranges in it do not overlap, and all ranges are
+/// well-formed. Then the chain is as long as [`optimize_runs`] returns runs, so no fewer runs
+/// suffice.
+///
+/// # Errors
+///
+/// [`Error::OutOfMemory`] only.
 pub fn overlap_chain<T: Ranged, A: Allocator + Clone, B: Allocator>(
     alloc: A,
     runs: &[Run<T, B>],
@@ -111,7 +125,7 @@ pub fn overlap_chain<T: Ranged, A: Allocator + Clone, B: Allocator>(
     Ok(chain)
 }
 
-// A table of the runs that a chain goes through, with its place.
+// A table and its position in the runs.
 #[derive(Drop)]
 struct Link<'a, T> {
     table: &'a T,
@@ -168,7 +182,7 @@ fn place_links<'a, T: Ranged, A: Allocator + Clone>(
     Ok(())
 }
 
-// One table of each run, from the last run on, each of which overlaps the one before it.
+// Collects one table of each run, from the last run on, each of which overlaps the one before it.
 fn walk_down<'a, T: Ranged, A: Allocator>(
     packed: &[Run<Link<'a, T>, A>],
     chain: &mut Vec<(usize, usize), A>,
@@ -193,7 +207,7 @@ fn walk_down<'a, T: Ranged, A: Allocator>(
     Ok(())
 }
 
-// Any table of a run, or where there is a table to be linked to one below it, if there is one.
+// A table of a run: any, or one that is linked to the table above, if there is one.
 fn link_below<'r, 'a, T: Ranged, A: Allocator>(
     run: &'r Run<Link<'a, T>, A>,
     above: Option<&Link<'a, T>>,
@@ -229,7 +243,7 @@ fn link_to<'r, 'a, T: Ranged, A: Allocator>(
     }
 }
 
-// Puts a table behind the last run that has one which overlaps it, or into the first.
+// Inserts a table into the run after the last one with an overlapping table, or into the first.
 fn place<T: Ranged + Drop, A: Allocator + Clone>(
     alloc: &A,
     packed: &mut Vec<Run<T, A>, A>,

@@ -1,4 +1,4 @@
-//! Tables that are packed from runs of their own.
+//! Packing tables that are each a run of their own.
 ghost use Rattle.std.specs.Prelude.{◌≡◌, ◌∷◌, [], IfErr, IfOk};
 ghost use Rattle.sst_entries.specs.declared.error.Error.TheVariants.{OutOfMemory};
 ghost use Rattle.lsm_sorted.specs.version.Packing.{AreTablesWellFormed, IsChain, SameTables};
@@ -8,10 +8,10 @@ use crate::{KeyRange, Ranged, Run, optimize_runs, overlap_chain};
 use sst_entries::Error;
 use std::alloc::{AllocError, Allocator, Global};
 
-/// A table, and its place among those that it is packed with.
+/// A table and its index among the tables that it is packed with.
 #[derive(Drop)]
 pub struct Placed<T> {
-    /// The place, counted from 0.
+    /// The index, counted from 0.
     pub place: usize,
     /// The table.
     pub table: T,
@@ -44,17 +44,18 @@ impl<T: Ranged> Ranged for Placed<T> {
     ghost steady = { λ x y same. T.steady x.table y.table same };
 }
 
-/// How tables are packed.
+/// The result of packing tables.
 #[derive(Drop)]
 pub struct Packed<T, A: Allocator = Global> {
-    /// The runs, as few as there can be.
+    /// The runs: as few as possible if all ranges are well-formed.
     pub runs: Vec<Run<Placed<T>, A>, A>,
-    /// Tables, each of which overlaps the next one: as many as there are runs, so that no fewer do.
-    /// Beside a table's place stands that in its own run, 0.
+    /// A chain of tables, each of which overlaps the next one.
+    ///
+    /// Each pair is the index of a table and its index in its own run, which is 0. If all ranges
+    /// are well-formed, the chain is as long as there are runs, so no fewer runs suffice.
     pub chain: Vec<(usize, usize), A>,
 }
 
-// A table as a run of its own.
 fn run_of<T: Ranged + Drop, A: Allocator>(
     alloc: A,
     place: usize,
@@ -65,11 +66,11 @@ fn run_of<T: Ranged + Drop, A: Allocator>(
 {
     let mut alone = Vec::new(alloc);
     alone.push(Placed { place, table })?;
-    // What has a table is a run.
+    // `Run::new` returns a run for a vector with a table.
     Run::new(alone).ok_or(Error::OutOfMemory)
 }
 
-// Each table as a run of its own, with its place.
+// Each table as a run of its own, with its index.
 fn runs_of<T: Ranged + Drop, A: Allocator + Copy>(
     alloc: A,
     tables: Vec<T, A>,
@@ -85,16 +86,18 @@ fn runs_of<T: Ranged + Drop, A: Allocator + Copy>(
     Ok(runs)
 }
 
-/// Packs tables, each a run of its own, the newest first, into as few runs as possible. Each key
-/// keeps the order of its tables, and the chain shows why no fewer runs do. This holds if all
-/// ranges are well-formed ([`KeyRange::is_well_formed`]).
+/// Packs tables into as few runs as possible.
 ///
-/// Whatever the ranges, each table comes back exactly once. In the chain each table overlaps the
-/// next one, and the chain is empty only if there are no tables.
+/// Each table is a run of its own, the newest first. Each key keeps the order of its tables, and
+/// the chain shows why no fewer runs suffice. This holds if all ranges are well-formed
+/// ([`KeyRange::is_well_formed`]).
+///
+/// Whatever the ranges, the runs have each table exactly once. In the chain each table overlaps the
+/// next one. The chain is empty only if there are no tables.
 ///
 /// # Errors
 ///
-/// [`Error::OutOfMemory`] alone. The tables are dropped then.
+/// [`Error::OutOfMemory`] only. The tables are then dropped.
 pub fn pack_each<T: Clone + Ranged + Drop, A: Allocator + Copy>(
     alloc: A,
     tables: Vec<T, A>,

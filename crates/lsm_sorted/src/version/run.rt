@@ -25,28 +25,30 @@ use std::alloc::{AllocError, Allocator, Global};
 use std::marker::Model;
 use std::ops::{Bound, Deref};
 
-/// What has a range of keys, as a table has.
+/// A type with a key range, such as a table.
 pub trait Ranged {
-    /// What the memory of the range's keys comes from.
+    /// The allocator of the range's keys.
     type Alloc: Allocator;
 
-    // What a value stands for, as a table stands for its bytes and its global number.
+    // The contents that a value represents: for a table its bytes and its global seqno.
     ghost Meaning: { Type 0 };
 
     ghost meaning: { Self → Meaning };
 
-    // The range of the keys.
+    // The key range.
     ghost range: { Self → Interval };
 
-    /// The least and the greatest key.
+    /// Returns the range from the least to the greatest key.
     fn key_range(&self) -> &KeyRange<Self::Alloc>
         ensures { result.now ≡ range self.now };
 
-    // Values that stand for the same have the same range.
+    // Values with the same contents have the same range.
     ghost steady: { (x y : Self) → meaning x ≡ meaning y → range x ≡ range y };
 }
 
-/// A table of a run. A contract sees the table.
+/// A table of a run.
+///
+/// In contracts, it is the table itself.
 #[derive(Drop)]
 pub struct Indexed<T: Ranged> {
     inner: T,
@@ -59,7 +61,7 @@ impl<T: Ranged> Model for Indexed<T> {
 }
 
 impl<T: Ranged> Indexed<T> {
-    /// A table of a run.
+    /// Wraps a table.
     pub fn new(inner: T) -> Indexed<T>
         ensures { result ≡ inner }
     {
@@ -93,9 +95,11 @@ impl<T: Ranged> Deref for Indexed<T> {
     }
 }
 
-/// Tables in the order in which a search goes through them. Those of a run that is in order, see
-/// [`Run::is_in_order`], have ranges that do not overlap and ascend, so a search is a binary one.
-/// A contract sees the list of the tables.
+/// A list of tables, in search order.
+///
+/// A run is in order if its ranges are well-formed, ascend and do not overlap, see
+/// [`Run::is_in_order`]. Searches are binary, so they are exact only for such a run. In contracts,
+/// a run is the list of its tables.
 #[derive(Drop)]
 #[derive_where(Debug; T)]
 pub struct Run<T, A: Allocator = Global>(Vec<T, A>);
@@ -124,7 +128,7 @@ impl<T: Ranged, A: Allocator> Run<T, A> {
     ghost use Rattle.std.specs.contracts.vec.Vec as vec;
     ghost use Rattle.lsm_sorted.specs.contracts.version.run.Run.{the_row};
 
-    /// The tables.
+    /// Returns the tables.
     #[inline]
     pub fn as_slice(&self) -> &[T]
         ensures { result.now ≡ self.now }
@@ -132,7 +136,9 @@ impl<T: Ranged, A: Allocator> Run<T, A> {
         self.0.as_slice()
     }
 
-    /// Whether the ranges are well-formed, do not overlap and ascend; true for no tables.
+    /// Returns whether the ranges are well-formed, ascend and do not overlap.
+    ///
+    /// It returns true for no tables.
     pub fn is_in_order(&self) -> bool
         ensures { result ≡ are_in_order (map T.range self.now) }
     {
@@ -147,8 +153,9 @@ impl<T: Ranged, A: Allocator> Run<T, A> {
         true
     }
 
-    /// The table whose range has the key, of a run that is in order. Of any other run, some table
-    /// or none.
+    /// Returns the table whose range contains the key, if there is one.
+    ///
+    /// This holds for a run in order. For any other run, it returns some table or `None`.
     pub fn get_for_key(&self, key: &[u8]) -> Option<&T>
         ensures found { IsInOrder T.range self.now →
             option_copied result ≡ table_of_key T.range key.now self.now }
@@ -164,8 +171,10 @@ impl<T: Ranged, A: Allocator> Run<T, A> {
         }
     }
 
-    /// The first and the last place of the tables whose ranges reach past both bounds, of a run
-    /// that is in order. Of any other run, some first and last place or none.
+    /// Returns the first and the last index of the tables whose ranges reach past both bounds.
+    ///
+    /// This holds for a run in order. For any other run, it returns some first and last index or
+    /// `None`.
     pub fn range_overlap_indexes(
         &self,
         lower: Bound<&[u8]>,
@@ -187,8 +196,9 @@ impl<T: Ranged, A: Allocator> Run<T, A> {
         }
     }
 
-    /// The tables whose ranges overlap a range, of a run that is in order. Of any other run, some
-    /// tables that stand together.
+    /// Returns the tables whose ranges overlap a range.
+    ///
+    /// This holds for a run in order. For any other run, it returns some adjacent tables.
     pub fn get_overlapping(&self, key_range: &KeyRange<T::Alloc>) -> &[T]
         ensures found { IsInOrder T.range self.now →
             result.now ≡ tables_across T.range key_range.now self.now }
@@ -206,8 +216,9 @@ impl<T: Ranged, A: Allocator> Run<T, A> {
         found
     }
 
-    /// The tables whose ranges lie wholly inside a range, of a run that is in order. Of any other
-    /// run, some tables that stand together.
+    /// Returns the tables whose ranges are inside a range.
+    ///
+    /// This holds for a run in order. For any other run, it returns some adjacent tables.
     pub fn get_contained(&self, key_range: &KeyRange<T::Alloc>) -> &[T]
         ensures found { IsInOrder T.range self.now →
             result.now ≡ tables_inside T.range key_range.now self.now }
@@ -219,8 +230,13 @@ impl<T: Ranged, A: Allocator> Run<T, A> {
         found
     }
 
-    /// The range from the first table's least key to the last table's greatest. Conditions: there
-    /// is a table. Refused [`Error::OutOfMemory`] where a count of sharers is refused.
+    /// Returns the range from the first table's least key to the last table's greatest key.
+    ///
+    /// The run must have a table.
+    ///
+    /// # Errors
+    ///
+    /// [`Error::OutOfMemory`] if a reference count cannot be incremented.
     pub fn aggregate_key_range(&self) -> Result<KeyRange<T::Alloc>, Error>
         requires { 0 < length self.now }
         ensures ok { IfOk result (λ range. first_to_last (map T.range self.now) ≡ Some range) }
@@ -232,7 +248,6 @@ impl<T: Ranged, A: Allocator> Run<T, A> {
         Ok(KeyRange::new((first.min().clone()?, last.max().clone()?)))
     }
 
-    // The tables, given up by the run.
     pub(crate) fn into_vec(self) -> Vec<T, A>
         ensures { result.items ≡ self }
     {
@@ -246,7 +261,7 @@ impl<T: Ranged, A: Allocator> Run<T, A> {
         Run(tables)
     }
 
-    // Puts a table into a run that is in order, behind those that start no later.
+    // Inserts a table into a run in order, after those that start no later.
     pub(crate) fn insert_in_order(&mut self, table: T) -> Result<(), Error>
     where
         T: Drop,
@@ -261,8 +276,9 @@ impl<T: Ranged, A: Allocator> Run<T, A> {
         Ok(())
     }
 
-    /// Takes the table at a place out; those behind it move up. Conditions: the place is below the
-    /// number of tables. The run can be left empty.
+    /// Removes and returns the table at an index; later tables move up.
+    ///
+    /// The index must be below the number of tables. The run can be left empty.
     pub fn remove(&mut self, place: usize) -> T
         requires { place < length self.old }
         ensures taken { slice_get self.old place ≡ Some result }
@@ -271,14 +287,17 @@ impl<T: Ranged, A: Allocator> Run<T, A> {
         self.0.remove(place)
     }
 
-    /// Puts tables behind those of the run, in their order: nothing is sorted. Refused
-    /// [`Error::OutOfMemory`] alone, and never for no tables; the run is unchanged then, and the
-    /// tables are given up.
+    /// Appends tables in their order, without sorting.
+    ///
+    /// # Errors
+    ///
+    /// [`Error::OutOfMemory`] only, and never for no tables. The run is then unchanged, and the
+    /// tables are dropped.
     pub fn extend(&mut self, items: Vec<T, A>) -> Result<(), Error>
     where
         T: Drop,
         ensures ok { OnOk result (self.new ≡ self.old ++ items.items) }
-        // No tables want no memory.
+        // Without tables it does not fail.
         ensures none { items.items ≡ [] → (result ≡ Ok tt) × (self.new ≡ self.old) }
         ensures err { IfErr result (λ e. (e ≡ OutOfMemory) × (self.new ≡ self.old)) }
     {
@@ -289,7 +308,9 @@ impl<T: Ranged, A: Allocator> Run<T, A> {
         Ok(())
     }
 
-    /// Keeps the tables for which `keeps` answers true, in their order. The run can be left empty.
+    /// Keeps the tables for which `keeps` returns true, in their order.
+    ///
+    /// The run can be left empty.
     pub fn retain<F: Fn(&T) -> bool>(&mut self, keeps: F)
     where
         T: Drop,
@@ -299,7 +320,9 @@ impl<T: Ranged, A: Allocator> Run<T, A> {
         self.0.retain(keeps)
     }
 
-    /// The vector of the tables, to change it at will. The run can be left empty or out of order.
+    /// Returns the vector of the tables, to change it freely.
+    ///
+    /// The run can be left empty or out of order.
     pub fn inner_mut(&mut self) -> &mut Vec<T, A>
         ensures* writes_back { sem 𝓛 (Lends (the_row T.row A.row A.Allocator)
             (vec.the_row T.row A.row A.Allocator) self.entry result (λ v. v.items)) }
@@ -310,9 +333,13 @@ impl<T: Ranged, A: Allocator> Run<T, A> {
 }
 
 impl<T: Ranged + Drop, A: Allocator> Run<T, A> {
-    /// Puts a table in and sorts the run by the tables' least keys; of two with the same least key
-    /// the earlier one stays in front. Refused [`Error::OutOfMemory`] alone; the run is unchanged
-    /// then, and the table is given up.
+    /// Adds a table and sorts the run by the tables' least keys.
+    ///
+    /// Tables with the same least key keep their order, and the new table comes last among them.
+    ///
+    /// # Errors
+    ///
+    /// [`Error::OutOfMemory`] only. The run is then unchanged, and the table is dropped.
     pub fn push(&mut self, item: T) -> Result<(), Error>
         ensures permutation { OnOk result (IsPermutation (self.old ++ item ∷ []) self.new) }
         ensures sorted { OnOk result (IsSortedByMin T.range self.new) }
@@ -330,7 +357,7 @@ impl<T: Ranged + Drop, A: Allocator> Run<T, A> {
         Ok(())
     }
 
-    /// A run of some tables, as they stand, and `None` exactly for no tables.
+    /// Creates a run of tables in their order, or returns `None` exactly for no tables.
     pub fn new(items: Vec<T, A>) -> Option<Run<T, A>>
         ensures { MatchOption result (items.items ≡ [])
             (λ run. (run ≡ items.items) × (items.items ≢ [])) }
@@ -343,7 +370,7 @@ impl<T: Ranged + Drop, A: Allocator> Run<T, A> {
     }
 }
 
-// Whether a range is well-formed and starts above the last key, where there is one.
+// Whether a range is well-formed and starts above the last key, if there is one.
 fn goes_on<B: Allocator>(last: Option<&UserKey<B>>, range: &KeyRange<B>) -> bool
     ensures { result ≡ may_come_next (option_copied last.entry) range.now }
 {
@@ -354,8 +381,8 @@ fn goes_on<B: Allocator>(last: Option<&UserKey<B>>, range: &KeyRange<B>) -> bool
     range.is_well_formed() && starts_above
 }
 
-// Whether no table starts before the one in front of it. The last two are compared first: a table
-// that was just put at the end and does not belong there is found at once.
+// Whether no table starts before its predecessor. The last two are compared first, so a new last
+// table out of order is found at once.
 fn starts_ascend<T: Ranged>(tables: &[T]) -> bool
     ensures { IsTrue result → IsSortedByMin T.range tables.now }
 {

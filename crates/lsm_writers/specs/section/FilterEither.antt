@@ -1,4 +1,4 @@
--- The keys that a filter writer of either kind holds, and that writer with other options.
+-- The keys and options of a filter writer of either kind.
 use Rattle.std.specs.Prelude.{ℕ, Bool}
 use Rattle.sst_blocks.specs.declared.filter.policy.BloomConstructionPolicy.{BloomConstructionPolicy}
 use Rattle.sst_blocks.specs.declared.table.options.FilterKind.{FilterKind}
@@ -13,30 +13,33 @@ use Rattle.lsm_writers.specs.declared.section.filter_either.FilterWriterImpl.The
   Partitioned as PartitionedWriter,
 }
 
--- the kind of a writer, its policy, and whether a call failed
+-- the kind of filter that a writer writes
 abbrev pub kind_by : {A : Type 0} → FilterWriterImpl A → FilterKind
 kind_by (FullWriter w) = Full
 kind_by (PartitionedWriter w) = Partitioned w.size
 
+-- the policy of a writer
 abbrev pub policy_by : {A : Type 0} → FilterWriterImpl A → BloomConstructionPolicy
 policy_by (FullWriter w) = w.policy
 policy_by (PartitionedWriter w) = w.policy
 
+-- a call of the writer failed
 abbrev pub failed_by : {A : Type 0} → FilterWriterImpl A → Bool
 failed_by (FullWriter w) = w.failed
 failed_by (PartitionedWriter w) = w.failed
 
--- the keys that a writer of either kind holds
+-- a writer of either kind holds these keys
 abbrev pub HoldsBy : {A : Type 0} → FilterWriterImpl A → GivenKeys → Type 0
 HoldsBy (FullWriter w) given = HoldsHashes w given
 HoldsBy (PartitionedWriter w) given = HoldsParts w given
 
--- a writer with another policy, or with another partition size if it has partitions
+-- a writer with another policy
 abbrev pub with_policy_by : {A : Type 0} → FilterWriterImpl A → BloomConstructionPolicy
     → FilterWriterImpl A
 with_policy_by (FullWriter w) policy = FullWriter (record w { policy = policy })
 with_policy_by (PartitionedWriter w) policy = PartitionedWriter (record w { policy = policy })
 
+-- a writer with another partition size, if it has partitions
 abbrev pub with_size_by : {A : Type 0} → FilterWriterImpl A → ℕ → FilterWriterImpl A
 with_size_by (FullWriter w) size = FullWriter w
 with_size_by (PartitionedWriter w) size = PartitionedWriter (record w { size = size })

@@ -15,24 +15,25 @@ use Rattle.sst_blocks.specs.table.Parts.{parts_by}
 use Rattle.lsm_writers.specs.section.Cutting.{waiting_by}
 use Rattle.lsm_writers.specs.section.Given.{GivenKeys, KeyPart, keys_in, key_parts_of}
 
--- the fault of a filter of these keys that is too large; none without keys
+-- the fault of building one filter of these keys; none without keys
 abbrev pub keys_fault : BloomConstructionPolicy → List (List ℕ) → Option Error
 keys_fault policy [] = None
 keys_fault policy (k ∷ keys) = fault_for (tenths_of policy) (length (k ∷ keys))
 
--- the fault of the filter of a part, if the part is full
+-- the fault of cutting a part, if it is full
 abbrev pub cut_fault : BloomConstructionPolicy → ℕ → List (List ℕ) → Option Error
 cut_fault policy size part =
     if is_full_filter policy size part then fault_for (tenths_of policy) (length part) else None
 
--- the fault of registering a key after the pending ones: the part that it completes is too large
+-- the fault of registering a key after the pending ones: the partition that it completes is too
+-- large
 abbrev pub register_fault : FilterKind → BloomConstructionPolicy → List (List ℕ) → List ℕ
     → Option Error
 register_fault Full policy pending key = None
 register_fault (Partitioned size) policy pending key =
     cut_fault policy size (pending ++ key ∷ [])
 
--- the partition size; 0 for a full filter
+-- the partition size, 0 for a full filter
 abbrev pub partition_size : FilterKind → ℕ
 partition_size Full = 0
 partition_size (Partitioned size) = size
@@ -41,29 +42,29 @@ partition_size (Partitioned size) = size
 abbrev pub parts_bound : BloomConstructionPolicy → List (List (List ℕ)) → ℕ
 parts_bound policy parts = sum_by (λ p. bound_for (tenths_of policy) (length p)) parts
 
--- the same, each part under its own policy
+-- the same bound, with each part under its own policy
 abbrev pub key_parts_bound : List KeyPart → ℕ
 key_parts_bound parts =
     sum_by (λ (p : KeyPart). bound_for (tenths_of p.policy) (length p.keys)) parts
 
--- a handle with this end key
+-- a handle with this end key; its other fields are 0
 abbrev pub end_handle : List ℕ → Handle
 end_handle key = record { end_key = key; seqno = 0; offset = 0; size = 0 }
 
--- the fault of the top level of partitions with these last keys
+-- the fault of writing the top level of partitions with these last keys
 abbrev pub top_fault : List (List ℕ) → Option Error
 top_fault ends = handles_fault (map end_handle ends)
 
--- the first size fault by the number of keys alone: the filter of the pending keys; then, of
--- partitions, the section of all parts
+-- the first fault known from the number of keys: the filter of the pending keys; for partitions,
+-- then the section
 abbrev pub size_fault : FilterKind → BloomConstructionPolicy → GivenKeys → Option Error
 size_fault Full policy given = keys_fault policy given.pending
 size_fault (Partitioned size) policy given =
     option_or (keys_fault policy given.pending)
     (section_fault (key_parts_bound (key_parts_of policy given)))
 
--- the first fault of finishing a filter of keys all registered under one kind and policy: its
--- filter, or that of the rest, then the section and the top level
+-- the first fault of finishing under one kind and policy: the filter of the pending keys; for
+-- partitions, then the section and the top level
 abbrev pub filter_fault : FilterKind → BloomConstructionPolicy → List (List ℕ) → Option Error
 filter_fault Full policy keys = keys_fault policy keys
 filter_fault (Partitioned size) policy keys =
@@ -72,8 +73,8 @@ filter_fault (Partitioned size) policy keys =
     option_or (keys_fault policy (waiting_by full keys))
     (option_or (section_fault (parts_bound policy parts)) (top_fault (map last_of_keys parts)))
 
--- the first fault of finishing a filter under any earlier options: the filter of the pending keys;
--- then, of partitions, the section and the top level
+-- the first fault of finishing under changing options: the filter of the pending keys; for
+-- partitions, then the section and the top level
 abbrev pub given_fault : FilterKind → BloomConstructionPolicy → GivenKeys → Option Error
 given_fault Full policy given = keys_fault policy given.pending
 given_fault (Partitioned size) policy given =

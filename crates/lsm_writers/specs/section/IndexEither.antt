@@ -1,4 +1,4 @@
--- The handles that an index writer of either kind holds.
+-- The handles of an index writer of either kind.
 use Rattle.lsm_writers.specs.section.Registered.{Registered}
 use Rattle.lsm_writers.specs.declared.section.index_either.IndexWriterImpl.{IndexWriterImpl}
 use Rattle.lsm_writers.specs.declared.section.index_either.IndexWriterImpl.TheVariants.{
@@ -6,7 +6,7 @@ use Rattle.lsm_writers.specs.declared.section.index_either.IndexWriterImpl.TheVa
   Partitioned,
 }
 
--- the registered handles, the kind, and whether a call failed
+-- the state of the index writer: handles, kind, and whether a call failed
 abbrev pub registered_by : {A : Type 0} → IndexWriterImpl A → Registered
 registered_by (Full w) = w
 registered_by (Partitioned w) = w

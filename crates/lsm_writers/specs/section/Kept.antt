@@ -18,13 +18,15 @@ handle_with end_key seqno block = record {
 abbrev pub handle_among : List ℕ → HandlePlace → Handle
 handle_among keys p = handle_with (slice_range keys p.start p.end) p.seqno p.block
 
+-- the handles whose end keys are these ranges of the buffer
 abbrev pub handles_among : List ℕ → List HandlePlace → List Handle
 handles_among keys ps = map (handle_among keys) ps
 
--- the range of an end key is within the buffer
+-- an end key is a range within the buffer
 pub record LiesAmong (keys : List ℕ) (p : HandlePlace) : Type 0 where
   pub ordered : p.start ≤ p.end
   pub within : p.end ≤ length keys
 
+-- all end keys are ranges within the buffer
 abbrev pub AreAmong : List ℕ → List HandlePlace → Type 0
 AreAmong keys ps = AllByRecursion (LiesAmong keys) ps

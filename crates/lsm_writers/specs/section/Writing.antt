@@ -18,7 +18,7 @@ use Rattle.sst_blocks.specs.table.Partitions.{handles_block, tops_from}
 use Rattle.lsm_writers.specs.section.Given.{GivenKeys, IsSomePart, keys_in, key_parts_of}
 use Rattle.lsm_writers.specs.section.Held.{AreFiltersOf, CutPart, filters_of, partition_of}
 
--- the sections of the filters of these keys, after the bytes written before
+-- the filter sections of these keys, after the bytes written before
 abbrev pub sections_behind : FilterKind → BloomConstructionPolicy → List (List ℕ) → Written
     → List BloomFilter → Sections
 sections_behind kind policy keys before fs =
@@ -33,14 +33,14 @@ pub record WritesFilter (kind : FilterKind) (policy : BloomConstructionPolicy)
   pub counted : count ≡ filter_count kind filters
   pub fit : AllByRecursion SectionFits (sections_behind kind policy keys before filters)
 
--- the sections of the filters of parts of keys, after the bytes written before
+-- the filter sections of these parts of keys, after the bytes written before
 abbrev pub key_sections : FilterKind → BloomConstructionPolicy → GivenKeys → Written
     → List BloomFilter → Sections
 key_sections kind policy given before fs =
     filter_sections kind V4 (length before.bytes) (keys_in (key_parts_of policy given)) fs
 
--- the filters of these parts are written after the bytes before, and `count` blocks are counted;
--- the pending part has this policy, each other part its own
+-- the filters of these parts are written after the bytes before, and `count` blocks are counted.
+-- The pending part has this policy, each other part its own
 pub record WritesParts (kind : FilterKind) (policy : BloomConstructionPolicy) (given : GivenKeys)
     (before after : Written) (count : ℕ) : Type 0 where
   pub uncut : kind ≡ Full → given.cut ≡ []
@@ -51,14 +51,15 @@ pub record WritesParts (kind : FilterKind) (policy : BloomConstructionPolicy) (g
   pub counted : count ≡ filter_count kind filters
   pub fit : AllByRecursion SectionFits (key_sections kind policy given before filters)
 
--- the handles of the top level of these parts, the first part at an offset; and its block
+-- the top-level handles of these parts, if the first part is at this offset
 abbrev pub tops_of : ℕ → List CutPart → List Handle
 tops_of at parts = tops_from at (map partition_of parts)
 
+-- the top-level block of these parts, if the first part is at this offset
 abbrev pub tops_block : ℕ → List CutPart → List ℕ
 tops_block at parts = handles_block V4 (tops_of at parts)
 
--- the sections of these parts and their top level, the first part at an offset
+-- the sections of these parts and their top level, if the first part is at this offset
 abbrev pub part_sections : ℕ → List CutPart → Sections
 part_sections at parts =
     (FilterSection, flat_map (filter_block V4) (filters_of parts))

@@ -1,4 +1,4 @@
-//! Building the filter of some keys.
+//! Building a filter from the hashes of its keys.
 ghost use Rattle.std.specs.Prelude.{◌≡◌, ℕ, List, length, map, IfOk};
 ghost use Rattle.lsm_writers.specs.section.FilterWords.{Faults, FaultsFirst, IsFilterFor};
 ghost use Rattle.lsm_writers.specs.section.FilterWords.{fault_for, hash_of, tenths_of};
@@ -6,8 +6,8 @@ ghost use Rattle.lsm_writers.specs.section.FilterWords.{fault_for, hash_of, tent
 use sst_blocks::{BloomConstructionPolicy, Builder, Error, filter_bound};
 use std::alloc::Allocator;
 
-/// Builds the filter of the keys with these hashes, with the buffer's allocator. Tests the size
-/// before it clones the allocator. Its errors are those of [`build_filter`].
+/// Builds the filter of the keys with these hashes, with the allocator of the buffer. It checks the
+/// size before it clones the allocator. Its errors are those of [`build_filter`].
 pub(crate) fn build_from_buffer<A: Allocator + Clone>(
     policy: &BloomConstructionPolicy,
     hashes: &Vec<u64, A>,

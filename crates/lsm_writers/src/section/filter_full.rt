@@ -15,7 +15,9 @@ use sst_blocks::{
 use std::alloc::{Allocator, Global};
 use std::marker::Model;
 
-/// Writes a filter of one block with all keys. Contracts see the hashes of the keys.
+/// A writer of a full filter: one block for all keys.
+///
+/// Contracts see the hashes of the keys.
 #[derive(Drop)]
 pub struct FullFilterWriter<A: Allocator = Global> {
     bloom_policy: BloomConstructionPolicy,
@@ -100,9 +102,9 @@ impl<A: Allocator + Clone> FilterWriter<A> for FullFilterWriter<A> {
     }
 }
 
-/// Writes the filter section for these hashes, and returns its number of blocks. Fails with
-/// [`Error::BlockTooLarge`] before any allocation if the filter is too large, or with
-/// [`Error::OutOfMemory`].
+/// Writes the filter section for these hashes, and returns its number of blocks. Before any
+/// allocation it fails with [`Error::BlockTooLarge`] if the filter is too large. Else it fails only
+/// with [`Error::OutOfMemory`].
 fn write_filter<A: Allocator + Clone>(
     writer: &mut SectionWriter<A>,
     policy: &BloomConstructionPolicy,

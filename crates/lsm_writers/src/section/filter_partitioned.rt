@@ -46,8 +46,8 @@ impl<A: Allocator> Model for FilterPartition<A> {
     ghost view = { λ p. record { end_key = p.end_key; filter = p.filter } };
 }
 
-/// Writes a partitioned filter: partitions cut at a size in bytes, and a top level of their last
-/// keys.
+/// A writer of a partitioned filter: partitions cut at a size in bytes, and a top level of their
+/// last keys.
 ///
 /// Contracts see the filters of the cut partitions, and the hashes of the keys after them.
 #[derive(Drop)]
@@ -118,7 +118,7 @@ impl<A: Allocator + Clone> PartitionedFilterWriter<A> {
         })
     }
 
-    // Returns whether the pending keys are due to be cut.
+    // Returns whether the filter of the pending keys reaches the partition size.
     fn is_full(&self) -> bool
         ensures { result ≡
             nat_le self.now.size (size_for (tenths_of self.now.policy) (length self.now.hashes)) }
@@ -175,7 +175,7 @@ impl<A: Allocator + Clone> PartitionedFilterWriter<A> {
         }
     }
 
-    // Returns a bound on the block of the pending keys in bytes: 0 without keys.
+    // Returns a bound on the size in bytes of the block of the pending keys: 0 without keys.
     fn pending_bound(&self) -> u64
         ensures { (given : GivenKeys) → HoldsParts self.now given →
             result ≡ key_parts_bound (rest_keys self.now.policy given.pending) }

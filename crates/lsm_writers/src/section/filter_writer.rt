@@ -15,7 +15,7 @@ ghost use Rattle.sst_blocks.specs.declared.filter.policy.BloomConstructionPolicy
 use sst_blocks::{BloomConstructionPolicy, CompressionType, Error, SectionWriter, UserKey};
 use std::alloc::Allocator;
 
-/// Takes the keys of a table in rising order, and writes a filter of them.
+/// A writer of the filter of a table, from its keys in rising order.
 pub trait FilterWriter<A: Allocator> {
     ghost use Rattle.std.specs.Prelude.{◌≡◌, ℕ, Bool, true, false, length, take, OnOk, OnErr, IfOk};
     ghost use Rattle.std.specs.Option.{option_or};
@@ -36,14 +36,14 @@ pub trait FilterWriter<A: Allocator> {
     /// The kind of the filter.
     ghost kind: { Self → FilterKind };
 
-    /// The policy: how large the filter is made.
+    /// The policy, which sets the size of the filter.
     ghost policy: { Self → BloomConstructionPolicy };
 
     /// Whether a call failed.
     ghost has_failed: { Self → Bool };
 
-    /// The writer holds these keys: those of the cut partitions, and the pending ones. Most keys
-    /// are kept as hashes only.
+    /// The writer holds these keys: those of the cut partitions, then the pending ones. It stores
+    /// most keys as hashes only.
     ghost Holds: { Self → GivenKeys → Type 0 };
 
     /// The writer after its policy is set.
@@ -52,10 +52,10 @@ pub trait FilterWriter<A: Allocator> {
     /// The writer after its partition size is set, if it has partitions.
     ghost with_partition_size: { Self → ℕ → Self };
 
-    /// Registers a key that is greater than all before it.
+    /// Registers a key that is greater than all registered before.
     ///
     /// The key becomes pending. The pending keys are cut as a partition once their filter, under
-    /// the current policy, reaches the current partition size. Earlier partitions do not change.
+    /// the current policy, reaches the current partition size. Partitions cut before do not change.
     ///
     /// # Errors
     ///
@@ -63,7 +63,8 @@ pub trait FilterWriter<A: Allocator> {
     /// - [`Error::BlockTooLarge`] if the key completes a partition whose filter is too large;
     /// - [`Error::OutOfMemory`].
     ///
-    /// After an error the writer has failed.
+    /// After an error each later registration and [`FilterWriter::finish`] fail with
+    /// [`Error::WriterFailed`].
     fn register_key(&mut self, key: &UserKey<A>) -> Result<(), Error>
         requires { has_failed self.old ≡ false → Rises (Holds self.old) key.now }
         ensures ok { OnOk result ((given : GivenKeys) → Holds self.old given →
@@ -75,7 +76,7 @@ pub trait FilterWriter<A: Allocator> {
         ensures refused { (given : GivenKeys) → Holds self.old given →
             Faults result (option_or (failed_fault (has_failed self.old))
             (register_fault (kind self.old) (policy self.old) given.pending key.now)) }
-        // `WriterFailed` comes before `OutOfMemory`.
+        // `WriterFailed` takes precedence over `OutOfMemory`.
         ensures first { FaultsFirst result (failed_fault (has_failed self.old)) }
     {
         self.register_key_bytes(key.as_slice())
@@ -93,12 +94,12 @@ pub trait FilterWriter<A: Allocator> {
         ensures refused { (given : GivenKeys) → Holds self.old given →
             Faults result (option_or (failed_fault (has_failed self.old))
             (register_fault (kind self.old) (policy self.old) given.pending key.now)) }
-        // `WriterFailed` comes before `OutOfMemory`.
+        // `WriterFailed` takes precedence over `OutOfMemory`.
         ensures first { FaultsFirst result (failed_fault (has_failed self.old)) };
 
-    /// Writes the filter and returns the number of blocks to count.
+    /// Writes the filter and returns its block count for the meta block.
     ///
-    /// It returns 1 for a full filter, even without keys, and else the number of partitions.
+    /// The count is 1 for a full filter, even without keys, and else the number of partitions.
     /// Without keys it writes nothing and does not allocate.
     ///
     /// # Errors
@@ -108,11 +109,14 @@ pub trait FilterWriter<A: Allocator> {
     /// - [`Error::WriterFailed`] if an earlier call failed;
     /// - [`Error::BlockTooLarge`] if the filter of all keys, or of those after the last cut, needs
     ///   a block of 2^32 bytes or more;
-    /// - [`Error::SectionTooLarge`] if the blocks of all partitions add up to that.
+    /// - [`Error::SectionTooLarge`] if the blocks of all partitions add up to 2^32 bytes or more.
     ///
-    /// Then, for partitions, [`Error::KeyTooLong`] if the last key of one is too long for the top
-    /// level, and [`Error::BlockTooLarge`] if the top level is too large. Also
-    /// [`Error::OutOfMemory`]. The bytes written before stay.
+    /// Then, for partitions:
+    ///
+    /// - [`Error::KeyTooLong`] if the last key of a partition is too long for the top level;
+    /// - [`Error::BlockTooLarge`] if the top level is too large.
+    ///
+    /// Also [`Error::OutOfMemory`]. After an error the bytes written before the call stay.
     fn finish(self, writer: &mut SectionWriter<A>) -> Result<usize, Error>
         requires { HasNoFilter writer.old }
         ensures ok { IfOk result (λ n. (given : GivenKeys) → Holds self given →
@@ -122,14 +126,14 @@ pub trait FilterWriter<A: Allocator> {
             Faults result (option_or (failed_fault (has_failed self))
             (given_fault (kind self) (policy self) given)) }
         ensures first { FaultsFirst result (failed_fault (has_failed self)) }
-        // Size faults that depend on the number of keys come before `OutOfMemory`.
+        // Size errors that depend on the number of keys take precedence over `OutOfMemory`.
         ensures sized { (given : GivenKeys) → Holds self given →
             FaultsFirst result (option_or (failed_fault (has_failed self))
             (size_fault (kind self) (policy self) given)) }
         // Without keys, only a failed writer returns an error.
         ensures idle { OnErr result (Holds self no_keys → has_failed self ≡ true) };
 
-    /// Sets the policy: how large the filter is made.
+    /// Sets the policy, which sets the size of the filter.
     ///
     /// It applies to the pending and all later keys. The registered keys and the cut partitions
     /// stay.
@@ -140,8 +144,9 @@ pub trait FilterWriter<A: Allocator> {
         ensures failed { has_failed result ≡ has_failed self }
         ensures holds { (given : GivenKeys) → Holds self given → Holds result given };
 
-    /// Sets the compression of the top level, if the filter has partitions. This changes neither
-    /// the keys nor the bytes written.
+    /// Sets the compression of the top level, if the filter has partitions.
+    ///
+    /// The call changes neither the keys nor the bytes written.
     fn use_tli_compression(self, compression: CompressionType) -> Self
         ensures { result ≡ self };
 
@@ -156,25 +161,24 @@ pub trait FilterWriter<A: Allocator> {
         ensures holds { (given : GivenKeys) → Holds self given → Holds result given };
 }
 
-/// A law of partition sizes of at most 4,194,304 bytes: the filter of a cut partition is never too
-/// large.
+/// States that the filter of a cut partition is never too large at small partition sizes.
 ///
-/// The options must stay unchanged from the first key on. The call does nothing.
+/// The partition size is at most 4,194,304 bytes. The options must stay unchanged from the first
+/// key on. The call does nothing.
 pub fn small_partitions_fit()
     ensures { (kind : FilterKind) (policy : BloomConstructionPolicy) (keys : List (List ℕ))
         (key : List ℕ) → tenths_of policy < 2 ^ 32 → partition_size kind ≤ 4194304 →
         register_fault kind policy (given_by kind policy keys).pending key ≡ None }
 {}
 
-/// A law of keys that were all registered under one kind and one policy, set before the first one.
+/// States the keys and filters of a writer whose kind and policy are set before the first key.
 ///
-/// The keys that the writer holds are the list of keys, cut into its parts. So
-/// [`FilterWriter::finish`] writes the filters of these parts. A full filter has one part with all
-/// keys. Else each part is the shortest prefix of the rest whose filter reaches the partition size,
-/// and the last part is the rest.
+/// The writer holds the list of keys, cut into parts. [`FilterWriter::finish`] writes the filters
+/// of these parts. A full filter has one part with all keys. Else each part is the shortest prefix
+/// of the rest whose filter reaches the partition size. The last part is the rest.
 ///
-/// Except for [`Error::OutOfMemory`], an unfailed writer fails exactly with the first fault of the
-/// list:
+/// Except for [`Error::OutOfMemory`], `finish` of an unfailed writer fails exactly with the first
+/// of these:
 ///
 /// - the filter of all keys, or of those after the last cut, is too large;
 /// - for partitions only, the section is too long;
@@ -196,14 +200,15 @@ pub fn options_set_before_keys()
         given_fault kind policy (given_by kind policy keys) ≡ filter_fault kind policy keys }
 {}
 
-/// A law of what [`FilterWriter::finish`] writes: the filter admits each registered key. So a key
-/// that it does not admit was not registered.
+/// States that the filter written by [`FilterWriter::finish`] admits each registered key.
 ///
-/// The options may change between keys. The block of a full filter loads, and its filter has the
-/// key's hash. With partitions, take the first handle of the top level whose end key is not below
-/// the key. Its block loads, and the filter in it has the hash.
+/// A key that it does not admit was not registered. The options may change between keys.
 ///
-/// A second clause: a registered key comes after all others. The call does nothing.
+/// The block of a full filter loads, and its filter has the hash of the key. With partitions, take
+/// the first handle of the top level whose end key is not below the key. Its block loads, and the
+/// filter in it has the hash.
+///
+/// A second clause: registering a key appends it to the registered keys. The call does nothing.
 pub fn registered_keys_are_admitted()
     ensures admitted { (kind : FilterKind) (policy : BloomConstructionPolicy) (given : GivenKeys)
         (before after : Written) (count : ℕ) (behind key : List ℕ) →

@@ -1,4 +1,4 @@
-//! The handles that an index writer of either kind holds.
+//! The handles of an index writer of either kind.
 ghost use Rattle.std.specs.Prelude.{◌≡◌, ◌++◌, ◌∷◌, [], true, false, OnOk, OnErr};
 ghost use Rattle.lsm_writers.specs.section.IndexWords.{Faults, FaultsFirst, failed_fault};
 ghost use Rattle.lsm_writers.specs.section.IndexWords.{handle_with};

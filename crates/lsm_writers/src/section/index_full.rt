@@ -18,7 +18,9 @@ use sst_blocks::{BlockHandle, CompressionType, Error, IndexKind, SectionWriter, 
 use std::alloc::{Allocator, Global};
 use std::marker::Model;
 
-/// Writes an index of one block with the handles of all data blocks. Contracts see the handles.
+/// A writer of a full index: one block with the handles of all data blocks.
+///
+/// Contracts see the handles.
 #[derive(Drop)]
 pub struct FullIndexWriter<A: Allocator = Global> {
     compression: CompressionType,
@@ -58,9 +60,9 @@ impl<A: Allocator> FullIndexWriter<A> {
         FullIndexWriter { compression, held }
     }
 
-    /// Returns a writer of an index of this kind, with the same handles.
+    /// Converts the writer into one of an index of this kind, with the same handles.
     ///
-    /// So a caller can choose the kind after all handles are registered.
+    /// A caller can thus choose the kind after all handles are registered.
     pub fn into_kind(self, kind: IndexKind) -> IndexWriterImpl<A>
         ensures { registered_by result ≡ record self { kind = kind } }
     {

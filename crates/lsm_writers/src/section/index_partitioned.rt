@@ -28,9 +28,10 @@ use std::marker::Model;
 /// Bytes that a handle adds to the size of its partition, besides its end key.
 const HANDLE_SIZE: u64 = 48;
 
-/// Writes a partitioned index: partitions cut at a size in bytes, and a top level of their handles.
+/// A writer of a partitioned index: partitions cut at a size in bytes, and a top level of their
+/// handles.
 ///
-/// Keeps the handles of all data blocks until [`BlockIndexWriter::finish`]. Contracts see these
+/// It stores the handles of all data blocks until [`BlockIndexWriter::finish`]. Contracts see these
 /// handles.
 #[derive(Drop)]
 pub struct PartitionedIndexWriter<A: Allocator = Global> {
@@ -180,9 +181,9 @@ fn write_sections<A: Allocator + Clone>(
     Ok(tops.len())
 }
 
-/// Cuts the handles into partitions, writes their blocks one after another, and puts the top
-/// level's handles of them into `tops`, which is empty. Fails if a block or the section is too
-/// large, or with [`Error::OutOfMemory`].
+/// Cuts the handles into partitions and writes their blocks one after another. Fills `tops`, which
+/// is empty before, with the handles of these blocks. Fails if a block or the section is too large,
+/// or with [`Error::OutOfMemory`].
 fn write_partitions<A: Allocator + Clone>(
     writer: &mut SectionWriter<A>,
     handles: &[KeyedBlockHandle<A>],

@@ -3,7 +3,7 @@
 use sst_blocks::{BlockHandle, CompressionType, Error, KeyedBlockHandle, SectionWriter, SeqNo};
 use std::alloc::Allocator;
 
-/// Takes the handles of a table's data blocks, and writes an index of them.
+/// A writer of the block index of a table, from the handles of its data blocks.
 pub trait BlockIndexWriter<A: Allocator> {
     ghost use Rattle.std.specs.Prelude.{◌≡◌, ℕ, Bool, true, false, List, [], ◌∷◌, ◌++◌, length};
     ghost use Rattle.std.specs.Prelude.{take, OnOk, OnErr, IfOk};
@@ -30,12 +30,14 @@ pub trait BlockIndexWriter<A: Allocator> {
     /// Whether a call failed.
     ghost has_failed: { Self → Bool };
 
-    /// Registers a data block. Blocks come in strict order of end key and sequence number.
+    /// Registers a data block.
+    ///
+    /// Blocks must be registered in strict order of their last entries, by key and sequence number.
     ///
     /// # Errors
     ///
     /// [`Error::WriterFailed`] if an earlier call failed, or [`Error::OutOfMemory`]. After an error
-    /// the writer has failed.
+    /// each later registration and [`BlockIndexWriter::finish`] fail with [`Error::WriterFailed`].
     fn register_data_block(&mut self, handle: &KeyedBlockHandle<A>) -> Result<(), Error>
         requires { AreStrictHandles (registered self.old ++ handle.now ∷ []) }
         ensures ok { OnOk result (registered self.new ≡ registered self.old ++ handle.now ∷ []) }
@@ -44,17 +46,17 @@ pub trait BlockIndexWriter<A: Allocator> {
         ensures failed { OnErr result (has_failed self.new ≡ true) }
         ensures kind { kind self.new ≡ kind self.old }
         ensures refused { Faults result (failed_fault (has_failed self.old)) }
-        // `WriterFailed` comes before `OutOfMemory`.
+        // `WriterFailed` takes precedence over `OutOfMemory`.
         ensures first { FaultsFirst result (failed_fault (has_failed self.old)) }
     {
         let block = BlockHandle::new(handle.offset(), handle.size());
         self.register_ref(handle.end_key().as_slice(), handle.seqno(), block)
     }
 
-    /// Registers a data block by its handle and by the key and sequence number of its last entry;
-    /// see [`BlockIndexWriter::register_data_block`].
+    /// Registers a data block by its handle and the key and sequence number of its last entry.
     ///
-    /// It copies the end key into one buffer that all end keys share.
+    /// See [`BlockIndexWriter::register_data_block`]. All end keys share one buffer, into which
+    /// this end key is copied.
     fn register_ref(
         &mut self,
         end_key: &[u8],
@@ -70,24 +72,25 @@ pub trait BlockIndexWriter<A: Allocator> {
         ensures failed { OnErr result (has_failed self.new ≡ true) }
         ensures kind { kind self.new ≡ kind self.old }
         ensures refused { Faults result (failed_fault (has_failed self.old)) }
-        // `WriterFailed` comes before `OutOfMemory`.
+        // `WriterFailed` takes precedence over `OutOfMemory`.
         ensures first { FaultsFirst result (failed_fault (has_failed self.old)) };
 
     /// Writes the index, and returns its number of blocks without the top level of partitions.
     ///
-    /// Without handles it writes a block of no handles, after an empty section of partitions if the
-    /// index has partitions. Only the section writer allocates then; this is not proved.
+    /// Without handles it writes a block of no handles. An index with partitions also has an empty
+    /// section of partitions before it. Only the section writer allocates then; this is not proved.
     ///
     /// # Errors
     ///
     /// - [`Error::WriterFailed`] if an earlier call failed;
-    /// - [`Error::KeyTooLong`] if an end key is too long, and [`Error::BlockTooLarge`] if the size
-    ///   bound of a block reaches 2^32, for each block in turn, the top level last;
+    /// - [`Error::KeyTooLong`] if an end key is too long;
+    /// - [`Error::BlockTooLarge`] if the size bound of a block reaches 2^32;
     /// - [`Error::SectionTooLarge`] after a partition, if the bounds of the partitions so far add
     ///   up to 2^32 or more;
     /// - [`Error::OutOfMemory`].
     ///
-    /// The bytes written before stay. Without handles, an error writes no byte.
+    /// Blocks are checked one after another, the top level last. After an error the bytes written
+    /// before the call stay. Without handles, an error writes no byte.
     fn finish(self, writer: &mut SectionWriter<A>) -> Result<usize, Error>
         requires { HasNoIndex writer.old }
         ensures ok { OnOk result (writer.new ≡ appended writer.old
@@ -106,15 +109,17 @@ pub trait BlockIndexWriter<A: Allocator> {
         ensures idle { OnErr result (registered self ≡ [] →
             writer.new.bytes ≡ writer.old.bytes) };
 
-    /// Sets the compression of the index blocks. This changes neither the handles nor the bytes
-    /// written.
+    /// Sets the compression of the index blocks.
+    ///
+    /// The call changes neither the handles nor the bytes written.
     fn use_compression(self, compression: CompressionType) -> Self
         ensures kind { kind result ≡ kind self }
         ensures registered { registered result ≡ registered self }
         ensures failed { has_failed result ≡ has_failed self };
 
-    /// Sets the size in bytes at which a partition is cut, if the index has partitions. Each handle
-    /// counts with the length of its end key plus 48 bytes.
+    /// Sets the size in bytes at which a partition is cut, if the index has partitions.
+    ///
+    /// Each handle counts with the length of its end key plus 48 bytes.
     fn use_partition_size(self, size: u32) -> Self
         ensures kind { kind result ≡ index_with_size size (kind self) }
         ensures registered { registered result ≡ registered self }

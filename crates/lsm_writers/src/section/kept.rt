@@ -9,7 +9,7 @@ use sst_blocks::{BlockHandle, Error, KeyedBlockHandle, SeqNo, Slice};
 use std::alloc::{Allocator, Global};
 use std::marker::Model;
 
-/// A handle with its end key as a range of a shared buffer. Offsets start at the first key, so they
+/// A handle whose end key is a range of a shared buffer. Offsets start at the first key, so they
 /// stay valid when the buffer moves.
 #[derive(Clone, Copy)]
 pub(crate) struct HandlePlace {

@@ -6,7 +6,7 @@ use sst_blocks::{Error, UserKey};
 use std::alloc::{Allocator, Global};
 use std::marker::Model;
 
-/// The bytes of one key, or of several keys one after another. New bytes reuse the memory.
+/// A reusable buffer for the bytes of one key, or of several keys one after another.
 ///
 /// Contracts see the bytes.
 #[derive(Drop)]
@@ -54,7 +54,7 @@ impl<A: Allocator> KeyBuffer<A> {
         self.bytes.len()
     }
 
-    /// Replaces the bytes by those of another key.
+    /// Replaces the bytes by those of another key, and reuses the memory.
     ///
     /// # Errors
     ///
@@ -92,7 +92,7 @@ impl<A: Allocator + Clone> KeyBuffer<A> {
     ghost use Rattle.std.specs.Prelude.{◌≡◌, Some, IfOk, IfErr, OnOk, OnErr};
     ghost use Rattle.sst_entries.specs.declared.error.Error.TheVariants.{OutOfMemory};
 
-    /// Converts the buffer into a key, which takes over the buffer's memory.
+    /// Converts the buffer into a key, which takes over the memory.
     ///
     /// # Errors
     ///
@@ -104,7 +104,7 @@ impl<A: Allocator + Clone> KeyBuffer<A> {
         UserKey::from_vec(self.bytes)
     }
 
-    /// Stores a key in `kept`, in the memory of the key stored before, if there is one.
+    /// Stores a key in `kept`, and reuses the memory of the key stored there before.
     ///
     /// # Errors
     ///

@@ -1,4 +1,4 @@
-//! The buffer of a block that is being filled.
+//! The buffer of the block that is being filled.
 ghost use Rattle.std.specs.Prelude.{◌≡◌, ◌↔◌, ◌+◌, ◌++◌, ◌<◌, ◌≤◌, [], ◌∷◌, None, drop, length};
 ghost use Rattle.std.specs.Prelude.{take, vec_len};
 ghost use Rattle.std.specs.Prelude.{IfErr, IfOk, IsTrue, OnErr, OnOk};
@@ -27,8 +27,8 @@ use std::marker::Model;
 /// The length of the count before the entries.
 const COUNT_LEN: usize = 4;
 
-/// Where the last entry is: its value runs to the end of the bytes. Offsets start after the count,
-/// so they stay valid when the bytes move.
+/// The offsets of the last entry, whose value runs to the end of the bytes. Offsets start after the
+/// count, so they stay valid when the bytes move.
 #[derive(Clone, Copy)]
 pub(crate) struct Place {
     key: usize,
@@ -37,7 +37,7 @@ pub(crate) struct Place {
     value_type: ValueType,
 }
 
-/// A checkpoint of a buffer: how far it is filled.
+/// A checkpoint of a buffer, from which later entries can be dropped.
 #[derive(Clone, Copy)]
 pub(crate) struct Mark {
     len: usize,
@@ -45,8 +45,8 @@ pub(crate) struct Mark {
     last: Option<Place>,
 }
 
-/// The entries of a block that is being filled, encoded as in the block, after room for their
-/// count. The memory is reused from block to block. Contracts see the entries.
+/// The entries of the current block, encoded as in the block, after four bytes for their count. The
+/// memory is reused from block to block. Contracts see the entries.
 #[derive(Drop)]
 pub(crate) struct BlockBuffer<A: Allocator = Global> {
     payload: Vec<u8, A>,

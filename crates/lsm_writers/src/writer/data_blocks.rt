@@ -87,9 +87,9 @@ impl<A: Allocator + Clone> DataBlocks<A> {
         &self.last_block
     }
 
-    /// Cuts the entries of `chunk`, if there are any, as a block, and registers it with the index.
-    /// `chunk` is then empty, and `meta` counts the block. Fails only with [`Error::OutOfMemory`];
-    /// `chunk` and `meta` are unchanged then.
+    /// Cuts the entries of `chunk` as a block, and registers it with the index. An empty `chunk` is
+    /// not cut. Afterwards `chunk` is empty, and `meta` counts the block. Fails only with
+    /// [`Error::OutOfMemory`]; `chunk` and `meta` are unchanged then.
     pub(crate) fn cut(
         &mut self,
         chunk: &mut BlockBuffer<A>,
@@ -141,7 +141,7 @@ impl<A: Allocator + Clone> DataBlocks<A> {
 }
 
 /// Appends a block of these entries, and registers it with the index. Fails only with
-/// [`Error::OutOfMemory`]; the earlier blocks stay.
+/// [`Error::OutOfMemory`]; the blocks before it stay.
 fn add_block<A: Allocator + Clone>(
     file_writer: &mut SectionWriter<A>,
     index_writer: &mut FullIndexWriter<A>,

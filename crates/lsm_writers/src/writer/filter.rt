@@ -70,8 +70,8 @@ pub(crate) fn register_key<A: Allocator + Clone>(
     Ok(())
 }
 
-/// Writes the filter of the registered keys, and returns the number of blocks to count. Fails if a
-/// block or section of it is too large, or with [`Error::OutOfMemory`].
+/// Writes the filter of the registered keys, and returns its block count for the meta block. Fails
+/// if a block or section of it is too large, or with [`Error::OutOfMemory`].
 pub(crate) fn finish_filter<A: Allocator + Clone>(
     filter_writer: Option<FilterWriterImpl<A>>,
     options: &Options,

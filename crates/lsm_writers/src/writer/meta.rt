@@ -33,7 +33,7 @@ pub struct Metadata<A: Allocator = Global> {
     pub weak_tombstone_reclaimable_count: usize,
     /// Number of distinct keys.
     pub key_count: usize,
-    /// Offset of the next data block.
+    /// Offset of the next data block, in bytes.
     pub file_pos: BlockOffset,
     /// Total length of the payloads of the blocks cut so far, in bytes.
     pub uncompressed_size: u64,
@@ -71,7 +71,7 @@ impl<A: Allocator> Default for Metadata<A> {
     }
 }
 
-/// Returns whether an entry is the first of its key, given the entry directly before it.
+/// Returns whether an entry is the first of its key, if `before` is the entry directly before it.
 pub(crate) fn starts_key(before: Option<EntryRef<'_>>, entry: &EntryRef<'_>) -> bool
     ensures { result ≡ starts_key (option_map entry_of_ref before.entry) (entry_of_ref entry.now) }
 {
@@ -81,7 +81,7 @@ pub(crate) fn starts_key(before: Option<EntryRef<'_>>, entry: &EntryRef<'_>) -> 
     }
 }
 
-/// Returns whether two keys are the same. The last bytes are compared first, because neighbours
+/// Returns whether two keys are the same. It compares the last bytes first, because adjacent keys
 /// mostly differ there.
 #[inline]
 fn is_same_key(key: &[u8], other: &[u8]) -> bool
@@ -117,7 +117,7 @@ fn is_value(kind: ValueType) -> bool
     matches!(kind, ValueType::Value)
 }
 
-/// What an entry adds to the counts.
+/// The changes that an entry makes to the counts.
 #[derive(Drop)]
 pub(crate) struct Tally<A: Allocator = Global> {
     /// Whether the entry is the first of its key.
@@ -137,7 +137,7 @@ impl<A: Allocator + Clone> Metadata<A> {
     ghost use Rattle.sst_entries.specs.declared.error.Error.TheVariants.{OutOfMemory};
     ghost use Rattle.lsm_writers.specs.Counts.{tally_of};
 
-    /// Returns what an entry adds to the counts after the one before it. Fails only with
+    /// Returns the changes that an entry after `before` makes to the counts. Fails only with
     /// [`Error::OutOfMemory`].
     pub(crate) fn tally(
         &self,

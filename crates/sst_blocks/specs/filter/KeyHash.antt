@@ -1,4 +1,4 @@
--- The hash of keys that filters are built and asked by.
+-- The hash of keys for filters.
 use Rattle.std.specs.Prelude.{ℕ, List}
 use Rattle.sst_blocks.specs.Fnv.{fnv1a}
 

@@ -1,4 +1,4 @@
--- What a table's meta block says of the list of its entries.
+-- The facts about a table's entries that its meta block records.
 use Rattle.std.specs.Prelude.{ℕ, ◌+◌, ◌-◌, ◌^◌, Bool, true, false, not, ◌&&◌, List, [], ◌∷◌, length}
 use Rattle.std.specs.Prelude.{min, max, count_by, Option, Some, None, unwrap_or, if◌then◌else◌}
 use Rattle.std.specs.Option.{option_map}
@@ -23,12 +23,12 @@ is_value_kind Tombstone = false
 is_value_kind WeakTombstone = false
 is_value_kind Indirection = false
 
--- an entry is the first of its key, by the entry directly before it
+-- an entry is the first of its key, given the preceding entry
 abbrev pub starts_key : Option Entry → Entry → Bool
 starts_key None e = true
 starts_key (Some before) e = not (same_key before.user_key e.user_key)
 
--- a value directly after a weak tombstone of its key
+-- a value directly after a weak tombstone with the same key
 abbrev pub is_reclaimable : Option Entry → Entry → Bool
 is_reclaimable None e = false
 is_reclaimable (Some before) e =
@@ -38,12 +38,12 @@ is_reclaimable (Some before) e =
 abbrev pub one_if : Bool → ℕ
 one_if b = if b then 1 else 0
 
--- how many entries pass a test that also sees the entry directly before
+-- the number of entries that pass a test, which also sees the preceding entry
 unfoldable pub count_after : (Option Entry → Entry → Bool) → Option Entry → List Entry → ℕ
 count_after test before [] = 0
 count_after test before (e ∷ es) = one_if (test before e) + count_after test (Some e) es
 
--- the lowest and the highest number
+-- the lowest and the highest sequence number
 unfoldable pub lowest_seqno : List Entry → ℕ
 lowest_seqno [] = 2 ^ 64 - 1
 lowest_seqno (e ∷ es) = min e.seqno (lowest_seqno es)
@@ -52,14 +52,14 @@ unfoldable pub highest_seqno : List Entry → ℕ
 highest_seqno [] = 0
 highest_seqno (e ∷ es) = max e.seqno (highest_seqno es)
 
--- the key of the first entry, and of the last
+-- the keys of the first and last entries
 abbrev pub first_key : List Entry → Option (List ℕ)
 first_key es = option_map (λ (e : Entry). e.user_key) (first es)
 
 abbrev pub last_key : List Entry → Option (List ℕ)
 last_key es = option_map (λ (e : Entry). e.user_key) (last_of None es)
 
--- the counts, the ends and the numbers of a list
+-- the counts, the end keys and the sequence numbers of a list
 pub record ListFacts : Type 0 where
   pub item_count : ℕ
   pub tombstone_count : ℕ

@@ -24,22 +24,22 @@ use Rattle.sst_blocks.specs.table.MetaBlock.{BlockCounts, meta_entries, version_
 use Rattle.sst_blocks.specs.declared.table.options.Options.{Options}
 use Rattle.sst_blocks.specs.declared.table.label.Label.{Label}
 
--- how many blocks the index and the filter count
+-- the numbers of index and filter blocks
 abbrev pub counted_blocks : Options → Content → BlockCounts
 counted_blocks options c = record {
   index = length c.index;
   filter = filter_count options.filter_kind c.filters;
 }
 
--- the number of the version that is written
+-- the section with the number of the format version
 abbrev pub version_section : TableVersion → Sections
 version_section v = (VersionSection, version_number v ∷ []) ∷ []
 
--- the block of the meta items
+-- the section with the block of meta items
 abbrev pub meta_section : TableVersion → List Entry → Sections
 meta_section v items = (MetaSection, block_bytes v Meta (payload v items)) ∷ []
 
--- these sections were not started
+-- the sections do not include an index, a filter, a version or a meta block
 abbrev pub HasNoIndex : Written → Type 0
 HasNoIndex w =
     All (λ (s : SectionName × ℕ). (slot_index s.0 ≡ 1 → ⊥) × (slot_index s.0 ≡ 2 → ⊥)) w.started
@@ -60,7 +60,7 @@ closing_sections v label options c =
     version_section v
     ++ meta_section v (meta_entries v label options c.blocks (counted_blocks options c))
 
--- the data blocks, then the index of its kind, then the filter of its kind
+-- the data blocks, then the index, then the filter, each by its kind
 abbrev pub index_part : TableVersion → Options → Content → Sections
 index_part v options c =
     let at = length (data_section v c.blocks) in
@@ -74,7 +74,7 @@ filter_part v options c =
     let at = length (bytes_in (front_sections v options c)) in
     filter_sections options.filter_kind v at c.keys c.filters
 
--- the data blocks, the index, the filter, the version and the meta block, in this order
+-- the data blocks, the index, the filter, the version and the meta block
 abbrev pub sections_of : TableVersion → Label → Options → Content → Sections
 sections_of v label options c =
     front_sections v options c ++ filter_part v options c ++ closing_sections v label options c
@@ -83,8 +83,8 @@ sections_of v label options c =
 abbrev pub file : TableVersion → Label → Options → Content → List ℕ
 file v label options c = finished (laid (sections_of v label options c))
 
--- what a table of a list holds: its entries, cut into the chunks of the data blocks, the parts of
--- these blocks' handles, the parts of the keys that filters have, and a filter for each part
+-- the content of a table of a list: the data block chunks, the index parts, the filter's key parts,
+-- and a filter for each part
 pub record IsContent (v : TableVersion) (options : Options) (spills : List ℕ) (es : List Entry)
     (c : Content) : Type 0 where
   pub chunks : AreChunks options.data_block_size spills es c.blocks
@@ -93,7 +93,7 @@ pub record IsContent (v : TableVersion) (options : Options) (spills : List ℕ) 
       (filtered_keys options.bloom_policy es) c.keys
   pub filters : AreFiltersFor options.bloom_policy c.keys c.filters
 
--- the bytes are a table of a list
+-- the bytes are a table file of a list
 pub record IsFile (v : TableVersion) (bytes : List ℕ) (label : Label) (options : Options)
     (spills : List ℕ) (es : List Entry) : Type 0 where
   pub content : Content

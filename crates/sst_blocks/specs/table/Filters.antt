@@ -1,4 +1,4 @@
--- The filter of a table: the keys of each of its blocks, and the filters that these hold.
+-- The filter of a table: the keys in each filter block, and the filters built from them.
 use Rattle.std.specs.Prelude.{◌≡◌, ℕ, ◌+◌, nat_le, nat_lt, Bool, List, [], ◌∷◌, length}
 use Rattle.std.specs.Prelude.{map, Option, Some, None, if◌then◌else◌}
 use Rattle.std.specs.List.{flat_map}
@@ -22,15 +22,15 @@ keys_after before [] = []
 keys_after before (e ∷ es) =
     if starts_key before e then e.user_key ∷ keys_after (Some e) es else keys_after (Some e) es
 
--- the keys of a list, each once
+-- the distinct keys of a list
 abbrev pub keys_of : List Entry → List (List ℕ)
 keys_of es = keys_after None es
 
--- those that a filter has: none without an active policy
+-- the keys that filters hold: none without an active policy
 abbrev pub filtered_keys : BloomConstructionPolicy → List Entry → List (List ℕ)
 filtered_keys policy es = if nat_lt 0 (tenths_of policy) then keys_of es else []
 
--- the filter of some keys: of the policy's size, with just the bits of their hashes
+-- the filter of some keys: of the policy's size, with exactly the bits of their hashes
 pub record IsFilterFor (policy : BloomConstructionPolicy) (keys : List (List ℕ)) (f : BloomFilter)
     : Type 0 where
   pub probes : f.probe_count ≡ probe_count (tenths_of policy)
@@ -45,11 +45,11 @@ AreFiltersFor policy [] (f ∷ fs) = ⊥
 AreFiltersFor policy (p ∷ ps) [] = ⊥
 AreFiltersFor policy (p ∷ ps) (f ∷ fs) = IsFilterFor policy p f × AreFiltersFor policy ps fs
 
--- the bits of so many keys reach the size of a partition
+-- the filter bits for the keys reach the partition size
 abbrev pub is_full_filter : BloomConstructionPolicy → ℕ → List (List ℕ) → Bool
 is_full_filter policy size keys = nat_le size (size_for (tenths_of policy) (length keys))
 
--- a filter's block
+-- a filter block
 abbrev pub filter_block : TableVersion → BloomFilter → List ℕ
 filter_block v f = block_bytes v Filter (payload_of f)
 
@@ -59,7 +59,7 @@ last_of_keys [] = []
 last_of_keys (k ∷ []) = k
 last_of_keys (k ∷ l ∷ keys) = last_of_keys (l ∷ keys)
 
--- what the top level has of a part's filter: the part's last key, and number 0
+-- the top level's data for a filter partition: the part's last key, sequence number 0, and the size
 abbrev pub filter_partition : List (List ℕ) → BloomFilter → Partition
 filter_partition keys f = record {
   end_key = last_of_keys keys;
@@ -77,7 +77,7 @@ abbrev pub full_filter : TableVersion → List BloomFilter → Sections
 full_filter v [] = []
 full_filter v (f ∷ fs) = (FilterSection, filter_block v f) ∷ []
 
--- the sections of a partitioned filter, the first of them at a position: none without keys
+-- the sections of a partitioned filter, given the offset of the first: none without keys
 abbrev pub partitioned_filter : TableVersion → ℕ → List (List (List ℕ)) → List BloomFilter
     → Sections
 partitioned_filter v at parts [] = []

@@ -1,4 +1,4 @@
--- What a table of a list keeps, so that each number and each length fits its field.
+-- Limits on a table's contents, such that each number and length fits its field.
 use Rattle.sst_blocks.specs.Block.{header_len}
 use Rattle.std.specs.Prelude.{ℕ, ◌+◌, ◌-◌, ◌^◌, ◌<◌, ◌≤◌, List, length}
 use Rattle.std.specs.List.{AllByRecursion}
@@ -13,7 +13,7 @@ use Rattle.sst_blocks.specs.table.File.{index_part, filter_part}
 use Rattle.sst_blocks.specs.declared.table.options.Options.{Options}
 use Rattle.sst_blocks.specs.declared.table.label.Label.{Label}
 
--- an entry that a writer of the version takes
+-- an entry that a writer of the version accepts
 pub record EntryFits (v : TableVersion) (e : Entry) : Type 0 where
   pub key : length e.user_key ≤ longest_key v
   pub value : length e.value < 2 ^ 32
@@ -23,7 +23,7 @@ pub record EntryFits (v : TableVersion) (e : Entry) : Type 0 where
 pub record BlockFits (v : TableVersion) (c : List Entry) : Type 0 where
   pub short : header_len + length (payload v c) < 2 ^ 32
 
--- a label whose numbers fit their fields
+-- a table info whose numbers fit their fields
 pub record LabelFits (label : Label) : Type 0 where
   pub id : label.table_id < 2 ^ 64
   pub created_at : label.created_at < 2 ^ 128
@@ -32,7 +32,7 @@ pub record LabelFits (label : Label) : Type 0 where
 pub record SectionFits (s : SectionName × List ℕ) : Type 0 where
   pub short : length s.1 < 2 ^ 32
 
--- the entries, the data blocks, the sections of the index and of the filter, and the label
+-- the entries, the data blocks, the sections of the index and filter, and the table info fit
 pub record Fits (v : TableVersion) (label : Label) (options : Options) (c : Content)
     : Type 0 where
   pub entries : AllByRecursion (EntryFits v) (joined c.blocks)

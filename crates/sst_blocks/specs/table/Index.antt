@@ -10,16 +10,16 @@ use Rattle.sst_blocks.specs.Handle.{Handle}
 use Rattle.sst_blocks.specs.Payload.{payload}
 use Rattle.sst_entries.specs.Strict.{last_of}
 
--- the last entry of a list that has one
+-- the last entry of a non-empty list
 abbrev pub last_entry : List Entry → Entry
 last_entry es = unwrap_or (last_of None es) (entry [] [] 0 Value)
 
--- the size of a chunk's block, with its header
+-- the size of a chunk's block, with the header
 abbrev pub block_size : TableVersion → List Entry → ℕ
 block_size v c = header_len + length (payload v c)
 
--- the block of a chunk that begins at a position: the key and the number of its last entry, where
--- it begins, and its size
+-- the handle of a chunk's block at an offset: the key and sequence number of its last entry, the
+-- offset and the size
 abbrev pub handle_of : TableVersion → ℕ → List Entry → Handle
 handle_of v offset c = record {
   end_key = (last_entry c).user_key;
@@ -28,7 +28,7 @@ handle_of v offset c = record {
   size = block_size v c;
 }
 
--- the blocks lie one after another, without gaps
+-- the handles of blocks stored one after another, without gaps
 abbrev pub handles_from : TableVersion → ℕ → List (List Entry) → List Handle
 handles_from v offset [] = []
 handles_from v offset (c ∷ cs) = handle_of v offset c ∷ handles_from v (offset + block_size v c) cs

@@ -1,4 +1,4 @@
--- The items of a table's meta block: their names and their values.
+-- The items of a table's meta block: their names and values.
 use Rattle.std.specs.Prelude.{ℕ, List, [], ◌∷◌, ◌++◌, length, sum_by, codes}
 use Rattle.sst_blocks.specs.declared.version.TableVersion.{TableVersion}
 use Rattle.sst_blocks.specs.declared.version.TableVersion.TheVariants.{V3, V4}
@@ -14,7 +14,7 @@ use Rattle.sst_blocks.specs.declared.table.item_name.ItemName.TheVariants as ite
 use Rattle.sst_blocks.specs.declared.table.options.Options.{Options}
 use Rattle.sst_blocks.specs.declared.table.label.Label.{Label}
 
--- the key under which an item stands; the items are in the byte order of their keys
+-- the key of an item; the items are sorted by the bytes of their keys
 unfoldable pub name_of : ItemName → List ℕ
 name_of item.BlockCountData = codes "block_count#data"
 name_of item.BlockCountFilter = codes "block_count#filter"
@@ -46,11 +46,11 @@ name_of item.UserDataSize = codes "user_data_size"
 name_of item.WeakTombstoneCount = codes "weak_tombstone_count"
 name_of item.WeakTombstoneReclaimable = codes "weak_tombstone_reclaimable"
 
--- the number by which a meta block names the hash of keys that filters are asked by
+-- the number of the hash of keys in a meta block
 abbrev pub filter_hash_type : ℕ
 filter_hash_type = 1
 
--- the version of the crate whose format is written
+-- the crate version recorded in a table
 abbrev pub crate_version : List ℕ
 crate_version = codes "3.1.10"
 
@@ -58,19 +58,18 @@ crate_version = codes "3.1.10"
 abbrev pub meta_entry : ItemName → List ℕ → Entry
 meta_entry name value = entry (name_of name) value 0 Value
 
--- the number of a version, as a table stores it
+-- the number of a version, as stored in a table
 abbrev pub version_number : TableVersion → ℕ
 version_number V3 = 3
 version_number V4 = 4
 
--- how many index blocks and filter blocks a table counts
+-- the numbers of index and filter blocks in a table
 pub record BlockCounts : Type 0 where
   pub index : ℕ
   pub filter : ℕ
 
--- the first ten items, in the byte order of their names: the counts of data, filter and index
--- blocks, the type of checksums, both compressions, the crate's version, the moment, the hash ratio
--- of data blocks and the file size
+-- the first ten items, sorted by name: block counts, checksum type, compressions, crate version,
+-- timestamp, hash ratio of data blocks and file size
 abbrev pub block_items : Label → Options → BlockCounts → ℕ → ℕ → List Entry
 block_items label options counted data_blocks file_size =
     meta_entry item.BlockCountData (le8 data_blocks)
@@ -94,13 +93,12 @@ level_items label f =
     ∷ meta_entry item.ItemCount (le8 f.item_count)
     ∷ []
 
--- then the last and the first key, the only values that may be long
+-- then the last and the first key, the only items whose values can be long
 abbrev pub key_items : ListFacts → List Entry
 key_items f = meta_entry item.KeyMax f.max_key ∷ meta_entry item.KeyMin f.min_key ∷ []
 
--- the items behind those of the last and the first key, in the byte order of their names: the
--- number of keys, both prefix truncations, both restart intervals, the highest and the lowest
--- number, the table's id and its version
+-- the items after the keys, sorted by name: key count, prefix truncations, restart intervals,
+-- sequence number bounds, table id and version
 abbrev pub option_items : TableVersion → Label → Options → ListFacts → List Entry
 option_items v label options f =
     meta_entry item.KeyCount (le8 f.key_count)
@@ -123,8 +121,8 @@ count_items f user_data_size =
     ∷ meta_entry item.WeakTombstoneReclaimable (le8 f.weak_tombstone_reclaimable)
     ∷ []
 
--- all 29 items, by the facts, the number of data blocks, the length of their section and of their
--- payloads
+-- all 29 items, given the facts, the number of data blocks, the length of their section and of
+-- their payloads
 abbrev pub meta_items : TableVersion → Label → Options → BlockCounts → ListFacts → ℕ → ℕ → ℕ → List
     Entry
 meta_items v label options counted f data_blocks file_size user_data_size =

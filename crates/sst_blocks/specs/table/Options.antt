@@ -1,4 +1,4 @@
--- What a table is written with, and what it is called.
+-- The options and the table info with which a table is written.
 use Rattle.std.specs.Prelude.{ℕ}
 use Rattle.sst_blocks.specs.declared.filter.policy.BloomConstructionPolicy.TheVariants.{BitsPerKey}
 use Rattle.sst_blocks.specs.declared.table.options.FilterKind.TheVariants.{Full as FullFilter}
@@ -6,7 +6,7 @@ use Rattle.sst_blocks.specs.declared.table.options.IndexKind.TheVariants.{Full a
 use Rattle.sst_blocks.specs.declared.table.label.Label.{Label}
 use Rattle.sst_blocks.specs.declared.table.options.Options.{Options}
 
--- the sizes in bytes, the hash ratio in thousandths, the bits for a key in tenths
+-- default options: sizes in bytes, the hash ratio in thousandths, bits per key in tenths
 abbrev pub default_options : Options
 default_options = record {
   data_block_restart_interval = 16;
@@ -18,6 +18,6 @@ default_options = record {
   bloom_policy = BitsPerKey 100;
 }
 
--- the label of its parts
+-- the table info of these parts
 abbrev pub label_of : ℕ → ℕ → ℕ → Label
 label_of id level moment = record { table_id = id; initial_level = level; created_at = moment }

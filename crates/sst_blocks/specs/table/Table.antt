@@ -1,4 +1,4 @@
--- A table of a list.
+-- A table that stores a list.
 use Rattle.std.specs.Prelude.{ℕ, List}
 use Rattle.sst_blocks.specs.declared.version.TableVersion.{TableVersion}
 use Rattle.sst_entries.specs.Entry.{Entry}
@@ -8,8 +8,8 @@ use Rattle.sst_blocks.specs.table.Fits.{Fits}
 use Rattle.sst_blocks.specs.declared.table.options.Options.{Options}
 use Rattle.sst_blocks.specs.declared.table.label.Label.{Label}
 
--- the bytes are a table of a list: written under a label, with options and in a version, whatever
--- its kinds of index and of filter; the list is strict, and what the bytes hold fits
+-- the bytes are a table of a list, with any table info, options and version; the list is strictly
+-- sorted, and all values fit
 pub record IsTable (bytes : List ℕ) (es : List Entry) : Type 0 where
   pub label : Label
   pub options : Options

@@ -9,15 +9,15 @@ ghost use Rattle.sst_blocks.specs.Version.{mark};
 use crate::number::{u32_at, u64_at};
 use crate::{BlockType, Error, TableVersion, TagName};
 
-/// What a block's header says of its payload.
+/// A decoded block header.
 #[derive(Clone, Copy, Debug, PartialEq, Eq)]
 pub struct Header {
     /// The version whose grammar the payload has.
     pub(crate) version: TableVersion,
     /// The length of the payload in bytes.
     pub(crate) data_len: u32,
-    /// The length that the payload has once it is decompressed: it is never compressed, so this is
-    /// that of its bytes.
+    /// The length of the decompressed payload, which equals `data_len`: payloads are never
+    /// compressed.
     pub(crate) uncompressed_len: u32,
     /// The checksum of the payload.
     pub(crate) checksum: u64,
@@ -27,14 +27,14 @@ impl Header {
     /// The length of a header in bytes.
     pub(crate) const LEN: u32 = 24;
 
-    /// The length of a header in bytes.
+    /// Returns the length of a header in bytes.
     pub fn serialized_len() -> usize
         ensures { result ≡ header_len }
     {
         Self::LEN as usize
     }
 
-    /// The header of a block of a kind.
+    /// Encodes the header for a block of a kind.
     #[tactic(auto, unfolding(crate::specs::Number::le4, crate::specs::Number::le8))]
     pub(crate) fn encode(self, kind: BlockType) -> [u8; 24]
         ensures { result ≡ mark self.version ++ (kind_tag kind ∷ 0 ∷ 0 ∷ 0 ∷ [])
@@ -49,9 +49,12 @@ impl Header {
         bytes
     }
 
-    /// Reads the header of a block of a kind. Refused with the first fault, in this order:
-    /// [`Error::InvalidHeader`] for the mark or the zero bytes, [`Error::InvalidTag`],
-    /// [`Error::UnsupportedCompression`].
+    /// Decodes the header of a block of a kind.
+    ///
+    /// # Errors
+    ///
+    /// Fails with the first of these faults: [`Error::InvalidHeader`] for the magic number or the
+    /// reserved bytes, [`Error::InvalidTag`], [`Error::UnsupportedCompression`].
     pub(crate) fn decode(bytes: &[u8], kind: BlockType) -> Result<Header, Error>
         requires { length bytes.now ≡ header_len }
         ensures fault { MatchResult result (λ _. header_fault kind bytes.now ≡ None)

@@ -1,4 +1,4 @@
-//! The entries of a data block, lent one after another.
+//! A cursor over the entries of a data block.
 ghost use Rattle.std.specs.Prelude.{◌≡◌, ◌<◌, ◌≤◌, List, Some, true, unwrap_or, [], length, is_some};
 ghost use Rattle.std.specs.Prelude.{IfErr, IfOk, slice_range};
 ghost use Rattle.std.specs.List.{slice_get};
@@ -18,7 +18,7 @@ use crate::{EntryRef, Error, InternalValue, Slice, TableVersion};
 use std::alloc::{Allocator, Global};
 use std::marker::Model;
 
-/// Where the entry of a place lies in the payload of a data block.
+/// Returns the position of the entry at an index in the payload.
 #[inline(always)]
 #[tactic(auto, unfolding(crate::specs::Reading::entries_in))]
 fn place_at<A: Allocator>(
@@ -37,15 +37,16 @@ fn place_at<A: Allocator>(
     EntryPlace::of(starts.at(index) + head_len(version), &entry)
 }
 
-/// The entries of a data block between two places, read from both ends. The entry that it was moved
-/// to is lent from where it lies; its head is decoded once, when the cursor comes to it. A contract
-/// sees the entry that is lent and those that are left.
+/// A cursor over a range of a data block's entries, from both ends.
+///
+/// It borrows the current entry from the block's bytes. The head of an entry is decoded once. In
+/// contracts it is the current entry and the list of those that remain.
 #[derive(Drop)]
 pub struct Cursor<A: Allocator = Global> {
     version: TableVersion,
     payload: Slice<A>,
     starts: Starts<A>,
-    // the places in the block of the first entry that is left, and of the one behind the last
+    // The indexes of the first remaining entry and of the one after the last.
     from: usize,
     to: usize,
     lent: Option<EntryPlace>,
@@ -93,8 +94,9 @@ impl<A: Allocator> Cursor<A> {
         }
     }
 
-    /// Goes on to the first entry that is left, and answers whether there is one. What was lent
-    /// before is lent no more.
+    /// Advances to the first remaining entry and returns whether there is one.
+    ///
+    /// Afterwards the previous entry is no longer available.
     #[inline(always)]
     pub fn advance(&mut self) -> bool
         ensures goes { self.new ≡ advanced self.old }
@@ -109,8 +111,9 @@ impl<A: Allocator> Cursor<A> {
         true
     }
 
-    /// Goes back to the last entry that is left, and answers whether there is one. What was lent
-    /// before is lent no more.
+    /// Moves to the last remaining entry and returns whether there is one.
+    ///
+    /// Afterwards the previous entry is no longer available.
     #[inline(always)]
     pub fn advance_back(&mut self) -> bool
         ensures goes { self.new ≡ retreated self.old }
@@ -125,7 +128,9 @@ impl<A: Allocator> Cursor<A> {
         true
     }
 
-    /// The entry that is lent: `None` before the first was asked for and behind the last.
+    /// Returns the current entry.
+    ///
+    /// It returns `None` before the first move and after the last entry.
     #[inline(always)]
     pub fn entry(&self) -> Option<EntryRef<'_>>
         ensures { option_map entry_of_ref result ≡ self.now.lent }
@@ -136,8 +141,13 @@ impl<A: Allocator> Cursor<A> {
         }
     }
 
-    /// The entry that is lent, whose key and value share the block's memory. Refused
-    /// [`Error::OutOfMemory`] alone.
+    /// Returns the current entry; its key and value share the block's memory.
+    ///
+    /// There must be a current entry.
+    ///
+    /// # Errors
+    ///
+    /// Fails only with [`Error::OutOfMemory`].
     #[inline(always)]
     pub fn share(&self) -> Result<InternalValue<A>, Error>
         requires { is_some self.now.lent ≡ true }
@@ -150,7 +160,7 @@ impl<A: Allocator> Cursor<A> {
         place.share(&self.payload)
     }
 
-    /// Lends nothing until it goes on.
+    /// Clears the current entry until the next move.
     #[inline(always)]
     pub fn unlend(&mut self)
         ensures { self.new ≡ unlent self.old }
@@ -158,7 +168,7 @@ impl<A: Allocator> Cursor<A> {
         self.lent = None;
     }
 
-    /// Lets go what is left.
+    /// Drops the current entry and all that remain.
     pub fn end(&mut self)
         ensures { self.new ≡ over_cursor }
     {

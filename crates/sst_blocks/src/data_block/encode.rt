@@ -1,4 +1,4 @@
-//! Writing an entry of a data block.
+//! Encoding an entry of a data block.
 use crate::item::Item;
 use crate::number::{put_u32, put_u64};
 use crate::{ENTRY_HEAD_LEN, Error, InternalValue, TableVersion};

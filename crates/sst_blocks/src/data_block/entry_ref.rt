@@ -1,4 +1,4 @@
-//! Reading one entry of a payload.
+//! Decoding an entry of a data block.
 ghost use Rattle.std.specs.Prelude.{◌≡◌, ◌+◌, ◌≤◌, length};
 ghost use Rattle.std.specs.Option.{option_map};
 ghost use Rattle.sst_blocks.specs.Reading.{parts_at};
@@ -10,7 +10,7 @@ use crate::reading::ItemRef;
 use crate::{EntryRef, SeqNo, TableVersion, ValueType};
 use sst_entries::compare_versions;
 
-/// The length of what stands before an entry's key: its tag, its number and both lengths.
+/// The size of an entry before its key: the tag, the sequence number and both lengths.
 #[inline]
 pub(crate) fn head_len(version: TableVersion) -> usize
     ensures { result ≡ 13 + key_width version }
@@ -79,7 +79,7 @@ impl<'a> ItemRef<'a> for EntryRef<'a> {
     #[inline(always)]
     fn read_key(version: TableVersion, bytes: &'a [u8]) -> (&'a [u8], SeqNo) {
         let head = head_len(version);
-        // The tag and the number stand before the key's length.
+        // The tag and the sequence number come before the key's length.
         let key_len = key_len_at(version, &bytes[9..]);
         (&bytes[head..head + key_len], u64_at(&bytes[1..]))
     }

@@ -1,4 +1,4 @@
-//! Finding one entry of a payload, in one walk and without memory.
+//! Finding one entry of a payload in one pass without allocation.
 ghost use Rattle.std.specs.Prelude.{◌≡◌, ◌+◌, ◌<◌, ◌≤◌, ◌^◌, [], Some, None, true, length};
 ghost use Rattle.std.specs.Prelude.{is_some, unwrap_or, drop, find, slice_range};
 ghost use Rattle.std.specs.Prelude.{IsTrue, IfOk, IfErr, IfSome, OnOk};
@@ -12,10 +12,14 @@ ghost use Rattle.sst_entries.specs.Strict.{is_before};
 use crate::reading::find_item;
 use crate::{EntryRef, Error, SeqNo, TableVersion};
 
-/// The first entry of a payload that a read of a key at a number comes before, and where it begins.
-/// Refused [`Error::InvalidBlock`] where the payload does not spell a strict list of entries. Where
-/// it was tested before that it does, the walk ends at that entry; else it goes on to the end, and
-/// tests what is behind it.
+/// Returns the first entry that a read of a key at `seqno` orders before, and its offset.
+///
+/// If `is_tested`, the grammar was checked already, and the pass ends at that entry. Else it checks
+/// the whole payload.
+///
+/// # Errors
+///
+/// Fails with [`Error::InvalidBlock`] if the payload does not encode a strict list of entries.
 #[inline]
 #[tactic(auto, unfolding(crate::specs::Reading::entries_in))]
 pub(crate) fn find_entry<'a>(

@@ -1,4 +1,4 @@
-//! The entries of a data block, from both ends.
+//! An iterator over the entries of a data block.
 ghost use Rattle.std.specs.Prelude.{◌≡◌, ◌-◌, ◌↔◌, [], IsTrue};
 ghost use Rattle.std.specs.Iterator.{at_most};
 ghost use Rattle.std.specs.declared.ops.Bound.TheVariants.{Included, Excluded, Unbounded};
@@ -13,8 +13,9 @@ use crate::IterItem;
 use std::alloc::{Allocator, Global};
 use std::marker::Model;
 
-/// The entries of a data block, dealt from both ends. After a call that is refused
-/// [`crate::Error::OutOfMemory`] nothing more comes, from either end.
+/// An iterator over the entries of a data block, from both ends.
+///
+/// Its only error is [`crate::Error::OutOfMemory`]. After the error both ends are exhausted.
 #[derive(Drop)]
 pub struct Iter<'a, A: Allocator = Global> {
     block: &'a DataBlock<A>,
@@ -45,7 +46,7 @@ impl<'a, A: Allocator> Iter<'a, A> {
         }
     }
 
-    /// Drops the entries below a key. Answers whether an entry is left.
+    /// Drops the entries with keys below `key`, and returns whether any remain.
     pub fn seek(&mut self, key: &[u8]) -> bool
         ensures narrowed { let place = lower_place (Included key.now) self.old.list in
             self.new ≡ span_from place self.old }
@@ -59,7 +60,7 @@ impl<'a, A: Allocator> Iter<'a, A> {
         self.from < self.to
     }
 
-    /// Drops the entries up to a key. Answers whether an entry is left.
+    /// Drops the entries with keys up to and including `key`, and returns whether any remain.
     pub fn seek_exclusive(&mut self, key: &[u8]) -> bool
         ensures narrowed { let place = lower_place (Excluded key.now) self.old.list in
             self.new ≡ span_from place self.old }
@@ -73,7 +74,7 @@ impl<'a, A: Allocator> Iter<'a, A> {
         self.from < self.to
     }
 
-    /// Drops the entries above a key. Answers whether an entry is left.
+    /// Drops the entries with keys above `key`, and returns whether any remain.
     pub fn seek_upper(&mut self, key: &[u8]) -> bool
         ensures narrowed { let place = upper_place (Included key.now) self.old.list in
             self.new ≡ span_to place self.old }
@@ -87,7 +88,7 @@ impl<'a, A: Allocator> Iter<'a, A> {
         self.from < self.to
     }
 
-    /// Drops the entries from a key on. Answers whether an entry is left.
+    /// Drops the entries with keys from `key` on, and returns whether any remain.
     pub fn seek_upper_exclusive(&mut self, key: &[u8]) -> bool
         ensures narrowed { let place = upper_place (Excluded key.now) self.old.list in
             self.new ≡ span_to place self.old }
@@ -121,7 +122,7 @@ impl<A: Allocator> Iterator for Iter<'_, A> {
                 Some(Ok(entry))
             }
             Err(refusal) => {
-                // Nothing more comes.
+                // The iterator is exhausted.
                 self.from = self.to;
                 Some(Err(refusal))
             }
@@ -144,7 +145,7 @@ impl<A: Allocator> DoubleEndedIterator for Iter<'_, A> {
                 Some(Ok(entry))
             }
             Err(refusal) => {
-                // Nothing more comes.
+                // The iterator is exhausted.
                 self.to = self.from;
                 Some(Err(refusal))
             }

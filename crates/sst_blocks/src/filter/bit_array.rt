@@ -1,4 +1,4 @@
-//! Bits in bytes, and the probes of a hash.
+//! Bit arrays, and the probes of a hash.
 ghost use Rattle.std.specs.Prelude.{◌≡◌, ◌+◌, ◌*◌, ◌%◌, ◌^◌, ◌==◌, ◌||◌, ◌<◌, length, true};
 ghost use Rattle.std.specs.Prelude.{List, ℕ};
 ghost use Rattle.std.specs.List.{list_all};
@@ -6,7 +6,7 @@ ghost use Rattle.sst_blocks.specs.filter.Filter.{admits, filter_in, IsFilterOf, 
 ghost use Rattle.sst_blocks.specs.filter.Filter.{probes};
 ghost use Rattle.sst_blocks.specs.filter.Filter.{stride};
 
-// How far apart a hash's probes lie.
+// The distance between the probes of a hash.
 #[inline(always)]
 fn stride(hash: u64) -> u64
     ensures { result ≡ stride hash }
@@ -32,8 +32,8 @@ fn set_bit(bits: &mut [u8], place: u64)
     bits[(place / 8) as usize] |= 1 << (place % 8);
 }
 
-// The probe that comes after one, and its place among the bits: a step on, or from the front again.
-// A division, which costs more than all the rest, is made only where the sum passes `u64::MAX`.
+// The next probe, and its bit index. A modulo, the dearest operation, is needed only if the sum
+// exceeds `u64::MAX`.
 #[inline(always)]
 fn next_probe(probe: u64, place: u64, stride: u64, step: u64, len: u64) -> (u64, u64)
     requires some { 0 < len }
@@ -75,7 +75,7 @@ pub(crate) fn set_probes(bits: &mut [u8], count: u8, hash: u64)
     }
 }
 
-/// Whether all bits of a hash are set.
+/// Returns whether all bits of a hash are set.
 fn has_probes(bits: &[u8], count: u8, hash: u64) -> bool
     requires some { 0 < length bits.now }
     requires short { length bits.now < 2 ^ 60 }
@@ -104,10 +104,10 @@ fn admits(payload: &[u8], hash: u64) -> bool
     has_probes(&payload[1..], payload[0], hash)
 }
 
-/// Whether the filter of a payload admits a hash: all bits of the hash are set. It takes no memory.
+/// Returns whether a filter's payload admits a hash: all bits of the hash are set.
 ///
-/// The payload is one byte that says how many probes a hash has, then the bits: two bytes or more,
-/// and fewer than 2^60.
+/// The payload is one byte with the number of probes, then the bits. It must have at least 2 bytes
+/// and fewer than 2^60. The call does not allocate.
 #[inline]
 pub fn contains_hash(payload: &[u8], hash: u64) -> bool
     requires some { 1 < length payload.now }

@@ -1,4 +1,4 @@
-//! Building a filter.
+//! Building a Bloom filter.
 ghost use Rattle.std.specs.Prelude.{◌≡◌, ◌<◌, ◌++◌, ◌∷◌, [], length, List, ℕ};
 ghost use Rattle.sst_blocks.specs.filter.Filter.{Gains, IsBuilt, IsFilterOf, filter_in, payload_of};
 ghost use Rattle.sst_blocks.specs.filter.KeyHash.{hash_of};
@@ -8,9 +8,10 @@ use crate::hash;
 use std::alloc::{Allocator, Global};
 use std::marker::Model;
 
-/// A Bloom filter that is being built (Bloom, "Space/time trade-offs in hash coding with allowable
-/// errors", Communications of the ACM 13, 1970). A contract sees how many probes a hash has, and
-/// the bytes of the bits.
+/// A Bloom filter under construction (Bloom, "Space/time trade-offs in hash coding with allowable
+/// errors", Communications of the ACM 13, 1970).
+///
+/// In contracts it is the number of probes per hash and the bytes of the bits.
 #[derive(Drop)]
 pub struct Builder<A: Allocator = Global> {
     // The number of probes, then the bits.
@@ -29,7 +30,7 @@ impl<A: Allocator> Model for Builder<A> {
 }
 
 impl<A: Allocator> Builder<A> {
-    // The filter of a payload.
+    // The builder of a payload.
     pub(crate) fn of(payload: Vec<u8, A>) -> Builder<A>
         requires some { 0 < length payload.items }
         requires built { IsBuilt (filter_in payload.items) }
@@ -38,7 +39,7 @@ impl<A: Allocator> Builder<A> {
         Builder { payload }
     }
 
-    /// The hash of a key, which a filter is built and asked by.
+    /// Returns the hash by which a filter stores and tests a key.
     pub fn get_hash(key: &[u8]) -> u64
         ensures { result ≡ hash_of key.now }
     {
@@ -61,10 +62,11 @@ impl<A: Allocator> Builder<A> {
         set_probes(&mut self.payload[1..], count, hash);
     }
 
-    /// The payload of the filter's block: the number of probes in one byte, then the bits.
+    /// Returns the payload of the filter's block: the number of probes in one byte, then the bits.
     pub fn build(self) -> Vec<u8, A>
         ensures payload { result.items ≡ payload_of self }
-        // The block of this payload is in its grammar, and shorter than 2^32.
+        // The payload matches the grammar of filter blocks, and its block is shorter than 2^32
+        // bytes.
         ensures built { IsBuilt self }
     {
         self.payload

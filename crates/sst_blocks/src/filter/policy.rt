@@ -1,4 +1,4 @@
-//! How filters are made.
+//! The size of filters.
 ghost use Rattle.std.specs.Prelude.{◌≡◌, ◌<◌, ◌^◌, nat_lt, IfOk, IfErr, Some, []};
 ghost use Rattle.sst_blocks.specs.filter.Filter.{IsFilterOf};
 ghost use Rattle.sst_entries.specs.Error.{Faults, FaultsFirst};
@@ -9,10 +9,10 @@ use crate::Builder;
 use sst_entries::Error;
 use std::alloc::Allocator;
 
-/// How large a filter is made.
+/// The policy for the size of a filter.
 #[derive(Clone, Copy, Debug, PartialEq, Eq)]
 pub enum BloomConstructionPolicy {
-    /// So many bits for each key, in tenths of a bit.
+    /// The number of bits per key, in tenths of a bit.
     BitsPerKey(u32),
 }
 
@@ -20,7 +20,7 @@ impl Default for BloomConstructionPolicy {
     ghost use Rattle.std.specs.Prelude.{◌≡◌};
     ghost use Rattle.sst_blocks.specs.filter.Policy.{tenths_of};
 
-    /// Ten bits for each key.
+    /// Returns 10 bits per key.
     fn default() -> BloomConstructionPolicy
         ensures { tenths_of result ≡ 100 }
     {
@@ -28,7 +28,7 @@ impl Default for BloomConstructionPolicy {
     }
 }
 
-// Whether the block of a filter stays below 2^32 bytes.
+// The block of a filter is shorter than 2^32 bytes.
 fn fits(bound: u64) -> bool
     ensures { result ≡ nat_lt bound (2 ^ 32) }
 {
@@ -43,14 +43,16 @@ impl BloomConstructionPolicy {
         *tenths
     }
 
-    /// Whether filters are written at all: the bits for a key are not 0.
+    /// Returns whether filters are written at all: the number of bits per key is not 0.
     pub fn is_active(&self) -> bool
         ensures { result ≡ nat_lt 0 (tenths_of self.now) }
     {
         self.tenths() > 0
     }
 
-    /// How many bytes of bits a filter of `n` keys has: 8 or more.
+    /// Returns the size of the bits of a filter for `n` keys, in bytes.
+    ///
+    /// It is at least 8, and saturates at `usize::MAX`.
     pub fn estimated_filter_size(&self, n: usize) -> usize
         ensures { result ≡ size_for (tenths_of self.now) n }
     {
@@ -59,7 +61,7 @@ impl BloomConstructionPolicy {
         usize::try_from(size).unwrap_or(usize::MAX)
     }
 
-    // How many probes a hash has.
+    // The number of probes per hash.
     fn probe_count(&self) -> u8
         ensures { result ≡ probe_count (tenths_of self.now) }
     {
@@ -67,8 +69,12 @@ impl BloomConstructionPolicy {
         count.clamp(1, 30) as u8
     }
 
-    /// A filter for `n` keys, in which no bit is set. Refused [`Error::BlockTooLarge`] where
-    /// [`filter_bound`] is 2^32 or more, whatever memory there is, and [`Error::OutOfMemory`].
+    /// Creates a filter for `n` keys with no bit set.
+    ///
+    /// # Errors
+    ///
+    /// Fails with [`Error::BlockTooLarge`] exactly if [`filter_bound`] is 2^32 or more; this is
+    /// checked before any allocation. Otherwise it fails only with [`Error::OutOfMemory`].
     pub fn init<A: Allocator>(&self, alloc: A, n: usize) -> Result<Builder<A>, Error>
         ensures empty { IfOk result (λ b. b ≡ empty_filter (tenths_of self.now) n) }
         ensures hashes { IfOk result (λ b. IsFilterOf b []) }
@@ -86,7 +92,9 @@ impl BloomConstructionPolicy {
     }
 }
 
-/// How long the block of a filter of `n` keys is, in bytes, staying at the largest value.
+/// Returns the length of the block of a filter of `n` keys, in bytes.
+///
+/// It saturates at `u64::MAX`.
 pub fn filter_bound(policy: &BloomConstructionPolicy, n: usize) -> u64
     ensures { result ≡ bound_for (tenths_of policy.now) n }
 {

@@ -1,4 +1,4 @@
-//! Writing a handle of an index block.
+//! Encoding a handle of an index block.
 use crate::item::Item;
 use crate::number::{put_u32, put_u64};
 use crate::{Error, HANDLE_HEAD_LEN, KeyedBlockHandle, TableVersion};

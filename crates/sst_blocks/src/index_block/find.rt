@@ -1,4 +1,4 @@
-//! Finding one handle of a payload, in one walk and without memory.
+//! Finding one handle of a payload in one pass without allocation.
 ghost use Rattle.std.specs.Prelude.{◌≡◌, ◌≤◌, [], None, true, length, is_some, unwrap_or};
 ghost use Rattle.std.specs.Prelude.{find, IsTrue, IfOk, IfErr, OnOk};
 ghost use Rattle.std.specs.Option.{option_map};
@@ -10,9 +10,14 @@ use super::read::HandleRef;
 use crate::reading::find_item;
 use crate::{Error, SeqNo, TableVersion};
 
-/// The first handle of a payload that reaches a key and a number. Refused [`Error::InvalidBlock`]
-/// where the payload does not spell a strict list of handles. Where it was tested before that it
-/// does, the walk ends at that handle; else it goes on to the end, and tests what is behind it.
+/// Returns the first handle of a payload that reaches a key at `seqno`.
+///
+/// If `is_tested`, the grammar was checked already, and the pass ends at that handle. Else it
+/// checks the whole payload.
+///
+/// # Errors
+///
+/// Fails with [`Error::InvalidBlock`] if the payload does not encode a strict list of handles.
 #[inline]
 #[tactic(auto, unfolding(crate::specs::Handles::handles_in))]
 pub(crate) fn find_handle<'a>(

@@ -1,4 +1,4 @@
-//! The handles of an index block, from both ends.
+//! An iterator over the handles of an index block.
 ghost use Rattle.std.specs.Prelude.{◌≡◌, ◌+◌, ◌-◌, ◌↔◌, [], IsTrue, Some, None};
 ghost use Rattle.std.specs.Iterator.{at_most};
 ghost use Rattle.sst_blocks.specs.Handles.{window};
@@ -12,8 +12,9 @@ use crate::{Error, KeyedBlockHandle, SeqNo};
 use std::alloc::{Allocator, Global};
 use std::marker::Model;
 
-/// The handles of an index block, dealt from both ends. After a call that is refused
-/// [`Error::OutOfMemory`] nothing more comes, from either end.
+/// An iterator over the handles of an index block, from both ends.
+///
+/// Its only error is [`Error::OutOfMemory`]. After the error both ends are exhausted.
 #[derive(Drop)]
 pub struct Iter<'a, A: Allocator = Global> {
     block: &'a IndexBlock<A>,
@@ -44,8 +45,11 @@ impl<'a, A: Allocator> Iter<'a, A> {
         }
     }
 
-    /// Drops what stands before the first handle that reaches a key and a number: whose end key is
-    /// greater, or equal and numbered below `seqno`. Answers whether a handle is left.
+    /// Drops the handles before the first that reaches a key at `seqno`, and returns whether any
+    /// remain.
+    ///
+    /// A handle reaches it if its end key is greater, or equal with a sequence number below
+    /// `seqno`.
     pub fn seek(&mut self, key: &[u8], seqno: SeqNo) -> bool
         ensures narrowed { let place = reaching_place (key.now, seqno) self.old.list in
             self.new ≡ span_from place self.old }
@@ -59,13 +63,15 @@ impl<'a, A: Allocator> Iter<'a, A> {
         self.from < self.to
     }
 
-    /// Drops what stands behind the first handle whose end key is greater than a key. Answers
-    /// whether a handle is left. The number is not looked at: versions of the key may go on in the
-    /// block of a handle that ends with the key.
+    /// Drops the handles after the first whose end key is greater than `key`, and returns whether
+    /// any remain.
+    ///
+    /// The sequence number is ignored. If a block ends with the key, the next one may contain more
+    /// versions of it.
     pub fn seek_upper(&mut self, key: &[u8], _seqno: SeqNo) -> bool
         ensures narrowed { self.new ≡ span_to (1 + above_place key.now self.old.list) self.old }
         ensures left { IsTrue result ↔ (rest_in self.new ≡ [] → ⊥) }
-        // Of what was left, the part that stands in the list's window up to the key.
+        // Keeps the remaining handles within the list's window up to the key.
         ensures kept { let upper = window self.old.list None (Some key.now) in
             rest_in self.new ≡ rest_in (record self.old { list = upper }) }
         ensures both { KeepsLowerEdge key.now self.old self.new }
@@ -97,7 +103,7 @@ impl<A: Allocator> Iterator for Iter<'_, A> {
                 Some(Ok(handle))
             }
             Err(refusal) => {
-                // Nothing more comes.
+                // The iterator is exhausted.
                 self.from = self.to;
                 Some(Err(refusal))
             }
@@ -120,7 +126,7 @@ impl<A: Allocator> DoubleEndedIterator for Iter<'_, A> {
                 Some(Ok(handle))
             }
             Err(refusal) => {
-                // Nothing more comes.
+                // The iterator is exhausted.
                 self.to = self.from;
                 Some(Err(refusal))
             }

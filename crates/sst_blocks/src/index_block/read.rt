@@ -1,4 +1,4 @@
-//! Reading the handles of a payload.
+//! Decoding a handle of an index block.
 ghost use Rattle.std.specs.Prelude.{◌≡◌, ◌+◌};
 ghost use Rattle.sst_blocks.specs.Version.{key_width};
 
@@ -7,7 +7,7 @@ use crate::reading::ItemRef;
 use crate::{SeqNo, TableVersion};
 use sst_entries::compare_versions;
 
-/// A handle whose end key lies in borrowed bytes.
+/// A handle whose end key is borrowed bytes.
 #[derive(Clone, Copy)]
 pub(crate) struct HandleRef<'a> {
     pub(crate) end_key: &'a [u8],
@@ -16,8 +16,7 @@ pub(crate) struct HandleRef<'a> {
     pub(crate) size: u32,
 }
 
-/// The length of what stands before a handle's end key: the number, the position, the size and the
-/// key length.
+/// The size of a handle before its end key: sequence number, offset, size and key length.
 #[inline]
 pub(crate) fn head_len(version: TableVersion) -> usize
     ensures { result ≡ 20 + key_width version }
@@ -66,7 +65,7 @@ impl<'a> ItemRef<'a> for HandleRef<'a> {
     #[inline(always)]
     fn read_key(version: TableVersion, bytes: &'a [u8]) -> (&'a [u8], SeqNo) {
         let head = head_len(version);
-        // The number, the position and the size stand before the key's length.
+        // The sequence number, the offset and the size come before the key's length.
         let key_len = key_len_at(version, &bytes[20..]);
         (&bytes[head..head + key_len], u64_at(bytes))
     }

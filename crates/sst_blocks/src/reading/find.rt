@@ -1,4 +1,4 @@
-//! Finding one item of a payload, in one walk and without memory.
+//! Finding one item of a payload in one pass without allocation.
 ghost use Rattle.std.specs.Prelude.{◌≡◌, ◌≤◌, [], Some, None, true, length};
 ghost use Rattle.std.specs.Prelude.{drop, find, is_some, unwrap_or, if◌then◌else◌};
 ghost use Rattle.std.specs.Prelude.{IfErr, IfOk, IfSome, IsTrue, OnOk};
@@ -12,10 +12,14 @@ use super::ItemRef;
 use crate::number::u32_at;
 use crate::{Error, SeqNo, TableVersion};
 
-/// The first item of a payload that a read of a key at a number comes before, and where it begins.
-/// Refused [`Error::InvalidBlock`] where the payload does not spell a strict list of items. Where
-/// it was tested before that it does, the walk ends at that item; else it goes on to the end, and
-/// tests what is behind it.
+/// Returns the first item that a read of a key at `seqno` orders before, and its offset.
+///
+/// If `is_tested`, the grammar was checked already, and the pass ends at that item. Else it checks
+/// the whole payload.
+///
+/// # Errors
+///
+/// Fails with [`Error::InvalidBlock`] if the payload does not encode a strict list of items.
 pub(crate) fn find_item<'a, R: ItemRef<'a>>(
     version: TableVersion,
     payload: &'a [u8],
@@ -43,8 +47,8 @@ pub(crate) fn find_item<'a, R: ItemRef<'a>>(
     }
 }
 
-// The first match in a payload that spells a strict list of items. No item is kept on the way:
-// copying each to where the next can be compared with it took a third of a read.
+// The first match in a payload that encodes a strict list. It keeps no previous item: copying each
+// one took a third of a read.
 fn find_tested<'a, R: ItemRef<'a>>(
     version: TableVersion,
     payload: &'a [u8],
@@ -77,7 +81,7 @@ fn find_tested<'a, R: ItemRef<'a>>(
     None
 }
 
-// The first match in any payload, whose items are all tested.
+// The first match in any payload; all its items are checked.
 fn find_and_test<'a, R: ItemRef<'a>>(
     version: TableVersion,
     payload: &'a [u8],
@@ -119,7 +123,7 @@ fn find_and_test<'a, R: ItemRef<'a>>(
     Ok(found)
 }
 
-// Keeps the item at a place, where none was found and a read of a key at a number comes before it.
+// Keeps the item if it is the first that a read of a key at `seqno` orders before.
 #[inline]
 fn put_first<'a, R: ItemRef<'a>>(
     found: &mut Option<(usize, R)>,

@@ -1,4 +1,4 @@
-//! What stands at the places where the items of a payload begin, and the search for one of them.
+//! Reading items by index, and binary search among them.
 ghost use Rattle.std.specs.Prelude.{◌≡◌, ◌<◌, ◌≤◌, ℕ, Bool, List, Some, length};
 ghost use Rattle.std.specs.List.{slice_get};
 ghost use Rattle.std.specs.List.Sorted.{IsPartitionedBy};
@@ -13,7 +13,7 @@ use crate::starts::Starts;
 use crate::{SeqNo, TableVersion};
 use std::alloc::Allocator;
 
-/// The item of a place.
+/// Returns the item at an index.
 #[inline(always)]
 pub(crate) fn item_at<'a, R: ItemRef<'a>, A: Allocator>(
     version: TableVersion,
@@ -33,7 +33,7 @@ pub(crate) fn item_at<'a, R: ItemRef<'a>, A: Allocator>(
     }
 }
 
-/// The key and the number of the item of a place.
+/// Returns the key and the sequence number of the item at an index.
 #[inline(always)]
 pub(crate) fn key_at<'a, R: ItemRef<'a>, A: Allocator>(
     version: TableVersion,
@@ -52,8 +52,9 @@ pub(crate) fn key_at<'a, R: ItemRef<'a>, A: Allocator>(
     R::read_key(version, &payload[start..])
 }
 
-/// How many items at the front pass a test of their keys and numbers, by binary search: no item
-/// passes after one that does not.
+/// Returns the number of leading items that pass a test of key and sequence number.
+///
+/// It is a binary search: no item may pass after one that fails.
 pub(crate) fn front_len<'a, R: ItemRef<'a>, A: Allocator, P: Fn(&[u8], SeqNo) -> bool>(
     version: TableVersion,
     payload: &'a [u8],

@@ -1,4 +1,4 @@
-//! What is asked of one block, without memory for the places of its items.
+//! Queries of one block that need no memory for the offsets of its items.
 ghost use Rattle.std.specs.Prelude.{◌≡◌, Option, Ok, Err, Some, true, slice_range, IfOk, IfErr};
 ghost use Rattle.std.specs.Prelude.{IfSome};
 ghost use Rattle.std.specs.Option.{option_map};
@@ -25,8 +25,7 @@ use crate::{
 };
 use std::alloc::Allocator;
 
-/// Where a payload lies that has its checksum and room for what it counts, its header, and whether
-/// it was tested before that it is in its grammar.
+/// A payload with a valid checksum and count, its header, and whether its grammar was checked.
 #[derive(Clone, Copy)]
 struct Sound {
     header: Header,
@@ -36,10 +35,15 @@ struct Sound {
 }
 
 impl<A: Allocator + Clone> BlockSource<A> {
-    /// Where the first entry of a key numbered below `seqno` lies, in the data block that a handle
-    /// names. Refused with the first fault, as [`BlockSource::load`] is, and never for want of
-    /// memory: none is taken, and nothing is shared. A block that was tested before is walked up to
-    /// the key only. Each call counts, also where it refuses.
+    /// Finds the first entry of a key with a sequence number below `seqno`, in the data block of a
+    /// handle.
+    ///
+    /// It returns the entry's position and shares nothing. If the grammar was checked already, the
+    /// search ends at the key. Each call counts in `opened`, even if it fails.
+    ///
+    /// # Errors
+    ///
+    /// Fails as [`BlockSource::load`], but never with [`Error::OutOfMemory`]: it does not allocate.
     pub fn point_place(
         &self,
         handle: &BlockHandle,
@@ -60,7 +64,7 @@ impl<A: Allocator + Clone> BlockSource<A> {
         self.place_of_entry(&sound, key, seqno)
     }
 
-    /// The entry that lies at a place, lent from there: `None` where the bytes end before it.
+    /// Borrows the entry at a position, or returns `None` if the bytes end before it.
     #[inline]
     pub fn entry_at(&self, place: &EntryPlace) -> Option<EntryRef<'_>>
         ensures { option_map entry_of_ref result ≡ placed_in self.now place.now }
@@ -68,10 +72,16 @@ impl<A: Allocator + Clone> BlockSource<A> {
         place.find(self.bytes.as_slice())
     }
 
-    /// The first entry of a key numbered below `seqno`, in the data block that a handle names.
-    /// Refused as [`BlockSource::point_place`], and [`Error::OutOfMemory`] only where there is such
-    /// an entry, whose key and value share the table's bytes. Each call counts, also where it
-    /// refuses.
+    /// Returns the first entry of a key with a sequence number below `seqno`, in the data block of
+    /// a handle.
+    ///
+    /// The key and the value share the table's bytes. Each call counts in `opened`, even if it
+    /// fails.
+    ///
+    /// # Errors
+    ///
+    /// Fails as [`BlockSource::point_place`], and with [`Error::OutOfMemory`] only if the entry
+    /// exists.
     pub fn point_read(
         &self,
         handle: &BlockHandle,
@@ -82,7 +92,7 @@ impl<A: Allocator + Clone> BlockSource<A> {
         ensures told { let body = body_of self.now in
             Gives (λ (found : Option Entry). found) result
             (point_told body handle.now.offset handle.now.size key.now seqno) }
-        // Memory is wanted for an entry alone that is there.
+        // Only sharing an existing entry can fail with `OutOfMemory`.
         ensures sure { let body = body_of self.now in
             IsSure result (point_told body handle.now.offset handle.now.size key.now seqno) }
         ensures first { let body = body_of self.now in
@@ -96,10 +106,15 @@ impl<A: Allocator + Clone> BlockSource<A> {
         }
     }
 
-    /// Where the first handle leads that reaches a key and a number, in the index block that a
-    /// handle names. Refused with the first fault, as [`BlockSource::load`] is, and never for want
-    /// of memory: none is taken. A block that was tested before is walked up to that handle only.
-    /// Each call counts, also where it refuses.
+    /// Finds the first handle that reaches a key at `seqno`, in the index block of a handle.
+    ///
+    /// A handle reaches it if its end key is greater, or equal with a sequence number below
+    /// `seqno`. If the grammar was checked already, the search ends at that handle. Each call
+    /// counts in `opened`, even if it fails.
+    ///
+    /// # Errors
+    ///
+    /// Fails as [`BlockSource::load`], but never with [`Error::OutOfMemory`]: it does not allocate.
     pub fn find(
         &self,
         handle: &BlockHandle,
@@ -118,9 +133,13 @@ impl<A: Allocator + Clone> BlockSource<A> {
         self.handle_in(&sound, key, seqno)
     }
 
-    /// Whether the filter of the filter block that a handle names may have a hash. Refused with the
-    /// first fault, as [`BlockSource::load`] is, and never for want of memory: none is taken. Each
-    /// call counts, also where it refuses.
+    /// Returns whether the filter in the filter block of a handle may contain a hash.
+    ///
+    /// Each call counts in `opened`, even if it fails.
+    ///
+    /// # Errors
+    ///
+    /// Fails as [`BlockSource::load`], but never with [`Error::OutOfMemory`]: it does not allocate.
     pub fn maybe_contains_hash(
         &self,
         handle: &BlockHandle,
@@ -138,8 +157,7 @@ impl<A: Allocator + Clone> BlockSource<A> {
         Ok(self.has_hash_in(&sound, hash))
     }
 
-    /// Where the payload lies of the block of a kind that a handle names, which has its checksum
-    /// and room for what it counts.
+    /// Returns the payload of the block of a kind, with its checksum and count verified.
     fn sound(&self, handle: &BlockHandle, kind: BlockType) -> Result<Sound, Error>
         ensures sound { IfOk result (λ s.
             IsSoundAt (body_of self.now) handle.now.offset handle.now.size kind s) }
@@ -159,7 +177,7 @@ impl<A: Allocator + Clone> BlockSource<A> {
         })
     }
 
-    /// Where the first entry of a key numbered below `seqno` lies, in a payload of entries.
+    /// Finds the first entry of a key below `seqno` in a payload of entries.
     fn place_of_entry(
         &self,
         sound: &Sound,
@@ -189,7 +207,7 @@ impl<A: Allocator + Clone> BlockSource<A> {
         Ok(Some(EntryPlace::of(key_at, &entry)))
     }
 
-    /// Where the first handle leads that reaches a key and a number, in a payload of handles.
+    /// Finds the first handle that reaches a key at `seqno` in a payload of handles.
     fn handle_in(
         &self,
         sound: &Sound,
@@ -213,7 +231,7 @@ impl<A: Allocator + Clone> BlockSource<A> {
         }
     }
 
-    /// Whether the filter of a payload may have a hash.
+    /// Returns whether the filter of a payload may contain a hash.
     fn has_hash_in(&self, sound: &Sound, hash: u64) -> bool
         requires sound { IsSound (body_of self.now) Filter sound.now }
         requires headed { IsSoundHeaded self.now Filter sound.now }
@@ -223,12 +241,12 @@ impl<A: Allocator + Clone> BlockSource<A> {
             Ok result ≡ told_map (maybe_in hash)
             (checked_payload header.version header.checksum Filter payload) }
     {
-        // To have room is to be a filter.
+        // A filter's grammar is the check that `test` has made already.
         self.remember_walk(sound, BlockType::Filter);
         contains_hash(&self.body()[sound.start..sound.end], hash)
     }
 
-    /// Marks that a payload is in its grammar, where that is new.
+    /// Caches that a payload's grammar was checked, unless the cache says so already.
     fn remember_walk(&self, sound: &Sound, kind: BlockType)
         requires sound { IsSound (body_of self.now) kind sound.now }
         requires headed { IsSoundHeaded self.now kind sound.now }

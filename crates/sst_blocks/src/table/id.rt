@@ -1,4 +1,4 @@
-//! Ids of tables and of trees.
+//! Ids of tables and trees.
 ghost use Rattle.std.specs.Prelude.{◌≡◌};
 
 /// The id of a table within its tree.
@@ -7,19 +7,21 @@ pub type TableId = u64;
 /// The id of a tree.
 pub type TreeId = u64;
 
-/// The id of a table among the tables of all trees. Ids are ordered by the tree, then by the table.
+/// The id of a table among the tables of all trees.
+///
+/// Ids are ordered by the tree, then by the table.
 #[derive(Clone, Copy, Debug, PartialEq, Eq, PartialOrd, Ord, Hash)]
 pub struct GlobalTableId(TreeId, TableId);
 
 impl GlobalTableId {
-    /// The tree's part.
+    /// Returns the id of the tree.
     pub fn tree_id(&self) -> TreeId
         ensures { result ≡ self.now.0 }
     {
         self.0
     }
 
-    /// The table's part.
+    /// Returns the id of the table within its tree.
     pub fn table_id(&self) -> TableId
         ensures { result ≡ self.now.1 }
     {

@@ -2,10 +2,12 @@
 ghost use Rattle.std.specs.Prelude.{◌≡◌};
 ghost use Rattle.sst_blocks.specs.table.MetaBlock.{name_of};
 
-/// How the meta block names the hash of keys that filters are asked by.
+/// The meta block's code for the hash function of filters.
 pub const FILTER_HASH_TYPE: u8 = 1;
 
-/// An item of a meta block, in the byte order of their keys.
+/// An item of a meta block.
+///
+/// Variants are in the byte order of their keys.
 #[derive(Clone, Copy, Debug, PartialEq, Eq)]
 pub enum ItemName {
     BlockCountData,
@@ -40,7 +42,7 @@ pub enum ItemName {
 }
 
 impl ItemName {
-    /// The key under which the item stands.
+    /// Returns the item's key in the meta block.
     #[tactic(auto, unfolding(crate::specs::table::MetaBlock::name_of))]
     pub fn key(self) -> &'static [u8]
         ensures { result.now ≡ name_of self }

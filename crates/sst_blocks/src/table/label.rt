@@ -1,8 +1,7 @@
-//! What a table is called.
+//! The table info that a caller supplies.
 use crate::{TableId, Timestamp};
 
-/// What a table is called: its id, the level at which it stands, and the moment of its creation,
-/// which is handed in.
+/// The table info that a caller supplies: id, level and creation time.
 #[derive(Clone, Copy, Debug, PartialEq, Eq)]
 pub struct Label {
     /// The table's id.

@@ -1,21 +1,21 @@
-//! What a table is written with.
+//! The options of a table writer.
 ghost use Rattle.std.specs.Prelude.{◌≡◌};
 ghost use Rattle.sst_blocks.specs.table.Kinds.{filter_with_size, index_with_size};
 ghost use Rattle.sst_blocks.specs.table.Options.{default_options};
 
 use crate::BloomConstructionPolicy;
 
-/// What stands for the index of a table.
+/// The layout of a table's index.
 #[derive(Clone, Copy, Debug, PartialEq, Eq)]
 pub enum IndexKind {
     /// One block with the handles of all data blocks.
     Full,
-    /// Partitions, each cut when it has so many bytes, and a top level with their handles.
+    /// Partitions, each cut at this many bytes, and a top level with their handles.
     Partitioned(u32),
 }
 
 impl IndexKind {
-    /// The kind with partitions of this size, where it has partitions.
+    /// Returns the kind with partitions of this size; a full index stays full.
     pub fn with_size(self, size: u32) -> IndexKind
         ensures { result ≡ index_with_size size self }
     {
@@ -26,17 +26,17 @@ impl IndexKind {
     }
 }
 
-/// What stands for the filter of a table.
+/// The layout of a table's filter.
 #[derive(Clone, Copy, Debug, PartialEq, Eq)]
 pub enum FilterKind {
     /// One block for the keys of all data blocks.
     Full,
-    /// Partitions, each cut when it has so many bytes, and a top level with their handles.
+    /// Partitions, each cut at this many bytes, and a top level with their handles.
     Partitioned(u32),
 }
 
 impl FilterKind {
-    /// The kind with partitions of this size, where it has partitions.
+    /// Returns the kind with partitions of this size; a full filter stays full.
     pub fn with_size(self, size: u32) -> FilterKind
         ensures { result ≡ filter_with_size size self }
     {
@@ -47,24 +47,29 @@ impl FilterKind {
     }
 }
 
-/// What a table is written with.
+/// The options that a table is written with.
 #[derive(Clone, Copy, Debug, PartialEq, Eq)]
 pub struct Options {
-    /// Restart interval of data blocks, at least 1. It is stored in the meta block and changes nothing
-    /// else.
+    /// The restart interval of data blocks, at least 1.
+    ///
+    /// It is stored in the meta block and has no other effect.
     pub data_block_restart_interval: u8,
-    /// Restart interval of index blocks. It is stored in the meta block and changes no index block.
-    /// Only tables written with 1 can be opened.
+    /// The restart interval of index blocks.
+    ///
+    /// It is stored in the meta block and changes no index block. Only tables written with 1 can be
+    /// opened.
     pub index_block_restart_interval: u8,
-    /// Hash ratio of data blocks. It is stored in the meta block and changes nothing else.
+    /// The hash ratio of data blocks.
+    ///
+    /// It is stored in the meta block and has no other effect.
     pub data_block_hash_ratio: u32,
-    /// How many bytes of keys and values a data block has when it is cut.
+    /// The number of key and value bytes at which a data block is cut.
     pub data_block_size: u32,
-    /// The kind of the index.
+    /// The layout of the index.
     pub index_kind: IndexKind,
-    /// The kind of the filter.
+    /// The layout of the filter.
     pub filter_kind: FilterKind,
-    /// How many bits the filter has for a key: 0 for no filter.
+    /// The number of filter bits per key; with 0 there is no filter.
     pub bloom_policy: BloomConstructionPolicy,
 }
 
@@ -72,7 +77,7 @@ impl Default for Options {
     ghost use Rattle.std.specs.Prelude.{◌≡◌};
     ghost use Rattle.sst_blocks.specs.table.Options.{default_options};
 
-    /// What is written with where nothing else is asked for.
+    /// Returns data blocks of 4,096 bytes, a full index, and a full filter of 10 bits per key.
     fn default() -> Options
         ensures { result ≡ default_options }
     {

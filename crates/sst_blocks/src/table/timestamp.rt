@@ -1,8 +1,10 @@
-//! Moments.
+//! Timestamps.
 use std::marker::Model;
 use std::ops::Deref;
 
-/// A moment, in nanoseconds. A contract sees the number.
+/// A timestamp in nanoseconds.
+///
+/// In contracts it is the number.
 #[derive(Clone, Copy, Debug, PartialEq, Eq, PartialOrd, Ord)]
 pub struct Timestamp(u128);
 

@@ -1,4 +1,4 @@
-// The order of an interval heap, restored after one item has changed.
+// Restoring the order of an interval heap after one item has changed.
 ghost use Rattle.std.specs.Prelude.{◌≡◌, ◌⊎◌, ℕ, ◌+◌, ◌-◌, ◌*◌, ◌/◌, ◌%◌, ◌<◌, ◌≤◌, length, take};
 ghost use Rattle.std.specs.Prelude.{IfNone, IfSome, IsPermutation};
 ghost use Rattle.lsm_sorted.specs.merge.Intervals.{IsIntervalHeap, IsRoot, IsEnd, above_of};
@@ -10,7 +10,7 @@ ghost use Rattle.lsm_sorted.specs.merge.Intervals.{SinksFrom};
 use crate::heap::order::is_before;
 use sst_entries::Direction;
 
-// The end at this side of the root, among so many places.
+// The index of the root's end at this side, in a heap of `places` items.
 pub(crate) fn root_end(side: Direction, places: usize) -> usize
     requires { 0 < places }
     ensures root { IsRoot side places result }
@@ -18,12 +18,12 @@ pub(crate) fn root_end(side: Direction, places: usize) -> usize
 {
     match side {
         Direction::Front => 0,
-        // The greatest of one item is the least.
+        // A single item is both the least and the greatest.
         Direction::Back => (places - 1).min(1),
     }
 }
 
-// Moves the last item to where it belongs, among others in order.
+// Moves the last item to its position. All others are in order.
 pub(crate) fn order_last<T: Ord>(items: &mut [T])
     requires some { 0 < length items.old }
     requires others { IsIntervalHeap T.cmp (take (length items.old - 1) items.old) }
@@ -38,7 +38,7 @@ pub(crate) fn order_last<T: Ord>(items: &mut [T])
     }
 }
 
-// Puts the last item into order, where it is the second of its node and all others are in order.
+// Moves the last item, the second of its node, to its position. All others are in order.
 fn order_second<T: Ord>(items: &mut [T], last: usize)
     requires last { length items.old ≡ last + 1 }
     requires others { IsIntervalHeap T.cmp (take last items.old) }
@@ -55,8 +55,8 @@ fn order_second<T: Ord>(items: &mut [T], last: usize)
     }
 }
 
-// Puts the last item into order, where it is alone in its node, which is not the root, and all
-// others are in order.
+// Moves the last item, alone in its node and not in the root, to its position. All others are in
+// order.
 fn order_single<T: Ord>(items: &mut [T], last: usize)
     requires last { length items.old ≡ last + 1 }
     requires others { IsIntervalHeap T.cmp (take last items.old) }
@@ -73,7 +73,7 @@ fn order_single<T: Ord>(items: &mut [T], last: usize)
     }
 }
 
-// The end at this side of the node above the one of a place.
+// The index of the end at this side of the parent node.
 fn place_above(side: Direction, place: usize) -> usize
     requires { 2 ≤ place }
     ensures { result ≡ above_of side place }
@@ -123,7 +123,7 @@ pub(crate) fn sink<T: Ord>(items: &mut [T], side: Direction, mut place: usize)
     }
 }
 
-// Puts the two ends of a node in order.
+// Orders the two ends of a node.
 fn order_node<T: Ord>(items: &mut [T], side: Direction, place: usize)
     requires { IsSinkingAt side T.cmp items.old place }
     ensures items { IsPermutation items.old items.new }
@@ -137,7 +137,7 @@ fn order_node<T: Ord>(items: &mut [T], side: Direction, place: usize)
     }
 }
 
-// Of the ends at this side of the nodes below, the first in order.
+// The index of the first in order among the child nodes' ends at this side.
 fn first_child<T: Ord>(items: &[T], side: Direction, place: usize) -> Option<usize>
     requires within { place < length items.now }
     requires end { IsEnd side (length items.now) place }
@@ -158,7 +158,7 @@ fn first_child<T: Ord>(items: &[T], side: Direction, place: usize) -> Option<usi
     }
 }
 
-// The end at this side of a node among so many places.
+// The index of a node's end at this side, in a heap of `places` items.
 fn end_of(side: Direction, node: usize, places: usize) -> Option<usize>
     requires { 0 < places }
     ensures none { IfNone result (places ≤ 2 * node) }

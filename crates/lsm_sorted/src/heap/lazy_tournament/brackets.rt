@@ -14,9 +14,9 @@ use crate::heap::order::is_before;
 use sst_entries::Direction;
 use std::alloc::{AllocError, Allocator};
 
-// A full binary tree whose leaves are the slots, in which each inner node names the winner of its
-// two children. Node 1 is the root, and the children of node n are 2n and 2n + 1. Before the
-// matches are first played, it is open which slots the inner nodes name.
+// A full binary tree whose leaves are the slots. Each inner node names the winner of its two
+// children. Node 1 is the root, and the children of node n are 2n and 2n + 1. Before the matches
+// are first played, the inner nodes may name any slots.
 #[derive(Drop)]
 pub struct Bracket<A: Allocator> {
     pub(crate) end: Direction,
@@ -28,13 +28,13 @@ pub struct Bracket<A: Allocator> {
 pub struct Brackets<A: Allocator> {
     pub(crate) front: Bracket<A>,
     pub(crate) back: Bracket<A>,
-    // The slot that the last pop emptied, above which the matches are still to be played.
+    // The slot that the last pop emptied. The matches above it are still to be played.
     pub(crate) emptied: Option<usize>,
     pub(crate) steps: u64,
 }
 
 impl<A: Allocator + Clone> Brackets<A> {
-    // Over as many empty slots.
+    // Two tournaments over `leaves` empty slots.
     pub(crate) fn new(alloc: A, leaves: usize, is_played: bool) -> Result<Self, AllocError>
         requires { 0 < leaves }
         ensures front { IfOk result (λ b. IsUnplayed leaves b.front) }
@@ -57,7 +57,7 @@ impl<A: Allocator + Clone> Brackets<A> {
 }
 
 impl<A: Allocator> Brackets<A> {
-    // The slot that wins at an end, once what is still to be played is played.
+    // The slot that wins at an end, once the matches that are left are played.
     pub(crate) fn winner<T: Ord>(&mut self, slots: &[Option<T>], end: Direction) -> usize
         requires some { 0 < length slots.now }
         requires kept { AreKept self.old.emptied T.cmp slots.now self.old }
@@ -99,7 +99,7 @@ impl<A: Allocator> Brackets<A> {
         }
     }
 
-    // Plays the matches above a slot again, after what it holds has changed.
+    // Plays the matches above a slot again, after its item has changed.
     pub(crate) fn follow<T: Ord>(&mut self, slots: &[Option<T>], slot: usize)
         requires { AreKept (Some slot) T.cmp slots.now self.old }
         ensures kept { AreKept None T.cmp slots.now self.new }
@@ -116,7 +116,7 @@ impl<A: Allocator> Brackets<A> {
 }
 
 impl<A: Allocator> Bracket<A> {
-    // Over empty slots, of two of which the first wins.
+    // A tournament over empty slots: of two, the first wins.
     fn new(alloc: A, end: Direction, leaves: usize, is_played: bool) -> Result<Self, AllocError>
         requires { 0 < leaves }
         ensures unplayed { IfOk result (λ b. IsUnplayed leaves b) }
@@ -141,7 +141,7 @@ impl<A: Allocator> Bracket<A> {
         })
     }
 
-    // The slot that wins. Its matches are played from now on.
+    // The slot that wins. From this call on, its matches are played.
     fn winner<T: Ord>(&mut self, slots: &[Option<T>], steps: &mut u64) -> usize
         requires some { 0 < length slots.now }
         requires kept { IsKept None T.cmp slots.now self.old }
@@ -191,7 +191,7 @@ impl<A: Allocator> Bracket<A> {
         self.is_played = true;
     }
 
-    // After what a slot holds has changed.
+    // Plays the matches above a slot again after its item has changed, unless none were played yet.
     fn follow<T: Ord>(&mut self, slots: &[Option<T>], slot: usize, steps: &mut u64)
         requires { IsKept (Some slot) T.cmp slots.now self.old }
         ensures kept { IsKept None T.cmp slots.now self.new }
@@ -206,8 +206,8 @@ impl<A: Allocator> Bracket<A> {
         }
     }
 
-    // Plays the matches above a slot again, up to one whose winner stays and is another slot: the
-    // matches above that are as they were.
+    // Plays the matches above a slot again. It stops at a match whose winner stays and is another
+    // slot, since the matches above do not change.
     fn replay<T: Ord>(&mut self, slots: &[Option<T>], slot: usize, steps: &mut u64)
         requires { WasWon T.cmp slots.now slot self.old }
         ensures won { IsWon T.cmp slots.now self.new }
@@ -261,7 +261,7 @@ fn winner_of<T: Ord>(
     }
 }
 
-// Whether y comes before x at this end. Each comparison of two items is made here, and counted.
+// Whether `y` comes before `x` at this end. Each comparison of two items is made and counted here.
 #[inline(always)]
 fn beats<T: Ord>(end: Direction, y: &T, x: &T, steps: &mut u64) -> bool
     ensures value { result ≡ is_gt (toward end T.cmp x.now y.now) }

@@ -1,4 +1,4 @@
-// Places for items, of which the free ones are listed.
+// Slots for items, with a list of the free ones.
 ghost use Rattle.std.specs.Prelude.{◌≡◌, ℕ, ◌+◌, ◌<◌, ◌≤◌, [], ◌∷◌, ◌++◌, IfSome, length};
 ghost use Rattle.std.specs.Prelude.{replicate, slice_index, slice_set, IfOk};
 ghost use Rattle.std.specs.Vec.{vec_capacity};
@@ -29,7 +29,7 @@ impl<T, A: Allocator> Model for Slots<T, A> {
 }
 
 impl<T, A: Allocator + Clone> Slots<T, A> {
-    // So many empty places, of which `room` may be taken.
+    // Creates `places` empty slots, of which `room` may be taken.
     pub(crate) fn new(alloc: A, room: usize, places: usize) -> Result<Self, AllocError>
         requires { room ≤ places }
         ensures places { IfOk result (λ s. s.places ≡ replicate places None) }
@@ -56,7 +56,7 @@ impl<T, A: Allocator> Slots<T, A> {
         self.places.as_slice()
     }
 
-    // Puts an item into an empty slot, and says which.
+    // Puts an item into an empty slot, and returns the slot.
     pub(crate) fn insert(&mut self, item: T) -> usize
         requires { length (occupants self.old.places) < self.old.room }
         ensures within { result < length self.old.places }
