@@ -1,7 +1,7 @@
 //! Compaction of several tables into new ones.
 ghost use Rattle.std.specs.Prelude.{All};
 ghost use Rattle.std.specs.Iterator.{IsFinite};
-ghost use Rattle.sst_entries.specs.Stream.{CanDeal, nowhere};
+ghost use Rattle.sst_entries.specs.Stream.{CanYield, nowhere};
 
 use crate::builds::{Written, finished, write_next};
 use crate::digest::{Digest, code};
@@ -101,7 +101,7 @@ fn compact_all<S: Iterator<Item = IterItem<Global>> + Drop>(
     sources: Vec<S>,
     target: u64,
 ) -> Result<Vec<FinishedTable>, Error>
-    requires can { All (CanDeal S.next_gives nowhere S.can_next S.can_next) sources.items }
+    requires can { All (CanYield S.next_gives nowhere S.can_next S.can_next) sources.items }
     requires finite { All (λ s. IsFinite (S.remaining s)) sources.items }
 {
     let merger = Merger::new(alloc, sources)?;

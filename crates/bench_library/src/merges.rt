@@ -1,7 +1,7 @@
 //! The newest versions of several tables together.
 ghost use Rattle.std.specs.Prelude.{All};
 ghost use Rattle.std.specs.Iterator.{IsFinite};
-ghost use Rattle.sst_entries.specs.Stream.{CanDeal, nowhere};
+ghost use Rattle.sst_entries.specs.Stream.{CanYield, nowhere};
 
 use crate::digest::{Digest, code};
 use crate::files::{scanners_of, tables_of};
@@ -20,7 +20,7 @@ fn drain_newest<S: Iterator<Item = IterItem<Global>> + Drop>(
     sources: Vec<S>,
     digest: &mut Digest,
 ) -> Result<(), Error>
-    requires can { All (CanDeal S.next_gives nowhere S.can_next S.can_next) sources.items }
+    requires can { All (CanYield S.next_gives nowhere S.can_next S.can_next) sources.items }
     requires finite { All (λ s. IsFinite (S.remaining s)) sources.items }
 {
     take_newest(newest_of(alloc, sources)?, digest)

@@ -1,7 +1,7 @@
 //! Writing a list as a run, and reading it.
 ghost use Rattle.std.specs.Prelude.{◌≡◌, ◌+◌, ◌^◌, ◌<◌, [], Some, IfErr, IfOk, IfSome, MatchOption};
 ghost use Rattle.sst_entries.specs.declared.error.Error.TheVariants.{OutOfMemory};
-ghost use Rattle.lsm_tables.specs.Words.{CanDeal, Faults, FitsAsTables, IsWritable, ReadsOf};
+ghost use Rattle.lsm_tables.specs.Words.{CanYield, Faults, FitsAsTables, IsWritable, ReadsOf};
 ghost use Rattle.lsm_tables.specs.Words.{chain_fault, highest_seqno, lift};
 
 use crate::{Reads, read_run};
@@ -39,7 +39,7 @@ pub fn read_run_back<A: Allocator + Clone>(
     ensures none { IfOk result (λ r. IfSome r (λ _. items.items ≡ [] → ⊥)) }
     // Both ends of the range may be called any number of times.
     ensures can { IfOk result (λ r. IfSome r (λ read.
-        CanDeal ⟦<NewestOfRuns<A> as Iterator>⟧.next_gives
+        CanYield ⟦<NewestOfRuns<A> as Iterator>⟧.next_gives
         ⟦<NewestOfRuns<A> as DoubleEndedIterator>⟧.next_back_gives
         ⟦<NewestOfRuns<A> as Iterator>⟧.can_next
         ⟦<NewestOfRuns<A> as DoubleEndedIterator>⟧.can_next_back read.1)) }

@@ -2,7 +2,7 @@
 ghost use Rattle.std.specs.Prelude.{◌≡◌, ◌∷◌, [], List, IfErr, IfOk, IfSome, MatchOption, Some};
 ghost use Rattle.std.specs.Prelude.{length};
 ghost use Rattle.sst_entries.specs.declared.error.Error.TheVariants.{OutOfMemory};
-ghost use Rattle.lsm_tables.specs.Words.{AreCompactable, AreTables, CanDeal, Entry, Faults};
+ghost use Rattle.lsm_tables.specs.Words.{AreCompactable, AreTables, CanYield, Entry, Faults};
 ghost use Rattle.lsm_tables.specs.Words.{FitsAsTables, IsRunOfList, IsWritable, ReadsOf};
 ghost use Rattle.lsm_tables.specs.Words.{both_fault};
 ghost use Rattle.lsm_tables.specs.Words.{default_options, ids_behind, kept};
@@ -108,7 +108,7 @@ pub fn compact_run_back<A: Allocator + Clone>(
         IfOk result (λ r. IfSome r (λ _. left ≡ [] → ⊥)) }
     // Both ends of the range may be called any number of times.
     ensures can { IfOk result (λ r. IfSome r (λ read.
-        CanDeal ⟦<NewestOfRuns<A> as Iterator>⟧.next_gives
+        CanYield ⟦<NewestOfRuns<A> as Iterator>⟧.next_gives
         ⟦<NewestOfRuns<A> as DoubleEndedIterator>⟧.next_back_gives
         ⟦<NewestOfRuns<A> as Iterator>⟧.can_next
         ⟦<NewestOfRuns<A> as DoubleEndedIterator>⟧.can_next_back read.1)) }

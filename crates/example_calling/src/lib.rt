@@ -181,11 +181,11 @@ fn count_newest<S: DoubleEndedIterator<Item = IterItem<A>> + Drop, A: Allocator>
     requires finite { IsFinite (⟦<NewestOf<S, A> as Iterator>⟧.remaining items) }
     ensures exact { let gives = ⟦<NewestOf<S, A> as Iterator>⟧.next_gives in
         let back_gives = ⟦<NewestOf<S, A> as DoubleEndedIterator>⟧.next_back_gives in
-        (es : List spec.Entry) → spec.DealsList gives back_gives es items →
+        (es : List spec.Entry) → spec.YieldsList gives back_gives es items →
         IfOk result (λ count. count ≡ min (length es) (2 ^ 64 - 1)) }
     ensures memory { let gives = ⟦<NewestOf<S, A> as Iterator>⟧.next_gives in
         let back_gives = ⟦<NewestOf<S, A> as DoubleEndedIterator>⟧.next_back_gives in
-        (es : List spec.Entry) → spec.DealsList gives back_gives es items →
+        (es : List spec.Entry) → spec.YieldsList gives back_gives es items →
         IfErr result (λ e. e ≡ spec.OutOfMemory) }
 {
     count(items)
@@ -198,10 +198,10 @@ fn count<I: DoubleEndedIterator<Item = IterItem<A>> + Drop, A: Allocator>(
     requires can { I.can_next items }
     requires finite { IsFinite (I.remaining items) }
     ensures exact { (es : List spec.Entry) →
-        spec.DealsList I.next_gives I.next_back_gives es items →
+        spec.YieldsList I.next_gives I.next_back_gives es items →
         IfOk result (λ count. count ≡ min (length es) (2 ^ 64 - 1)) }
     ensures memory { (es : List spec.Entry) →
-        spec.DealsList I.next_gives I.next_back_gives es items →
+        spec.YieldsList I.next_gives I.next_back_gives es items →
         IfErr result (λ e. e ≡ spec.OutOfMemory) }
 {
     let mut count = 0u64;

@@ -1,7 +1,7 @@
 //! All reads of one table.
 ghost use Rattle.std.specs.Prelude.{◌≡◌, [], IfErr, IfOk, List};
 ghost use Rattle.sst_entries.specs.declared.error.Error.TheVariants.{OutOfMemory};
-ghost use Rattle.lsm_readers.specs.Words.{DealsAll, DealsWithin, Entry, StoresList};
+ghost use Rattle.lsm_readers.specs.Words.{YieldsAll, YieldsWithin, Entry, StoresList};
 ghost use Rattle.sst_entries.specs.Error.{Faults};
 ghost use Rattle.lsm_runs.specs.compaction.Written.{ReadsList, reads_fault};
 
@@ -27,8 +27,8 @@ fn ranges_of<A: Allocator + Clone>(
         let back_gives = ⟦<Iter<A> as DoubleEndedIterator>⟧.next_back_gives in
         let g = table.now.global_seqno in
         (es : List Entry) → StoresList table.now.bytes es → IfOk result (λ ranges.
-        DealsWithin gives back_gives lower upper es g ranges.0
-        × DealsAll gives back_gives es g ranges.1) }
+        YieldsWithin gives back_gives lower upper es g ranges.0
+        × YieldsAll gives back_gives es g ranges.1) }
     ensures err { IfErr result (λ e. e ≡ OutOfMemory) }
 {
     let range = table.range(lower, upper)?;
@@ -80,8 +80,8 @@ pub fn read_each_way<A: Allocator + Clone>(
         let g = table.now.global_seqno in
         (es : List Entry) → StoresList table.now.bytes es → IfOk result (λ read.
         ReadsList es g key.now seqno read.0.0 read.0.1
-        × DealsWithin gives back_gives lower upper es g read.1.0
-        × DealsAll gives back_gives es g read.1.1) }
+        × YieldsWithin gives back_gives lower upper es g read.1.0
+        × YieldsAll gives back_gives es g read.1.1) }
     // Whatever the table's bytes, except for `OutOfMemory`, the error is that of the point read, or
     // else of the scan.
     ensures refused { Faults result (reads_fault table.now key.now seqno) }

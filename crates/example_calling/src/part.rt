@@ -67,7 +67,7 @@ fn read_side_by_side<A: Allocator + Clone>(
         (spec.ReadsOf gives back_gives key.now seqno range.0 range.1
         (spec.union_in (fs ++ (ps ++ bs)))) }
     ensures can { IfOk result (λ read.
-        spec.CanDeal ⟦<NewestOfRuns<A> as Iterator>⟧.next_gives
+        spec.CanYield ⟦<NewestOfRuns<A> as Iterator>⟧.next_gives
         ⟦<NewestOfRuns<A> as DoubleEndedIterator>⟧.next_back_gives
         ⟦<NewestOfRuns<A> as Iterator>⟧.can_next
         ⟦<NewestOfRuns<A> as DoubleEndedIterator>⟧.can_next_back read.1) }
@@ -97,7 +97,7 @@ fn read_within<A: Allocator + Clone>(
         (map arc_value part.now) (map arc_value behind.now) fs ps bs → IfOk result
         (spec.ReadsOf gives back_gives key.now seqno low high (spec.union_in (fs ++ (ps ++ bs)))) }
     ensures can { IfOk result (λ read.
-        spec.CanDeal ⟦<NewestOfRuns<A> as Iterator>⟧.next_gives
+        spec.CanYield ⟦<NewestOfRuns<A> as Iterator>⟧.next_gives
         ⟦<NewestOfRuns<A> as DoubleEndedIterator>⟧.next_back_gives
         ⟦<NewestOfRuns<A> as Iterator>⟧.can_next
         ⟦<NewestOfRuns<A> as DoubleEndedIterator>⟧.can_next_back read.1) }
@@ -177,7 +177,7 @@ fn read_compacted<A: Allocator + Clone>(
         (map arc_value part.now) (map arc_value behind.now) fs ps bs → IfOk result
         (spec.ReadsKept gives back_gives key.now seqno range.0 range.1 rules fs ps bs) }
     ensures can { IfOk result (λ read.
-        spec.CanDeal ⟦<NewestOfRuns<A> as Iterator>⟧.next_gives
+        spec.CanYield ⟦<NewestOfRuns<A> as Iterator>⟧.next_gives
         ⟦<NewestOfRuns<A> as DoubleEndedIterator>⟧.next_back_gives
         ⟦<NewestOfRuns<A> as Iterator>⟧.can_next
         ⟦<NewestOfRuns<A> as DoubleEndedIterator>⟧.can_next_back read.1) }
@@ -253,7 +253,7 @@ pub fn compact_part_back<A: Allocator + Clone>(
         rules.watermark r.0 r.1) }
     // Both ends of both ranges may be called any number of times.
     ensures can { let can =
-        spec.CanDeal ⟦<NewestOfRuns<A> as Iterator>⟧.next_gives
+        spec.CanYield ⟦<NewestOfRuns<A> as Iterator>⟧.next_gives
         ⟦<NewestOfRuns<A> as DoubleEndedIterator>⟧.next_back_gives
         ⟦<NewestOfRuns<A> as Iterator>⟧.can_next
         ⟦<NewestOfRuns<A> as DoubleEndedIterator>⟧.can_next_back in

@@ -4,8 +4,8 @@ ghost use Rattle.std.specs.Arc.{arc_value};
 ghost use Rattle.std.specs.List.{AllByRecursion};
 ghost use Rattle.sst_entries.specs.Error.{Fails};
 ghost use Rattle.sst_entries.specs.declared.error.Error.TheVariants.{OutOfMemory};
-ghost use Rattle.lsm_tables.specs.Words.{CanDeal, Entry, IsInOrder, IsOverSpans, IsRunOfList};
-ghost use Rattle.lsm_tables.specs.Words.{ReadsOf, RunsHoldLists, lift, range_of, runs_told};
+ghost use Rattle.lsm_tables.specs.Words.{CanYield, Entry, IsInOrder, IsOverSpans, IsRunOfList};
+ghost use Rattle.lsm_tables.specs.Words.{ReadsOf, RunsHoldLists, lift, range_of, runs_result};
 ghost use Rattle.lsm_tables.specs.Words.{union_in};
 
 use lsm_tables::block::{Error, InternalValue, SeqNo, UserKey};
@@ -32,7 +32,7 @@ pub(crate) fn read_runs<A: Allocator + Clone>(
         IfOk result
         (ReadsOf gives back_gives key.now seqno range.0 range.1 (union_in lists)) }
     ensures can { IfOk result (λ read.
-        CanDeal ⟦<NewestOfRuns<A> as Iterator>⟧.next_gives
+        CanYield ⟦<NewestOfRuns<A> as Iterator>⟧.next_gives
         ⟦<NewestOfRuns<A> as DoubleEndedIterator>⟧.next_back_gives
         ⟦<NewestOfRuns<A> as Iterator>⟧.can_next
         ⟦<NewestOfRuns<A> as DoubleEndedIterator>⟧.can_next_back read.1) }
@@ -41,9 +41,9 @@ pub(crate) fn read_runs<A: Allocator + Clone>(
     // For any tables in runs in order, the point read returns the result of reading these. Except
     // for `OutOfMemory`, so is the error.
     ensures told { AllByRecursion (IsInOrder range_of) (map arc_value runs.now) →
-        IfOk result (λ read. runs_told key.now seqno None (map arc_value runs.now) ≡ Ok read.0) }
+        IfOk result (λ read. runs_result key.now seqno None (map arc_value runs.now) ≡ Ok read.0) }
     ensures fails { AllByRecursion (IsInOrder range_of) (map arc_value runs.now) →
-        IfErr result (λ e. Fails e (runs_told key.now seqno None (map arc_value runs.now))) }
+        IfErr result (λ e. Fails e (runs_result key.now seqno None (map arc_value runs.now))) }
     // The range is over the spans within the bounds.
     ensures steps { let gives = ⟦<NewestOfRuns<A> as Iterator>⟧.next_gives in
         let back_gives = ⟦<NewestOfRuns<A> as DoubleEndedIterator>⟧.next_back_gives in
@@ -77,7 +77,7 @@ pub fn read_run<A: Allocator + Clone>(
         IfOk result (ReadsOf gives back_gives key.now seqno range.0 range.1 (lift es g)) }
     // Both ends of the range may be called any number of times.
     ensures can { IfOk result (λ read.
-        CanDeal ⟦<NewestOfRuns<A> as Iterator>⟧.next_gives
+        CanYield ⟦<NewestOfRuns<A> as Iterator>⟧.next_gives
         ⟦<NewestOfRuns<A> as DoubleEndedIterator>⟧.next_back_gives
         ⟦<NewestOfRuns<A> as Iterator>⟧.can_next
         ⟦<NewestOfRuns<A> as DoubleEndedIterator>⟧.can_next_back read.1) }
@@ -86,9 +86,9 @@ pub fn read_run<A: Allocator + Clone>(
     // For any tables in a run in order, the point read returns the result of reading these. Except
     // for `OutOfMemory`, so is the error.
     ensures told { IsInOrder range_of run →
-        IfOk result (λ read. runs_told key.now seqno None (run ∷ []) ≡ Ok read.0) }
+        IfOk result (λ read. runs_result key.now seqno None (run ∷ []) ≡ Ok read.0) }
     ensures fails { IsInOrder range_of run →
-        IfErr result (λ e. Fails e (runs_told key.now seqno None (run ∷ []))) }
+        IfErr result (λ e. Fails e (runs_result key.now seqno None (run ∷ []))) }
     // The range is over the span within the bounds.
     ensures steps { let gives = ⟦<NewestOfRuns<A> as Iterator>⟧.next_gives in
         let back_gives = ⟦<NewestOfRuns<A> as DoubleEndedIterator>⟧.next_back_gives in

@@ -11,7 +11,7 @@ use Rattle.lsm_tables.specs.Words.{joined, joined_in, kept_in, range_of, seen, u
 use Rattle.lsm_tables.proofs.TableLaws.{all_append, all_behind, all_front, one_way, points}
 use Rattle.lsm_tables.proofs.TableLaws.{reads_alike_of_part}
 use Rattle.example_store.specs.Story.{HoldBelow, Holding, IsOwnRun, IsOwnTable, IsStore, IsStory}
-use Rattle.example_store.specs.Story.{IsTold, holding, option_list}
+use Rattle.example_store.specs.Story.{IsReported, holding, option_list}
 use Rattle.example_store.proofs.Stories.{able_none, seen_more}
 
 -- what is read alike behind some entries
@@ -37,15 +37,15 @@ replaced rules lists made strict is = record {
 }
 
 module _ (s t : Holding) (ws : List Entry) (rules : Rules) (sound : IsStore s) where
-  strict_lists : (told : IsTold s ws) → IsStrict (union_in told.lists)
+  strict_lists : (told : IsReported s ws) → IsStrict (union_in told.lists)
   strict_lists told = subst (λ (ls : List (List (List Entry))). IsStrict (union_in ls))
       (one_way s.runs sound.runs.able.lists told.lists sound.runs.able.hold told.hold)
       sound.runs.able.writable.strict
 
-  pub tells_compacted : (told : IsTold s ws) → HaveAll (kept_in rules told.lists) t.runs
+  pub reports_compacted : (told : IsReported s ws) → HaveAll (kept_in rules told.lists) t.runs
       → t.recent ≡ s.recent → t.next ≡ s.next → s.oldest ≤ t.oldest → rules.watermark ≤ t.oldest
-      → IsTold t ws
-  tells_compacted told have recent next later kept = record {
+      → IsReported t ws
+  reports_compacted told have recent next later kept = record {
     story = subst (λ (n : ℕ). IsStory n ws) (sym next) told.story;
     lists = have.lists;
     hold = have.hold;
@@ -60,10 +60,10 @@ module _ (s t : Holding) (ws : List Entry) (rules : Rules) (sound : IsStore s) w
 
 -- ---- packing
 
-pub tells_packed : (s t : Holding) (ws : List Entry) → (told : IsTold s ws)
+pub reports_packed : (s t : Holding) (ws : List Entry) → (told : IsReported s ws)
     → HoldUnion t.runs (union_in told.lists) → t.recent ≡ s.recent → t.next ≡ s.next
-    → t.oldest ≡ s.oldest → IsTold t ws
-tells_packed s t ws told has recent next oldest = record {
+    → t.oldest ≡ s.oldest → IsReported t ws
+reports_packed s t ws told has recent next oldest = record {
   story = subst (λ (n : ℕ). IsStory n ws) (sym next) told.story;
   lists = has.lists;
   hold = has.hold;
@@ -139,11 +139,11 @@ able_of (Some run) h = h
 
 -- ---- what stays sound
 
-pub sound_replaced : (recent : List Entry) (runs new : List (List OpenTable)) (ids left : Option ℕ)
+pub valid_replaced : (recent : List Entry) (runs new : List (List OpenTable)) (ids left : Option ℕ)
     (target next flushed oldest later limit : ℕ)
     → IsStore (holding recent runs ids target next flushed oldest limit) → HoldBelow flushed new
     → later ≤ next → IsStore (holding recent new left target next flushed later limit)
-sound_replaced recent runs new ids left target next flushed oldest later limit sound low
+valid_replaced recent runs new ids left target next flushed oldest later limit sound low
     kept = record {
       recent = sound.recent;
       runs = low;

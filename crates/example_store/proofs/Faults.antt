@@ -7,7 +7,7 @@ use Rattle.std.specs.List.{AllByRecursion}
 use Rattle.std.proofs.lemmas.Bool.{cases_Bool}
 use Rattle.std.proofs.lemmas.List.{length-map, map-append}
 use Rattle.lsm_tables.specs.Words.{Entry, Error, IsInOrder, IsStrict, OpenTable, StoresList}
-use Rattle.lsm_tables.specs.Words.{is_memory, range_of, recovered_told, union_in}
+use Rattle.lsm_tables.specs.Words.{is_memory, range_of, recovered_result, union_in}
 use Rattle.example_store.specs.Closed.{StoreLists, files_in}
 use Rattle.example_store.specs.Faulty.{AreOwnFiles, HasNumbers, IsFirstFault, IsFirstRun}
 use Rattle.example_store.specs.Faulty.{IsOpenFault, IsOwnFile, NamesFile, NamesInRun}
@@ -33,7 +33,7 @@ passed P (Err y) e is said = subst P (sym is) said
 pub names_unopened : (next : ℕ) (bytes : List ℕ) (run place : ℕ) (e : Error) (r : OpenError)
     → (is_memory e ≡ true → r ≡ OutOfMemory)
     → (is_memory e ≡ false → r ≡ File run place (Unopened e))
-    → (is_memory e ≡ false → recovered_told bytes 0 true true ≡ Err e)
+    → (is_memory e ≡ false → recovered_result bytes 0 true true ≡ Err e)
     → ((es : List Entry) → StoresList bytes es → is_memory e ≡ true)
     → NamesFile next bytes run place r
 names_unopened next bytes run place e r memory other told opens =

@@ -10,11 +10,11 @@ use Rattle.lsm_tables.specs.Words.{AreCompactable, Entry, Error, HoldLists, Hold
 use Rattle.lsm_tables.specs.Words.{IsStrict, OpenTable}
 use Rattle.lsm_tables.specs.Words.{RunsHoldLists, StoresList, is_memory, lift, range_of, seen}
 use Rattle.lsm_tables.specs.Words.{union_in}
-use Rattle.lsm_tables.proofs.TableLaws.{IsOpen, are_in_order, count_no, fits_told, highest_seqno}
+use Rattle.lsm_tables.proofs.TableLaws.{IsOpen, are_in_order, count_no, fits_result, highest_seqno}
 use Rattle.lsm_tables.proofs.TableLaws.{is_weak}
 use Rattle.lsm_tables.proofs.TableLaws.{lift_zero, none_counted, one_way, small_numbers}
 use Rattle.example_store.specs.Closed.{bytes_by_run}
-use Rattle.example_store.specs.Story.{Holding, IsOwn, IsOwnRun, IsOwnTable, IsStory, IsTold}
+use Rattle.example_store.specs.Story.{Holding, IsOwn, IsOwnRun, IsOwnTable, IsStory, IsReported}
 use Rattle.example_store.proofs.Own.{bytes_of, own_run_lists}
 
 -- ---- the same bytes hold the same lists
@@ -69,11 +69,11 @@ module _ (n m : ℕ) where
       able.writable.strict
 
   -- and so a store of them tells the same
-  pub tells_alike : (s t : Holding) (ws : List Entry) → IsTold s ws
+  pub reports_alike : (s t : Holding) (ws : List Entry) → IsReported s ws
       → AllByRecursion (IsOwnRun n) s.runs → AllByRecursion (IsOwnRun m) t.runs
       → bytes_by_run s.runs ≡ bytes_by_run t.runs → s.recent ≡ t.recent → s.next ≡ t.next
-      → s.oldest ≡ t.oldest → IsTold t ws
-  tells_alike s t ws told own other same recent next oldest = record {
+      → s.oldest ≡ t.oldest → IsReported t ws
+  reports_alike s t ws told own other same recent next oldest = record {
     story = subst (λ (k : ℕ). IsStory k ws) next told.story;
     lists = told.lists;
     hold = held_alike s.runs t.runs told.lists same own other told.hold;
@@ -222,7 +222,7 @@ own_table n t es opened unlifted stored some high none = record {
 
 -- bytes that store a list are refused for want of memory alone
 pub stored_opens : (bytes : List ℕ) (es : List Entry) → StoresList bytes es
-    → (e : Error) → (is_memory e ≡ false → fits_told es 0 ≡ Err e) → is_memory e ≡ true
+    → (e : Error) → (is_memory e ≡ false → fits_result es 0 ≡ Err e) → is_memory e ≡ true
 stored_opens bytes es stored e told =
     elim (cases_Bool (is_memory e)) [
       | inl memory ↦ memory
@@ -233,6 +233,6 @@ stored_opens bytes es stored e told =
     fits other =
         let low : ltb (2 ^ 64 - 1) (highest_seqno es + 0) ≡ false =
         le-ltb _ _ (omega (arith, small_numbers es stored.numbers)) in
-        let fine : fits_told es 0 ≡ Ok tt = rw low refl in
+        let fine : fits_result es 0 ≡ Ok tt = rw low refl in
         let no : Ok tt ≡ Err e = sym fine ∙ told other in
         cc

@@ -5,12 +5,12 @@ use Rattle.std.specs.Prelude.{Option, Some, None, Result, Ok, Err, IfErr, IsErrA
 use Rattle.std.specs.List.{AllByRecursion, AllZip}
 use Rattle.std.proofs.lemmas.Bool.{cases_Bool}
 use Rattle.std.proofs.lemmas.List.{map-append, take_more}
-use Rattle.lsm_tables.specs.Words.{DealsList, Entry, Error, HoldLists, IsStrict}
+use Rattle.lsm_tables.specs.Words.{YieldsList, Entry, Error, HoldLists, IsStrict}
 use Rattle.lsm_tables.specs.Words.{OpenTable, OutOfMemory, RunsHoldLists, answer_stops, is_memory}
 use Rattle.lsm_tables.specs.Words.{joined, ok_results}
 use Rattle.lsm_tables.specs.Words.{IsStrictAfter}
-use Rattle.lsm_tables.proofs.TableLaws.{Ascends, DealTogether, HaveEntries, RunScan, RunScansNext}
-use Rattle.lsm_tables.proofs.TableLaws.{apart, ascends_of, deals_front, may_follow, memory_is}
+use Rattle.lsm_tables.proofs.TableLaws.{Ascends, YieldTogether, HaveEntries, RunScan, RunScansNext}
+use Rattle.lsm_tables.proofs.TableLaws.{apart, ascends_of, yields_front, may_follow, memory_is}
 use Rattle.lsm_tables.proofs.TableLaws.{nowhere}
 use Rattle.lsm_tables.proofs.TableLaws.{run_strict, zip_push}
 
@@ -27,56 +27,56 @@ only_memory (Err y) e is fine =
 -- ---- a stream whose entries are compared one by one
 
 module _ {S : Type 0} (next : S → Option (Result Entry Error) → S → Type 0) where
-  dealt_one : (rest : List Entry) (s t : S) (e : Entry) → DealsList next nowhere rest s
+  yielded_one : (rest : List Entry) (s t : S) (e : Entry) → YieldsList next nowhere rest s
       → next s (Some (Ok e)) t
-      → (more : List Entry) × (rest ≡ e ∷ more) × DealsList next nowhere more t
-  dealt_one [] s t e d step =
-      let h = deals_front (answer_stops is_memory) next nowhere s [] (Some (Ok e)) t
+      → (more : List Entry) × (rest ≡ e ∷ more) × YieldsList next nowhere more t
+  yielded_one [] s t e d step =
+      let h = yields_front (answer_stops is_memory) next nowhere s [] (Some (Ok e)) t
       (d is_memory refl) step refl in
       let no : Some (Ok e) ≡ None = h.0 in absurd cc
-  dealt_one (x ∷ rest) s t e d step =
-      let h = deals_front (answer_stops is_memory) next nowhere s (ok_results (x ∷ rest))
+  yielded_one (x ∷ rest) s t e d step =
+      let h = yields_front (answer_stops is_memory) next nowhere s (ok_results (x ∷ rest))
       (Some (Ok e)) t (d is_memory refl) step refl in
       let same : Some (Ok e) ≡ Some (Ok x) = h.0 in
       let is : x ≡ e = cc in (
         rest,
         ap (λ (y : Entry). y ∷ rest) is,
         λ stops memory.
-            (deals_front (answer_stops stops) next nowhere s (ok_results (x ∷ rest)) (Some (Ok e)) t
+            (yields_front (answer_stops stops) next nowhere s (ok_results (x ∷ rest)) (Some (Ok e)) t
             (d stops memory) step refl).1,
       )
 
-  dealt_none : (rest : List Entry) (s t : S) → DealsList next nowhere rest s → next s None t
+  yielded_none : (rest : List Entry) (s t : S) → YieldsList next nowhere rest s → next s None t
       → rest ≡ []
-  dealt_none [] s t d step = refl
-  dealt_none (x ∷ rest) s t d step =
-      let h = deals_front (answer_stops is_memory) next nowhere s (ok_results (x ∷ rest)) None t
+  yielded_none [] s t d step = refl
+  yielded_none (x ∷ rest) s t d step =
+      let h = yields_front (answer_stops is_memory) next nowhere s (ok_results (x ∷ rest)) None t
       (d is_memory refl) step refl in
       let no : None ≡ Some (Ok x) = h.0 in absurd cc
 
-  dealt_fine : (rest : List Entry) (s t : S) (e : Error) → DealsList next nowhere rest s
+  yielded_fine : (rest : List Entry) (s t : S) (e : Error) → YieldsList next nowhere rest s
       → next s (Some (Err e)) t → is_memory e ≡ false → ⊥
-  dealt_fine [] s t e d step fine =
-      let h = deals_front (answer_stops is_memory) next nowhere s [] (Some (Err e)) t
+  yielded_fine [] s t e d step fine =
+      let h = yields_front (answer_stops is_memory) next nowhere s [] (Some (Err e)) t
       (d is_memory refl) step fine in
       let no : Some (Err e) ≡ None = h.0 in absurd cc
-  dealt_fine (x ∷ rest) s t e d step fine =
-      let h = deals_front (answer_stops is_memory) next nowhere s (ok_results (x ∷ rest))
+  yielded_fine (x ∷ rest) s t e d step fine =
+      let h = yields_front (answer_stops is_memory) next nowhere s (ok_results (x ∷ rest))
       (Some (Err e)) t (d is_memory refl) step fine in
       let no : Some (Err e) ≡ Some (Ok x) = h.0 in absurd cc
 
   -- what is still dealt of a list is in order behind the last entry just where the list is
   pub record ComesOn (es : List Entry) (last : Option Entry) (s : S) : Type 0 where
     pub rest : List Entry
-    pub deals : DealsList next nowhere rest s
+    pub yields : YieldsList next nowhere rest s
     pub there : IsStrict es → IsStrictAfter last rest
     pub back : IsStrictAfter last rest → IsStrict es
 
   pub comes_first : (es : List Entry) (last : Option Entry) (s : S) → last ≡ None
-      → DealsList next nowhere es s → ComesOn es last s
+      → YieldsList next nowhere es s → ComesOn es last s
   comes_first es last s none d = record {
     rest = es;
-    deals = d;
+    yields = d;
     there = λ strict. subst (λ (o : Option Entry). IsStrictAfter o es) (sym none) strict;
     back = λ strict. subst (λ (o : Option Entry). IsStrictAfter o es) none strict;
   }
@@ -86,10 +86,10 @@ module _ {S : Type 0} (next : S → Option (Result Entry Error) → S → Type 0
       → ComesOn es (Some e) t
   unfolding IsStrictAfter
   comes_next es last s t e h step follows =
-      let one = dealt_one h.rest s t e h.deals step in
+      let one = yielded_one h.rest s t e h.yields step in
       record {
         rest = one.0;
-        deals = one.2;
+        yields = one.2;
         there = λ strict. (subst (IsStrictAfter last) one.1 (h.there strict)).1;
         back = λ strict. h.back (subst (IsStrictAfter last) (sym one.1) (follows, strict));
       }
@@ -98,18 +98,18 @@ module _ {S : Type 0} (next : S → Option (Result Entry Error) → S → Type 0
       → ComesOn es last s → next s (Some (Ok e)) t → may_follow last e ≡ false → IsStrict es → ⊥
   unfolding IsStrictAfter
   comes_out es last s t e h step other strict =
-      let one = dealt_one h.rest s t e h.deals step in
+      let one = yielded_one h.rest s t e h.yields step in
       apart (may_follow last e) (subst (IsStrictAfter last) one.1 (h.there strict)).0 other
 
   pub comes_last : (es : List Entry) (last : Option Entry) (s t : S) → ComesOn es last s
       → next s None t → IsStrict es
   unfolding IsStrictAfter
   comes_last es last s t h step =
-      h.back (subst (IsStrictAfter last) (sym (dealt_none h.rest s t h.deals step)) tt)
+      h.back (subst (IsStrictAfter last) (sym (yielded_none h.rest s t h.yields step)) tt)
 
   pub comes_fine : (es : List Entry) (last : Option Entry) (s t : S) (e : Error)
       → ComesOn es last s → next s (Some (Err e)) t → is_memory e ≡ false → ⊥
-  comes_fine es last s t e h step = dealt_fine h.rest s t e h.deals step
+  comes_fine es last s t e h step = yielded_fine h.rest s t e h.yields step
 
 -- ---- a scanner of each run
 
@@ -117,7 +117,7 @@ module _ {S : Type 0} (next : S → Option (Result Entry Error) → S → Type 0
 abbrev pub ScansRun : RunScan → List OpenTable → Type 0
 ScansRun s tables =
     (ls : List (List Entry)) → HoldLists tables ls → HaveEntries ls
-    → DealsList RunScansNext nowhere (joined ls) s
+    → YieldsList RunScansNext nowhere (joined ls) s
 
 pub scan_more : {X S : Type 0} (f : X → List OpenTable) (Q : S → List OpenTable → Type 0)
     (xs : List X) (i : ℕ) (x : X) (made : List S) (s : S) → AllZip Q made (map f (take i xs))
@@ -133,12 +133,12 @@ scan_more {X} {S} f Q xs i x made s so_far less is one =
 pub scans_together : (scans : List RunScan) (runs : List (List OpenTable))
     (lists : List (List (List Entry))) → AllZip ScansRun scans runs → RunsHoldLists runs lists
     → AllByRecursion HaveEntries lists
-    → DealTogether RunScansNext nowhere scans (map joined lists)
+    → YieldTogether RunScansNext nowhere scans (map joined lists)
 scans_together scans runs lists scan hold some = record {
-  dealt = map joined lists;
+  yielded = map joined lists;
   same = refl;
   ascend = up runs lists hold;
-  deal = deal scans runs lists scan hold some;
+  yield_each = yield_each scans runs lists scan hold some;
 }
   where
     up : (runs : List (List OpenTable)) (lists : List (List (List Entry)))
@@ -149,17 +149,17 @@ scans_together scans runs lists scan hold some = record {
     up (ts ∷ runs) (ls ∷ lists) h =
         (ascends_of (joined ls) (run_strict ts ls h.0.1 h.0.0), up runs lists h.1)
 
-    deal : (scans : List RunScan) (runs : List (List OpenTable))
+    yield_each : (scans : List RunScan) (runs : List (List OpenTable))
         (lists : List (List (List Entry))) → AllZip ScansRun scans runs → RunsHoldLists runs lists
         → AllByRecursion HaveEntries lists
-        → AllZip (λ s es. DealsList RunScansNext nowhere es s) scans (map joined lists)
-    deal [] [] [] scan hold some = tt
-    deal [] [] (ls ∷ lists) scan hold some = absurd hold
-    deal [] (ts ∷ runs) lists scan hold some = absurd scan
-    deal (s ∷ scans) [] lists scan hold some = absurd scan
-    deal (s ∷ scans) (ts ∷ runs) [] scan hold some = absurd hold
-    deal (s ∷ scans) (ts ∷ runs) (ls ∷ lists) scan hold some =
-        (scan.0 ls hold.0.1 some.0, deal scans runs lists scan.1 hold.1 some.1)
+        → AllZip (λ s es. YieldsList RunScansNext nowhere es s) scans (map joined lists)
+    yield_each [] [] [] scan hold some = tt
+    yield_each [] [] (ls ∷ lists) scan hold some = absurd hold
+    yield_each [] (ts ∷ runs) lists scan hold some = absurd scan
+    yield_each (s ∷ scans) [] lists scan hold some = absurd scan
+    yield_each (s ∷ scans) (ts ∷ runs) [] scan hold some = absurd hold
+    yield_each (s ∷ scans) (ts ∷ runs) (ls ∷ lists) scan hold some =
+        (scan.0 ls hold.0.1 some.0, yield_each scans runs lists scan.1 hold.1 some.1)
 
 -- the lists of the run at a place
 pub lists_at_place : {X : Type 0} (f : X → List OpenTable) (xs : List X)

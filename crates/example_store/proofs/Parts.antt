@@ -15,7 +15,7 @@ use Rattle.lsm_tables.proofs.TableLaws.{one_way, points, reads_alike_of_part, si
 use Rattle.lsm_tables.proofs.TableLaws.{strict_once, union_count, union_up, writable_after}
 use Rattle.example_store.specs.Part.{front_runs, part_runs}
 use Rattle.example_store.specs.Story.{HoldBelow, Holding, IsOwn, IsOwnRun, IsStore, IsStory}
-use Rattle.example_store.specs.Story.{IsTold}
+use Rattle.example_store.specs.Story.{IsReported}
 use Rattle.example_store.proofs.Compacting.{seen_behind}
 use Rattle.example_store.proofs.Own.{own_able, own_run_lists, own_union}
 use Rattle.example_store.proofs.Places.{take_drop}
@@ -189,13 +189,13 @@ placed_part front made behind new others kept rest is front_is made_is behind_is
     ∙ ap (λ (xs : List (List OpenTable)). others ++ (kept ++ xs)) behind_is
 
 -- a store whose part was compacted tells what it told
-pub tells_part : (s t : Holding) (ws : List Entry) (from to watermark : ℕ)
-    (made : List (List OpenTable)) → IsStore s → IsTold s ws
+pub reports_part : (s t : Holding) (ws : List Entry) (from to watermark : ℕ)
+    (made : List (List OpenTable)) → IsStore s → IsReported s ws
     → ((ps : List (List (List Entry))) → RunsHoldLists (part_runs from to s.runs) ps
     → HaveAll (kept_in (rules_by watermark false false) ps) made)
     → t.runs ≡ front_runs from to s.runs ++ (made ++ drop to s.runs) → t.recent ≡ s.recent
-    → t.next ≡ s.next → s.oldest ≤ t.oldest → watermark ≤ t.oldest → IsTold t ws
-tells_part s t ws from to watermark made sound told kept runs recent next later above =
+    → t.next ≡ s.next → s.oldest ≤ t.oldest → watermark ≤ t.oldest → IsReported t ws
+reports_part s t ws from to watermark made sound told kept runs recent next later above =
     let front = front_runs from to s.runs in
     let part = part_runs from to s.runs in
     let behind = drop to s.runs in

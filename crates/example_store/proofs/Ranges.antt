@@ -7,14 +7,14 @@ use Rattle.std.specs.Result.{IsOkAnd}
 use Rattle.std.proofs.lemmas.List.Elements.{All-from_recursion}
 use Rattle.std.specs.declared.ops.Bound.{Bound}
 use Rattle.std.proofs.lemmas.Bool.{cases_Bool, lt-ltb, ltb-true}
-use Rattle.lsm_tables.specs.Words.{DealWithin, DealsList, Entry, Error, IsStrict, all_shown}
+use Rattle.lsm_tables.specs.Words.{YieldWithin, YieldsList, Entry, Error, IsStrict, all_shown}
 use Rattle.lsm_tables.specs.Words.{is_from, is_hit, is_to, leading_of, newest, numbered_below}
 use Rattle.lsm_tables.specs.Words.{point, same_key, seen, shown, single, sort_entries, union_in}
 use Rattle.lsm_tables.specs.Words.{within}
 use Rattle.lsm_tables.proofs.TableLaws.{and_false, as_pairs, ascends_in_order}
 use Rattle.lsm_tables.proofs.TableLaws.{ascends_of, filter_ascends, hit_key, leading_sorted}
 use Rattle.lsm_tables.proofs.TableLaws.{leads_older, ranges_by_points, union_up}
-use Rattle.example_store.specs.Story.{Holding, IsStore, IsStory, IsTold}
+use Rattle.example_store.specs.Story.{Holding, IsStore, IsStory, IsReported}
 use Rattle.example_store.proofs.Own.{all_in_order}
 use Rattle.example_store.proofs.Places.{hit_first, hit_later}
 use Rattle.example_store.proofs.Stories.{low_lists, read_more, story_later}
@@ -120,12 +120,12 @@ module _ (key : List ℕ) (bound : ℕ) where
 
 -- ---- ranges of a store
 
-pub range_told : (s : Holding) (ws : List Entry) (low high : Bound (List ℕ)) (below : ℕ)
-    → IsStore s → IsStrict s.recent → (told : IsTold s ws) → s.oldest ≤ below
+pub range_results : (s : Holding) (ws : List Entry) (low high : Bound (List ℕ)) (below : ℕ)
+    → IsStore s → IsStrict s.recent → (told : IsReported s ws) → s.oldest ≤ below
     → all_shown (newest (numbered_below below (within low high
     (union_in (map single (s.recent ∷ []) ++ told.lists)))))
     ≡ all_shown (newest (numbered_below below (within low high (sort_entries ws))))
-range_told s ws low high below sound strict told kept =
+range_results s ws low high below sound strict told kept =
     shown_alike below low high s.oldest kept ((s.recent ∷ []) ∷ told.lists) ws (λ key bound reads.
     ap shown (read_more s.recent (s.recent ∷ []) (append-nil s.recent) told.lists s.flushed s.next
     sound.recent (low_lists s ws sound told) strict key bound)
@@ -133,30 +133,30 @@ range_told s ws low high below sound strict told kept =
     ∙ sym (ap shown (sorted_story key bound s.next ws told.story)))
 
 -- a stream that deals a list of which this holds
-pub dealt_told : {S : Type 0} (front back : S → Option (Result Entry Error) → S → Type 0)
+pub dealt_result : {S : Type 0} (front back : S → Option (Result Entry Error) → S → Type 0)
     (Q : List Entry → Type 0) (r : Result S Error) (es : List Entry)
-    → IfOk r (DealsList front back es) → Q es
-    → IfOk r (λ s. (xs : List Entry) × DealsList front back xs s × Q xs)
-dealt_told front back Q (Ok s) es deals holds = (es, deals, holds)
-dealt_told front back Q (Err e) es deals holds = tt
+    → IfOk r (YieldsList front back es) → Q es
+    → IfOk r (λ s. (xs : List Entry) × YieldsList front back xs s × Q xs)
+dealt_result front back Q (Ok s) es yields holds = (es, yields, holds)
+dealt_result front back Q (Err e) es yields holds = tt
 
 -- so of the same list, written otherwise
-pub dealt_as : {S : Type 0} (front back : S → Option (Result Entry Error) → S → Type 0)
+pub yielded_as : {S : Type 0} (front back : S → Option (Result Entry Error) → S → Type 0)
     (r : Result S Error) (f : List Entry → List Entry) (xs ys : List Entry) → xs ≡ ys
-    → IfOk r (DealsList front back (f xs)) → IfOk r (DealsList front back (f ys))
-dealt_as front back r f xs ys same = subst (λ (es : List Entry).
-    IfOk r (DealsList front back (f es))) same
+    → IfOk r (YieldsList front back (f xs)) → IfOk r (YieldsList front back (f ys))
+yielded_as front back r f xs ys same = subst (λ (es : List Entry).
+    IfOk r (YieldsList front back (f es))) same
 
 -- one source, of a list in order
 pub one_source : {S : Type 0} (front back : S → Option (Result Entry Error) → S → Type 0)
     (low high : Bound (List ℕ)) (source : Result S Error) (sources : List S) (es : List Entry)
     → IsOkAnd source (λ s. sources ≡ s ∷ []) → IsStrict es
-    → IfOk source (DealsList front back (within low high es))
-    → DealWithin front back low high sources (es ∷ [])
-one_source {S} front back low high (Ok s) sources es is strict deals =
-    subst (λ (ss : List S). DealWithin front back low high ss (es ∷ [])) (sym is)
-    (record { ascend = (ascends_of es (as_pairs es strict), tt); deal = (deals, tt) })
-one_source front back low high (Err e) sources es is strict deals = absurd is
+    → IfOk source (YieldsList front back (within low high es))
+    → YieldWithin front back low high sources (es ∷ [])
+one_source {S} front back low high (Ok s) sources es is strict yields =
+    subst (λ (ss : List S). YieldWithin front back low high ss (es ∷ [])) (sym is)
+    (record { ascend = (ascends_of es (as_pairs es strict), tt); yield_each = (yields, tt) })
+one_source front back low high (Err e) sources es is strict yields = absurd is
 
 -- so of a source, and of the one in a list
 pub one_of : {S : Type 0} (P : S → Type 0) (source : Result S Error) (sources : List S)

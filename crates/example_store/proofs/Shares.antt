@@ -7,9 +7,9 @@ use Rattle.std.specs.declared.ops.Bound.{Bound}
 use Rattle.std.specs.declared.vec.IntoIter.{IntoIter}
 use Rattle.std.proofs.lemmas.List.{map-append, take_more}
 use Rattle.std.proofs.lemmas.List.Elements.{filter-append}
-use Rattle.lsm_tables.specs.Words.{Deals, DealsList, Entry, Error, answer_stops, is_from, is_to}
+use Rattle.lsm_tables.specs.Words.{YieldsExactly, YieldsList, Entry, Error, answer_stops, is_from, is_to}
 use Rattle.lsm_tables.specs.Words.{ok_results, within}
-use Rattle.lsm_tables.proofs.TableLaws.{map_append, vec_deals}
+use Rattle.lsm_tables.proofs.TableLaws.{map_append, vec_yields}
 
 pub shared_more : {Y : Type 0} (shared made : List Y) (y : Y) (before rest all : List Y)
     → made ≡ shared ++ y ∷ [] → before ≡ y ∷ rest → shared ++ before ≡ all → made ++ rest ≡ all
@@ -46,12 +46,12 @@ module _ {X : Type 0} (xs : List X) (i : ℕ) (x : X) (less : i < length xs)
 -- ---- a vector's iterator over shares
 
 module _ {Z : Type 0} where
-  pub deals_items : (s : IntoIter (Result Entry Error) Z) (es : List Entry)
+  pub yields_items : (s : IntoIter (Result Entry Error) Z) (es : List Entry)
       → into_iter_items s ≡ ok_results es
-      → DealsList into_iter_steps into_iter_steps_back es s
-  deals_items s es is stops memory =
-      subst (λ (rs : List (Result Entry Error)). Deals (answer_stops stops) into_iter_steps
-      into_iter_steps_back s rs) is (vec_deals (answer_stops stops) s)
+      → YieldsList into_iter_steps into_iter_steps_back es s
+  yields_items s es is stops memory =
+      subst (λ (rs : List (Result Entry Error)). YieldsExactly (answer_stops stops) into_iter_steps
+      into_iter_steps_back s rs) is (vec_yields (answer_stops stops) s)
 
 -- ---- entries within bounds, one more
 

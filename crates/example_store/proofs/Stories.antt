@@ -15,7 +15,7 @@ use Rattle.lsm_tables.proofs.TableLaws.{leading_sorted, leads_older, once_strict
 use Rattle.lsm_tables.proofs.TableLaws.{union_count, union_up}
 use Rattle.example_store.specs.Recent.{IsPut}
 use Rattle.example_store.specs.Story.{AreNumbered, HoldBelow, Holding, IsOwn, IsOwnRun, IsStore}
-use Rattle.example_store.specs.Story.{IsStory, IsTold, holding}
+use Rattle.example_store.specs.Story.{IsStory, IsReported, holding}
 use Rattle.example_store.proofs.Own.{later_runs, low_union}
 use Rattle.example_store.proofs.Places.{all_put, hit_first, hit_later}
 
@@ -171,10 +171,10 @@ all_older from n es h = all_more (IsOwn n) (λ (e : Entry). e.seqno < n) (λ e o
     (all_own from n es h)
 
 -- an entry with the next number
-pub tells_more : (s t : Holding) (e : Entry) (ws : List Entry) → IsTold s ws
+pub reports_more : (s t : Holding) (e : Entry) (ws : List Entry) → IsReported s ws
     → IsPut e s.recent t.recent → e.seqno ≡ s.next → t.next ≡ s.next + 1 → t.runs ≡ s.runs
-    → t.oldest ≡ s.oldest → IsTold t (e ∷ ws)
-tells_more s t e ws told put number next runs oldest = record {
+    → t.oldest ≡ s.oldest → IsReported t (e ∷ ws)
+reports_more s t e ws told put number next runs oldest = record {
   story = (
     omega (arith, number, next),
     story_later s.next e.seqno ws (omega (arith, number))
@@ -230,14 +230,14 @@ able_flushed s run sound strict has own =
     }
 
 -- the lists of the runs are numbered below what is in no table
-pub low_lists : (s : Holding) (ws : List Entry) → IsStore s → (told : IsTold s ws)
+pub low_lists : (s : Holding) (ws : List Entry) → IsStore s → (told : IsReported s ws)
     → AllByRecursion (λ (e : Entry). e.seqno < s.flushed) (union_in told.lists)
 low_lists s ws sound told = low_union s.flushed s.runs sound.runs.own told.lists told.hold
 
-pub tells_flushed : (s t : Holding) (run : List OpenTable) (ws : List Entry) → IsStore s
-    → IsStrict s.recent → HasList s.recent run → IsTold s ws → t.recent ≡ []
-    → t.runs ≡ run ∷ s.runs → t.next ≡ s.next → t.oldest ≡ s.oldest → IsTold t ws
-tells_flushed s t run ws sound strict has told none runs next oldest = record {
+pub reports_flushed : (s t : Holding) (run : List OpenTable) (ws : List Entry) → IsStore s
+    → IsStrict s.recent → HasList s.recent run → IsReported s ws → t.recent ≡ []
+    → t.runs ≡ run ∷ s.runs → t.next ≡ s.next → t.oldest ≡ s.oldest → IsReported t ws
+reports_flushed s t run ws sound strict has told none runs next oldest = record {
   story = subst (λ (n : ℕ). IsStory n ws) (sym next) told.story;
   lists = has.lists ∷ told.lists;
   hold = subst (λ (rs : List (List OpenTable)). RunsHoldLists rs (has.lists ∷ told.lists))
@@ -250,9 +250,9 @@ tells_flushed s t run ws sound strict has told none runs next oldest = record {
 }
 
 -- nothing was written to a table
-pub tells_still : (s t : Holding) (ws : List Entry) → IsTold s ws → t.recent ≡ s.recent
-    → t.runs ≡ s.runs → t.next ≡ s.next → t.oldest ≡ s.oldest → IsTold t ws
-tells_still s t ws told recent runs next oldest = record {
+pub reports_still : (s t : Holding) (ws : List Entry) → IsReported s ws → t.recent ≡ s.recent
+    → t.runs ≡ s.runs → t.next ≡ s.next → t.oldest ≡ s.oldest → IsReported t ws
+reports_still s t ws told recent runs next oldest = record {
   story = subst (λ (n : ℕ). IsStory n ws) (sym next) told.story;
   lists = told.lists;
   hold = subst (λ (rs : List (List OpenTable)). RunsHoldLists rs told.lists) (sym runs) told.hold;
@@ -275,10 +275,10 @@ able_none = record {
 none_below : (bound : ℕ) → HoldBelow bound []
 none_below bound = record { own = tt; able = able_none }
 
-pub sound_new : (recent : List Entry) (runs : List (List OpenTable)) (ids : Option ℕ)
+pub valid_new : (recent : List Entry) (runs : List (List OpenTable)) (ids : Option ℕ)
     (target limit : ℕ) → recent ≡ [] → runs ≡ []
     → IsStore (holding recent runs ids target 0 0 0 limit)
-sound_new recent runs ids target limit none empty = record {
+valid_new recent runs ids target limit none empty = record {
   recent = subst (AreNumbered 0 0) (sym none) tt;
   runs = subst (HoldBelow 0) (sym empty) (none_below 0);
   order = omega arith;
@@ -286,10 +286,10 @@ sound_new recent runs ids target limit none empty = record {
   kept = omega arith;
 }
 
-pub tells_new : (recent : List Entry) (runs : List (List OpenTable)) (ids : Option ℕ)
+pub reports_new : (recent : List Entry) (runs : List (List OpenTable)) (ids : Option ℕ)
     (target limit : ℕ) → recent ≡ [] → runs ≡ []
-    → IsTold (holding recent runs ids target 0 0 0 limit) []
-tells_new recent runs ids target limit none empty = record {
+    → IsReported (holding recent runs ids target 0 0 0 limit) []
+reports_new recent runs ids target limit none empty = record {
   story = tt;
   lists = [];
   hold = subst (λ (rs : List (List OpenTable)). RunsHoldLists rs []) (sym empty) tt;
@@ -306,10 +306,10 @@ module _ (recent new : List Entry) (runs : List (List OpenTable)) (ids : Option 
   older_recent n sound is = subst (λ (m : ℕ). AllByRecursion (λ (e : Entry). e.seqno < m) recent)
       (sym is) (all_older flushed next recent sound.recent)
 
-  pub sound_more : (e : Entry) → IsStore (holding recent runs ids target next flushed oldest limit)
+  pub valid_more : (e : Entry) → IsStore (holding recent runs ids target next flushed oldest limit)
       → IsPut e recent new → e.seqno ≡ next → is_weak e ≡ false → next < 2 ^ 64 - 2
       → IsStore (holding new runs ids target (next + 1) flushed oldest limit)
-  sound_more e sound put number kind room = record {
+  valid_more e sound put number kind room = record {
     recent = numbered_more flushed next (next + 1) e recent new put sound.recent sound.order number
         kind refl;
     runs = sound.runs;
@@ -318,11 +318,11 @@ module _ (recent new : List Entry) (runs : List (List OpenTable)) (ids : Option 
     kept = let kept = sound.kept in omega (arith, kept);
   }
 
-  pub sound_flushed : (run : List OpenTable) (left : Option ℕ) (all : List (List OpenTable))
+  pub valid_flushed : (run : List OpenTable) (left : Option ℕ) (all : List (List OpenTable))
       → IsStore (holding recent runs ids target next flushed oldest limit) → IsStrict recent
       → HasList recent run → IsOwnRun next run → new ≡ [] → all ≡ run ∷ runs
       → IsStore (holding new all left target next next oldest limit)
-  sound_flushed run left all sound strict has own none is = record {
+  valid_flushed run left all sound strict has own none is = record {
     recent = subst (AreNumbered next next) (sym none) tt;
     runs = subst (HoldBelow next) (sym is)
         (able_flushed (holding recent runs ids target next flushed oldest limit) run sound strict

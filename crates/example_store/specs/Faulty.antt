@@ -4,14 +4,14 @@ use Rattle.std.specs.Prelude.{length, map, Ok, Err}
 use Rattle.std.specs.List.{AllByRecursion}
 use Rattle.lsm_tables.specs.Words.{Entry, Error, Finding, IsInOrder, IsStrict, OpenTable}
 use Rattle.lsm_tables.specs.Words.{StoresList}
-use Rattle.lsm_tables.specs.Words.{body_of, highest_seqno, is_weak, range_of, recovered_told}
+use Rattle.lsm_tables.specs.Words.{body_of, highest_seqno, is_weak, range_of, recovered_result}
 use Rattle.lsm_tables.specs.Words.{table_found, union_in}
 use Rattle.example_store.specs.Closed.{StoreLists, files_in}
 use Rattle.example_store.specs.Story.{IsOwn, IsOwnRun, IsOwnTable}
 use Rattle.example_store.specs.declared.store.close.Closed.{Closed}
 use Rattle.example_store.specs.declared.store.open.FileFault.{FileFault}
 use Rattle.example_store.specs.declared.store.open.FileFault.TheVariants.{Empty, TooHigh, Unopened}
-use Rattle.example_store.specs.declared.store.open.FileFault.TheVariants.{Unsound, Weak}
+use Rattle.example_store.specs.declared.store.open.FileFault.TheVariants.{Invalid, Weak}
 use Rattle.example_store.specs.declared.store.open.OpenError.{OpenError}
 use Rattle.example_store.specs.declared.store.open.OpenError.TheVariants.{File, NoFile, OutOfMemory}
 use Rattle.example_store.specs.declared.store.open.OpenError.TheVariants.{OldestTooHigh, OutOfOrder}
@@ -26,13 +26,13 @@ pub record IsOwnFile (next : ℕ) (bytes : List ℕ) : Type 0 where
 
 -- a file that fails to open as a table with this error, except for `OutOfMemory`: it stores no list
 pub record IsNoTable (bytes : List ℕ) (e : Error) : Type 0 where
-  pub refused : recovered_told bytes 0 true true ≡ Err e
+  pub refused : recovered_result bytes 0 true true ≡ Err e
   pub none : (es : List Entry) → StoresList bytes es → ⊥
 
 -- a file that opens as a table, in which this is the first finding: it stores no list
 pub record IsNoList (bytes : List ℕ) (f : Finding) : Type 0 where
   pub table : OpenTable
-  pub opens : recovered_told bytes 0 true true ≡ Ok table.parts
+  pub opens : recovered_result bytes 0 true true ≡ Ok table.parts
   pub found : table_found (body_of bytes) table.parts ≡ Err f
   pub none : (es : List Entry) → StoresList bytes es → ⊥
 
@@ -46,7 +46,7 @@ pub record StoresSome (bytes : List ℕ) : Type 0 where
 -- below the next; or, having none, has a weak tombstone
 abbrev pub IsFaultOf : ℕ → List ℕ → FileFault → Type 0
 IsFaultOf next bytes (Unopened e) = IsNoTable bytes e
-IsFaultOf next bytes (Unsound f) = IsNoList bytes f
+IsFaultOf next bytes (Invalid f) = IsNoList bytes f
 IsFaultOf next bytes Empty = StoresList bytes []
 IsFaultOf next bytes TooHigh = (file : StoresSome bytes) × (next ≤ highest_seqno file.list)
 IsFaultOf next bytes Weak = (file : StoresSome bytes) × (highest_seqno file.list < next)

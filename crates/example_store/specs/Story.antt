@@ -77,7 +77,7 @@ pub record IsStore (s : Holding) : Type 0 where
 
 -- a store reads as a history: at each snapshot that it keeps, a reader sees in it the same of each
 -- key as in the history
-pub record IsTold (s : Holding) (ws : List Entry) : Type 0 where
+pub record IsReported (s : Holding) (ws : List Entry) : Type 0 where
   pub story : IsStory s.next ws
   pub lists : List (List (List Entry))
   pub hold : RunsHoldLists s.runs lists

@@ -4,15 +4,15 @@ pub use Rattle.std.specs.Iterator.{IsFinite}
 pub use Rattle.std.specs.List.{AllByRecursion}
 pub use Rattle.std.specs.Option.{option_map}
 pub use Rattle.std.specs.Result.{IsOkAnd}
-pub use Rattle.lsm_tables.specs.Words.{AreCompactable, AreCutOf, AreInOrder, CanDeal, DealTogether}
-pub use Rattle.lsm_tables.specs.Words.{DealsList, Entry, Gives, HasList, HaveAll, HaveEntries}
+pub use Rattle.lsm_tables.specs.Words.{AreCompactable, AreCutOf, AreInOrder, CanYield, YieldTogether}
+pub use Rattle.lsm_tables.specs.Words.{YieldsList, Entry, Gives, HasList, HaveAll, HaveEntries}
 pub use Rattle.lsm_tables.specs.Words.{HoldLists, HoldUnion, IsInOrder, IsLeastSize, IsStrict}
 pub use Rattle.lsm_tables.specs.Words.{IsWritable, OpenTable, Refuses, RunsHoldLists, SameTables}
 pub use Rattle.lsm_tables.specs.Words.{StoresList, Tombstone, Value, all_shown, entry, front_length}
 pub use Rattle.lsm_tables.specs.Words.{ids_behind, is_before, is_from, is_memory, is_to, is_weak}
 pub use Rattle.lsm_tables.specs.Words.{is_weak_kind, joined, kept_in, newest, nowhere}
 pub use Rattle.lsm_tables.specs.Words.{numbered_below, ok_results, range_of, read_place}
-pub use Rattle.lsm_tables.specs.Words.{recovered_told, rules_by, run_label, shown, single}
+pub use Rattle.lsm_tables.specs.Words.{recovered_result, rules_by, run_label, shown, single}
 pub use Rattle.lsm_tables.specs.Words.{sort_entries, tables_fault, union_in, within}
 unfoldable pub use Rattle.lsm_tables.specs.Words.{point}
 pub use Rattle.example_store.specs.Closed.{IsClosed, StoreLists, bytes_by_run, files_in}
@@ -21,7 +21,7 @@ pub use Rattle.example_store.specs.Ids.{AreMadeOf, HasFlushed, IsTakenIn, StaysO
 pub use Rattle.example_store.specs.Part.{IsPartKept, front_runs, part_runs}
 pub use Rattle.example_store.specs.Recent.{IsPut}
 pub use Rattle.example_store.specs.Story.{AreNumbered, Holding, IsOwn, IsOwnRun, IsOwnTable}
-pub use Rattle.example_store.specs.Story.{IsStore, IsTold, option_list, put_fault, value_in}
+pub use Rattle.example_store.specs.Story.{IsStore, IsReported, option_list, put_fault, value_in}
 pub use Rattle.example_store.specs.declared.store.open.FileFault.TheVariants.{Unopened}
 pub use Rattle.example_store.specs.declared.store.open.OpenError.TheVariants.{File, NoFile}
 pub use Rattle.example_store.specs.declared.store.open.OpenError.TheVariants.{OldestTooHigh}

@@ -115,11 +115,11 @@ impl<A: Allocator + Clone> Memtable<A> {
     ) -> Result<IntoIter<IterItem<A>, A>, Error>
         ensures list { let gives = ⟦<IntoIter<IterItem<A>, A> as Iterator>⟧.next_gives in
             let back_gives = ⟦<IntoIter<IterItem<A>, A> as DoubleEndedIterator>⟧.next_back_gives in
-            IfOk result (spec.DealsList gives back_gives
+            IfOk result (spec.YieldsList gives back_gives
             (spec.within bounds.now.0 bounds.now.1 self.now)) }
         ensures strict { spec.IsStrict self.now }
         // Both ends may be called, and it ends.
-        ensures can { IfOk result (spec.CanDeal
+        ensures can { IfOk result (spec.CanYield
             ⟦<IntoIter<IterItem<A>, A> as Iterator>⟧.next_gives
             ⟦<IntoIter<IterItem<A>, A> as DoubleEndedIterator>⟧.next_back_gives
             ⟦<IntoIter<IterItem<A>, A> as Iterator>⟧.can_next

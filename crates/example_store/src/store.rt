@@ -71,7 +71,7 @@ impl<A: Allocator + Clone> Store<A> {
     ///
     /// [`Error::OutOfMemory`] only.
     pub fn new(alloc: A, limit: usize, target: u64) -> Result<Store<A>, Error>
-        ensures story { IfOk result (λ store. spec.IsTold store []) }
+        ensures story { IfOk result (λ store. spec.IsReported store []) }
         ensures next { IfOk result (λ store. store.next ≡ 0) }
         ensures oldest { IfOk result (λ store. store.oldest ≡ 0) }
         ensures limit { IfOk result (λ store. store.limit ≡ limit) }
@@ -123,11 +123,11 @@ impl<A: Allocator + Clone> Store<A> {
     ///
     /// Nothing is written then, and nothing is lost.
     pub fn put(&mut self, key: &[u8], value: &[u8]) -> Result<(), Error>
-        ensures written { (ws : List spec.Entry) → spec.IsTold self.old ws →
-            OnOk result (spec.IsTold self.new
+        ensures written { (ws : List spec.Entry) → spec.IsReported self.old ws →
+            OnOk result (spec.IsReported self.new
             (spec.entry key.now value.now self.old.next spec.Value ∷ ws)) }
-        ensures kept { (ws : List spec.Entry) → spec.IsTold self.old ws →
-            OnErr result (spec.IsTold self.new ws) }
+        ensures kept { (ws : List spec.Entry) → spec.IsReported self.old ws →
+            OnErr result (spec.IsReported self.new ws) }
         ensures next { OnOk result (self.new.next ≡ self.old.next + 1) }
         ensures stays { OnErr result (self.new.next ≡ self.old.next) }
         ensures oldest { self.new.oldest ≡ self.old.oldest }
@@ -160,11 +160,11 @@ impl<A: Allocator + Clone> Store<A> {
     ///
     /// Those of [`Store::put`].
     pub fn delete(&mut self, key: &[u8]) -> Result<(), Error>
-        ensures written { (ws : List spec.Entry) → spec.IsTold self.old ws →
-            OnOk result (spec.IsTold self.new
+        ensures written { (ws : List spec.Entry) → spec.IsReported self.old ws →
+            OnOk result (spec.IsReported self.new
             (spec.entry key.now [] self.old.next spec.Tombstone ∷ ws)) }
-        ensures kept { (ws : List spec.Entry) → spec.IsTold self.old ws →
-            OnErr result (spec.IsTold self.new ws) }
+        ensures kept { (ws : List spec.Entry) → spec.IsReported self.old ws →
+            OnErr result (spec.IsReported self.new ws) }
         ensures next { OnOk result (self.new.next ≡ self.old.next + 1) }
         ensures stays { OnErr result (self.new.next ≡ self.old.next) }
         ensures oldest { self.new.oldest ≡ self.old.oldest }
@@ -189,11 +189,11 @@ impl<A: Allocator + Clone> Store<A> {
 
     fn write(&mut self, key: &[u8], value: &[u8], kind: ValueType) -> Result<(), Error>
         requires kind { spec.is_weak_kind kind ≡ false }
-        ensures written { (ws : List spec.Entry) → spec.IsTold self.old ws →
-            OnOk result (spec.IsTold self.new
+        ensures written { (ws : List spec.Entry) → spec.IsReported self.old ws →
+            OnOk result (spec.IsReported self.new
             (spec.entry key.now value.now self.old.next kind ∷ ws)) }
-        ensures kept { (ws : List spec.Entry) → spec.IsTold self.old ws →
-            OnErr result (spec.IsTold self.new ws) }
+        ensures kept { (ws : List spec.Entry) → spec.IsReported self.old ws →
+            OnErr result (spec.IsReported self.new ws) }
         ensures next { OnOk result (self.new.next ≡ self.old.next + 1) }
         ensures stays { OnErr result (self.new.next ≡ self.old.next) }
         ensures oldest { self.new.oldest ≡ self.old.oldest }
@@ -220,7 +220,7 @@ impl<A: Allocator + Clone> Store<A> {
 
     // Flushes a memtable that is full.
     fn make_room(&mut self) -> Result<(), Error>
-        ensures story { (ws : List spec.Entry) → spec.IsTold self.old ws → spec.IsTold self.new ws }
+        ensures story { (ws : List spec.Entry) → spec.IsReported self.old ws → spec.IsReported self.new ws }
         ensures next { self.new.next ≡ self.old.next }
         ensures oldest { self.new.oldest ≡ self.old.oldest }
         ensures limit { self.new.limit ≡ self.old.limit }
@@ -244,8 +244,8 @@ impl<A: Allocator + Clone> Store<A> {
         requires number { item.seqno ≡ self.old.next }
         requires kind { spec.is_weak item ≡ false }
         requires room { self.old.next < 2 ^ 64 - 2 }
-        ensures written { (ws : List spec.Entry) → spec.IsTold self.old ws →
-            OnOk result (spec.IsTold self.new (item ∷ ws)) }
+        ensures written { (ws : List spec.Entry) → spec.IsReported self.old ws →
+            OnOk result (spec.IsReported self.new (item ∷ ws)) }
         ensures put { OnOk result (spec.IsPut item self.old.recent self.new.recent) }
         ensures next { OnOk result (self.new.next ≡ self.old.next + 1) }
         ensures oldest { self.new.oldest ≡ self.old.oldest }
@@ -268,7 +268,7 @@ impl<A: Allocator + Clone> Store<A> {
     /// Those of [`write_run`]: no id is left for a table, or a section is too large;
     /// [`Error::OutOfMemory`]. The store is not changed then.
     pub fn flush(&mut self) -> Result<(), Error>
-        ensures story { (ws : List spec.Entry) → spec.IsTold self.old ws → spec.IsTold self.new ws }
+        ensures story { (ws : List spec.Entry) → spec.IsReported self.old ws → spec.IsReported self.new ws }
         ensures emptied { OnOk result (self.new.recent ≡ []) }
         ensures next { self.new.next ≡ self.old.next }
         ensures oldest { self.new.oldest ≡ self.old.oldest }
@@ -299,7 +299,7 @@ impl<A: Allocator + Clone> Store<A> {
             self.old.recent 0 (spec.arc_value run) }
         requires ids { ids ≡ spec.ids_behind self.old.ids self.old.target
             (length (spec.arc_value run)) }
-        ensures story { (ws : List spec.Entry) → spec.IsTold self.old ws → spec.IsTold self.new ws }
+        ensures story { (ws : List spec.Entry) → spec.IsReported self.old ws → spec.IsReported self.new ws }
         ensures emptied { OnOk result (self.new.recent ≡ []) }
         ensures next { self.new.next ≡ self.old.next }
         ensures oldest { self.new.oldest ≡ self.old.oldest }
@@ -327,7 +327,7 @@ impl<A: Allocator + Clone> Store<A> {
     /// [`Error::OutOfMemory`] only.
     pub fn get(&self, key: &[u8], snapshot: SeqNo) -> Result<Option<Slice<A>>, Error>
         // At a snapshot that is kept, it is the value in the history of writes.
-        ensures told { (ws : List spec.Entry) → spec.IsTold self.now ws →
+        ensures told { (ws : List spec.Entry) → spec.IsReported self.now ws →
             self.now.oldest ≤ snapshot →
             IfOk result (λ value. value ≡ spec.value_in ws key.now snapshot) }
         // At any snapshot, it is the value in the entries of the memtable and of the tables' lists.

@@ -6,10 +6,10 @@ use Rattle.sst_entries.specs.declared.error.Error.{Error}
 use Rattle.sst_entries.specs.declared.stream.Direction.{Direction}
 use Rattle.sst_entries.specs.declared.stream.Direction.TheVariants.{Front, Back}
 use Rattle.sst_entries.specs.Error.{is_memory}
-use Rattle.sst_entries.specs.Stream.{but_first, but_last, front_of, back_of, deal, answer_stops}
+use Rattle.sst_entries.specs.Stream.{but_first, but_last, front_of, back_of, yield_each, answer_stops}
 use Rattle.sst_entries.specs.Stream.{EndAtError, NoneStops, Runs}
 use Rattle.sst_entries.proofs.StreamLemmas.{can_by}
-use Rattle.lsm_iters.specs.block_index.Dealt.{DealsEnding, ended_at_error}
+use Rattle.lsm_iters.specs.block_index.Yielded.{YieldsEnding, ended_at_error}
 use Rattle.lsm_iters.specs.block_index.Left.{CountsLoads, IsEnded, Left, LeftGives, StaysEnded}
 use Rattle.lsm_iters.specs.block_index.Left.{with_index_loads}
 use Rattle.lsm_iters.proofs.IndexAtEnds.{R, End}
@@ -60,7 +60,7 @@ module _ {S X : Type 0} (left : S → List (Result X Error)) (Over : S → Type 
     → Ending left Over back_of s r t) where
   over_along : (ends : List Direction) (rs : List (Option (Result X Error))) (s t : S)
       (xs : List (Result X Error)) → Over s → Runs front back s ends rs t
-      → rs ≡ map (λ _. None) (deal xs ends)
+      → rs ≡ map (λ _. None) (yield_each xs ends)
   over_along [] [] s t xs over runs = refl
   over_along [] (r ∷ rs) s t xs over runs = absurd runs
   over_along (e ∷ ends) [] s t xs over runs = absurd runs
@@ -102,55 +102,55 @@ module _ {S X : Type 0} (left : S → List (Result X Error)) (Over : S → Type 
   -- the answers are those that are dealt
   along : (ends : List Direction) (rs : List (Option (Result X Error))) (s t : S)
       → Runs front back s ends rs t → NoneStops (answer_stops is_memory) rs
-      → rs ≡ ended_at_error (deal (left s) ends)
+      → rs ≡ ended_at_error (yield_each (left s) ends)
   along [] [] s t runs fine = refl
   along [] (r ∷ rs) s t runs fine = absurd runs
   along (e ∷ ends) [] s t runs fine = absurd runs
   along (Front ∷ ends) (None ∷ rs) s t runs fine =
       let step = to_front s None runs.0 runs.1 in
-      let more : rs ≡ ended_at_error (deal [] ends) = along ends rs runs.0 t runs.2 fine.1
-      ∙ ap (λ (zs : List (Result X Error)). ended_at_error (deal zs ends))
+      let more : rs ≡ ended_at_error (yield_each [] ends) = along ends rs runs.0 t runs.2 fine.1
+      ∙ ap (λ (zs : List (Result X Error)). ended_at_error (yield_each zs ends))
       (nothing runs.0 step.answer.1) in
       ap (λ (qs : List (Option (Result X Error))). None ∷ qs) more
-      ∙ sym (ap (λ (zs : List (Result X Error)). ended_at_error (deal zs (Front ∷ ends)))
+      ∙ sym (ap (λ (zs : List (Result X Error)). ended_at_error (yield_each zs (Front ∷ ends)))
       step.answer.0)
   along (Front ∷ ends) (Some (Ok h) ∷ rs) s t runs fine =
       let step = to_front s (Some (Ok h)) runs.0 runs.1 in
       let more = along ends rs runs.0 t runs.2 fine.1 in
       ap (λ (qs : List (Option (Result X Error))). Some (Ok h) ∷ qs) more
       ∙ sym (ap (λ (x : Option (Result X Error) × List (Result X Error)). ended_at_error
-      (x.0 ∷ deal x.1 ends)) step.answer)
+      (x.0 ∷ yield_each x.1 ends)) step.answer)
   along (Front ∷ ends) (Some (Err e) ∷ rs) s t runs fine =
       let step = to_front s (Some (Err e)) runs.0 runs.1 in
       let xs = left s in
       let more = over_along ends rs runs.0 t (but_first xs) step.ends runs.2 in
       ap (λ (qs : List (Option (Result X Error))). Some (Err e) ∷ qs) more
-      ∙ sym (ap (λ (r : Option (Result X Error)). ended_at_error (r ∷ deal (but_first xs) ends))
+      ∙ sym (ap (λ (r : Option (Result X Error)). ended_at_error (r ∷ yield_each (but_first xs) ends))
       (step.answer.0 fine.0))
   along (Back ∷ ends) (None ∷ rs) s t runs fine =
       let step = to_back s None runs.0 runs.1 in
-      let more : rs ≡ ended_at_error (deal [] ends) = along ends rs runs.0 t runs.2 fine.1
-      ∙ ap (λ (zs : List (Result X Error)). ended_at_error (deal zs ends))
+      let more : rs ≡ ended_at_error (yield_each [] ends) = along ends rs runs.0 t runs.2 fine.1
+      ∙ ap (λ (zs : List (Result X Error)). ended_at_error (yield_each zs ends))
       (nothing runs.0 step.answer.1) in
       ap (λ (qs : List (Option (Result X Error))). None ∷ qs) more
-      ∙ sym (ap (λ (zs : List (Result X Error)). ended_at_error (deal zs (Back ∷ ends)))
+      ∙ sym (ap (λ (zs : List (Result X Error)). ended_at_error (yield_each zs (Back ∷ ends)))
       step.answer.0)
   along (Back ∷ ends) (Some (Ok h) ∷ rs) s t runs fine =
       let step = to_back s (Some (Ok h)) runs.0 runs.1 in
       let more = along ends rs runs.0 t runs.2 fine.1 in
       ap (λ (qs : List (Option (Result X Error))). Some (Ok h) ∷ qs) more
       ∙ sym (ap (λ (x : Option (Result X Error) × List (Result X Error)). ended_at_error
-      (x.0 ∷ deal x.1 ends)) step.answer)
+      (x.0 ∷ yield_each x.1 ends)) step.answer)
   along (Back ∷ ends) (Some (Err e) ∷ rs) s t runs fine =
       let step = to_back s (Some (Err e)) runs.0 runs.1 in
       let xs = left s in
       let more = over_along ends rs runs.0 t (but_last xs) step.ends runs.2 in
       ap (λ (qs : List (Option (Result X Error))). Some (Err e) ∷ qs) more
-      ∙ sym (ap (λ (r : Option (Result X Error)). ended_at_error (r ∷ deal (but_last xs) ends))
+      ∙ sym (ap (λ (r : Option (Result X Error)). ended_at_error (r ∷ yield_each (but_last xs) ends))
       (step.answer.0 fine.0))
 
-  pub deals_ending : (s : S) → DealsEnding front back (λ _. Unit {0}) (λ _. Unit {0}) s (left s)
-  deals_ending s = record {
+  pub yields_ending : (s : S) → YieldsEnding front back (λ _. Unit {0}) (λ _. Unit {0}) s (left s)
+  yields_ending s = record {
     answers = λ ends rs t runs fine. along ends rs s t runs fine;
     can = can_by front back (λ _. Unit {0}) (λ _. Unit {0}) (λ _. Unit {0}) (λ s may. (tt, tt))
         (λ s r t may step. tt) (λ s r t may step. tt) s tt;
@@ -170,10 +170,10 @@ module _ {S : Type 0} (view : S → Left) (front back : S → Option R → S →
     → LeftGives front_of (view s) r (view t))
     (to_back : (s : S) (r : Option R) (t : S) → back s r t → LeftGives back_of (view s) r (view t))
   where
-    pub deals_left : (s : S) → DealsEnding front back (λ _. Unit {0}) (λ _. Unit {0}) s
+    pub yields_left : (s : S) → YieldsEnding front back (λ _. Unit {0}) (λ _. Unit {0}) s
         (view s).results
-    deals_left s =
-        deals_ending (λ (u : S). (view u).results) (λ (u : S). IsEnded (view u))
+    yields_left s =
+        yields_ending (λ (u : S). (view u).results) (λ (u : S). IsEnded (view u))
         (λ u over. over.results) front back
         (λ u r t step. ends_by view front_of u r t (to_front u r t step))
         (λ u r t step. ends_by view back_of u r t (to_back u r t step)) s

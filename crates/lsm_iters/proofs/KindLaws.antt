@@ -14,7 +14,7 @@ use Rattle.lsm_iters.specs.declared.block_index.kinds.BlockIndexIterImpl.TheVari
 use Rattle.lsm_iters.specs.declared.block_index.kinds.BlockIndexIterImpl.TheVariants.{
   TwoLevel as Levels,
 }
-use Rattle.lsm_iters.specs.block_index.Dealt.{DealsEnding}
+use Rattle.lsm_iters.specs.block_index.Yielded.{YieldsEnding}
 use Rattle.lsm_iters.specs.block_index.Index.{Index, full, on_demand, two_level}
 use Rattle.lsm_iters.specs.block_index.Kinds.{BackGives, FrontGives, IsReader, IsSought, left_of}
 use Rattle.lsm_iters.specs.block_index.Left.{IsBetween, IsEnded, IsTwoLevelSought, LeftGives}
@@ -22,7 +22,7 @@ use Rattle.lsm_iters.specs.block_index.Left.{StaysEnded, OnDemand, TwoLevel, new
 use Rattle.lsm_iters.specs.block_index.Left.{new_two_level, two_level_left}
 use Rattle.lsm_iters.proofs.IndexAtEnds.{R}
 use Rattle.lsm_iters.proofs.Counting.{counts_along}
-use Rattle.lsm_iters.proofs.Dealing.{deals_left, stays_ended}
+use Rattle.lsm_iters.proofs.Dealing.{yields_left, stays_ended}
 use Rattle.lsm_iters.proofs.Seeks.{all_of}
 use Rattle.lsm_iters.proofs.Laws.{demand_back, demand_between, demand_front, levels_back}
 use Rattle.lsm_iters.proofs.Laws.{levels_between, levels_front, span_back, span_between}
@@ -64,9 +64,9 @@ module _ {A : Type 0} where
   kind_back (Levels s) r (Volatile t) step = absurd step
   kind_back (Levels s) r (Levels t) step = levels_back s r t step
 
-  pub kind_deals : (s : BlockIndexIterImpl A) → DealsEnding FrontGives BackGives (λ _. Unit {0})
+  pub kind_yields : (s : BlockIndexIterImpl A) → YieldsEnding FrontGives BackGives (λ _. Unit {0})
       (λ _. Unit {0}) s (left_of s).results
-  kind_deals s = deals_left left_of FrontGives BackGives kind_front kind_back s
+  kind_yields s = yields_left left_of FrontGives BackGives kind_front kind_back s
 
   pub kind_stays : (s : BlockIndexIterImpl A) → IsEnded (left_of s)
       → StaysEnded FrontGives BackGives left_of s
@@ -92,7 +92,7 @@ module _ {A : Type 0} where
         between = between;
         index_is = same;
         opened = opened;
-        deals = kind_deals i;
+        yields = kind_yields i;
         counts = λ ends rs t runs. counts_along left_of FrontGives BackGives kind_front kind_back
             (index.loads lo hi) ends rs i t (record {
               count = 0;

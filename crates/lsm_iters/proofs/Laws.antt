@@ -6,7 +6,7 @@ use Rattle.sst_entries.specs.Stream.{front_of, back_of, ok_results}
 use Rattle.sst_entries.specs.Span.{Span, SpanGives, SpanAnswer, rest_in}
 use Rattle.sst_blocks.specs.Handle.{Handle}
 use Rattle.sst_blocks.specs.Handles.{window}
-use Rattle.lsm_iters.specs.block_index.Dealt.{DealsEnding}
+use Rattle.lsm_iters.specs.block_index.Yielded.{YieldsEnding}
 use Rattle.lsm_iters.specs.block_index.Index.{full, block_between, parts_between}
 use Rattle.lsm_iters.specs.block_index.Left.{LeftGives, IsBetween, IsEnded, IsSpanSought}
 use Rattle.lsm_iters.specs.block_index.Left.{StaysEnded}
@@ -19,7 +19,7 @@ use Rattle.lsm_iters.specs.block_index.Left.{span_left, two_level_left}
 use Rattle.lsm_iters.specs.block_index.Seen.{PartGives}
 use Rattle.lsm_iters.proofs.IndexAtEnds.{R, End, Carries, at_part, part_ends, carries_front}
 use Rattle.lsm_iters.proofs.IndexAtEnds.{carries_back}
-use Rattle.lsm_iters.proofs.Dealing.{deals_left, stays_ended}
+use Rattle.lsm_iters.proofs.Dealing.{yields_left, stays_ended}
 
 -- ---- one of a block that stays loaded
 
@@ -50,9 +50,9 @@ pub span_back : (s : Span Handle) (r : Option R) (t : Span Handle) → SpanGives
     → LeftGives back_of (span_left s) r (span_left t)
 span_back s r t step = span_gives back_of back_of carries_back s r t step
 
-pub span_deals : (s : Span Handle) → DealsEnding (SpanGives front_of) (SpanGives back_of)
+pub span_yields : (s : Span Handle) → YieldsEnding (SpanGives front_of) (SpanGives back_of)
     (λ _. Unit {0}) (λ _. Unit {0}) s (span_left s).results
-span_deals s = deals_left span_left (SpanGives front_of) (SpanGives back_of) span_front span_back s
+span_yields s = yields_left span_left (SpanGives front_of) (SpanGives back_of) span_front span_back s
 
 pub span_between : (s : Span Handle) (lo : Option (List ℕ × ℕ)) (hi : Option (List ℕ))
     → IsSpanSought s lo hi → IsBetween (span_left s) lo hi
@@ -68,9 +68,9 @@ pub demand_back : (s : OnDemand) (r : Option R) (t : OnDemand) → OnDemandGives
     → LeftGives back_of (on_demand_left s) r (on_demand_left t)
 demand_back s r t step = step.gives
 
-pub demand_deals : (s : OnDemand) → DealsEnding (OnDemandGives front_of) (OnDemandGives back_of)
+pub demand_yields : (s : OnDemand) → YieldsEnding (OnDemandGives front_of) (OnDemandGives back_of)
     (λ _. Unit {0}) (λ _. Unit {0}) s (on_demand_left s).results
-demand_deals s = deals_left on_demand_left (OnDemandGives front_of)
+demand_yields s = yields_left on_demand_left (OnDemandGives front_of)
     (OnDemandGives back_of) demand_front demand_back s
 
 pub demand_stays : (s : OnDemand) → IsEnded (on_demand_left s)
@@ -99,10 +99,10 @@ pub levels_back : (s : TwoLevel) (r : Option R) (t : TwoLevel)
     → LeftGives back_of (two_level_left s) r (two_level_left t)
 levels_back s r t step = step.gives
 
-pub levels_deals : (s : TwoLevel) → DealsEnding (TwoLevelGives front_of front_needs front_early)
+pub levels_yields : (s : TwoLevel) → YieldsEnding (TwoLevelGives front_of front_needs front_early)
     (TwoLevelGives back_of back_needs back_early) (λ _. Unit {0}) (λ _. Unit {0}) s
     (two_level_left s).results
-levels_deals s = deals_left two_level_left (TwoLevelGives front_of front_needs front_early)
+levels_yields s = yields_left two_level_left (TwoLevelGives front_of front_needs front_early)
     (TwoLevelGives back_of back_needs back_early) levels_front levels_back s
 
 pub levels_stays : (s : TwoLevel) → IsEnded (two_level_left s)

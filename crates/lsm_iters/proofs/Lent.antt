@@ -20,7 +20,7 @@ use Rattle.lsm_iters.specs.Blocks.{Blocks, KeepsBlocks, coming_blocks, lent_at, 
 use Rattle.lsm_iters.specs.Blocks.{range_lending}
 use Rattle.lsm_iters.specs.Bounds.{lower_edge, upper_edge}
 use Rattle.lsm_iters.specs.Lending.{LendsAt, RangeLendsAt, behind_in, cursor_remains, lent_in}
-use Rattle.lsm_iters.specs.Lift.{lifted, lifted_told, number_told}
+use Rattle.lsm_iters.specs.Lift.{lifted, lifted_result, global_seqno_result}
 use Rattle.lsm_iters.specs.Range.{LendsOn, Range, RangeGives, left_in, next_at}
 use Rattle.lsm_iters.specs.Rows.{Bounded}
 use Rattle.lsm_iters.specs.Steps.{LoadsNone, SeeksOnce, lifted_answer, over, stopped}
@@ -160,8 +160,8 @@ fits_by : {X : Type 0} (past : Bool) (k m : ℕ) (x : X)
 fits_by true k m x told = absurd cc
 fits_by false k m x told = (refl, refl)
 
-pub number_fits : (g m : ℕ) (e : Entry) → Ok m ≡ number_told g e.seqno
-    → (e.seqno + g < 2 ^ 64) × (lifted_told g e ≡ Ok (lifted g e))
+pub number_fits : (g m : ℕ) (e : Entry) → Ok m ≡ global_seqno_result g e.seqno
+    → (e.seqno + g < 2 ^ 64) × (lifted_result g e ≡ Ok (lifted g e))
 number_fits g m e told =
     let fits = fits_by (nat_lt (2 ^ 64 - 1) (e.seqno + g)) (e.seqno + g) m (lifted g e) told in
     (omega (arith, ltb-false (2 ^ 64 - 1) (e.seqno + g) fits.0), fits.1)
@@ -200,7 +200,7 @@ module _ {A : Type 0} (at : Direction) (k : Option Entry) where
         (stopped q (range_at at n))
     pub there : s.parts.handles.sought ≡ true → (e : Entry)
         → (taken_at at (next_at at (range_lending s k)).entries).0 ≡ Some e
-        → q ≡ Some (lifted_told s.parts.of.global_seqno e)
+        → q ≡ Some (lifted_result s.parts.of.global_seqno e)
 
   module _ (s : W A) (p : Blocks A) (is : p ≡ record s.parts { handles = p.handles })
       (none : LoadsNone (left_in s.parts.handles) (left_in p.handles))
@@ -233,7 +233,7 @@ module _ {A : Type 0} (at : Direction) (k : Option Entry) where
               ap (λ (o : Option Cursor). (taken_at at (behind_in o)).0) near_parts
               ∙ ap (λ (es : List Entry). (taken_at at es).0) (sym (entries_at at s k)) ∙ here in
               lifted ∙ ap (lifted_answer n.parts.of.global_seqno) (lends.there x next)
-              ∙ ap (λ (g : ℕ). Some (lifted_told g x)) same;
+              ∙ ap (λ (g : ℕ). Some (lifted_result g x)) same;
         }
 
   pub steps_item : (s n : W A) (more : Bool)

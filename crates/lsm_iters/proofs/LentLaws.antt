@@ -1,8 +1,8 @@
 -- What a range that lends deals, and how far off its end is.
 use Rattle.std.specs.Prelude.{Option, Some, None}
 use Rattle.sst_entries.specs.Stream.{Lowers, back_of, front_of}
-use Rattle.lsm_iters.specs.block_index.Dealt.{DealsEnding}
-use Rattle.lsm_iters.proofs.Dealing.{Ending, deals_ending}
+use Rattle.lsm_iters.specs.block_index.Yielded.{YieldsEnding}
+use Rattle.lsm_iters.proofs.Dealing.{Ending, yields_ending}
 use Rattle.lsm_iters.specs.Lending.{RangeLends}
 use Rattle.lsm_iters.specs.Range.{IsEndedRange, Range, RangeGives, back_next, front_next}
 use Rattle.lsm_iters.specs.Range.{range_left, range_size}
@@ -16,10 +16,10 @@ module _ {A : Type 0} where
   lends_by s r t step = ends_by front_of front_next s r t step.gives
 
   -- what is left is lent up to the first error, also where the back gives in between
-  pub lending_deals : (s : Range A) → DealsEnding RangeLends (RangeGives back_of back_next)
+  pub lending_yields : (s : Range A) → YieldsEnding RangeLends (RangeGives back_of back_next)
       (λ _. Unit {0}) (λ _. Unit {0}) s (range_left s)
-  lending_deals s =
-      deals_ending range_left IsEndedRange nothing RangeLends (RangeGives back_of back_next)
+  lending_yields s =
+      yields_ending range_left IsEndedRange nothing RangeLends (RangeGives back_of back_next)
       (λ u r t step. lends_by u r t step) (λ u r t step. ends_by back_of back_next u r t step) s
 
   -- an answer brings the end nearer

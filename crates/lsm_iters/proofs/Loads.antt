@@ -9,7 +9,7 @@ use Rattle.sst_entries.specs.Error.{unless}
 use Rattle.sst_blocks.specs.declared.version.TableVersion.{TableVersion}
 use Rattle.sst_blocks.specs.Fnv.{fnv1a}
 use Rattle.sst_blocks.specs.declared.block_type.BlockType.{BlockType}
-use Rattle.sst_blocks.specs.Block.{Loaded, load_told, checked_payload, grammar_fault, version_in}
+use Rattle.sst_blocks.specs.Block.{Loaded, load_result, checked_payload, grammar_fault, version_in}
 use Rattle.sst_blocks.specs.Block.{stored_checksum, header_fault, data_len, uncompressed_len}
 
 abbrev pub OfKind : BlockType → Result Loaded Error → Type 0
@@ -38,8 +38,8 @@ module _ (kind : BlockType) where
       (past_fault fault told refl)
 
   pub load_of_kind : (body : List ℕ) (offset size : ℕ)
-      → OfKind kind (load_told body offset size kind)
-  unfolding load_told
+      → OfKind kind (load_result body offset size kind)
+  unfolding load_result
   load_of_kind body offset size =
       let head = slice_range body offset (offset + 24) in
       let payload = slice_range body (offset + 24) (offset + size) in

@@ -12,7 +12,7 @@ use Rattle.sst_blocks.specs.Cursor.{Cursor}
 use Rattle.sst_blocks.specs.Handle.{Handle}
 use Rattle.lsm_iters.specs.block_index.Left.{Left, LeftGives}
 use Rattle.lsm_iters.specs.walk.Ends.{taken_at}
-use Rattle.lsm_iters.specs.walk.Parts.{Coming, LoadGives, Loading, Names, Tells}
+use Rattle.lsm_iters.specs.walk.Parts.{Coming, LoadGives, Loading, Names, ReportsOf}
 use Rattle.lsm_iters.proofs.Instances.{refused_first}
 use Rattle.lsm_iters.proofs.AtEnds.{map_first, map_none, map_taken}
 use Rattle.lsm_iters.specs.Blocks.{Blocks, KeepsBlocks, block_named, coming_blocks, stored_rows}
@@ -48,12 +48,12 @@ names_by at b s t (Some (Err e)) step = (
   record { parts = ap (map (block_named b)) step.ends.results; loads = step.ends.loads },
 )
 
-tells_block : (b : Bounded) (h : Handle) (r : Result Cursor Error)
+reports_block : (b : Bounded) (h : Handle) (r : Result Cursor Error)
     → IfOk r (λ c. ok_results c.behind ≡ stored_rows b h)
     → IfErr r (λ e. is_memory e ≡ false → Err e ∷ [] ≡ stored_rows b h)
-    → Tells cursor_remains (Some (block_named b (Ok h))) (Some r)
-tells_block b h (Ok es) ok err = ok
-tells_block b h (Err e) ok err = err
+    → ReportsOf cursor_remains (Some (block_named b (Ok h))) (Some r)
+reports_block b h (Ok es) ok err = ok
+reports_block b h (Err e) ok err = err
 
 module _ {A : Type 0} (at : Direction) (s m : Blocks A) (is : m ≡ record s { handles = m.handles })
     (sought : m.handles.sought ≡ true) where
@@ -79,8 +79,8 @@ module _ {A : Type 0} (at : Direction) (s m : Blocks A) (is : m ≡ record s { h
       (sym last) (record {
         named = named_in s.of (Some (Ok h));
         names = names (Some (Ok h)) step;
-        told = subst (λ (b : Bounded). Tells cursor_remains (Some (block_named b (Ok h))) (Some r))
-            same_of (tells_block m.of h r ok err);
+        told = subst (λ (b : Bounded). ReportsOf cursor_remains (Some (block_named b (Ok h))) (Some r))
+            same_of (reports_block m.of h r ok err);
         loads = omega (arith, none_own r, step.loads.within);
         first = λ f early. refused_first r f (first f
             (ap (λ (b : Bounded). place_fault b.body h.offset h.size Data) same_of ∙ early));

@@ -5,8 +5,8 @@ use Rattle.std.specs.Iterator.{MakesProgress, at_most}
 use Rattle.std.specs.Prelude.{Option, Some, None, Ok, Err}
 use Rattle.sst_entries.specs.declared.stream.Direction.{Direction}
 use Rattle.sst_entries.specs.Stream.{front_of, back_of}
-use Rattle.lsm_iters.specs.block_index.Dealt.{DealsEnding}
-use Rattle.lsm_iters.proofs.Dealing.{Ending, deals_ending}
+use Rattle.lsm_iters.specs.block_index.Yielded.{YieldsEnding}
+use Rattle.lsm_iters.proofs.Dealing.{Ending, yields_ending}
 use Rattle.lsm_iters.specs.walk.Ends.{StepAnswers, StepGives, taken_at}
 use Rattle.lsm_iters.proofs.Instances.{positive}
 use Rattle.lsm_iters.specs.Range.{IsEndedRange, Next, Range, RangeGives, back_next, front_next}
@@ -26,10 +26,10 @@ module _ {A : Type 0} where
   ends_by of next s (Some (Err e)) t step = record { answer = step.answer; ends = step.ends }
 
   -- whatever ends are asked, what is left is dealt up to the first error
-  pub range_deals : (s : Range A) → DealsEnding (RangeGives front_of front_next)
+  pub range_yields : (s : Range A) → YieldsEnding (RangeGives front_of front_next)
       (RangeGives back_of back_next) (λ _. Unit {0}) (λ _. Unit {0}) s (range_left s)
-  range_deals s =
-      deals_ending range_left IsEndedRange nothing (RangeGives front_of front_next)
+  range_yields s =
+      yields_ending range_left IsEndedRange nothing (RangeGives front_of front_next)
       (RangeGives back_of back_next)
       (λ u r t step. ends_by front_of front_next u r t step)
       (λ u r t step. ends_by back_of back_next u r t step) s

@@ -16,7 +16,7 @@ use Rattle.lsm_iters.specs.block_index.Left.{early_behind}
 use Rattle.lsm_iters.specs.block_index.Left.{with_index_loads, none_behind}
 use Rattle.lsm_iters.proofs.TwoLevels.{loaded_more}
 use Rattle.lsm_iters.specs.Bounds.{lower_edge, upper_edge}
-use Rattle.lsm_iters.specs.Lift.{lift_told}
+use Rattle.lsm_iters.specs.Lift.{lift_results}
 use Rattle.lsm_iters.specs.Range.{CountsBlocks, IsEndedRange, LendsOn, Next, Range, RangeGives}
 use Rattle.lsm_iters.specs.Range.{back_next}
 use Rattle.lsm_iters.specs.Range.{blocks_early, blocks_for, blocks_needed, data_loaded, early_for}
@@ -43,7 +43,7 @@ none_on r e is = let wrong : None ≡ Some e = is in absurd cc
 
 -- the rows of what is left at the front, of the blocks to come, and of what is left at the back
 abbrev all_rows : Bounded → List Entry → List H → List Entry → List R
-all_rows b es hs fs = lift_told b.global_seqno es ++ (rows b hs ++ lift_told b.global_seqno fs)
+all_rows b es hs fs = lift_results b.global_seqno es ++ (rows b hs ++ lift_results b.global_seqno fs)
 
 abbrev pub coming : {A : Type 0} → Range A → List H
 coming u = (left_in u.handles).results

@@ -12,7 +12,7 @@ use Rattle.sst_entries.specs.Stream.{answer_stops}
 use Rattle.lsm_iters.specs.declared.walk.Walk.{Walk}
 use Rattle.lsm_iters.specs.walk.Ends.{IsOver, Remains, StepAnswers, StepGives, taken_at, laid_from}
 use Rattle.lsm_iters.specs.walk.Ends.{remains_in, seen_from}
-use Rattle.lsm_iters.specs.walk.Parts.{Coming, IsDone, LoadGives, Loading, Loads, Names, Tells}
+use Rattle.lsm_iters.specs.walk.Parts.{Coming, IsDone, LoadGives, Loading, Loads, Names, ReportsOf}
 use Rattle.lsm_iters.specs.walk.Parts.{early_behind, early_among, early_named, loads_in, needed}
 use Rattle.lsm_iters.specs.walk.Parts.{none_behind, results_of, all_results}
 use Rattle.lsm_iters.specs.walk.Walks.{StopsAtError, WalkGives, WalkTakes, early_at, far, near}
@@ -306,7 +306,7 @@ module _ {P T X : Type 0} (left : T → Remains X) (coming : P → Coming X)
     pub kept : keeps u (Some (Ok load)) t
 
   enters_by : (u : P) (part : T) (t : P) (named : Option (Result (Loading X) Error))
-      → Names at (coming u) named (coming t) → Tells left named (Some (Ok part))
+      → Names at (coming u) named (coming t) → ReportsOf left named (Some (Ok part))
       → ((f : Error) → early_named named ≡ Some f
       → ◌≡◌ {A = Option (Result T Error)} (Some (Ok part)) (Some (Err f)))
       → (left part).loads + (coming t).loads ≤ (coming u).loads → keeps u named t → Enters u part t
@@ -415,7 +415,7 @@ module _ {P T X : Type 0} (left : T → Remains X) (coming : P → Coming X)
         → blocks ≡ needed (seen_from at (coming u).parts) → e ≡ f
 
   faults_by : (u : P) (e : Error) (t : P) (named : Option (Result (Loading X) Error))
-      → Names at (coming u) named (coming t) → Tells left named (Some (Err e))
+      → Names at (coming u) named (coming t) → ReportsOf left named (Some (Err e))
       → ((f : Error) → early_named named ≡ Some f
       → ◌≡◌ {A = Option (Result T Error)} (Some (Err e)) (Some (Err f))) → keeps u named t
       → Faults u e t
@@ -481,7 +481,7 @@ module _ {P T X : Type 0} (left : T → Remains X) (coming : P → Coming X)
     pub kept : keeps u None t
 
   rests_by : (u t : P) (named : Option (Result (Loading X) Error))
-      → Names at (coming u) named (coming t) → Tells {T = T} left named None → keeps u named t
+      → Names at (coming u) named (coming t) → ReportsOf {T = T} left named None → keeps u named t
       → Rests u t
   rests_by u t None names told keep = record { none = names.0; done = names.1; kept = keep }
   rests_by u t (Some (Err e)) names told keep = absurd cc

@@ -17,7 +17,7 @@ use Rattle.sst_blocks.specs.Handle.{Handle}
 use Rattle.sst_blocks.specs.Place.{Place, place_of}
 use Rattle.lsm_iters.specs.declared.walk.Walk.{Walk}
 use Rattle.lsm_iters.specs.walk.Ends.{IsOver, remains_in, seen_from, span_remains, taken_at}
-use Rattle.lsm_iters.specs.walk.Parts.{LoadGives, Loading, Loads, Tells, all_results, early_among}
+use Rattle.lsm_iters.specs.walk.Parts.{LoadGives, Loading, Loads, ReportsOf, all_results, early_among}
 use Rattle.lsm_iters.specs.walk.Parts.{early_behind, loads_in, needed, none_behind}
 use Rattle.lsm_iters.specs.walk.Walks.{Ended, StopsAtError, WalkGives, WalkTakes, early_at, near}
 use Rattle.lsm_iters.specs.walk.Walks.{needed_at, walk_left}
@@ -66,13 +66,13 @@ not_found : (o : Option Handle) → None ≡ option_map place_of o → o ≡ Non
 not_found None told = refl
 not_found (Some h) told = absurd cc
 
-tells_part : {A : Type 0} (p : Partitions A) (top : Handle) (r : Result (Span Handle) Error)
+reports_part : {A : Type 0} (p : Partitions A) (top : Handle) (r : Result (Span Handle) Error)
     → IfOk r (λ hs. ok_results (rest_in hs) ≡ block_between (body_of p.source) p.edges.0 p.edges.1
     (place_of top)) → IfErr r (λ e. is_memory e ≡ false
     → Err e ∷ [] ≡ block_between (body_of p.source) p.edges.0 p.edges.1 (place_of top))
-    → Tells span_remains (Some (part_named p top)) (Some r)
-tells_part p top (Ok hs) ok err = ok
-tells_part p top (Err e) ok err = err
+    → ReportsOf span_remains (Some (part_named p top)) (Some r)
+reports_part p top (Ok hs) ok err = ok
+reports_part p top (Err e) ok err = err
 
 module _ {A : Type 0} (at : Direction) (s : Partitions A) (tops : Span Handle)
     (list : tops.list ≡ s.tops.list) (rest : rest_in tops ≡ (taken_at at (rest_in s.tops)).1) where
@@ -93,7 +93,7 @@ module _ {A : Type 0} (at : Direction) (s : Partitions A) (tops : Span Handle)
       record {
         named = Some (part_named s x.top);
         names = map_taken (part_named s) at (rest_in s.tops) (rest_in tops) x.top takes;
-        told = tells_part s x.top r
+        told = reports_part s x.top r
             (subst (λ (p : Place). IfOk r (λ hs. ok_results (rest_in hs)
             ≡ block_between (body_of s.source) s.edges.0 s.edges.1 p)) (sym x.at) ok)
             (subst (λ (p : Place). IfErr r (λ e. is_memory e ≡ false
@@ -427,10 +427,10 @@ module _ {A : Type 0} where
       )
 
   -- before an edge is sought
-  pub none_dealt : (w : Walk (Partitions A) (Span Handle)) (p : Partitions A) (body : List ℕ)
+  pub none_yielded : (w : Walk (Partitions A) (Span Handle)) (p : Partitions A) (body : List ℕ)
       (whole : List Handle) → w ≡ record { parts = p; front = None; back = None }
       → body_of p.source ≡ body → p.tops ≡ whole_span whole → p.edges ≡ (None, None)
       → p.opened ≡ none_opened → two_level_of w ≡ new_two_level body whole
-  none_dealt w p body whole new same is none counted =
+  none_yielded w p body whole new same is none counted =
       let all : rest_in p.tops ≡ whole = all_of p.tops whole is in
       ap two_level_of new ∙ rw (same, all, is, none, counted)

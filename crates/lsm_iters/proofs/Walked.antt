@@ -12,7 +12,7 @@ use Rattle.sst_entries.specs.Entry.{Entry}
 use Rattle.sst_entries.specs.Error.{is_memory}
 use Rattle.sst_entries.specs.Stream.{answer_stops, ok_results}
 use Rattle.sst_blocks.specs.declared.block_type.BlockType.TheVariants.{Data}
-use Rattle.sst_blocks.specs.Block.{Loaded, load_told, place_fault}
+use Rattle.sst_blocks.specs.Block.{Loaded, load_result, place_fault}
 use Rattle.sst_blocks.specs.Cursor.{Cursor}
 use Rattle.sst_blocks.specs.Handle.{Handle}
 use Rattle.lsm_iters.specs.block_index.Left.{CountsLoads, early_behind, with_index_loads}
@@ -33,7 +33,7 @@ use Rattle.lsm_iters.specs.Blocks.{Blocks, KeepsBlocks, block_named, coming_bloc
 use Rattle.lsm_iters.specs.Blocks.{range_lending, stored_in, stored_rows}
 use Rattle.lsm_iters.specs.Bounds.{lower_edge, upper_edge}
 use Rattle.lsm_iters.specs.Lending.{behind_in, cursor_remains}
-use Rattle.lsm_iters.specs.Lift.{lift_told, lifted_told}
+use Rattle.lsm_iters.specs.Lift.{lift_results, lifted_result}
 use Rattle.lsm_iters.specs.Range.{LendsOn, Range, RangeGives, blocks_early, blocks_needed}
 use Rattle.lsm_iters.specs.Range.{data_loaded}
 use Rattle.lsm_iters.specs.Range.{left_in, next_at}
@@ -46,37 +46,37 @@ use Rattle.lsm_iters.proofs.Ranges.{data_more, front_starts, gives_all, left_row
 -- ---- results with their numbers lifted
 
 abbrev told : ℕ → R → R
-told g (Ok e) = lifted_told g e
+told g (Ok e) = lifted_result g e
 told g (Err e) = Err e
 
-told_ok : (g : ℕ) (es : List Entry) → map (told g) (ok_results es) ≡ lift_told g es
-told_ok g [] = refl
-told_ok g (e ∷ es) = ap (λ (rs : List R). lifted_told g e ∷ rs) (told_ok g es)
+reported_ok : (g : ℕ) (es : List Entry) → map (told g) (ok_results es) ≡ lift_results g es
+reported_ok g [] = refl
+reported_ok g (e ∷ es) = ap (λ (rs : List R). lifted_result g e ∷ rs) (reported_ok g es)
 
-told_stored : (b : Bounded) (block : Result Loaded Error)
+reported_stored : (b : Bounded) (block : Result Loaded Error)
     → map (told b.global_seqno) (stored_in b block) ≡ rows_in b block
-told_stored b (Ok block) = told_ok b.global_seqno _
-told_stored b (Err e) = refl
+reported_stored b (Ok block) = reported_ok b.global_seqno _
+reported_stored b (Err e) = refl
 
-told_named : (b : Bounded) (x : H) → map (told b.global_seqno) (results_of (block_named b x))
+reported_named : (b : Bounded) (x : H) → map (told b.global_seqno) (results_of (block_named b x))
     ≡ handle_rows b x
-told_named b (Ok h) = told_stored b (load_told b.body h.offset h.size Data)
-told_named b (Err e) = refl
+reported_named b (Ok h) = reported_stored b (load_result b.body h.offset h.size Data)
+reported_named b (Err e) = refl
 
-told_rows : (b : Bounded) (hs : List H) → map (told b.global_seqno)
+reported_rows : (b : Bounded) (hs : List H) → map (told b.global_seqno)
     (all_results (map (block_named b) hs)) ≡ rows b hs
-told_rows b [] = refl
-told_rows b (x ∷ hs) =
+reported_rows b [] = refl
+reported_rows b (x ∷ hs) =
     map-append (told b.global_seqno) (results_of (block_named b x))
     (all_results (map (block_named b) hs))
     ∙ ap (λ (rs : List R). rs ++ map (told b.global_seqno) (all_results (map (block_named b) hs)))
-    (told_named b x)
-    ∙ ap (λ (rs : List R). handle_rows b x ++ rs) (told_rows b hs)
+    (reported_named b x)
+    ∙ ap (λ (rs : List R). handle_rows b x ++ rs) (reported_rows b hs)
 
-told_part : (g : ℕ) (o : Option Cursor)
-    → map (told g) (remains_in cursor_remains o).results ≡ lift_told g (behind_in o)
-told_part g None = refl
-told_part g (Some c) = told_ok g _
+reported_part : (g : ℕ) (o : Option Cursor)
+    → map (told g) (remains_in cursor_remains o).results ≡ lift_results g (behind_in o)
+reported_part g None = refl
+reported_part g (Some c) = reported_ok g _
 
 -- ---- how many blocks an answer needs, and the fault that is found before memory is taken
 
@@ -84,7 +84,7 @@ same_needs : (b : Bounded) (h : Handle) (n : ℕ)
     → none_behind (stored_rows b h) n ≡ none_behind (block_rows b h) n
 same_needs b h n =
     sym (behind_map (told b.global_seqno) (stored_rows b h) n)
-    ∙ ap (λ (rs : List R). none_behind rs n) (told_stored b (load_told b.body h.offset h.size Data))
+    ∙ ap (λ (rs : List R). none_behind rs n) (reported_stored b (load_result b.body h.offset h.size Data))
 
 needs_is : (b : Bounded) (hs : List H) → needed (map (block_named b) hs) ≡ blocks_needed b hs
 needs_is b [] = refl
@@ -97,8 +97,8 @@ same_early : (b : Bounded) (h : Handle) (o : Option Error)
     → early_behind (stored_rows b h) o ≡ early_behind (block_rows b h) o
 same_early b h o =
     sym (early_map (told b.global_seqno) (stored_rows b h) o)
-    ∙ ap (λ (rs : List R). early_behind rs o) (told_stored b
-    (load_told b.body h.offset h.size Data))
+    ∙ ap (λ (rs : List R). early_behind rs o) (reported_stored b
+    (load_result b.body h.offset h.size Data))
 
 early_is : (b : Bounded) (hs : List H) → early_among (map (block_named b) hs) ≡ blocks_early b hs
 early_is b [] = refl
@@ -169,9 +169,9 @@ module _ {A : Type 0} (k : Option Entry) where
   abbrev handles_in : W A → List H
   handles_in w = (left_in w.parts.handles).results
 
-  told_left : (w : W A) → map (told w.parts.of.global_seqno) (left_of_walk w).results
+  reported_left : (w : W A) → map (told w.parts.of.global_seqno) (left_of_walk w).results
       ≡ left_rows (range_lending w k)
-  told_left w =
+  reported_left w =
       let b : Bounded = w.parts.of in
       let f = told b.global_seqno in
       let fs : List R = (remains_in cursor_remains w.front).results in
@@ -179,11 +179,11 @@ module _ {A : Type 0} (k : Option Entry) where
       let bs : List R = (remains_in cursor_remains w.back).results in
       map-append f fs (ms ++ bs)
       ∙ ap (λ (rs : List R). map f fs ++ rs) (map-append f ms bs)
-      ∙ ap (λ (rs : List R). rs ++ (map f ms ++ map f bs)) (told_part b.global_seqno w.front)
-      ∙ ap (λ (rs : List R). lift_told b.global_seqno (behind_in w.front) ++ (rs ++ map f bs))
-      (told_rows b (handles_in w))
-      ∙ ap (λ (rs : List R). lift_told b.global_seqno (behind_in w.front)
-      ++ (rows b (handles_in w) ++ rs)) (told_part b.global_seqno w.back)
+      ∙ ap (λ (rs : List R). rs ++ (map f ms ++ map f bs)) (reported_part b.global_seqno w.front)
+      ∙ ap (λ (rs : List R). lift_results b.global_seqno (behind_in w.front) ++ (rs ++ map f bs))
+      (reported_rows b (handles_in w))
+      ∙ ap (λ (rs : List R). lift_results b.global_seqno (behind_in w.front)
+      ++ (rows b (handles_in w) ++ rs)) (reported_part b.global_seqno w.back)
 
   near_behind : (at : Direction) (w : W A) (n : ℕ)
       → none_behind (remains_in cursor_remains (near at w)).results n
@@ -248,7 +248,7 @@ module _ {A : Type 0} (k : Option Entry) where
   over_range at v l over =
       let parts = (all_over cursor_remains coming_blocks at v over).done in
       record {
-        rows = sym (told_left v) ∙ ap (map (told v.parts.of.global_seqno)) over.results;
+        rows = sym (reported_left v) ∙ ap (map (told v.parts.of.global_seqno)) over.results;
         index = record {
           results = map_none (block_named v.parts.of)
               (handles_in v) parts.parts;
@@ -259,7 +259,7 @@ module _ {A : Type 0} (k : Option Entry) where
   over_walk : (w : W A) → IsOver (range_lending w k) → IsWalkOver (left_of_walk w)
   over_walk w over = record {
     results = map_none (told w.parts.of.global_seqno) (left_of_walk w).results
-        (told_left w ∙ over.rows);
+        (reported_left w ∙ over.rows);
     loads = omega (
       arith,
       no_part_loads w.front,
@@ -282,20 +282,20 @@ module _ {A : Type 0} (k : Option Entry) where
       → StepAnswers at (left_of_walk w) r (left_of_walk v) → v.parts.of ≡ w.parts.of
       → From (taken_at at) (range_lending w k) (lifted_answer w.parts.of.global_seqno r) (range_lending v l)
   from_walk at w v None l gives same = (
-    sym (told_left w) ∙ ap (map (told w.parts.of.global_seqno)) gives.0,
+    sym (reported_left w) ∙ ap (map (told w.parts.of.global_seqno)) gives.0,
     over_range at v l gives.1,
   )
   from_walk at w v (Some (Ok e)) l gives same =
       let g : ℕ = w.parts.of.global_seqno in
       let rest : map (told g) (left_of_walk v).results ≡ left_rows (range_lending v k) =
       ap (λ (b : Bounded). map (told b.global_seqno) (left_of_walk v).results) (sym same)
-      ∙ told_left v in
-      from_item at (range_lending w k) (range_lending v l) (lifted_told g e)
-      (ap (taken_at at) (sym (told_left w))
+      ∙ reported_left v in
+      from_item at (range_lending w k) (range_lending v l) (lifted_result g e)
+      (ap (taken_at at) (sym (reported_left w))
       ∙ map_taken (told g) at (left_of_walk w).results (left_of_walk v).results (Ok e) gives
-      ∙ ap (λ (rs : List R). (Some (lifted_told g e), rs)) rest)
+      ∙ ap (λ (rs : List R). (Some (lifted_result g e), rs)) rest)
   from_walk at w v (Some (Err e)) l gives same = (
-    λ fine. ap (λ (rs : List R). (taken_at at rs).0) (sym (told_left w))
+    λ fine. ap (λ (rs : List R). (taken_at at rs).0) (sym (reported_left w))
         ∙ map_first (told w.parts.of.global_seqno) at (left_of_walk w).results (Err e)
         (gives.0 fine),
     λ over. gives.1 (over_walk w over),

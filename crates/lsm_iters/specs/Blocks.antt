@@ -2,7 +2,7 @@
 use Rattle.std.specs.Prelude.{◌≡◌, true, List, [], ◌∷◌, map, Option, Result, Ok, Err}
 use Rattle.sst_blocks.specs.declared.block_type.BlockType.TheVariants.{Data}
 use Rattle.sst_blocks.specs.declared.opened.Opened.{Opened}
-use Rattle.sst_blocks.specs.Block.{Loaded, load_told, place_fault, entries_of}
+use Rattle.sst_blocks.specs.Block.{Loaded, load_result, place_fault, entries_of}
 use Rattle.sst_blocks.specs.Cursor.{Cursor}
 use Rattle.sst_blocks.specs.Handle.{Handle}
 use Rattle.std.specs.Option.{option_map}
@@ -34,7 +34,7 @@ stored_in b (Err e) = Err e ∷ []
 
 -- The entries of the block that a handle names.
 abbrev pub stored_rows : Bounded → Handle → List (Result Entry Error)
-stored_rows b h = stored_in b (load_told b.body h.offset h.size Data)
+stored_rows b h = stored_in b (load_result b.body h.offset h.size Data)
 
 -- The block of a handle, or the index's error instead.
 abbrev pub block_named : Bounded → Result Handle Error → Result (Loading Entry) Error

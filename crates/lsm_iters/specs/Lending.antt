@@ -7,7 +7,7 @@ use Rattle.sst_entries.specs.declared.stream.Direction.{Direction}
 use Rattle.sst_entries.specs.declared.stream.Direction.TheVariants.{Front}
 use Rattle.sst_entries.specs.Stream.{ok_results}
 use Rattle.lsm_iters.specs.walk.Ends.{Remains, taken_at}
-use Rattle.lsm_iters.specs.Lift.{lifted_told}
+use Rattle.lsm_iters.specs.Lift.{lifted_result}
 use Rattle.lsm_iters.specs.Range.{Range, RangeGives, next_at}
 
 -- ---- a loaded block
@@ -38,7 +38,7 @@ pub record RangeLendsAt {A : Type 0} (at : Direction) (s : Range A)
   pub gives : RangeGives (taken_at at) (next_at at) s r t
   pub there : s.handles.sought ≡ true → (e : Entry)
       → (taken_at at (next_at at s).entries).0 ≡ Some e
-      → r ≡ Some (lifted_told s.of.global_seqno e)
+      → r ≡ Some (lifted_result s.of.global_seqno e)
 
 -- A lending step at the front.
 abbrev pub RangeLends : {A : Type 0} → Range A → Option (Result Entry Error) → Range A → Type 0

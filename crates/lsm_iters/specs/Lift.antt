@@ -12,13 +12,13 @@ abbrev pub lift : List Entry → ℕ → List Entry
 lift es g = map (lifted g) es
 
 -- A stored seqno with the global one added, or `SeqNoOverflow`.
-abbrev pub number_told : ℕ → ℕ → Result ℕ Error
-number_told g n = if nat_lt (2 ^ 64 - 1) (n + g) then Err SeqNoOverflow else Ok (n + g)
+abbrev pub global_seqno_result : ℕ → ℕ → Result ℕ Error
+global_seqno_result g n = if nat_lt (2 ^ 64 - 1) (n + g) then Err SeqNoOverflow else Ok (n + g)
 
 -- An entry with the global seqno added, or `SeqNoOverflow`.
-abbrev pub lifted_told : ℕ → Entry → Result Entry Error
-lifted_told g e = if nat_lt (2 ^ 64 - 1) (e.seqno + g) then Err SeqNoOverflow else Ok (lifted g e)
+abbrev pub lifted_result : ℕ → Entry → Result Entry Error
+lifted_result g e = if nat_lt (2 ^ 64 - 1) (e.seqno + g) then Err SeqNoOverflow else Ok (lifted g e)
 
 -- A list of entries with the global seqno added to each.
-abbrev pub lift_told : ℕ → List Entry → List (Result Entry Error)
-lift_told g es = map (lifted_told g) es
+abbrev pub lift_results : ℕ → List Entry → List (Result Entry Error)
+lift_results g es = map (lifted_result g) es

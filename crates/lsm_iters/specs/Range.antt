@@ -20,7 +20,7 @@ use Rattle.lsm_iters.specs.block_index.Kinds.{left_of}
 use Rattle.lsm_iters.specs.block_index.Left.{Left, early_behind, with_index_loads, none_behind}
 use Rattle.lsm_iters.specs.walk.Ends.{Remains}
 use Rattle.lsm_iters.specs.Bounds.{lower_edge, upper_edge}
-use Rattle.lsm_iters.specs.Lift.{lift_told}
+use Rattle.lsm_iters.specs.Lift.{lift_results}
 use Rattle.lsm_iters.specs.Rows.{Bounded, block_rows, handle_rows, rows}
 
 -- An index iterator, whether its edges were sought, and whether it was ended.
@@ -84,7 +84,7 @@ index_to_come s = index_to_seek s.handles (lower_edge s.of.low) (upper_edge s.of
 abbrev pub range_left : {A : Type 0} → Range A → List (Result Entry Error)
 range_left s =
     let g = s.of.global_seqno in
-    lift_told g s.front ++ (rows s.of (to_come s) ++ lift_told g s.back)
+    lift_results g s.front ++ (rows s.of (to_come s) ++ lift_results g s.back)
 
 -- A bound on the loads left: data blocks, index blocks, and one for seeking the edges.
 abbrev pub range_loads : {A : Type 0} → Range A → ℕ

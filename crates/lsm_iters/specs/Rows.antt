@@ -6,9 +6,9 @@ use Rattle.sst_blocks.specs.declared.block_type.BlockType.TheVariants.{Data}
 use Rattle.sst_entries.specs.declared.error.Error.{Error}
 use Rattle.sst_entries.specs.Entry.{Entry}
 use Rattle.sst_entries.specs.Point.{within}
-use Rattle.sst_blocks.specs.Block.{Loaded, load_told, entries_of}
+use Rattle.sst_blocks.specs.Block.{Loaded, load_result, entries_of}
 use Rattle.sst_blocks.specs.Handle.{Handle}
-use Rattle.lsm_iters.specs.Lift.{lift_told}
+use Rattle.lsm_iters.specs.Lift.{lift_results}
 
 -- The bytes before the trailer, the global seqno, and the bounds.
 pub record Bounded : Type 0 where
@@ -20,12 +20,12 @@ pub record Bounded : Type 0 where
 -- The entries of a loaded block within the bounds, global seqno applied, or the one error of
 -- loading it.
 abbrev pub rows_in : Bounded → Result Loaded Error → List (Result Entry Error)
-rows_in b (Ok block) = lift_told b.global_seqno (within b.low b.high (entries_of block))
+rows_in b (Ok block) = lift_results b.global_seqno (within b.low b.high (entries_of block))
 rows_in b (Err e) = Err e ∷ []
 
 -- The entries of the block that a handle names.
 abbrev pub block_rows : Bounded → Handle → List (Result Entry Error)
-block_rows b h = rows_in b (load_told b.body h.offset h.size Data)
+block_rows b h = rows_in b (load_result b.body h.offset h.size Data)
 
 -- The same for a handle, or the index's error instead.
 abbrev pub handle_rows : Bounded → Result Handle Error → List (Result Entry Error)

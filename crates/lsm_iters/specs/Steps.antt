@@ -3,13 +3,13 @@ use Rattle.std.specs.Prelude.{◌≡◌, ℕ, true, List, [], Option, Some, None
 use Rattle.sst_entries.specs.declared.error.Error.{Error}
 use Rattle.sst_entries.specs.Entry.{Entry}
 use Rattle.lsm_iters.specs.block_index.Left.{Left}
-use Rattle.lsm_iters.specs.Lift.{lifted_told}
+use Rattle.lsm_iters.specs.Lift.{lifted_result}
 use Rattle.lsm_iters.specs.Range.{Handles, Range, index_to_seek, left_in, to_seek}
 
 -- A step's result with the global seqno applied.
 abbrev pub lifted_answer : ℕ → Option (Result Entry Error) → Option (Result Entry Error)
 lifted_answer g None = None
-lifted_answer g (Some (Ok e)) = Some (lifted_told g e)
+lifted_answer g (Some (Ok e)) = Some (lifted_result g e)
 lifted_answer g (Some (Err e)) = Some (Err e)
 
 -- ---- the handles that an index still yields

@@ -7,13 +7,13 @@ pub use Rattle.sst_entries.specs.Strict.{IsStrict}
 pub use Rattle.sst_entries.specs.Error.{FaultsFirst}
 pub use Rattle.sst_blocks.specs.Sections.{body_of}
 pub use Rattle.sst_blocks.specs.Block.{place_fault}
-pub use Rattle.sst_blocks.specs.Seeking.{DealsLeft, KeepsLower, KeepsUpper, span_from, span_to}
+pub use Rattle.sst_blocks.specs.Seeking.{YieldsLeft, KeepsLower, KeepsUpper, span_from, span_to}
 pub use Rattle.sst_blocks.specs.Seeking.{whole_span}
-pub use Rattle.lsm_iters.specs.block_index.Dealt.{DealsEnding}
+pub use Rattle.lsm_iters.specs.block_index.Yielded.{YieldsEnding}
 pub use Rattle.lsm_iters.specs.block_index.Kinds.{IsSought, TakesMemory, left_of}
 pub use Rattle.lsm_iters.specs.block_index.Left.{LeftGives}
 pub use Rattle.lsm_iters.specs.Bounds.{edge_in, edge_of, key_of, lower_edge, upper_edge}
-pub use Rattle.lsm_iters.specs.Lift.{lift, lift_told, lifted, lifted_told, number_told}
+pub use Rattle.lsm_iters.specs.Lift.{lift, lift_results, lifted, lifted_result, global_seqno_result}
 pub use Rattle.lsm_iters.specs.Range.{Range, RangeGives, back_next, data_loaded, front_next}
 pub use Rattle.lsm_iters.specs.Range.{LendsOn, left_in, new_range, next_at}
 pub use Rattle.lsm_iters.specs.Range.{opened_in, range_left, range_remains, range_size, with_sought}

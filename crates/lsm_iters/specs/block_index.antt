@@ -1,7 +1,7 @@
 pub mod Index
 pub mod Left
 pub mod Seen
-pub mod Dealt
+pub mod Yielded
 pub mod Answers
 pub mod Kinds
 pub mod Partitions

@@ -3,7 +3,7 @@ ghost use Rattle.std.specs.Prelude.{◌≡◌, ◌↔◌, None, Some, IfOk, IfEr
 ghost use Rattle.std.specs.Iterator.{at_most};
 ghost use Rattle.sst_entries.specs.declared.error.Error.TheVariants.{OutOfMemory};
 ghost use Rattle.sst_entries.specs.declared.stream.Direction.TheVariants.{Back};
-ghost use Rattle.lsm_iters.specs.Words.{DealsEnding, IsSought, RangeGives, RangeLends, RangeLendsAt};
+ghost use Rattle.lsm_iters.specs.Words.{YieldsEnding, IsSought, RangeGives, RangeLends, RangeLendsAt};
 ghost use Rattle.lsm_iters.specs.Words.{back_next, back_of, body_of, came, edge_of, front_next};
 ghost use Rattle.lsm_iters.specs.Words.{front_of, new_range, next_at, opened_in, range_left};
 ghost use Rattle.lsm_iters.specs.Words.{range_remains, range_size, taken_at, with_sought};
@@ -88,9 +88,9 @@ impl<A: Allocator + Clone> Iter<A> {
         // Otherwise its handles are those that the index iterator still yields.
         ensures rest { let range = new_range (body_of source.now) global_seqno index_iter in
             (IsSought index_iter None None → ⊥) → IfOk result (λ i. i ≡ with_sought true range) }
-        ensures deals { let gives = ⟦<Iter<A> as Iterator>⟧.next_gives in
+        ensures yields { let gives = ⟦<Iter<A> as Iterator>⟧.next_gives in
             let back_gives = ⟦<Iter<A> as DoubleEndedIterator>⟧.next_back_gives in
-            IfOk result (λ i. DealsEnding gives back_gives (λ _. Unit {0}) (λ _. Unit {0}) i
+            IfOk result (λ i. YieldsEnding gives back_gives (λ _. Unit {0}) (λ _. Unit {0}) i
             (range_left i)) }
         ensures err { IfErr result (λ e. e ≡ OutOfMemory) }
     {
@@ -117,9 +117,9 @@ impl<A: Allocator + Clone> Iter<A> {
     pub fn set_lower_bound(&mut self, bound: Bound<A>)
         ensures set { let of = record self.old.of { low = edge_of bound } in
             self.new ≡ record self.old { of = of } }
-        ensures deals { let gives = ⟦<Iter<A> as Iterator>⟧.next_gives in
+        ensures yields { let gives = ⟦<Iter<A> as Iterator>⟧.next_gives in
             let back_gives = ⟦<Iter<A> as DoubleEndedIterator>⟧.next_back_gives in
-            DealsEnding gives back_gives (λ _. Unit {0}) (λ _. Unit {0}) self.new
+            YieldsEnding gives back_gives (λ _. Unit {0}) (λ _. Unit {0}) self.new
             (range_left self.new) }
     {
         drop(self.walk.parts.range.0.replace(bound));
@@ -131,9 +131,9 @@ impl<A: Allocator + Clone> Iter<A> {
     pub fn set_upper_bound(&mut self, bound: Bound<A>)
         ensures set { let of = record self.old.of { high = edge_of bound } in
             self.new ≡ record self.old { of = of } }
-        ensures deals { let gives = ⟦<Iter<A> as Iterator>⟧.next_gives in
+        ensures yields { let gives = ⟦<Iter<A> as Iterator>⟧.next_gives in
             let back_gives = ⟦<Iter<A> as DoubleEndedIterator>⟧.next_back_gives in
-            DealsEnding gives back_gives (λ _. Unit {0}) (λ _. Unit {0}) self.new
+            YieldsEnding gives back_gives (λ _. Unit {0}) (λ _. Unit {0}) self.new
             (range_left self.new) }
     {
         drop(self.walk.parts.range.1.replace(bound));

@@ -2,7 +2,7 @@
 ghost use Rattle.std.specs.Prelude.{◌≡◌, ◌-◌, ◌↔◌, [], IsTrue, length};
 ghost use Rattle.std.specs.Iterator.{at_most};
 ghost use Rattle.std.specs.declared.ops.Bound.TheVariants.{Unbounded};
-ghost use Rattle.lsm_iters.specs.Words.{DealsLeft, IsStrict, KeepsLower, KeepsUpper, SpanGives};
+ghost use Rattle.lsm_iters.specs.Words.{YieldsLeft, IsStrict, KeepsLower, KeepsUpper, SpanGives};
 ghost use Rattle.lsm_iters.specs.Words.{back_of, cursor_of, edge_of, front_of, lower_place};
 ghost use Rattle.lsm_iters.specs.Words.{rest_in, span_from, span_to, upper_place, whole_span};
 ghost use Rattle.lsm_iters.specs.Words.{within};
@@ -40,7 +40,7 @@ impl<A: Allocator> OwnedDataBlockIter<A> {
     /// Returns an iterator over all entries of a block.
     pub fn new(block: DataBlock<A>) -> OwnedDataBlockIter<A>
         ensures whole { result ≡ whole_span block }
-        ensures deals { DealsLeft ⟦<OwnedDataBlockIter<A> as Iterator>⟧.next_gives
+        ensures yields { YieldsLeft ⟦<OwnedDataBlockIter<A> as Iterator>⟧.next_gives
             ⟦<OwnedDataBlockIter<A> as DoubleEndedIterator>⟧.next_back_gives result }
     {
         let to = block.len();
@@ -63,7 +63,7 @@ impl<A: Allocator> OwnedDataBlockIter<A> {
         ensures left { IsTrue result ↔ (rest_in self.new ≡ [] → ⊥) }
         ensures kept { rest_in self.new ≡ within (edge_of bound.now) Unbounded (rest_in self.old) }
         ensures both { KeepsUpper (edge_of bound.now) self.old self.new }
-        ensures deals { DealsLeft ⟦<OwnedDataBlockIter<A> as Iterator>⟧.next_gives
+        ensures yields { YieldsLeft ⟦<OwnedDataBlockIter<A> as Iterator>⟧.next_gives
             ⟦<OwnedDataBlockIter<A> as DoubleEndedIterator>⟧.next_back_gives self.new }
     {
         self.from = self.from.max(first_behind(&self.block, bound));
@@ -79,7 +79,7 @@ impl<A: Allocator> OwnedDataBlockIter<A> {
         ensures left { IsTrue result ↔ (rest_in self.new ≡ [] → ⊥) }
         ensures kept { rest_in self.new ≡ within Unbounded (edge_of bound.now) (rest_in self.old) }
         ensures both { KeepsLower (edge_of bound.now) self.old self.new }
-        ensures deals { DealsLeft ⟦<OwnedDataBlockIter<A> as Iterator>⟧.next_gives
+        ensures yields { YieldsLeft ⟦<OwnedDataBlockIter<A> as Iterator>⟧.next_gives
             ⟦<OwnedDataBlockIter<A> as DoubleEndedIterator>⟧.next_back_gives self.new }
     {
         self.to = self.to.min(first_past(&self.block, bound));

@@ -10,8 +10,8 @@ use Rattle.sst_entries.specs.Point.{point}
 use Rattle.sst_blocks.specs.declared.block_type.BlockType.{BlockType}
 use Rattle.sst_blocks.specs.declared.block_type.BlockType.TheVariants.{Data}
 use Rattle.sst_blocks.specs.declared.opened.Opened.{Opened}
-use Rattle.sst_blocks.specs.Asked.{point_of, told_map}
-use Rattle.sst_blocks.specs.Block.{Loaded, entries_of, load_told, place_fault}
+use Rattle.sst_blocks.specs.Asked.{point_of, result_map}
+use Rattle.sst_blocks.specs.Block.{Loaded, entries_of, load_result, place_fault}
 use Rattle.sst_blocks.specs.Opened.{with_load}
 use Rattle.sst_blocks.specs.Place.{Place}
 use Rattle.lsm_readers.specs.point.Answer.{lifted, match_at}
@@ -22,19 +22,19 @@ use Rattle.lsm_readers.proofs.Recovered.{first_from}
 use Rattle.lsm_readers.proofs.Steps.{passes_fault}
 
 mapped : {X Y : Type 0} (f : X → Y) (told : Result X Error)
-    → told_map f told ≡ (told >>= λ x. Ok (f x))
+    → result_map f told ≡ (told >>= λ x. Ok (f x))
 mapped f (Ok x) = refl
 mapped f (Err e) = refl
 
 -- a call that answers what is asked of a block reads it
 pub asked : {X : Type 0} (f : Loaded → X) (body : List ℕ) (place : Place) (kind : BlockType)
     (o o' : Opened) (r : Result X Error) → o' ≡ with_load kind o
-    → Gives (λ (x : X). x) r (told_map f (load_told body place.offset place.size kind))
+    → Gives (λ (x : X). x) r (result_map f (load_result body place.offset place.size kind))
     → FaultsFirst r (place_fault body place.offset place.size kind)
     → DoesRead r (read_map f (block_read body place kind)) o o'
 asked {X} f body place kind o o' r counted told first = record {
   told = subst (λ (t : Result X Error). Gives (λ (x : X). x) r t)
-      (mapped f (load_told body place.offset place.size kind)) told;
+      (mapped f (load_result body place.offset place.size kind)) told;
   early = first;
   opens = one_load r kind o o' counted;
   calm = λ none. absurd cc;
@@ -42,7 +42,7 @@ asked {X} f body place kind o o' r counted told first = record {
 
 -- a match in a block has a number below the bound
 pub match_below : (told : Result Loaded Error) (key : List ℕ) (bound : ℕ) (e : Entry)
-    → told_map (point_of key bound) told ≡ Ok (Some e) → e.seqno < bound
+    → result_map (point_of key bound) told ≡ Ok (Some e) → e.seqno < bound
 match_below (Ok b) key bound e is =
     let found : point (entries_of b) key bound ≡ Some e = cc in
     point_below (entries_of b) key bound e found
@@ -51,12 +51,12 @@ match_below (Err f) key bound e is = absurd cc
 -- ---- a match whose number is lifted
 
 map_fails : {X Y Z : Type 0} (f : X → Y) (h : X → Z) (told : Result X Error) (e : Error)
-    → told_map f told ≡ Err e → told_map h told ≡ Err e
+    → result_map f told ≡ Err e → result_map h told ≡ Err e
 map_fails f h (Ok x) e is = absurd cc
 map_fails f h (Err d) e is = cc
 
 map_goes : {X Y Z : Type 0} (f : X → Y) (h : Y → Z) (told : Result X Error) (y : Y)
-    → told_map f told ≡ Ok y → told_map (λ x. h (f x)) told ≡ Ok (h y)
+    → result_map f told ≡ Ok y → result_map (λ x. h (f x)) told ≡ Ok (h y)
 map_goes {Y = Y} f h (Ok x) y is = let same : f x ≡ y = cc in ap (λ (z : Y). result (h z)) same
 map_goes f h (Err e) y is = absurd cc
 
@@ -66,29 +66,29 @@ module _ (body : List ℕ) (g : ℕ) (key : List ℕ) (n : ℕ) (place : Place) 
   lifted_point b = option_map (lifted g) (point_of key n b)
 
   pub match_fails : (e : Error) (r : Result (Option Entry) Error) → IsErrAnd r (λ y. y ≡ e)
-      → Fails e (told_map (point_of key n) (load_told body place.offset place.size Data))
+      → Fails e (result_map (point_of key n) (load_result body place.offset place.size Data))
       → FaultsFirst (refusal (Option Entry) e) (place_fault body place.offset place.size Data)
       → DoesRead r (match_at body g key n place) o o'
   match_fails e r is fails first =
-      let told = load_told body place.offset place.size Data in
+      let told = load_result body place.offset place.size Data in
       asked lifted_point body place Data o o' r counted
-      (passes_fault (λ (x : Option Entry). x) r (told_map lifted_point told) e is
+      (passes_fault (λ (x : Option Entry). x) r (result_map lifted_point told) e is
       (λ memory. map_fails (point_of key n) lifted_point told e (fails memory)))
       (first_from r e (place_fault body place.offset place.size Data) is first)
 
-  pub match_goes : (found : Option Entry) → told_map (point_of key n)
-      (load_told body place.offset place.size Data) ≡ Ok found
+  pub match_goes : (found : Option Entry) → result_map (point_of key n)
+      (load_result body place.offset place.size Data) ≡ Ok found
       → FaultsFirst (result found) (place_fault body place.offset place.size Data)
       → DoesRead (result (option_map (lifted g) found)) (match_at body g key n place) o o'
   match_goes found is first =
       asked lifted_point body place Data o o' (result (option_map (lifted g) found)) counted
       (map_goes (point_of key n) (option_map (lifted g))
-      (load_told body place.offset place.size Data) found is)
+      (load_result body place.offset place.size Data) found is)
       first
 
 -- it fits with a number added that fits with the bound
 pub lift_fits : (told : Result Loaded Error) (key : List ℕ) (bound add : ℕ) (found : Option Entry)
-    → bound + add < 2 ^ 64 → told_map (point_of key bound) told ≡ Ok found
+    → bound + add < 2 ^ 64 → result_map (point_of key bound) told ≡ Ok found
     → IfSome found (λ e. e.seqno + add < 2 ^ 64)
 lift_fits told key bound add None fits is = tt
 lift_fits told key bound add (Some e) fits is =

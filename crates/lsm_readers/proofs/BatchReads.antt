@@ -10,7 +10,7 @@ use Rattle.std.specs.Prelude.{Option, Some, None, Result, Ok}
 use Rattle.sst_entries.specs.declared.error.Error.{Error}
 use Rattle.sst_entries.specs.Error.{FaultsFirst}
 use Rattle.sst_blocks.specs.declared.block_type.BlockType.{BlockType}
-use Rattle.sst_blocks.specs.Block.{Loaded, load_told, place_fault}
+use Rattle.sst_blocks.specs.Block.{Loaded, load_result, place_fault}
 use Rattle.sst_blocks.specs.Place.{Place}
 use Rattle.sst_blocks.proofs.LoadLemmas.{load_kind}
 use Rattle.lsm_readers.specs.point.Answer.{admitted_handle, answer, match_in}
@@ -29,7 +29,7 @@ no_fault b None first = refl
 no_fault b (Some e) first = absurd (let wrong : Some e ≡ None = first e refl in cc)
 
 pub is_loaded : (body : List ℕ) (place : Place) (kind : BlockType) (b : Loaded)
-    → load_told body place.offset place.size kind ≡ Ok b
+    → load_result body place.offset place.size kind ≡ Ok b
     → FaultsFirst (result b) (place_fault body place.offset place.size kind)
     → IsLoaded body place kind b
 is_loaded body place kind b told first = record
@@ -91,11 +91,11 @@ module _ {X Y : Type 0} (f : X → Result (Option Y) Error) (queries : List X) w
 
 -- ---- a read whose handle was found before
 
-pub lookup_told : (body : List ℕ) (g : ℕ) (parts : Parts) (key : List ℕ) (bound low : ℕ)
+pub lookup_result : (body : List ℕ) (g : ℕ) (parts : Parts) (key : List ℕ) (bound low : ℕ)
     (handle : Option Place) → low ≡ bound - g
     → (admitted_handle body parts key (bound - g)).told ≡ Ok handle
     → (answer body g parts key bound).told ≡ (match_in body g key low handle).told
 unfolding answer
-lookup_told body g parts key bound low handle lowered is =
+lookup_result body g parts key bound low handle lowered is =
     ap (λ (r : Result (Option Place) Error). r >>= λ x. (match_in body g key (bound - g) x).told) is
     ∙ ap (λ (n : ℕ). (match_in body g key n handle).told) (sym lowered)

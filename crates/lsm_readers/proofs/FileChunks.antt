@@ -10,8 +10,8 @@ use Rattle.sst_entries.specs.declared.error.Error.TheVariants.{InvalidTag}
 use Rattle.sst_entries.specs.declared.error.TagName.TheVariants.{BlockType as BlockTypeTag}
 use Rattle.sst_blocks.specs.declared.version.TableVersion.TheVariants.{V3, V4}
 use Rattle.sst_blocks.specs.declared.version.TableVersion.{TableVersion}
-use Rattle.sst_blocks.specs.Block.{Loaded, block_bytes, header, header_fault, load_at_told}
-use Rattle.sst_blocks.specs.Block.{load_told}
+use Rattle.sst_blocks.specs.Block.{Loaded, block_bytes, header, header_fault, load_at_result}
+use Rattle.sst_blocks.specs.Block.{load_result}
 use Rattle.sst_entries.specs.Entry.{Entry}
 use Rattle.sst_blocks.specs.Handles.{handles_payload}
 use Rattle.sst_blocks.specs.Payload.{payload}
@@ -93,7 +93,7 @@ chunks_named v (c ∷ cs) pre post body at some reads from lies =
       length-block v Data
           (payload v c),
     ) in
-    let loads : load_told body at (24 + length (payload v c)) Data ≡ Ok (loaded_of v c) =
+    let loads : load_result body at (24 + length (payload v c)) Data ≡ Ok (loaded_of v c) =
     written_loads v Data pre (payload v c) (data_section v cs ++ post) body at here.1
     (ap is_some here.0) from others in (
       record {
@@ -144,7 +144,7 @@ length-header v bytes = omega (
 )
 
 index_refused : (v : TableVersion) (bytes rest body : List ℕ)
-    → body ≡ block_bytes v Index bytes ++ rest → load_at_told body 0 Data
+    → body ≡ block_bytes v Index bytes ++ rest → load_at_result body 0 Data
     ≡ Err (InvalidTag BlockTypeTag 1)
 index_refused v bytes rest body e =
     let head = header v Index bytes in

@@ -32,7 +32,7 @@ use Rattle.sst_blocks.specs.table.Partitions.{handles_block, tops_from}
 use Rattle.sst_blocks.specs.table.Parts.{ArePartsOf, joined_parts, rest_part}
 use Rattle.sst_blocks.proofs.FilterLaws.{is_built}
 use Rattle.lsm_readers.proofs.FileFilters.{Asked, KeyFits, LoadsFilter, filter_asked, filter_loads}
-use Rattle.lsm_readers.proofs.FileFilters.{filter_told as part_told, filter_tops_load}
+use Rattle.lsm_readers.proofs.FileFilters.{filter_result as part_read_results, filter_tops_load}
 use Rattle.lsm_readers.proofs.FileFilters.{filters_asked, filters_each, no_key}
 use Rattle.lsm_readers.proofs.FileIndexes.{LoadsHandles, handles_at}
 use Rattle.sst_blocks.proofs.KeyLaws.{key_end}
@@ -47,7 +47,7 @@ use Rattle.sst_blocks.specs.Place.{Place, place_of}
 use Rattle.lsm_readers.specs.declared.regions.ParsedRegions.{ParsedRegions}
 use Rattle.lsm_readers.specs.point.Answer.{filter_admits, part_admits}
 use Rattle.lsm_readers.specs.OfList.{filter_said, filter_tops_said, place_from}
-use Rattle.lsm_readers.specs.point.Parts.{filter_told, pinned_filter, tops_told}
+use Rattle.lsm_readers.specs.point.Parts.{filter_result, pinned_filter, tops_result}
 use Rattle.lsm_readers.specs.Stored.{FiltersLoad, LoadsAs}
 
 -- ---- it loads
@@ -155,11 +155,11 @@ module _ (v : TableVersion) (policy : BloomConstructionPolicy) (es : List Entry)
         ((handles_block v tops ++ []) ++ post) body from whole [] (f ∷ fs) parts refl filters)
 
     pub filter_parts_asked : (key : List ℕ) → Asked
-        (part_told body key (find (reaches key (2 ^ 64 - 1)) tops)) (keys_of es) key
+        (part_read_results body key (find (reaches key (2 ^ 64 - 1)) tops)) (keys_of es) key
     filter_parts_asked key =
         let whole : body ≡ pre ++ (each ++ ((handles_block v tops ++ []) ++ post)) = lies
         ∙ simp append_assoc in
-        subst (λ (ks : List (List ℕ)). Asked (part_told body key
+        subst (λ (ks : List (List ℕ)). Asked (part_read_results body key
         (find (reaches key (2 ^ 64 - 1)) tops)) ks key) keys_whole
         (filters_asked v policy at parts (f ∷ fs) all_some filters keys_line (fits.0).short pre
         ((handles_block v tops ++ []) ++ post) body from whole key)
@@ -167,13 +167,13 @@ module _ (v : TableVersion) (policy : BloomConstructionPolicy) (es : List Entry)
 -- ---- what stays loaded of it, and what it answers
 
 by_part : (body key : List ℕ) (o : Option Handle)
-    → (part_admits body (hash_of key) (option_map place_of o)).told ≡ part_told body key o
+    → (part_admits body (hash_of key) (option_map place_of o)).told ≡ part_read_results body key o
 by_part body key None = refl
 by_part body key (Some top) = refl
 
 -- every key is admitted
 all_admitted : (keys : List (List ℕ)) (key : List ℕ) → Asked (Ok true) keys key
-all_admitted keys key = record { answer = true; told_is = refl; no = λ wrong. absurd cc }
+all_admitted keys key = record { answer = true; reported_is = refl; no = λ wrong. absurd cc }
 
 module _ (v : TableVersion) (policy : BloomConstructionPolicy) (es : List Entry) (at : ℕ)
     (pre post body : List ℕ) (from : at ≡ length pre) (strict : IsStrict (map key_end (keys_of es)))
@@ -185,7 +185,7 @@ module _ (v : TableVersion) (policy : BloomConstructionPolicy) (es : List Entry)
       → at + length (bytes_in (filter_sections k v at keys fs)) < 2 ^ 64
       → body ≡ pre ++ (bytes_in (filter_sections k v at keys fs) ++ post)
       → regions.filter_tli ≡ place_from at (filter_sections k v at keys fs) FilterTli
-      → tops_told body regions.filter_tli ≡ Ok (filter_tops_said k at keys fs)
+      → tops_result body regions.filter_tli ≡ Ok (filter_tops_said k at keys fs)
   tops_here FullFilter keys [] regions are for fits within lies place = rw place refl
   tops_here FullFilter keys (f ∷ fs) regions are for fits within lies place = rw place refl
   tops_here (PartitionedFilter size) keys [] regions are for fits within lies place = rw place refl
@@ -208,7 +208,7 @@ module _ (v : TableVersion) (policy : BloomConstructionPolicy) (es : List Entry)
       → body ≡ pre ++ (bytes_in (filter_sections k v at keys fs) ++ post)
       → regions.filter_tli ≡ place_from at (filter_sections k v at keys fs) FilterTli
       → regions.filter ≡ place_from at (filter_sections k v at keys fs) FilterSection
-      → filter_told body (pinned_filter regions pin) ≡ Ok (filter_said k fs pin)
+      → filter_result body (pinned_filter regions pin) ≡ Ok (filter_said k fs pin)
   filter_here FullFilter keys [] regions true are for fits lies top place = rw (top, place) refl
   filter_here FullFilter keys [] regions false are for fits lies top place = refl
   filter_here FullFilter keys (f ∷ fs) regions true are for fits lies top place =
@@ -257,7 +257,7 @@ module _ (v : TableVersion) (policy : BloomConstructionPolicy) (es : List Entry)
   filter_answers FullFilter keys (f ∷ fs) place true are for fits lies is key =
       record {
         answer = admits f (hash_of key);
-        told_is = refl;
+        reported_is = refl;
         no =
             no_key policy (keys_of es) f key (full_is v policy es keys f fs for are);
       }

@@ -15,7 +15,7 @@ use Rattle.sst_entries.specs.Entry.{Entry, entry}
 use Rattle.sst_entries.specs.Strict.{IsStrict}
 use Rattle.sst_entries.proofs.Booleans.{apart, is_false}
 use Rattle.sst_blocks.specs.declared.block_type.BlockType.TheVariants.{Filter}
-use Rattle.sst_blocks.specs.Block.{Loaded, load_told}
+use Rattle.sst_blocks.specs.Block.{Loaded, load_result}
 use Rattle.sst_blocks.specs.Handle.{Handle}
 use Rattle.sst_blocks.specs.Handles.{AreStrictHandles, IsSpellableHandle, end_of, reaches}
 use Rattle.sst_blocks.specs.Handles.{handles_payload}
@@ -68,7 +68,7 @@ keys_fit v before (e ∷ es) h = keys_fit_by v (starts_key before e) e.user_key
 -- at a place lies the block of this filter
 pub record LoadsFilter (body : List ℕ) (offset size : ℕ) (f : BloomFilter) : Type 0 where
   pub block : Loaded
-  pub loads : load_told body offset size Filter ≡ Ok block
+  pub loads : load_result body offset size Filter ≡ Ok block
   pub filter : filter_in block.payload ≡ f
 
 pub filter_loads : (v : TableVersion) (f : BloomFilter) (pre post body : List ℕ) (offset size : ℕ)
@@ -89,7 +89,7 @@ says key b = admits (filter_in b.payload) (hash_of key)
 -- an answer, and where it is no, the key is none of the keys
 pub record Asked (told : Result Bool Error) (keys : List (List ℕ)) (key : List ℕ) : Type 0 where
   pub answer : Bool
-  pub told_is : told ≡ Ok answer
+  pub reported_is : told ≡ Ok answer
   pub no : answer ≡ false → has_key key keys ≡ false
 
 pub no_key : (policy : BloomConstructionPolicy) (keys : List (List ℕ)) (f : BloomFilter)
@@ -105,10 +105,10 @@ no_key policy keys f key is denied =
 pub filter_asked : (policy : BloomConstructionPolicy) (keys : List (List ℕ)) (f : BloomFilter)
     (key body : List ℕ) (offset size : ℕ) → IsFilterFor policy keys f
     → LoadsFilter body offset size f
-    → Asked (load_told body offset size Filter >>= λ b. Ok (says key b)) keys key
+    → Asked (load_result body offset size Filter >>= λ b. Ok (says key b)) keys key
 filter_asked policy keys f key body offset size is l = record {
   answer = admits f (hash_of key);
-  told_is = rw (l.loads, l.filter) refl;
+  reported_is = rw (l.loads, l.filter) refl;
   no = no_key policy keys f key is;
 }
 
@@ -173,9 +173,9 @@ tops_spelled v policy at ((x ∷ xs) ∷ ps) (f ∷ fs) some are fit short withi
     )
 
 -- what the filter of a partition says that a handle of the top level tells: no handle is a no
-abbrev pub filter_told : List ℕ → List ℕ → Option Handle → Result Bool Error
-filter_told body key None = Ok false
-filter_told body key (Some top) = load_told body top.offset top.size Filter >>= λ b. Ok (says key b)
+abbrev pub filter_result : List ℕ → List ℕ → Option Handle → Result Bool Error
+filter_result body key None = Ok false
+filter_result body key (Some top) = load_result body top.offset top.size Filter >>= λ b. Ok (says key b)
 
 module _ (v : TableVersion) (policy : BloomConstructionPolicy) (at : ℕ)
     (parts : List (List (List ℕ))) (fs : List BloomFilter) (some : AreSomeParts parts)
@@ -253,8 +253,8 @@ module _ (v : TableVersion) (policy : BloomConstructionPolicy) (at : ℕ)
         )
 
     by_part : (key : List ℕ) (o : Option Handle) → AsksPartBy v policy at parts fs key o
-        → Asked (filter_told body key o) (joined_parts parts) key
-    by_part key None none = record { answer = false; told_is = refl; no = λ _. none }
+        → Asked (filter_result body key o) (joined_parts parts) key
+    by_part key None none = record { answer = false; reported_is = refl; no = λ _. none }
     by_part key (Some top) a =
         let b = filter_block v in
         let l = each_loads a.filters_before a.asked a.filters_behind a.part a.filters_are
@@ -264,12 +264,12 @@ module _ (v : TableVersion) (policy : BloomConstructionPolicy) (at : ℕ)
         (24 + length (payload_of a.asked)) a.is_for l in
         record {
           answer = one.answer;
-          told_is = ap (λ (h : Handle). filter_told body key (Some h)) a.top_is ∙ one.told_is;
+          reported_is = ap (λ (h : Handle). filter_result body key (Some h)) a.top_is ∙ one.reported_is;
           no = λ n. a.covers ∙ one.no n;
         }
 
     -- the filter of the partition that the top level tells for the key is asked
-    pub filters_asked : (key : List ℕ) → Asked (filter_told body key
+    pub filters_asked : (key : List ℕ) → Asked (filter_result body key
         (find (reaches key (2 ^ 64 - 1)) (tops_from at (filter_partitions parts fs))))
         (joined_parts parts) key
     filters_asked key = by_part key (find (reaches key (2 ^ 64 - 1))

@@ -31,7 +31,7 @@ use Rattle.sst_blocks.specs.declared.section.SectionName.TheVariants.{Index as I
 use Rattle.sst_blocks.specs.declared.section.SectionName.TheVariants.{Meta as MetaSection}
 use Rattle.sst_blocks.specs.Place.{Place}
 use Rattle.lsm_readers.specs.declared.regions.ParsedRegions.{ParsedRegions}
-use Rattle.lsm_readers.specs.point.IndexKinds.{index_said, index_told, handles_told}
+use Rattle.lsm_readers.specs.point.IndexKinds.{index_said, index_result, handles_result}
 use Rattle.lsm_readers.specs.Stored.{HasPartitions, IndexHas, NamesPart}
 use Rattle.lsm_readers.specs.OfList.{place_from}
 
@@ -155,7 +155,7 @@ module _ (v : TableVersion) (at : ℕ) (hs : List Handle) (parts : List (List Ha
       → body ≡ pre ++ (bytes_in (index_sections k v at hs parts) ++ post)
       → regions.index ≡ place_from at (index_sections k v at hs parts) IndexSection
       → regions.tli ≡ top_place k v at hs parts
-      → index_told body regions pin ≡ Ok (index_said k v at hs parts pin)
+      → index_result body regions pin ≡ Ok (index_said k v at hs parts pin)
   index_here FullIndex regions true are fits within lies absent place =
       let told = handles_at body (top_place FullIndex v at hs parts) hs (full_loads fits lies) in
       rw (absent, place, told) refl
@@ -175,7 +175,7 @@ module _ (v : TableVersion) (at : ℕ) (hs : List Handle) (parts : List (List Ha
   index_has FullIndex regions are fits within lies absent place =
       let told = handles_at body (top_place FullIndex v at hs parts) hs (full_loads fits lies) in
       subst (λ (o : Option Place). IndexHas body o regions.tli hs) (sym absent)
-      (subst (λ (p : Place). handles_told body p ≡ Ok hs) (sym place) told)
+      (subst (λ (p : Place). handles_result body p ≡ Ok hs) (sym place) told)
   index_has (PartitionedIndex size) regions are fits within lies there place =
       let lie : Place = top_place (PartitionedIndex size) v at hs parts in
       let here : HasPartitions body lie hs = record {

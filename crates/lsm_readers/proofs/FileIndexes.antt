@@ -10,7 +10,7 @@ use Rattle.sst_entries.specs.declared.value_type.ValueType.TheVariants.{Value}
 use Rattle.sst_entries.specs.Entry.{entry}
 use Rattle.sst_entries.specs.Strict.{IsStrict, last_of}
 use Rattle.sst_blocks.specs.declared.block_type.BlockType.TheVariants.{Index}
-use Rattle.sst_blocks.specs.Block.{Loaded, handles_of, load_told}
+use Rattle.sst_blocks.specs.Block.{Loaded, handles_of, load_result}
 use Rattle.sst_blocks.specs.Handle.{Handle}
 use Rattle.sst_blocks.specs.Handles.{AreStrictHandles, IsSpellableHandle, end_of, handles_in}
 use Rattle.sst_blocks.specs.Handles.{handles_payload}
@@ -21,7 +21,7 @@ use Rattle.sst_blocks.proofs.BlockLengths.{length-block}
 use Rattle.sst_blocks.specs.table.Index.{last_entry}
 use Rattle.sst_blocks.specs.table.Parts.{joined_parts}
 use Rattle.sst_blocks.specs.table.Partitions.{handles_block, index_tops, last_end}
-use Rattle.lsm_readers.specs.point.IndexKinds.{handles_told}
+use Rattle.lsm_readers.specs.point.IndexKinds.{handles_result}
 use Rattle.lsm_readers.specs.point.Read.{◌>>=◌}
 use Rattle.lsm_readers.specs.Stored.{NamesPart}
 use Rattle.lsm_readers.proofs.FileLengths.{handles_short}
@@ -31,18 +31,18 @@ use Rattle.lsm_readers.proofs.PartReads.{AreSomeParts}
 -- at a place lies an index block of these handles
 pub record LoadsHandles (body : List ℕ) (offset size : ℕ) (hs : List Handle) : Type 0 where
   pub block : Loaded
-  pub loads : load_told body offset size Index ≡ Ok block
+  pub loads : load_result body offset size Index ≡ Ok block
   pub handles : handles_of block ≡ hs
 
 -- what is found in its handles
 pub found_in : {X : Type 0} (body : List ℕ) (offset size : ℕ) (hs : List Handle)
     (f : List Handle → X) → LoadsHandles body offset size hs
-    → (load_told body offset size Index >>= λ b. Ok (f (handles_of b))) ≡ Ok (f hs)
+    → (load_result body offset size Index >>= λ b. Ok (f (handles_of b))) ≡ Ok (f hs)
 found_in body offset size hs f h = rw (h.loads, h.handles) refl
 
 -- the handles of a place where they lie
 pub handles_at : (body : List ℕ) (place : Place) (hs : List Handle)
-    → LoadsHandles body place.offset place.size hs → handles_told body place ≡ Ok hs
+    → LoadsHandles body place.offset place.size hs → handles_result body place ≡ Ok hs
 handles_at body place hs l = found_in body place.offset place.size hs (λ (xs : List Handle). xs) l
 
 -- ---- one block
@@ -71,7 +71,7 @@ handles_load v hs pre post body offset size spelled strict short at len e =
     let reads = handles_read_back v hs spelled strict short in
     record {
       block = record { version = v; kind = Index; payload = handles_payload v hs };
-      loads = ap (λ (n : ℕ). load_told body offset n Index) len
+      loads = ap (λ (n : ℕ). load_result body offset n Index) len
           ∙ written_loads v Index pre (handles_payload v hs) post body offset
           (omega (arith, short, length-block v Index (handles_payload v hs)))
           (ap is_some reads) at e;

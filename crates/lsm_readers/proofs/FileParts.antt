@@ -26,12 +26,12 @@ use Rattle.sst_blocks.specs.declared.table.label.Label.{Label}
 use Rattle.sst_blocks.specs.declared.table.options.Options.{Options}
 use Rattle.sst_blocks.proofs.KeyLaws.{key_end, keys_strict}
 use Rattle.lsm_readers.specs.declared.regions.ParsedRegions.{ParsedRegions}
-use Rattle.lsm_readers.specs.point.Meta.{Facts, facts_said, facts_told, meta_told}
-use Rattle.lsm_readers.specs.OfList.{filter_said, filter_tops_said, list_told, no_place, parts_said}
+use Rattle.lsm_readers.specs.point.Meta.{Facts, facts_said, facts_result, meta_result}
+use Rattle.lsm_readers.specs.OfList.{filter_said, filter_tops_said, list_result, no_place, parts_said}
 use Rattle.lsm_readers.specs.OfList.{pinned_said, place_from, regions_said}
-use Rattle.lsm_readers.specs.point.IndexKinds.{index_said, index_told}
-use Rattle.lsm_readers.specs.point.Parts.{Parts, Pinned, filter_told, parts_told, pinned_filter}
-use Rattle.lsm_readers.specs.point.Parts.{pinned_told, places_told, recovered_told, tops_told}
+use Rattle.lsm_readers.specs.point.IndexKinds.{index_said, index_result}
+use Rattle.lsm_readers.specs.point.Parts.{Parts, Pinned, filter_result, parts_result, pinned_filter}
+use Rattle.lsm_readers.specs.point.Parts.{pinned_result, places_result, recovered_result, tops_result}
 use Rattle.lsm_readers.proofs.FileContent.{body_short, entries_fit, facts_fit, filter_within}
 use Rattle.lsm_readers.proofs.FileContent.{first_short, handles_fit, handles_line, index_within}
 use Rattle.lsm_readers.proofs.FileContent.{last_short, longest_below, meta_block_short, meta_short}
@@ -129,13 +129,13 @@ module _ (v : TableVersion) (label : Label) (options : Options) (spills : List �
       finished_fine (written v label options c) (omega (arith, small))
       (ascending v label options c)
 
-  pub regions_here : places_told the_bytes ≡ Ok regions
+  pub regions_here : places_result the_bytes ≡ Ok regions
   regions_here = regions_read v label options c
       (let small = body_short v label options spills es c is fits strict short in
       omega (arith, small)) fits.index fits.filter
       (meta_block_short v label options spills es c is fits strict short)
 
-  items_here : meta_told the_body regions.metadata ≡ facts_told (the_items v label options c)
+  items_here : meta_result the_body regions.metadata ≡ facts_result (the_items v label options c)
   items_here =
       let key = longest_below v in
       let small = meta_short v label options spills es c is fits strict short in
@@ -146,15 +146,15 @@ module _ (v : TableVersion) (label : Label) (options : Options) (spills : List �
       (omega (arith, first, key)) (omega (arith, last, key)))
 
   pub facts_here : options.index_block_restart_interval ≡ 1
-      → meta_told the_body regions.metadata ≡ Ok (written_facts v label c.blocks
+      → meta_result the_body regions.metadata ≡ Ok (written_facts v label c.blocks
       (counted_blocks options c))
   facts_here one = items_here ∙ facts_read v label options c.blocks (counted_blocks options c)
       (facts_fit v label options spills es c is fits strict short one)
 
-  index_told_here : (pin : Bool) → index_told the_body regions pin
+  index_reported_here : (pin : Bool) → index_result the_body regions pin
       ≡ Ok (index_said options.index_kind v (length (data_section v c.blocks))
       (handles v c.blocks) c.index pin)
-  index_told_here pin =
+  index_reported_here pin =
       index_here v (length (data_section v c.blocks)) (handles v c.blocks) c.index
       (handles_line v label options spills es c is fits strict short)
       (handles_fit v label options spills es c is fits strict short)
@@ -162,37 +162,37 @@ module _ (v : TableVersion) (label : Label) (options : Options) (spills : List �
       fits.index (index_within v label options spills es c is fits strict short)
       (body_is v label options c) (index_at v label options c) tli_place
 
-  pub tops_told_here : tops_told the_body regions.filter_tli
+  pub tops_reported_here : tops_result the_body regions.filter_tli
       ≡ Ok (filter_tops_said options.filter_kind filter_start c.keys c.filters)
-  tops_told_here =
+  tops_reported_here =
       let room = filter_within v label options spills es c is fits strict short in
       tops_here v options.bloom_policy es filter_start before_filter behind_filter the_body refl
       keys_line keys_short options.filter_kind c.keys c.filters regions is.keys is.filters
       fits.filter (omega (arith, room, filter_from)) filter_lies filter_top_place
 
-  filter_told_here : (pin : Bool) → filter_told the_body (pinned_filter regions pin)
+  filter_reported_here : (pin : Bool) → filter_result the_body (pinned_filter regions pin)
       ≡ Ok (filter_said options.filter_kind c.filters pin)
-  filter_told_here pin =
+  filter_reported_here pin =
       filter_here v options.bloom_policy es filter_start before_filter behind_filter the_body refl
       keys_line keys_short options.filter_kind c.keys c.filters regions pin is.keys is.filters
       fits.filter filter_lies filter_top_place filter_place
 
-  pinned_here : (pin_filter pin_index : Bool) → pinned_told the_body regions pin_filter pin_index
+  pinned_here : (pin_filter pin_index : Bool) → pinned_result the_body regions pin_filter pin_index
       ≡ Ok (pinned_said v options c pin_filter pin_index)
-  unfolding pinned_told
+  unfolding pinned_result
   pinned_here pin_filter pin_index = rw (
-    index_told_here pin_index,
-    tops_told_here,
-    filter_told_here
+    index_reported_here pin_index,
+    tops_reported_here,
+    filter_reported_here
         pin_filter,
   ) refl
 
   -- the table is recovered where the global number fits
   pub written_recovers : (g : ℕ) (pin_filter pin_index : Bool)
-      → options.index_block_restart_interval ≡ 1 → recovered_told the_bytes g pin_filter pin_index
+      → options.index_block_restart_interval ≡ 1 → recovered_result the_bytes g pin_filter pin_index
       ≡ cond (ltb (2 ^ 64 - 1) (highest_seqno (joined c.blocks) + g)) (Err GlobalSeqNoTooLarge)
       (Ok (written_parts v label options c pin_filter pin_index))
-  unfolding parts_told
+  unfolding parts_result
   written_recovers g pin_filter pin_index one =
       elim (cases_Bool (ltb (2 ^ 64 - 1) (highest_seqno (joined c.blocks) + g))) [
         | inl large ↦ rw (trailer_here, regions_here, facts_here one, large) refl
@@ -207,33 +207,33 @@ module _ (v : TableVersion) (label : Label) (options : Options) (spills : List �
       ]
 
   module _ (g : ℕ) (pin_filter pin_index : Bool) (parts : Parts)
-      (told : recovered_told (finished (written v label options c)) g pin_filter pin_index
+      (told : recovered_result (finished (written v label options c)) g pin_filter pin_index
       ≡ Ok parts) where
     the_steps : Steps the_bytes g pin_filter pin_index parts
     the_steps = steps the_bytes g pin_filter pin_index parts told
 
     regions_are : parts.regions ≡ regions
-    regions_are = ok_same (places_told the_bytes) parts.regions regions
+    regions_are = ok_same (places_result the_bytes) parts.regions regions
         (the_steps.regions) regions_here
 
-    items_told : meta_told the_body regions.metadata ≡ Ok parts.facts
-    items_told = ap (λ (r : ParsedRegions). meta_told the_body r.metadata) (sym regions_are)
+    items_result : meta_result the_body regions.metadata ≡ Ok parts.facts
+    items_result = ap (λ (r : ParsedRegions). meta_result the_body r.metadata) (sym regions_are)
         ∙ the_steps.facts
 
     pub interval_is : options.index_block_restart_interval ≡ 1
     interval_is = interval_read v label options c.blocks (counted_blocks options c) parts.facts
-        (sym items_here ∙ items_told)
+        (sym items_here ∙ items_result)
 
     pub facts_are : parts.facts ≡ written_facts v label c.blocks (counted_blocks options c)
-    facts_are = ok_same (meta_told the_body regions.metadata) parts.facts
-        (written_facts v label c.blocks (counted_blocks options c)) items_told
+    facts_are = ok_same (meta_result the_body regions.metadata) parts.facts
+        (written_facts v label c.blocks (counted_blocks options c)) items_result
         (facts_here interval_is)
 
     pinned_is : parts.pinned ≡ pinned_said v options c pin_filter pin_index
     pinned_is =
-        let e = ap (λ (r : ParsedRegions). pinned_told the_body r pin_filter pin_index)
+        let e = ap (λ (r : ParsedRegions). pinned_result the_body r pin_filter pin_index)
         regions_are in
-        ok_same (pinned_told the_body parts.regions pin_filter pin_index) parts.pinned
+        ok_same (pinned_result the_body parts.regions pin_filter pin_index) parts.pinned
         (pinned_said v options c pin_filter pin_index) (the_steps.pinned)
         (e ∙ pinned_here pin_filter pin_index)
 
@@ -269,28 +269,28 @@ module _ (stored : List ℕ) (es : List Entry) (t : IsTable stored es)
   by_list pin_filter pin_index = ap (parts_by t.version t.label t.options c pin_filter pin_index)
       list_whole
 
-  pub told_file : (g : ℕ) (pin_filter pin_index : Bool) (parts : Parts)
-      → recovered_told stored g pin_filter pin_index ≡ Ok parts
-      → recovered_told (finished (written t.version t.label t.options c)) g pin_filter pin_index
+  pub reported_file : (g : ℕ) (pin_filter pin_index : Bool) (parts : Parts)
+      → recovered_result stored g pin_filter pin_index ≡ Ok parts
+      → recovered_result (finished (written t.version t.label t.options c)) g pin_filter pin_index
       ≡ Ok parts
-  told_file g pin_filter pin_index parts told =
-      subst (λ (b : List ℕ). recovered_told b g pin_filter pin_index ≡ Ok parts) t.file.are told
+  reported_file g pin_filter pin_index parts told =
+      subst (λ (b : List ℕ). recovered_result b g pin_filter pin_index ≡ Ok parts) t.file.are told
 
   -- what is recovered is what the list says
   pub table_parts : (g : ℕ) (pin_filter pin_index : Bool) (parts : Parts)
-      → recovered_told stored g pin_filter pin_index ≡ Ok parts
+      → recovered_result stored g pin_filter pin_index ≡ Ok parts
       → parts ≡ parts_said t pin_filter pin_index
   table_parts g pin_filter pin_index parts told =
       parts_are t.version t.label t.options t.spills es c t.file.is t.fits t.strict short_file g
-      pin_filter pin_index parts (told_file g pin_filter pin_index parts told)
+      pin_filter pin_index parts (reported_file g pin_filter pin_index parts told)
       ∙ by_list pin_filter pin_index
 
   -- what opening it tells
-  pub table_told : (g : ℕ) (pin_filter pin_index : Bool)
+  pub table_result : (g : ℕ) (pin_filter pin_index : Bool)
       → t.options.index_block_restart_interval ≡ 1
-      → recovered_told stored g pin_filter pin_index ≡ list_told t g pin_filter pin_index
-  table_told g pin_filter pin_index one =
-      ap (λ (b : List ℕ). recovered_told b g pin_filter pin_index) t.file.are
+      → recovered_result stored g pin_filter pin_index ≡ list_result t g pin_filter pin_index
+  table_result g pin_filter pin_index one =
+      ap (λ (b : List ℕ). recovered_result b g pin_filter pin_index) t.file.are
       ∙ written_recovers t.version t.label t.options t.spills es c t.file.is t.fits t.strict
       short_file g pin_filter pin_index one
       ∙ ap (λ (xs : List Entry). cond (ltb (2 ^ 64 - 1) (highest_seqno xs + g))

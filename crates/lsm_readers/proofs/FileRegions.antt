@@ -15,7 +15,7 @@ use Rattle.sst_blocks.specs.table.Fits.{SectionFits}
 use Rattle.sst_blocks.specs.table.Layout.{Sections, bytes_in, starts_from}
 use Rattle.lsm_readers.specs.OfList.{place_from}
 use Rattle.lsm_readers.specs.point.Read.{◌>>=◌}
-use Rattle.lsm_readers.specs.point.Regions.{needed_told, optional_told, region_told}
+use Rattle.lsm_readers.specs.point.Regions.{needed_result, optional_result, region_result}
 
 -- where a section of a name lies among some, the first of them at a position
 abbrev pub section_from : ℕ → Sections → SectionName → Option Section
@@ -58,18 +58,18 @@ laid_ascending at end (s ∷ ss) e =
 
 -- ---- what is told of them
 
-pub section_told : (at : ℕ) (ss : Sections) (name : SectionName) → AllByRecursion SectionFits ss
-    → optional_told (section_from at ss name) ≡ Ok (place_from at ss name)
-section_told at [] name fits = refl
-section_told at (s ∷ ss) name fits =
+pub section_result : (at : ℕ) (ss : Sections) (name : SectionName) → AllByRecursion SectionFits ss
+    → optional_result (section_from at ss name) ≡ Ok (place_from at ss name)
+section_result at [] name fits = refl
+section_result at (s ∷ ss) name fits =
     let large = lt-leb (2 ^ 32) (length s.1) (fits.0).short in
     elim (slot_index s.0 == slot_index name) as (λ (b : Bool).
-    optional_told (if b then Some (record { position = at; len = length s.1 })
+    optional_result (if b then Some (record { position = at; len = length s.1 })
     else section_from (at + length s.1) ss name)
     ≡ Ok (if b then Some (record { offset = at; size = length s.1 })
     else place_from (at + length s.1) ss name)) [
       | true ↦ rw large refl
-      | false ↦ section_told (at + length s.1) ss name fits.1
+      | false ↦ section_result (at + length s.1) ss name fits.1
     ]
 
 region_of : (r : Result Place Error) (p : Place) → (r >>= λ q. Ok (Some q)) ≡ Ok (Some p) → r ≡ Ok p
@@ -77,10 +77,10 @@ region_of (Ok q) p h = let same : Some q ≡ Some p = cc in let here : q ≡ p =
     ap (λ (x : Place). Ok x) here
 region_of (Err e) p h = absurd cc
 
-pub needed_by : (o : Option Section) (p : Place) → optional_told o ≡ Ok (Some p)
-    → needed_told o ≡ Ok p
+pub needed_by : (o : Option Section) (p : Place) → optional_result o ≡ Ok (Some p)
+    → needed_result o ≡ Ok p
 needed_by None p h = absurd (let no : None ≡ Some p = cc in cc)
-needed_by (Some s) p h = region_of (region_told s) p h
+needed_by (Some s) p h = region_of (region_result s) p h
 
 -- ---- some sections, and others behind them
 

@@ -19,7 +19,7 @@ use Rattle.sst_blocks.proofs.SectionLaws.{finished_body, finished_section}
 use Rattle.sst_entries.specs.Entry.{Entry}
 use Rattle.sst_entries.proofs.Lists.{all_append}
 use Rattle.sst_blocks.specs.declared.block_type.BlockType.TheVariants.{Meta}
-use Rattle.sst_blocks.specs.Block.{block_bytes, load_told}
+use Rattle.sst_blocks.specs.Block.{block_bytes, load_result}
 use Rattle.sst_blocks.specs.Payload.{payload}
 use Rattle.sst_blocks.specs.Place.{Place}
 use Rattle.sst_blocks.specs.Reading.{entries_in}
@@ -42,12 +42,12 @@ use Rattle.sst_blocks.specs.table.Layout.{Sections, bytes_in, laid}
 use Rattle.sst_blocks.specs.table.MetaBlock.{meta_entries, version_number}
 use Rattle.sst_blocks.specs.filter.Filter.{BloomFilter}
 use Rattle.lsm_readers.specs.declared.regions.ParsedRegions.{ParsedRegions}
-use Rattle.lsm_readers.specs.point.Meta.{facts_told, meta_told}
+use Rattle.lsm_readers.specs.point.Meta.{facts_result, meta_result}
 use Rattle.lsm_readers.specs.OfList.{no_place, place_from, regions_laid, regions_said}
-use Rattle.lsm_readers.specs.point.Regions.{regions_told, section_named}
+use Rattle.lsm_readers.specs.point.Regions.{regions_result, section_named}
 use Rattle.lsm_readers.proofs.FileIndexKinds.{index_none, top_lies, top_place}
 use Rattle.lsm_readers.proofs.FileRegions.{bytes_append, laid_ascending, needed_by, place_append}
-use Rattle.lsm_readers.proofs.FileRegions.{section_from, section_told, sections_laid}
+use Rattle.lsm_readers.proofs.FileRegions.{section_from, section_result, sections_laid}
 
 -- ---- what the table of contents tells
 
@@ -58,17 +58,17 @@ regions_from : (toc : List (Option Section)) (at : ℕ) (ss : Sections) (t m : P
     → section_named toc FilterSection ≡ section_from at ss FilterSection
     → section_named toc MetaSection ≡ section_from at ss MetaSection → AllByRecursion SectionFits ss
     → place_from at ss Tli ≡ Some t → place_from at ss MetaSection ≡ Some m
-    → regions_told toc ≡ Ok (regions_laid at ss)
-unfolding regions_told
+    → regions_result toc ≡ Ok (regions_laid at ss)
+unfolding regions_result
 regions_from toc at ss t m ft tli i f meta fits top closing =
-    let ft_told = section_told at ss FilterTli fits in
-    let i_told = section_told at ss IndexSection fits in
-    let f_told = section_told at ss FilterSection fits in
-    let tli_told = needed_by (section_from at ss Tli) t
-    (section_told at ss Tli fits ∙ ap (λ (o : Option Place). Ok o) top) in
-    let meta_is_told = needed_by (section_from at ss MetaSection) m
-    (section_told at ss MetaSection fits ∙ ap (λ (o : Option Place). Ok o) closing) in
-    rw (ft, tli, i, f, meta, ft_told, tli_told, i_told, f_told, meta_is_told, top, closing) refl
+    let ft_result = section_result at ss FilterTli fits in
+    let i_result = section_result at ss IndexSection fits in
+    let f_result = section_result at ss FilterSection fits in
+    let tli_result = needed_by (section_from at ss Tli) t
+    (section_result at ss Tli fits ∙ ap (λ (o : Option Place). Ok o) top) in
+    let meta_is_result = needed_by (section_from at ss MetaSection) m
+    (section_result at ss MetaSection fits ∙ ap (λ (o : Option Place). Ok o) closing) in
+    rw (ft, tli, i, f, meta, ft_result, tli_result, i_result, f_result, meta_is_result, top, closing) refl
 
 -- ---- the sections of each kind
 
@@ -210,7 +210,7 @@ module _ (v : TableVersion) (label : Label) (options : Options) (c : Content) wh
 
   pub regions_read : length written.bytes < 2 ^ 64 → AllByRecursion SectionFits the_index
       → AllByRecursion SectionFits the_filter → length the_meta < 2 ^ 32
-      → regions_told (map (section_in (finished written)) section_names) ≡ Ok the_regions
+      → regions_result (map (section_in (finished written)) section_names) ≡ Ok the_regions
   regions_read small index filter short =
       let in_w = λ (name : SectionName) (other : (slot_index Data == slot_index name) ≡ false).
       finished_section written name small ascending ∙ named name other in
@@ -226,7 +226,7 @@ module _ (v : TableVersion) (label : Label) (options : Options) (c : Content) wh
 
   meta_loads : length (payload v the_items) < 2 ^ 32
       → entries_in v (payload v the_items) ≡ Some the_items
-      → load_told (body_of (finished written)) meta_place.offset meta_place.size Meta
+      → load_result (body_of (finished written)) meta_place.offset meta_place.size Meta
       ≡ Ok (record { version = v; kind = Meta; payload = payload v the_items })
   meta_loads short reads =
       let m = payload v the_items in
@@ -245,12 +245,12 @@ module _ (v : TableVersion) (label : Label) (options : Options) (c : Content) wh
       ) in
       let whole : body_of (finished written) ≡ pre ++ the_meta ++ [] = body_is
       ∙ simp (append_assoc, append-nil) in
-      ap (λ (n : ℕ). load_told (body_of (finished written)) meta_place.offset n Meta)
+      ap (λ (n : ℕ). load_result (body_of (finished written)) meta_place.offset n Meta)
       (length-block v Meta m)
       ∙ written_loads v Meta pre m [] (body_of (finished written)) meta_place.offset short
       (ap is_some reads) at whole
 
   pub meta_items_read : length (payload v the_items) < 2 ^ 32
       → entries_in v (payload v the_items) ≡ Some the_items
-      → meta_told (body_of (finished written)) the_regions.metadata ≡ facts_told the_items
+      → meta_result (body_of (finished written)) the_regions.metadata ≡ facts_result the_items
   meta_items_read short reads = rw (metadata_is, meta_loads short reads, reads) refl

@@ -33,7 +33,7 @@ use Rattle.lsm_readers.specs.declared.regions.ParsedRegions.{ParsedRegions}
 use Rattle.lsm_readers.specs.point.Answer.{filter_admits}
 use Rattle.lsm_readers.specs.BlockIndexes.{StoresItsBlocks}
 use Rattle.lsm_readers.specs.OfList.{filter_said, filter_tops_said, regions_said}
-use Rattle.lsm_readers.specs.Stored.{Admits, BearsOut, FilterHas, IndexHas, NamesChunk, StoresList}
+use Rattle.lsm_readers.specs.Stored.{Admits, Matches, FilterHas, IndexHas, NamesChunk, StoresList}
 use Rattle.lsm_readers.specs.point.Table.{IsOpen, OpenTable}
 use Rattle.lsm_readers.proofs.FileChunks.{all_read, chunk_sizes, chunks_laid, chunks_named}
 use Rattle.lsm_readers.proofs.FileChunks.{empty_refused}
@@ -45,7 +45,7 @@ use Rattle.lsm_readers.proofs.FileIndexKinds.{index_has}
 use Rattle.lsm_readers.proofs.FileParts.{before_filter, behind_filter, behind_index, facts_here}
 use Rattle.lsm_readers.proofs.FileParts.{filter_lies, filter_place, filter_start, interval_is}
 use Rattle.lsm_readers.proofs.FileParts.{keys_line, keys_short, regions_here, short_file, the_body}
-use Rattle.lsm_readers.proofs.FileParts.{the_bytes, tli_place, told_file, tops_told_here}
+use Rattle.lsm_readers.proofs.FileParts.{the_bytes, tli_place, reported_file, tops_reported_here}
 use Rattle.lsm_readers.proofs.FileParts.{trailer_here}
 use Rattle.lsm_readers.proofs.FileSections.{body_is, index_at, the_index, written}
 use Rattle.lsm_readers.proofs.FilterReads.{has_key}
@@ -59,7 +59,7 @@ is_true false h = absurd (h refl)
 -- a key that is one of some keys is admitted
 admitted : (told : Result Bool Error) (keys : List (List ℕ)) (key : List ℕ) → Asked told keys key
     → has_key key keys ≡ true → told ≡ Ok true
-admitted told keys key a has = a.told_is ∙ ap (λ (b : Bool). Ok b)
+admitted told keys key a has = a.reported_is ∙ ap (λ (b : Bool). Ok b)
     (is_true a.answer (λ denied. apart (has_key key keys) has (a.no denied)))
 
 -- a filter that is not to stay loaded does not
@@ -128,7 +128,7 @@ module _ (v : TableVersion) (label : Label) (options : Options) (spills : List �
   filter : FilterHas body regions.filter_tli regions.filter (keys_of es)
   filter = record {
     tops = tops;
-    told = tops_told_here v label options spills es c is fits strict short;
+    told = tops_reported_here v label options spills es c is fits strict short;
     loads = filters_load v options.bloom_policy es (filter_start v label options spills es c is fits
         strict short) (before_filter v label options spills es c is fits strict short)
         (behind_filter v label options spills es c is fits strict short) body refl
@@ -142,10 +142,10 @@ module _ (v : TableVersion) (label : Label) (options : Options) (spills : List �
         (keys_of es) key (asked key) has) (λ key has. has);
   }
 
-  borne : BearsOut (written_facts v label c.blocks (counted_blocks options c)) es hs
+  borne : Matches (written_facts v label c.blocks (counted_blocks options c)) es hs
   borne =
       let said = written_facts v label c.blocks (counted_blocks options c) in
-      let by_chunks : BearsOut said (joined c.blocks) hs = record {
+      let by_chunks : Matches said (joined c.blocks) hs = record {
         data_block_count = omega (arith, length-handles v 0 c.blocks);
         key_range = refl;
         seqno_min = refl;
@@ -156,7 +156,7 @@ module _ (v : TableVersion) (label : Label) (options : Options) (spills : List �
         weak_tombstone_count = refl;
         weak_tombstone_reclaimable = refl;
       } in
-      subst (λ (xs : List Entry). BearsOut said xs hs) chunks by_chunks
+      subst (λ (xs : List Entry). Matches said xs hs) chunks by_chunks
 
   written_stores : options.index_block_restart_interval ≡ 1
       → (s : StoresList bytes es) × (s.handles ≡ hs)
@@ -202,6 +202,6 @@ open_stores t held es file =
     let one = interval_is file.version file.label file.options file.spills es
     (file.file).content file.file.is file.fits file.strict
     (short_file t.bytes es file held.short) t.global_seqno pins.pin_filter pins.pin_index t.parts
-    (told_file t.bytes es file held.short t.global_seqno pins.pin_filter pins.pin_index t.parts
+    (reported_file t.bytes es file held.short t.global_seqno pins.pin_filter pins.pin_index t.parts
     pins.told) in
     table_stores t.bytes es file one held.short

@@ -10,7 +10,7 @@ use Rattle.sst_blocks.specs.Place.{Place}
 use Rattle.sst_blocks.specs.Sections.{body_of}
 use Rattle.lsm_readers.specs.point.Table.{OpenedWith}
 use Rattle.lsm_readers.specs.point.IndexKinds.{Kind, PinnedIndex, full, handle_by, handle_in_part}
-use Rattle.lsm_readers.specs.point.IndexKinds.{handles_told, index_len, kind_for, kind_kept}
+use Rattle.lsm_readers.specs.point.IndexKinds.{handles_result, index_len, kind_for, kind_kept}
 use Rattle.lsm_readers.specs.point.IndexKinds.{most_index_loads, partitioned, place_in, two_level}
 use Rattle.lsm_readers.specs.point.IndexKinds.{volatile, whole}
 use Rattle.lsm_readers.specs.point.Read.{◌>>=◌}
@@ -28,19 +28,19 @@ made m index h = cc
 -- what keeps handles makes an index of one kind
 kept_kind : (body : List ℕ) (tli : Place) (keep : List Handle → PinnedIndex) (kind : Kind)
     → ((hs : List Handle) → kind_kept (keep hs) ≡ kind) → (index : PinnedIndex)
-    → (handles_told body tli >>= λ hs. kept (keep hs)) ≡ Ok index → kind_kept index ≡ kind
+    → (handles_result body tli >>= λ hs. kept (keep hs)) ≡ Ok index → kind_kept index ≡ kind
 kept_kind body tli keep kind each index h =
-    let hs = bind_ok (handles_told body tli) (λ hs. kept (keep hs)) index h in
+    let hs = bind_ok (handles_result body tli) (λ hs. kept (keep hs)) index h in
     ap kind_kept (made (keep hs.0) index hs.2) ∙ each hs.0
 
-kind_of_told : (body : List ℕ) (tli : Place) (parts pin : Bool) (index : PinnedIndex)
-    → cond parts (handles_told body tli >>= λ tops. Ok (two_level tops))
-    (cond pin (handles_told body tli >>= λ handles. Ok (full handles)) (Ok volatile)) ≡ Ok index
+kind_of_result : (body : List ℕ) (tli : Place) (parts pin : Bool) (index : PinnedIndex)
+    → cond parts (handles_result body tli >>= λ tops. Ok (two_level tops))
+    (cond pin (handles_result body tli >>= λ handles. Ok (full handles)) (Ok volatile)) ≡ Ok index
     → kind_kept index ≡ kind_for parts pin
-kind_of_told body tli true pin index h = kept_kind body tli two_level partitioned
+kind_of_result body tli true pin index h = kept_kind body tli two_level partitioned
     (λ hs. refl) index h
-kind_of_told body tli false true index h = kept_kind body tli full whole (λ hs. refl) index h
-kind_of_told body tli false false index h = ap kind_kept (made volatile index h)
+kind_of_result body tli false true index h = kept_kind body tli full whole (λ hs. refl) index h
+kind_of_result body tli false false index h = ap kind_kept (made volatile index h)
 
 -- what stays loaded of a table that was opened with some pins
 pub opened_kind : (t : OpenTable) (pin_filter pin_index : Bool) → OpenedWith t pin_filter pin_index
@@ -50,7 +50,7 @@ opened_kind t pin_filter pin_index told =
     let regions = t.parts.regions in
     let all = steps t.bytes t.global_seqno pin_filter pin_index t.parts told in
     let pins = pinned_steps body regions pin_filter pin_index t.parts.pinned all.pinned in
-    kind_of_told body regions.tli (is_some regions.index) pin_index t.parts.pinned.index pins.index
+    kind_of_result body regions.tli (is_some regions.index) pin_index t.parts.pinned.index pins.index
 
 -- ---- what a lookup loads
 

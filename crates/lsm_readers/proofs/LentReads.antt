@@ -10,7 +10,7 @@ use Rattle.sst_entries.specs.Error.{FaultsFirst, Gives}
 use Rattle.sst_entries.specs.Lending.{entry_of_ref}
 use Rattle.sst_blocks.specs.declared.entry_place.EntryPlace.{EntryPlace}
 use Rattle.sst_blocks.specs.declared.opened.Opened.{Opened}
-use Rattle.sst_blocks.specs.Asked.{told_map}
+use Rattle.sst_blocks.specs.Asked.{result_map}
 use Rattle.sst_blocks.specs.EntryPlace.{IsPlacedIn, entry_placed, placed_in}
 use Rattle.lsm_readers.specs.point.Read.{DoesRead, Opens, Read}
 use Rattle.lsm_readers.proofs.ReadViews.{does_by, gives_by, gives_seen}
@@ -26,8 +26,8 @@ placed_there bytes p there = rw (
 
 module _ (bytes : List ℕ) (found : Result (Option EntryPlace) Error)
     (lent : Result (Option EntryRef) Error)
-    (same : told_map (option_map entry_of_ref) lent
-    ≡ told_map (option_map (entry_placed bytes)) found) where
+    (same : result_map (option_map entry_of_ref) lent
+    ≡ result_map (option_map (entry_placed bytes)) found) where
   -- what is borrowed answers as its place
   pub lent_gives : (told : Result (Option Entry) Error)
       → Gives (option_map (entry_placed bytes)) found told
@@ -39,7 +39,7 @@ module _ (bytes : List ℕ) (found : Result (Option EntryPlace) Error)
   pub lent_does : (read : Read (Option Entry)) (o o' : Opened)
       → Gives (option_map (entry_placed bytes)) found read.told → FaultsFirst found read.early
       → Opens found read.loads o o' → (read.loads ≡ [] → IsOk found)
-      → DoesRead (told_map (option_map entry_of_ref) lent) read o o'
+      → DoesRead (result_map (option_map entry_of_ref) lent) read o o'
   lent_does read o o' told first opens calm =
       subst (λ (r : Result (Option Entry) Error). DoesRead r read o o') (sym same)
       (does_by (option_map (entry_placed bytes)) found read o o' told first opens calm)

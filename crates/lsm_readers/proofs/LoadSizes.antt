@@ -10,7 +10,7 @@ use Rattle.sst_entries.specs.declared.error.Error.TheVariants.{InvalidHeader}
 use Rattle.sst_entries.specs.declared.error.Error.TheVariants.{Truncated}
 use Rattle.sst_blocks.specs.declared.block_type.BlockType.{BlockType}
 use Rattle.sst_blocks.specs.Block.{Loaded, checked_payload, data_len, header_fault}
-use Rattle.sst_blocks.specs.Block.{load_at_told, load_told, stored_checksum, uncompressed_len}
+use Rattle.sst_blocks.specs.Block.{load_at_result, load_result, stored_checksum, uncompressed_len}
 use Rattle.sst_blocks.specs.Block.{version_in}
 use Rattle.sst_blocks.proofs.LoadLemmas.{load_at_checked, load_checked, load_fault, load_lengths}
 use Rattle.sst_blocks.proofs.LoadLemmas.{load_truncated, payload_is}
@@ -26,11 +26,11 @@ same_number a b near = elim (cases_lt a b) [
 ]
 
 module _ (body : List ℕ) (at size : ℕ) (kind : BlockType) (b : Loaded)
-    (told : load_told body at size kind ≡ Ok b) where
+    (told : load_result body at size kind ≡ Ok b) where
   abbrev head : List ℕ
   head = slice_range body at (at + 24)
 
-  not_refused : (e : Error) → load_told body at size kind ≡ Err e → ⊥
+  not_refused : (e : Error) → load_result body at size kind ≡ Err e → ⊥
   not_refused e fault = absurd (let wrong : Err e ≡ Ok b = sym fault ∙ told in cc)
 
   long : 24 ≤ size
@@ -68,7 +68,7 @@ module _ (body : List ℕ) (at size : ℕ) (kind : BlockType) (b : Loaded)
   checked : checked_payload (version_in head) (stored_checksum head) kind payload ≡ Ok b
   checked = sym (load_checked body at size kind long within fine same whole) ∙ told
 
-  pub at_position : load_at_told body at kind ≡ Ok b
+  pub at_position : load_at_result body at kind ≡ Ok b
   at_position =
       let end : at + 24 + data_len head ≡ at + size = omega (arith, whole) in
       load_at_checked body at kind (omega (arith, within, long)) fine same

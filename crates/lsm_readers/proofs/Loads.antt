@@ -12,7 +12,7 @@ use Rattle.sst_blocks.specs.declared.version.TableVersion.{TableVersion}
 use Rattle.sst_entries.specs.declared.error.Error.TheVariants.{ChecksumMismatch, InvalidHeader}
 use Rattle.sst_entries.specs.declared.error.Error.TheVariants.{Truncated}
 use Rattle.sst_blocks.specs.Fnv.{fnv1a}
-use Rattle.sst_blocks.specs.Block.{Loaded, load_told, load_at_told, checked_payload, grammar_fault}
+use Rattle.sst_blocks.specs.Block.{Loaded, load_result, load_at_result, checked_payload, grammar_fault}
 use Rattle.sst_blocks.specs.Block.{version_in, stored_checksum, header_fault, data_len}
 use Rattle.sst_blocks.specs.Block.{uncompressed_len}
 use Rattle.sst_entries.specs.Error.{unless}
@@ -50,8 +50,8 @@ meta_holds Filter e = absurd cc
 
 -- a block by its position is of that kind
 pub load_at_kind : (body : List ℕ) (position : ℕ) (kind : BlockType) (b : Loaded)
-    → load_at_told body position kind ≡ Ok b → b.kind ≡ kind
-unfolding load_at_told
+    → load_at_result body position kind ≡ Ok b → b.kind ≡ kind
+unfolding load_at_result
 load_at_kind body position kind b h =
     let head = slice_range body position (position + 24) in
     let end = position + 24 + data_len head in
@@ -74,10 +74,10 @@ refused_no : {A : Type 0} (r : Result A Error) (e : Error) (x : A) → r ≡ Err
 refused_no r e x p q = let wrong : Err e ≡ Ok x = sym p ∙ q in absurd cc
 
 load_fits : (body : List ℕ) (offset size : ℕ) (kind : BlockType) (b : Loaded)
-    → load_told body offset size kind ≡ Ok b → (24 ≤ size) × (offset + size ≤ length body)
+    → load_result body offset size kind ≡ Ok b → (24 ≤ size) × (offset + size ≤ length body)
 load_fits body offset size kind b h =
     let no = λ (short : 24 ≤ size → offset + size ≤ length body → ⊥). refused_no
-    (load_told body offset size kind) Truncated b
+    (load_result body offset size kind) Truncated b
     (load_truncated body offset size kind short) h in
     elim (cases_lt size 24) [
       | inl lt ↦ absurd (no (λ long within. omega (arith, lt, long)))
@@ -88,9 +88,9 @@ load_fits body offset size kind b h =
     ]
 
 load_payload : (body : List ℕ) (offset size : ℕ) (kind : BlockType) (b : Loaded)
-    → load_told body offset size kind ≡ Ok b → slice_range body (offset + 24) (offset + size)
+    → load_result body offset size kind ≡ Ok b → slice_range body (offset + 24) (offset + size)
     ≡ b.payload
-unfolding load_told
+unfolding load_result
 load_payload body offset size kind b h =
     let head = slice_range body offset (offset + 24) in
     let payload = slice_range body (offset + 24) (offset + size) in
@@ -106,7 +106,7 @@ load_payload body offset size kind b h =
 
 -- the size of a block that is loaded is that of its payload and its header
 pub load_size : (body : List ℕ) (offset size : ℕ) (kind : BlockType) (b : Loaded)
-    → load_told body offset size kind ≡ Ok b → length b.payload + 24 ≡ size
+    → load_result body offset size kind ≡ Ok b → length b.payload + 24 ≡ size
 load_size body offset size kind b h =
     let fits = load_fits body offset size kind b h in
     omega (

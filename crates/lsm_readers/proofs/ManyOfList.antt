@@ -5,7 +5,7 @@ use Rattle.sst_entries.specs.Entry.{Entry}
 use Rattle.sst_entries.specs.Point.{point}
 use Rattle.lsm_readers.specs.point.Answer.{lift}
 use Rattle.lsm_readers.specs.declared.many.Query.{Query}
-use Rattle.lsm_readers.specs.point.Many.{found_told, many_told}
+use Rattle.lsm_readers.specs.point.Many.{found_result, many_results}
 use Rattle.lsm_readers.specs.Stored.{StoresList}
 use Rattle.lsm_readers.specs.point.Table.{IsOpen, OpenTable}
 use Rattle.lsm_readers.proofs.ManyReads.{all_answered}
@@ -13,10 +13,10 @@ use Rattle.lsm_readers.proofs.StoredParts.{stored_answers}
 
 pub many_of_list : {A : Type 0} (t : OpenTable) (held : IsOpen t) (es : List Entry)
     → StoresList t.bytes es → (queries : List (Query A))
-    → many_told t queries ≡ Ok (map (λ q. point (lift es t.global_seqno) q.key q.seqno) queries)
+    → many_results t queries ≡ Ok (map (λ q. point (lift es t.global_seqno) q.key q.seqno) queries)
 many_of_list {A} t held es is queries =
     let told = held.recovered in
-    all_answered (found_told t) (λ (q : Query A). point (lift es t.global_seqno) q.key q.seqno)
+    all_answered (found_result t) (λ (q : Query A). point (lift es t.global_seqno) q.key q.seqno)
     (λ q. stored_answers t.bytes es is t.global_seqno told.pin_filter told.pin_index t.parts
     told.told q.key q.seqno)
     queries

@@ -26,17 +26,17 @@ use Rattle.byteorder.specs.Numbers.{little_number-reads_back}
 use Rattle.sst_entries.specs.declared.error.Error.TheVariants.{UnsupportedTableVersion}
 use Rattle.sst_entries.specs.declared.error.Error.TheVariants.{UnsupportedIndexInterval}
 use Rattle.lsm_sorted.specs.version.KeyRange.{interval}
-use Rattle.lsm_readers.specs.point.Meta.{Facts, facts_said, item_told, u64_told, version_told}
-use Rattle.lsm_readers.specs.point.Meta.{kinds_told}
-use Rattle.lsm_readers.specs.point.Meta.{byte_told, first_told, compressions_told, created_told}
-use Rattle.lsm_readers.specs.point.Meta.{keys_told, seqnos_told, numbers_said, numbers_told}
-use Rattle.lsm_readers.specs.point.Meta.{rest_told}
-use Rattle.lsm_readers.specs.point.Meta.{facts_told}
+use Rattle.lsm_readers.specs.point.Meta.{Facts, facts_said, item_result, u64_result, version_result}
+use Rattle.lsm_readers.specs.point.Meta.{kinds_result}
+use Rattle.lsm_readers.specs.point.Meta.{byte_result, first_result, compressions_result, created_result}
+use Rattle.lsm_readers.specs.point.Meta.{keys_result, seqnos_result, numbers_said, numbers_result}
+use Rattle.lsm_readers.specs.point.Meta.{rest_result}
+use Rattle.lsm_readers.specs.point.Meta.{facts_result}
 
 -- a number that was written is read
-pub u64_read : (es : List Entry) (name : ItemName) (n : ℕ) → item_told es name ≡ Ok (le8 n)
-    → n < 2 ^ 64 → u64_told es name ≡ Ok n
-unfolding u64_told
+pub u64_read : (es : List Entry) (name : ItemName) (n : ℕ) → item_result es name ≡ Ok (le8 n)
+    → n < 2 ^ 64 → u64_result es name ≡ Ok n
+unfolding u64_result
 u64_read es name n e fits =
     let whole : num8 (le8 n) ≡ n = ap num8 (sym (append-nil (le8 n))) ∙ wide8.again n [] fits in
     let long = le-ltb (length (le8 n)) 8 (omega (arith, wide8.len n)) in
@@ -83,42 +83,42 @@ module _ (v : TableVersion) (label : Label) (options : Options) (cs : List (List
   abbrev f : ListFacts
   f = facts (joined cs)
 
-  version_read : version_told es ≡ Ok (version_number v)
-  unfolding version_told item_told point name_of
+  version_read : version_result es ≡ Ok (version_number v)
+  unfolding version_result item_result point name_of
   version_read = known_version v
 
-  kinds_read : options.index_block_restart_interval ≡ 1 → kinds_told es ≡ Ok tt
-  unfolding kinds_told byte_told first_told item_told point name_of
+  kinds_read : options.index_block_restart_interval ≡ 1 → kinds_result es ≡ Ok tt
+  unfolding kinds_result byte_result first_result item_result point name_of
   kinds_read one = rw one refl
 
   kinds_refused : (options.index_block_restart_interval == 1) ≡ false
-      → kinds_told es ≡ Err UnsupportedIndexInterval
-  unfolding kinds_told byte_told first_told item_told point name_of
+      → kinds_result es ≡ Err UnsupportedIndexInterval
+  unfolding kinds_result byte_result first_result item_result point name_of
   kinds_refused other = rw other refl
 
   -- where the items are read, the interval is 1
-  pub interval_read : (said : Facts) → facts_told es ≡ Ok said
+  pub interval_read : (said : Facts) → facts_result es ≡ Ok said
       → options.index_block_restart_interval ≡ 1
-  unfolding facts_told
+  unfolding facts_result
   interval_read said told = elim (cases_Bool (options.index_block_restart_interval == 1)) [
     | inl one ↦ eqb-true _ _ one
     | inr other ↦
-        let refused : facts_told es ≡ Err UnsupportedIndexInterval =
+        let refused : facts_result es ≡ Err UnsupportedIndexInterval =
         rw (version_read, kinds_refused other) refl in
         let no : Err UnsupportedIndexInterval ≡ Ok said = sym refused ∙ told in
         absurd cc
   ]
 
-  compressions_read : compressions_told es ≡ Ok tt
-  unfolding compressions_told first_told item_told point name_of
+  compressions_read : compressions_result es ≡ Ok tt
+  unfolding compressions_result first_result item_result point name_of
   compressions_read = refl
 
-  created_at : item_told es item.CreatedAt ≡ Ok (le16 label.created_at)
-  unfolding item_told point name_of
+  created_at : item_result es item.CreatedAt ≡ Ok (le16 label.created_at)
+  unfolding item_result point name_of
   created_at = refl
 
-  created_read : label.created_at < 2 ^ 128 → created_told es ≡ Ok label.created_at
-  unfolding created_told
+  created_read : label.created_at < 2 ^ 128 → created_result es ≡ Ok label.created_at
+  unfolding created_result
   created_read fits =
       let n = label.created_at in
       let whole : num16 (le16 n) ≡ n = ap num16 (sym (append-nil (le16 n)))
@@ -126,12 +126,12 @@ module _ (v : TableVersion) (label : Label) (options : Options) (cs : List (List
       let long = le-ltb (length (le16 n)) 16 (omega (arith, wide16-len n)) in
       rw (created_at, long, whole) refl
 
-  keys_read : keys_told es ≡ Ok (interval f.min_key f.max_key)
-  unfolding keys_told item_told point name_of
+  keys_read : keys_result es ≡ Ok (interval f.min_key f.max_key)
+  unfolding keys_result item_result point name_of
   keys_read = refl
 
-  seqnos_read : FactsFit label options cs v blocks → seqnos_told es ≡ Ok (f.lowest, f.highest)
-  unfolding seqnos_told item_told point name_of
+  seqnos_read : FactsFit label options cs v blocks → seqnos_result es ≡ Ok (f.lowest, f.highest)
+  unfolding seqnos_result item_result point name_of
   seqnos_read fit = rw (
     u64_read es item.SeqnoMin f.lowest refl fit.lowest,
     u64_read es
@@ -139,9 +139,9 @@ module _ (v : TableVersion) (label : Label) (options : Options) (cs : List (List
   ) refl
 
   numbers_read : FactsFit label options cs v blocks
-      → numbers_told es ≡ Ok (numbers_said label f (length cs) blocks.index
+      → numbers_result es ≡ Ok (numbers_said label f (length cs) blocks.index
       (length (data_section v cs)))
-  unfolding numbers_told item_told point name_of
+  unfolding numbers_result item_result point name_of
   numbers_read fit =
       let few = fit.items in
       rw (
@@ -161,8 +161,8 @@ module _ (v : TableVersion) (label : Label) (options : Options) (cs : List (List
 
   -- the facts of the written list
   pub facts_read : FactsFit label options cs v blocks
-      → facts_told es ≡ Ok (written_facts v label cs blocks)
-  unfolding facts_told rest_told
+      → facts_result es ≡ Ok (written_facts v label cs blocks)
+  unfolding facts_result rest_result
   facts_read fit = rw (
     version_read,
     kinds_read fit.interval,

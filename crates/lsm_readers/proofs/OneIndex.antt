@@ -10,7 +10,7 @@ use Rattle.sst_blocks.specs.table.Chunks.{AreChunks}
 use Rattle.sst_blocks.specs.table.Index.{handles}
 use Rattle.sst_blocks.specs.table.Table.{IsTable}
 use Rattle.sst_blocks.proofs.OneCut.{one_cut}
-use Rattle.lsm_readers.specs.BlockIndexes.{AreCutAlike, NamesBlocksOf, TellAlike, table_index}
+use Rattle.lsm_readers.specs.BlockIndexes.{AreCutAlike, NamesBlocksOf, ReadAlike, table_index}
 use Rattle.lsm_readers.specs.Stored.{StoresList}
 use Rattle.lsm_readers.specs.point.Table.{IsOpen, OpenTable}
 use Rattle.lsm_readers.proofs.FileStored.{open_stores}
@@ -43,10 +43,10 @@ same_handles a b es t u alike =
     ap (handles t.version) (same_blocks a b es t u alike)
     ∙ ap (λ (v : TableVersion). handles v (u.file).content.blocks) alike.version
 
-pub tell_alike : (one other : OpenTable) → IsOpen one → IsOpen other
+pub report_alike : (one other : OpenTable) → IsOpen one → IsOpen other
     → (es : List Entry) (t : IsTable one.bytes es) (u : IsTable other.bytes es) → AreCutAlike t u
-    → TellAlike (table_index one) (table_index other)
-tell_alike one other held also es t u alike lower upper =
+    → ReadAlike (table_index one) (table_index other)
+report_alike one other held also es t u alike lower upper =
     let s = open_stores one held es t in
     let r = open_stores other also es u in
     let same = s.1 ∙ same_handles one.bytes other.bytes es t u alike ∙ sym r.1 in

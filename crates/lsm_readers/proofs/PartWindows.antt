@@ -17,15 +17,15 @@ use Rattle.sst_blocks.specs.Handle.{Handle}
 use Rattle.sst_blocks.specs.Handles.{AreStrictHandles, end_of, from_edge, from_first, is_above}
 use Rattle.sst_blocks.specs.Handles.{reaches, to_edge, up_to_first, window}
 use Rattle.sst_blocks.specs.Place.{Place, place_of}
-use Rattle.sst_blocks.specs.Block.{Loaded, handles_of, load_told}
+use Rattle.sst_blocks.specs.Block.{Loaded, handles_of, load_result}
 use Rattle.sst_blocks.proofs.Reaching.{above_reaches, reaches_after}
 use Rattle.sst_blocks.specs.table.Parts.{joined_parts}
 use Rattle.sst_blocks.specs.table.Partitions.{last_end}
 use Rattle.lsm_iters.specs.block_index.Index.{between, block_between, parts_between}
-use Rattle.lsm_readers.specs.point.IndexKinds.{handles_told}
+use Rattle.lsm_readers.specs.point.IndexKinds.{handles_result}
 use Rattle.lsm_readers.specs.point.Read.{◌>>=◌}
 use Rattle.lsm_readers.specs.Stored.{NamesPart}
-use Rattle.lsm_readers.proofs.Windows.{AllCut, AllTell, Rises, Tells, parts_cut, to_here, to_later}
+use Rattle.lsm_readers.proofs.Windows.{AllCut, AllReport, Rises, ReportsOf, parts_cut, to_here, to_later}
 
 -- ---- the tests at the edges
 
@@ -145,7 +145,7 @@ module _ (p : Handle → Bool) (edge : IsEdge p) where
 
   -- a handle of the top level tells of its part
   tell : (last : Option Entry) (top x : Handle) (xs : List Handle) → end_of top ≡ last_end (x ∷ xs)
-      → IsStrictAfter last (map end_of (x ∷ xs)) → Tells p top (x ∷ xs)
+      → IsStrictAfter last (map end_of (x ∷ xs)) → ReportsOf p top (x ∷ xs)
   tell last top x xs ends strict = record {
     none = none_pass last top x xs ends strict;
     some =
@@ -154,7 +154,7 @@ module _ (p : Handle → Bool) (edge : IsEdge p) where
 
   tells : (body : List ℕ) (last : Option Entry) (tops : List Handle) (parts : List (List Handle))
       → AllZip (NamesPart body) tops parts → IsStrictAfter last (map end_of (joined_parts parts))
-      → AllTell p tops parts
+      → AllReport p tops parts
   tells body last [] [] named strict = tt
   tells body last [] (part ∷ parts) named strict = absurd named
   tells body last (top ∷ tops) [] named strict = absurd named
@@ -178,10 +178,10 @@ block_has (Ok b) hs lo hi told = let same : handles_of b ≡ hs = cc in
 block_has (Err e) hs lo hi told = absurd cc
 
 pub between_here : (body : List ℕ) (place : Place) (hs : List Handle) (lo : Option (List ℕ × ℕ))
-    (hi : Option (List ℕ)) → handles_told body place ≡ Ok hs
+    (hi : Option (List ℕ)) → handles_result body place ≡ Ok hs
     → block_between body lo hi place ≡ ok_results (window hs lo hi)
 between_here body place hs lo hi told =
-    block_has (load_told body place.offset place.size Index) hs lo hi told
+    block_has (load_result body place.offset place.size Index) hs lo hi told
 
 module _ (body : List ℕ) (tops : List Handle) (parts : List (List Handle))
     (named : AllZip (NamesPart body) tops parts) (strict : AreStrictHandles (joined_parts parts))

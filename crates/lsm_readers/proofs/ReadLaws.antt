@@ -62,9 +62,9 @@ does_known x o = record {
 }
 
 -- nothing was told before memory was taken
-none_told : {X Y : Type 0} (x : X) (s : Result Y Error) (told : Option Error)
+none_result : {X Y : Type 0} (x : X) (s : Result Y Error) (told : Option Error)
     → FaultsFirst (result x) told → FaultsFirst s told
-none_told x s told first = λ e h. absurd (let wrong : Some e ≡ None = first e h in cc)
+none_result x s told first = λ e h. absurd (let wrong : Some e ≡ None = first e h in cc)
 
 -- ---- one read behind another
 
@@ -79,7 +79,7 @@ early_goes : {X Y : Type 0} (x : X) (s : Result Y Error) (ks : List BlockType)
 early_goes x s [] None behind calm first = first
 early_goes x s [] (Some e) behind calm first =
     absurd (let wrong : Some e ≡ None = calm e refl in cc)
-early_goes x s (k ∷ ks) early behind calm first = none_told x s early calm
+early_goes x s (k ∷ ks) early behind calm first = none_result x s early calm
 
 some_more : (k l m : ℕ) → (0 < l → 0 < m) → 0 < k + l → 0 < k + m
 some_more k l m more some = elim (cases_lt 0 l) [

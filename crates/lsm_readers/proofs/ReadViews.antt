@@ -7,7 +7,7 @@ use Rattle.sst_entries.specs.declared.error.Error.{Error}
 use Rattle.sst_entries.specs.Error.{FaultsFirst, Gives, Refuses}
 use Rattle.sst_blocks.specs.declared.block_type.BlockType.{BlockType}
 use Rattle.sst_blocks.specs.declared.opened.Opened.{Opened}
-use Rattle.sst_blocks.specs.Asked.{told_map}
+use Rattle.sst_blocks.specs.Asked.{result_map}
 use Rattle.lsm_readers.specs.point.Read.{DoesRead, Opens, Read, wants_memory}
 
 pub some_seen : {X Y : Type 0} (f : X → Y) (P : Y → Type 0) (o : Option X)
@@ -22,52 +22,52 @@ err_not_ok (Err d) e P is = tt
 
 module _ {X Y : Type 0} (f : X → Y) where
   pub err_seen : (r : Result X Error) (e : Error) → IsErrAnd r (λ y. y ≡ e)
-      → IsErrAnd (told_map f r) (λ y. y ≡ e)
+      → IsErrAnd (result_map f r) (λ y. y ≡ e)
   err_seen (Ok x) e is = absurd is
   err_seen (Err d) e is = is
 
   pub gives_seen : (r : Result X Error) (told : Result Y Error)
-      → Gives (λ (y : Y). y) (told_map f r) told → Gives f r told
+      → Gives (λ (y : Y). y) (result_map f r) told → Gives f r told
   gives_seen (Ok x) told h = h
   gives_seen (Err e) told h = h
 
   pub gives_by : (r : Result X Error) (told : Result Y Error) → Gives f r told
-      → Gives (λ (y : Y). y) (told_map f r) told
+      → Gives (λ (y : Y). y) (result_map f r) told
   gives_by (Ok x) told h = h
   gives_by (Err e) told h = h
 
-  refuses_seen : (r : Result X Error) (told : Option Error) → Refuses (told_map f r) told
+  refuses_seen : (r : Result X Error) (told : Option Error) → Refuses (result_map f r) told
       → Refuses r told
   refuses_seen (Ok x) told h = h
   refuses_seen (Err e) told h = h
 
   refuses_by : (r : Result X Error) (told : Option Error) → Refuses r told
-      → Refuses (told_map f r) told
+      → Refuses (result_map f r) told
   refuses_by (Ok x) told h = h
   refuses_by (Err e) told h = h
 
-  pub first_seen : (r : Result X Error) (told : Option Error) → FaultsFirst (told_map f r) told
+  pub first_seen : (r : Result X Error) (told : Option Error) → FaultsFirst (result_map f r) told
       → FaultsFirst r told
   first_seen r told first = λ e is. refuses_seen r (Some e) (first e is)
 
   first_by : (r : Result X Error) (told : Option Error) → FaultsFirst r told
-      → FaultsFirst (told_map f r) told
+      → FaultsFirst (result_map f r) told
   first_by r told first = λ e is. refuses_by r (Some e) (first e is)
 
-  pub ok_seen : (r : Result X Error) → IsOk (told_map f r) → IsOk r
+  pub ok_seen : (r : Result X Error) → IsOk (result_map f r) → IsOk r
   ok_seen (Ok x) h = refl
   ok_seen (Err e) h = absurd cc
 
-  ok_by : (r : Result X Error) → IsOk r → IsOk (told_map f r)
+  ok_by : (r : Result X Error) → IsOk r → IsOk (result_map f r)
   ok_by (Ok x) h = refl
   ok_by (Err e) h = absurd cc
 
-  memory_seen : (r : Result X Error) → wants_memory (told_map f r) ≡ wants_memory r
+  memory_seen : (r : Result X Error) → wants_memory (result_map f r) ≡ wants_memory r
   memory_seen (Ok x) = refl
   memory_seen (Err e) = refl
 
   pub opens_seen : (r : Result X Error) (loads : List BlockType) (o o' : Opened)
-      → Opens (told_map f r) loads o o' → Opens r loads o o'
+      → Opens (result_map f r) loads o o' → Opens r loads o o'
   opens_seen r loads o o' opens = record {
     made = opens.made;
     counts = opens.counts;
@@ -77,7 +77,7 @@ module _ {X Y : Type 0} (f : X → Y) where
   }
 
   opens_by : (r : Result X Error) (loads : List BlockType) (o o' : Opened)
-      → Opens r loads o o' → Opens (told_map f r) loads o o'
+      → Opens r loads o o' → Opens (result_map f r) loads o o'
   opens_by r loads o o' opens = record {
     made = opens.made;
     counts = opens.counts;
@@ -89,7 +89,7 @@ module _ {X Y : Type 0} (f : X → Y) where
   -- a call that answers what the view of its value says does the read, seen by the view
   pub does_by : (r : Result X Error) (read : Read Y) (o o' : Opened) → Gives f r read.told
       → FaultsFirst r read.early → Opens r read.loads o o' → (read.loads ≡ [] → IsOk r)
-      → DoesRead (told_map f r) read o o'
+      → DoesRead (result_map f r) read o o'
   does_by r read o o' told first opens calm = record {
     told = gives_by r read.told told;
     early = first_by r read.early first;

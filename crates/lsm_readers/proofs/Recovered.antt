@@ -15,12 +15,12 @@ use Rattle.sst_blocks.proofs.LoadLemmas.{unless_ok}
 use Rattle.sst_blocks.specs.filter.Filter.{BloomFilter}
 use Rattle.sst_blocks.specs.Sections.{body_of, trailer_fault}
 use Rattle.lsm_readers.specs.declared.regions.ParsedRegions.{ParsedRegions}
-use Rattle.lsm_readers.specs.point.Meta.{Facts, meta_told}
-use Rattle.lsm_readers.specs.point.Parts.{Parts, Pinned, early_fault, early_in, filter_told}
-use Rattle.lsm_readers.specs.point.Parts.{facts_fitting, parts_told, pinned_filter, pinned_told}
-use Rattle.lsm_readers.specs.point.Parts.{places_told, range_in, key_range_told, recovered_told}
-use Rattle.lsm_readers.specs.point.Parts.{tops_told}
-use Rattle.lsm_readers.specs.point.IndexKinds.{PinnedIndex, index_told}
+use Rattle.lsm_readers.specs.point.Meta.{Facts, meta_result}
+use Rattle.lsm_readers.specs.point.Parts.{Parts, Pinned, early_fault, early_in, filter_result}
+use Rattle.lsm_readers.specs.point.Parts.{facts_fitting, parts_result, pinned_filter, pinned_result}
+use Rattle.lsm_readers.specs.point.Parts.{places_result, range_in, key_range_result, recovered_result}
+use Rattle.lsm_readers.specs.point.Parts.{tops_result}
+use Rattle.lsm_readers.specs.point.IndexKinds.{PinnedIndex, index_result}
 use Rattle.lsm_readers.specs.point.Table.{IsRecovered, IsOpen, OpenTable}
 use Rattle.lsm_readers.specs.point.Read.{◌>>=◌}
 
@@ -50,11 +50,11 @@ made regions facts pinned = record { facts = facts; regions = regions; pinned = 
 -- the steps of opening a table, each of which told what the parts hold
 pub record Steps (bytes : List ℕ) (g : ℕ) (pin_filter pin_index : Bool)
     (parts : Parts) : Type 0 where
-  pub trailer : parts_told bytes g pin_filter pin_index ≡ Ok parts
-  pub regions : places_told bytes ≡ Ok parts.regions
-  pub facts : meta_told (body_of bytes) parts.regions.metadata ≡ Ok parts.facts
+  pub trailer : parts_result bytes g pin_filter pin_index ≡ Ok parts
+  pub regions : places_result bytes ≡ Ok parts.regions
+  pub facts : meta_result (body_of bytes) parts.regions.metadata ≡ Ok parts.facts
   pub fits : parts.facts.seqno_max + g < 2 ^ 64
-  pub pinned : pinned_told (body_of bytes) parts.regions pin_filter pin_index ≡ Ok parts.pinned
+  pub pinned : pinned_result (body_of bytes) parts.regions pin_filter pin_index ≡ Ok parts.pinned
 
 same_facts : (large : Bool) (f k : Facts) → cond large (Err GlobalSeqNoTooLarge) (Ok f) ≡ Ok k
     → f ≡ k
@@ -63,38 +63,38 @@ same_facts false f k h = cc
 
 -- they are, where each told something
 steps_of : (bytes : List ℕ) (g : ℕ) (pin_filter pin_index : Bool) (parts : Parts)
-    (regions : ParsedRegions) (told_facts facts : Facts) (pinned : Pinned)
-    → parts_told bytes g pin_filter pin_index ≡ Ok parts → places_told bytes ≡ Ok regions
-    → meta_told (body_of bytes) regions.metadata ≡ Ok told_facts
-    → facts_fitting told_facts g ≡ Ok facts
-    → pinned_told (body_of bytes) regions pin_filter pin_index ≡ Ok pinned
+    (regions : ParsedRegions) (reported_facts facts : Facts) (pinned : Pinned)
+    → parts_result bytes g pin_filter pin_index ≡ Ok parts → places_result bytes ≡ Ok regions
+    → meta_result (body_of bytes) regions.metadata ≡ Ok reported_facts
+    → facts_fitting reported_facts g ≡ Ok facts
+    → pinned_result (body_of bytes) regions pin_filter pin_index ≡ Ok pinned
     → made regions facts pinned ≡ parts → Steps bytes g pin_filter pin_index parts
-steps_of bytes g pin_filter pin_index parts regions told_facts facts pinned trailer places meta
+steps_of bytes g pin_filter pin_index parts regions reported_facts facts pinned trailer places meta
     number pins same =
-    let large = ltb (2 ^ 64 - 1) (told_facts.seqno_max + g) in
-    let kept : told_facts ≡ facts = same_facts large told_facts facts number in
+    let large = ltb (2 ^ 64 - 1) (reported_facts.seqno_max + g) in
+    let kept : reported_facts ≡ facts = same_facts large reported_facts facts number in
     let all : Steps bytes g pin_filter pin_index (made regions facts pinned) = record {
       trailer = trailer ∙ ap (λ (p : Parts). Ok p) (sym same);
       regions = places;
       facts = meta ∙ ap (λ (f : Facts). Ok f) kept;
-      fits = number_fits large told_facts facts g refl number;
+      fits = number_fits large reported_facts facts g refl number;
       pinned = pins;
     } in
     subst (Steps bytes g pin_filter pin_index) same all
 
 pub steps : (bytes : List ℕ) (g : ℕ) (pin_filter pin_index : Bool) (parts : Parts)
-    → recovered_told bytes g pin_filter pin_index ≡ Ok parts
+    → recovered_result bytes g pin_filter pin_index ≡ Ok parts
     → Steps bytes g pin_filter pin_index parts
-unfolding parts_told
+unfolding parts_result
 steps bytes g pin_filter pin_index parts h =
-    let told = unless_ok (trailer_fault bytes) (parts_told bytes g pin_filter pin_index) parts h in
+    let told = unless_ok (trailer_fault bytes) (parts_result bytes g pin_filter pin_index) parts h in
     let body = body_of bytes in
     let pinned_in : ParsedRegions → Result Pinned Error =
-    λ regions. pinned_told body regions pin_filter pin_index in
-    let r = bind_ok (places_told bytes) (λ regions. meta_told body regions.metadata >>= λ facts.
+    λ regions. pinned_result body regions pin_filter pin_index in
+    let r = bind_ok (places_result bytes) (λ regions. meta_result body regions.metadata >>= λ facts.
     facts_fitting facts g >>= λ facts. pinned_in regions >>= λ pinned. Ok
     (made regions facts pinned)) parts told in
-    let m = bind_ok (meta_told body (r.0).metadata)
+    let m = bind_ok (meta_result body (r.0).metadata)
     (λ facts. facts_fitting facts g >>= λ facts. pinned_in r.0 >>= λ pinned. Ok
     (made r.0 facts pinned)) parts r.2 in
     let n = bind_ok (facts_fitting m.0 g) (λ facts. pinned_in r.0 >>= λ pinned. Ok
@@ -115,64 +115,64 @@ highest_fits t h = (recovered_steps t h).fits
 -- the steps of loading them, each of which told what they are
 pub record PinnedSteps (body : List ℕ) (regions : ParsedRegions) (pin_filter pin_index : Bool)
     (pinned : Pinned) : Type 0 where
-  pub index : index_told body regions pin_index ≡ Ok pinned.index
-  pub filter_tops : tops_told body regions.filter_tli ≡ Ok pinned.filter_tops
-  pub filter : filter_told body (pinned_filter regions pin_filter) ≡ Ok pinned.filter
+  pub index : index_result body regions pin_index ≡ Ok pinned.index
+  pub filter_tops : tops_result body regions.filter_tli ≡ Ok pinned.filter_tops
+  pub filter : filter_result body (pinned_filter regions pin_filter) ≡ Ok pinned.filter
 
 abbrev pins : PinnedIndex → Option (List Handle) → Option BloomFilter → Pinned
 pins index tops filter = record { index = index; filter_tops = tops; filter = filter }
 
 pub pinned_steps : (body : List ℕ) (regions : ParsedRegions) (pin_filter pin_index : Bool)
-    (pinned : Pinned) → pinned_told body regions pin_filter pin_index ≡ Ok pinned
+    (pinned : Pinned) → pinned_result body regions pin_filter pin_index ≡ Ok pinned
     → PinnedSteps body regions pin_filter pin_index pinned
-unfolding pinned_told
+unfolding pinned_result
 pinned_steps body regions pin_filter pin_index pinned h =
     let place = pinned_filter regions pin_filter in
-    let i = bind_ok (index_told body regions pin_index)
-    (λ index. tops_told body regions.filter_tli >>= λ tops. filter_told body place >>= λ filter.
+    let i = bind_ok (index_result body regions pin_index)
+    (λ index. tops_result body regions.filter_tli >>= λ tops. filter_result body place >>= λ filter.
     Ok (pins index tops filter)) pinned h in
-    let t = bind_ok (tops_told body regions.filter_tli)
-    (λ tops. filter_told body place >>= λ filter. Ok (pins i.0 tops filter)) pinned i.2 in
-    let f = bind_ok (filter_told body place) (λ filter. Ok (pins i.0 t.0 filter)) pinned t.2 in
+    let t = bind_ok (tops_result body regions.filter_tli)
+    (λ tops. filter_result body place >>= λ filter. Ok (pins i.0 tops filter)) pinned i.2 in
+    let f = bind_ok (filter_result body place) (λ filter. Ok (pins i.0 t.0 filter)) pinned t.2 in
     let same : pins i.0 t.0 f.0 ≡ pinned = cc in
     subst (PinnedSteps body regions pin_filter pin_index) same
     (record { index = i.1; filter_tops = t.1; filter = f.1 })
 
 -- opening what has no fault in its trailer tells what its parts tell
-pub opening_told : (bytes source : List ℕ) (g : ℕ) (pin_filter pin_index : Bool)
+pub opening_result : (bytes source : List ℕ) (g : ℕ) (pin_filter pin_index : Bool)
     (told : Result Parts Error) → trailer_fault bytes ≡ None → source ≡ bytes
-    → parts_told source g pin_filter pin_index ≡ told
-    → recovered_told bytes g pin_filter pin_index ≡ told
-opening_told bytes source g pin_filter pin_index told none same parts =
-    ap (λ (o : Option Error). unless o (parts_told bytes g pin_filter pin_index)) none
-    ∙ ap (λ (b : List ℕ). parts_told b g pin_filter pin_index) (sym same) ∙ parts
+    → parts_result source g pin_filter pin_index ≡ told
+    → recovered_result bytes g pin_filter pin_index ≡ told
+opening_result bytes source g pin_filter pin_index told none same parts =
+    ap (λ (o : Option Error). unless o (parts_result bytes g pin_filter pin_index)) none
+    ∙ ap (λ (b : List ℕ). parts_result b g pin_filter pin_index) (sym same) ∙ parts
 
 pub opening_fails : (bytes : List ℕ) (g : ℕ) (pin_filter pin_index : Bool) (e : Error)
     → (is_memory e ≡ false → trailer_fault bytes ≡ Some e)
-    → Fails e (recovered_told bytes g pin_filter pin_index)
+    → Fails e (recovered_result bytes g pin_filter pin_index)
 opening_fails bytes g pin_filter pin_index e fault memory =
-    ap (λ (o : Option Error). unless o (parts_told bytes g pin_filter pin_index)) (fault memory)
+    ap (λ (o : Option Error). unless o (parts_result bytes g pin_filter pin_index)) (fault memory)
 
 -- a table of such bytes
 pub is_open : (t : OpenTable) (bytes : List ℕ) (g : ℕ) (pin_filter pin_index : Bool)
     → t.bytes ≡ bytes → t.global_seqno ≡ g → length bytes < 2 ^ 63
-    → recovered_told bytes g pin_filter pin_index ≡ Ok t.parts → IsOpen t
+    → recovered_result bytes g pin_filter pin_index ≡ Ok t.parts → IsOpen t
 is_open t bytes g pin_filter pin_index same number short told = record {
   recovered = record {
     pin_filter = pin_filter;
     pin_index = pin_index;
-    told = ap (λ (b : List ℕ). recovered_told b t.global_seqno pin_filter pin_index) same
-        ∙ ap (λ (n : ℕ). recovered_told bytes n pin_filter pin_index) number ∙ told;
+    told = ap (λ (b : List ℕ). recovered_result b t.global_seqno pin_filter pin_index) same
+        ∙ ap (λ (n : ℕ). recovered_result bytes n pin_filter pin_index) number ∙ told;
   };
   short = subst (λ (b : List ℕ). length b < 2 ^ 63) (sym same) short;
 }
 
 -- the range that the bytes tell is the one that was recovered
-pub range_is : (t : OpenTable) → IsRecovered t → key_range_told t.bytes ≡ t.parts.facts.key_range
+pub range_is : (t : OpenTable) → IsRecovered t → key_range_result t.bytes ≡ t.parts.facts.key_range
 range_is t h =
     let s = recovered_steps t h in
     ap (λ (r : Result ParsedRegions Error). range_in
-    (r >>= λ regions. meta_told (body_of t.bytes) regions.metadata)) s.regions
+    (r >>= λ regions. meta_result (body_of t.bytes) regions.metadata)) s.regions
     ∙ ap range_in s.facts
 
 -- ---- what is refused before memory is taken
@@ -195,10 +195,10 @@ trailer_first r bytes e is fault = first_from r e (early_fault bytes) is (rw fau
 
 pub trailer_fine : {X : Type 0} (r : Result X Error) (bytes source : List ℕ)
     → trailer_fault bytes ≡ None → source ≡ bytes
-    → FaultsFirst r (early_in (body_of source) (places_told source))
+    → FaultsFirst r (early_in (body_of source) (places_result source))
     → FaultsFirst r (early_fault bytes)
 trailer_fine r bytes source fine same first =
-    rw fine (subst (λ (b : List ℕ). FaultsFirst r (early_in (body_of b) (places_told b))) same
+    rw fine (subst (λ (b : List ℕ). FaultsFirst r (early_in (body_of b) (places_result b))) same
     first)
 
 -- the regions, then the meta block
@@ -223,9 +223,9 @@ pub places_none : (body : List ℕ) (places : Result ParsedRegions Error) (regio
 places_none body places regions fine none f h = none f (ap (early_in body) (sym fine) ∙ h)
 
 pub trailer_none : (bytes source : List ℕ) → trailer_fault bytes ≡ None → source ≡ bytes
-    → ((f : Error) → early_in (body_of source) (places_told source) ≡ Some f → Some f ≡ None)
+    → ((f : Error) → early_in (body_of source) (places_result source) ≡ Some f → Some f ≡ None)
     → (f : Error) → early_fault bytes ≡ Some f → Some f ≡ None
 trailer_none bytes source fine same none f h =
-    let rest : Option Error = early_in (body_of bytes) (places_told bytes) in
+    let rest : Option Error = early_in (body_of bytes) (places_result bytes) in
     let behind : rest ≡ Some f = ap (λ (o : Option Error). option_or o rest) (sym fine) ∙ h in
-    none f (ap (λ (b : List ℕ). early_in (body_of b) (places_told b)) same ∙ behind)
+    none f (ap (λ (b : List ℕ). early_in (body_of b) (places_result b)) same ∙ behind)

@@ -9,22 +9,22 @@ use Rattle.std.proofs.lemmas.Bool.{le-ltb}
 use Rattle.sst_blocks.specs.declared.block_type.BlockType.TheVariants.{Data}
 use Rattle.sst_entries.specs.declared.error.Error.{Error}
 use Rattle.sst_entries.specs.declared.error.Error.TheVariants.{OutOfMemory}
-use Rattle.sst_blocks.specs.Block.{Loaded, load_at_told, position_fault, entries_of}
+use Rattle.sst_blocks.specs.Block.{Loaded, load_at_result, position_fault, entries_of}
 use Rattle.sst_entries.specs.Entry.{Entry}
 use Rattle.sst_entries.specs.Lending.{came}
 use Rattle.sst_entries.specs.Error.{FaultsFirst, is_memory}
 use Rattle.sst_blocks.specs.declared.opened.Opened.{Opened}
 use Rattle.sst_blocks.specs.Opened.{with_load}
-use Rattle.sst_entries.specs.Stream.{Answers, Deals, first, but_first, front_of, nowhere}
+use Rattle.sst_entries.specs.Stream.{Answers, YieldsExactly, first, but_first, front_of, nowhere}
 use Rattle.sst_entries.specs.Stream.{Lowers, answer_stops}
-use Rattle.sst_entries.proofs.StreamLemmas.{head_eq, deals_by}
+use Rattle.sst_entries.proofs.StreamLemmas.{head_eq, yields_by}
 use Rattle.sst_entries.proofs.Refusals.{memory_is}
 use Rattle.lsm_readers.specs.point.Answer.{lifted}
 use Rattle.lsm_readers.specs.Scan.{FaultsAtBlock, FaultsAtEntry, IsEndedScan, Scan, ScanHas}
 use Rattle.lsm_readers.specs.Scan.{ScansLent, ScansNext, lend_first, lend_next, unlent}
-use Rattle.lsm_readers.specs.Scan.{behind, block_told, blocks_told, ended, entries_from}
-use Rattle.lsm_readers.specs.Scan.{entries_told, fault_of, lifted_told, loads, scan_loads_behind}
-use Rattle.lsm_readers.specs.Scan.{loads_from, loads_of, scan_left, scan_size, scan_told}
+use Rattle.lsm_readers.specs.Scan.{behind, block_result, blocks_results, ended, entries_from}
+use Rattle.lsm_readers.specs.Scan.{entries_results, fault_of, lifted_result, loads, scan_loads_behind}
+use Rattle.lsm_readers.specs.Scan.{loads_from, loads_of, scan_left, scan_size, scan_results}
 use Rattle.lsm_readers.specs.Scan.{then_blocks, unless_left, up_to_error}
 use Rattle.lsm_readers.specs.point.Read.{◌>>=◌}
 
@@ -36,14 +36,14 @@ Answer = Answers (λ _. Unit {0}) ScanHas front_of
 
 -- ---- an entry with the global number added
 
-pub lifted_ok : (g : ℕ) (e : Entry) → e.seqno + g < 2 ^ 64 → lifted_told g e ≡ Ok (lifted g e)
+pub lifted_ok : (g : ℕ) (e : Entry) → e.seqno + g < 2 ^ 64 → lifted_result g e ≡ Ok (lifted g e)
 lifted_ok g e fits = rw (le-ltb (2 ^ 64 - 1) (e.seqno + g) (omega (arith, fits))) refl
 
 -- ---- what is left
 
 -- an ended scan gives nothing
 pub ended_left : (s : Scan) → IsEndedScan s → scan_left s ≡ []
-unfolding entries_from blocks_told
+unfolding entries_from blocks_results
 ended_left s e = rw (e.0, e.1) refl
 
 -- the first entry, or its fault
@@ -57,10 +57,10 @@ up_to_first (Err e) rs = refl
 
 pub entry_left : (body : List ℕ) (g : ℕ) (e : Entry) (es : List Entry) (position count : ℕ)
     → entries_from body g (e ∷ es) position count
-    ≡ first_entry (lifted_told g e) (entries_from body g es position count)
+    ≡ first_entry (lifted_result g e) (entries_from body g es position count)
 unfolding entries_from
-entry_left body g e es position count = up_to_first (lifted_told g e)
-    (map (lifted_told g) es ++ flat_map (entries_told g) (blocks_told body position count))
+entry_left body g e es position count = up_to_first (lifted_result g e)
+    (map (lifted_result g) es ++ flat_map (entries_results g) (blocks_results body position count))
 
 -- what is left behind the present block, by what the next block is
 abbrev next_left : List ℕ → ℕ → ℕ → Result (List Entry × ℕ) Error → List R
@@ -68,17 +68,17 @@ next_left body g n (Ok x) = entries_from body g x.0 x.1 n
 next_left body g n (Err e) = Err e ∷ []
 
 next_blocks : (body : List ℕ) (g n position : ℕ) (r : Result Loaded Error)
-    → up_to_error (flat_map (entries_told g) (then_blocks r
-    (λ b. blocks_told body (behind position b) n)))
+    → up_to_error (flat_map (entries_results g) (then_blocks r
+    (λ b. blocks_results body (behind position b) n)))
     ≡ next_left body g n (r >>= λ b. Ok (entries_of b, behind position b))
 unfolding entries_from
 next_blocks body g n position (Ok b) = refl
 next_blocks body g n position (Err e) = refl
 
 pub block_left : (body : List ℕ) (g position n : ℕ)
-    → entries_from body g [] position (suc n) ≡ next_left body g n (block_told body position)
-unfolding entries_from blocks_told
-block_left body g position n = next_blocks body g n position (load_at_told body position Data)
+    → entries_from body g [] position (suc n) ≡ next_left body g n (block_result body position)
+unfolding entries_from blocks_results
+block_left body g position n = next_blocks body g n position (load_at_result body position Data)
 
 -- ---- what a call gives
 
@@ -179,19 +179,19 @@ moved_is u s es next o same counts = ap (λ (p : Opened). record (moved u es nex
     counts ∙ ap (λ (v : Scan). moved v es next) same
 
 next_is : (u : Scan) (n : ℕ) → u.entries ≡ [] → u.blocks ≡ suc n
-    → scan_left u ≡ next_left u.body u.global_seqno n (block_told u.body u.position)
+    → scan_left u ≡ next_left u.body u.global_seqno n (block_result u.body u.position)
 next_is u n none some = ap (λ (es : List Entry). entries_from u.body u.global_seqno es u.position
     u.blocks) none ∙ ap (λ (k : ℕ). entries_from u.body u.global_seqno [] u.position k) some
     ∙ block_left u.body u.global_seqno u.position n
 
 needs_first : (u : Scan) (n : ℕ) → u.entries ≡ [] → u.blocks ≡ suc n
-    → loads_of u ≡ suc (scan_loads_behind (block_told u.body u.position)
+    → loads_of u ≡ suc (scan_loads_behind (block_result u.body u.position)
     (λ next. loads_from u.body next n))
 unfolding loads_from
 needs_first u n none some = rw (none, some) refl
 
 needs_next : (u : Scan) (n : ℕ) (es : List Entry) (next : ℕ) → u.entries ≡ [] → u.blocks ≡ suc n
-    → block_told u.body u.position ≡ Ok (es, next)
+    → block_result u.body u.position ≡ Ok (es, next)
     → loads_of u ≡ suc (unless_left es (loads_from u.body next n))
 needs_next u n es next none some told =
     needs_first u n none some ∙ ap (λ (r : Result (List Entry × ℕ) Error). suc
@@ -213,7 +213,7 @@ none_stood s u (inl same) none = ap (λ (v : Scan). v.entries) same ∙ none
 none_stood s u (inr none) _ = none
 
 pub reached_next : (s u : Scan) (es : List Entry) (next : ℕ) → Reached s u → u.entries ≡ []
-    → 0 < u.blocks → block_told u.body u.position ≡ Ok (es, next)
+    → 0 < u.blocks → block_result u.body u.position ≡ Ok (es, next)
     → FaultsFirst loaded (position_fault u.body u.position Data) → Reached s (moved u es next)
 reached_next s u es next reached none some told ahead =
     let n = u.blocks - 1 in
@@ -276,16 +276,16 @@ early_block s u e (inr calm) ahead none more fault h = absurd (calm fault h)
 -- of an entry that stands in the present block comes what its number says
 abbrev LendsThere : Scan → Option R → Type 0
 LendsThere s r = (x : Entry) (xs : List Entry) → s.entries ≡ x ∷ xs
-    → r ≡ Some (lifted_told s.global_seqno x)
+    → r ≡ Some (lifted_result s.global_seqno x)
 
 there_entry : (s u : Scan) (e : Entry) (es : List Entry) (r : R)
     → (unlent s ≡ unlent u) ⊎ (s.entries ≡ []) → u.entries ≡ e ∷ es
-    → lifted_told u.global_seqno e ≡ r → LendsThere s (Some r)
+    → lifted_result u.global_seqno e ≡ r → LendsThere s (Some r)
 there_entry s u e es r (inl same) some told x xs stands =
     let one : e ≡ x = head_eq (sym some ∙ sym (ap (λ (v : Scan). v.entries) same) ∙ stands) in
     ap (λ (y : R). Some y) (sym told
-    ∙ ap (λ (g : ℕ). lifted_told g e) (sym (ap (λ (v : Scan). v.global_seqno) same))
-    ∙ ap (lifted_told s.global_seqno) one)
+    ∙ ap (λ (g : ℕ). lifted_result g e) (sym (ap (λ (v : Scan). v.global_seqno) same))
+    ∙ ap (lifted_result s.global_seqno) one)
 there_entry s u e es r (inr none) some told x xs stands =
     absurd (let wrong : [] ≡ x ∷ xs = sym none ∙ stands in cc)
 
@@ -299,7 +299,7 @@ lifts_there : (s : Scan) (r : Option R) → LendsThere s r → FaultsAtEntry s r
 lifts_there s r there x xs stands f told = there x xs stands ∙ ap (λ (y : R). Some y) told
 
 entry_ok : (s u : Scan) (e : Entry) (es : List Entry) (x : Entry) → Reached s u → u.entries ≡ e ∷ es
-    → lifted_told u.global_seqno e ≡ Ok x
+    → lifted_result u.global_seqno e ≡ Ok x
     → ScansLent s (Some (Ok x)) (record u { lent = Some x; entries = es })
 entry_ok s u e es x reached some told =
     let t = record u { lent = Some x; entries = es } in
@@ -327,7 +327,7 @@ entry_ok s u e es x reached some told =
     }
 
 entry_err : (s u : Scan) (e : Entry) (es : List Entry) (fault : Error) → Reached s u
-    → u.entries ≡ e ∷ es → lifted_told u.global_seqno e ≡ Err fault
+    → u.entries ≡ e ∷ es → lifted_result u.global_seqno e ≡ Err fault
     → ScansLent s (Some (Err fault)) (ended u)
 entry_err s u e es fault reached some told =
     let left = λ (m : is_memory fault ≡ false). ap
@@ -358,10 +358,10 @@ entry_err s u e es fault reached some told =
 abbrev Lends : Scan → Result Bool Error × Scan → Type 0
 Lends s p = ScansLent s (came p.0 p.1.lent) p.1
 
-lends_told : (s u : Scan) (e : Entry) (es : List Entry) (told : R) → Reached s u
-    → u.entries ≡ e ∷ es → lifted_told u.global_seqno e ≡ told → Lends s (lend_first u es told)
-lends_told s u e es (Ok x) reached some told = entry_ok s u e es x reached some told
-lends_told s u e es (Err fault) reached some told = entry_err s u e es fault reached some told
+lends_result : (s u : Scan) (e : Entry) (es : List Entry) (told : R) → Reached s u
+    → u.entries ≡ e ∷ es → lifted_result u.global_seqno e ≡ told → Lends s (lend_first u es told)
+lends_result s u e es (Ok x) reached some told = entry_ok s u e es x reached some told
+lends_result s u e es (Err fault) reached some told = entry_err s u e es fault reached some told
 
 pub scans_entry : (s u t : Scan) (r : Result Bool Error) → Reached s u
     → (r, t) ≡ lend_next u u.entries → (r ≡ Ok false → ⊥) → ScansLent s (came r t.lent) t
@@ -371,7 +371,7 @@ scans_entry s u t r reached is some = by u.entries refl is
         → ScansLent s (came r t.lent) t
     by [] none is = absurd (some (ap (λ (p : Result Bool Error × Scan). p.0) is))
     by (e ∷ es) stands is = subst (Lends s) (sym is)
-        (lends_told s u e es (lifted_told u.global_seqno e) reached stands refl)
+        (lends_result s u e es (lifted_result u.global_seqno e) reached stands refl)
 
 -- a block could not be loaded
 abbrev pub halted : Scan → Scan
@@ -386,20 +386,20 @@ fault_is : {X : Type 0} (r : Result X Error) (e : Error) → fault_of r ≡ Some
 fault_is (Ok x) e h = absurd cc
 fault_is (Err f) e h = let same : f ≡ e = cc in ap (λ (x : Error). Err x) same
 
-one_load : (u : Scan) (n : ℕ) {e : Error} → block_told u.body u.position ≡ Err e
-    → scan_loads_behind (block_told u.body u.position) (λ next. loads_from u.body next n) ≡ 0
+one_load : (u : Scan) (n : ℕ) {e : Error} → block_result u.body u.position ≡ Err e
+    → scan_loads_behind (block_result u.body u.position) (λ next. loads_from u.body next n) ≡ 0
 one_load u n told = ap (λ (r : Result (List Entry × ℕ) Error). scan_loads_behind r
     (λ next. loads_from u.body next n)) told
 
 pub scans_fault : (s u t : Scan) (e : Error) → Reached s u → u.entries ≡ [] → 0 < u.blocks
-    → (is_memory e ≡ false → fault_of (block_told u.body u.position) ≡ Some e)
+    → (is_memory e ≡ false → fault_of (block_result u.body u.position) ≡ Some e)
     → FaultsFirst (refused e) (position_fault u.body u.position Data) → t ≡ halted u
     → ScansLent s (Some (Err e)) t
 scans_fault s u t e reached none some told ahead is =
     let n = u.blocks - 1 in
     let k : u.blocks ≡ suc n = omega (arith, some) in
     let left = λ (m : is_memory e ≡ false). next_is u n none k
-    ∙ ap (next_left u.body u.global_seqno n) (fault_is (block_told u.body u.position) e
+    ∙ ap (next_left u.body u.global_seqno n) (fault_is (block_result u.body u.position) e
     (told m)) in
     let there = there_none s u (Some (Err e)) reached.stands none in
     let step : ScansLent s (Some (Err e)) (halted u) = record {
@@ -417,7 +417,7 @@ scans_fault s u t e reached none some told ahead is =
           reached.needs,
           needs_first u n none k,
           one_load u n
-              (fault_is (block_told u.body u.position) e (told m)),
+              (fault_is (block_result u.body u.position) e (told m)),
         );
         most = omega (arith, reached.needs, needs_first u n none k);
         some = λ _. omega arith;
@@ -460,7 +460,7 @@ at_end s u t r reached is none = by u.entries refl is
     by : (es : List Entry) → u.entries ≡ es → (r, t) ≡ lend_next u es → AtEnd s t
     by [] stands is = subst (AtEnd s) (sym (ap (λ (p : Result Bool Error × Scan). p.1) is))
         (record { reached = still_reached s u reached; none = stands; lent = refl })
-    by (e ∷ es) stands is = told es (lifted_told u.global_seqno e) is
+    by (e ∷ es) stands is = told es (lifted_result u.global_seqno e) is
 
 not_some : (n : ℕ) → (0 < n → ⊥) → n ≡ 0
 not_some zero h = refl
@@ -559,7 +559,7 @@ none_left body g (e ∷ es) position count none =
       none,
       ap length (entry_left body g e es position count),
       some_left
-          (lifted_told g e) (entries_from body g es position count),
+          (lifted_result g e) (entries_from body g es position count),
     ))
 
 no_error : (s t : Scan) (e : Error) → ScansNext s (Some (Err e)) t → IsEndedScan s → ⊥
@@ -603,25 +603,25 @@ progress s t r step = record {
 
 -- ---- what a scan deals
 
-pub scan_deals : (stops : Error → Bool) (s : Scan) (xs : List R) → ScanHas stops s xs
-    → Deals (answer_stops stops) ScansNext nowhere s xs
-scan_deals stops s xs has = deals_by (answer_stops stops) ScansNext nowhere (ScanHas stops)
+pub scan_yields : (stops : Error → Bool) (s : Scan) (xs : List R) → ScanHas stops s xs
+    → YieldsExactly (answer_stops stops) ScansNext nowhere s xs
+scan_yields stops s xs has = yields_by (answer_stops stops) ScansNext nowhere (ScanHas stops)
     (λ s xs r t has step fine. (step.answers).gives stops xs has fine)
     (λ s xs r t has step fine. absurd step) s xs has
 
 pub scan_ends : (stops : Error → Bool) (s t : Scan) (e : Error) → ScansNext s (Some (Err e)) t
-    → Deals (answer_stops stops) ScansNext nowhere t []
-scan_ends stops s t e step = scan_deals stops t [] (sym (ended_left t step.ends), inl step.ends)
+    → YieldsExactly (answer_stops stops) ScansNext nowhere t []
+scan_ends stops s t e step = scan_yields stops t [] (sym (ended_left t step.ends), inl step.ends)
 
 -- and what it lends
 pub scan_lends : (stops : Error → Bool) (s : Scan) (xs : List R) → ScanHas stops s xs
-    → Deals (answer_stops stops) ScansLent nowhere s xs
-scan_lends stops s xs has = deals_by (answer_stops stops) ScansLent nowhere (ScanHas stops)
+    → YieldsExactly (answer_stops stops) ScansLent nowhere s xs
+scan_lends stops s xs has = yields_by (answer_stops stops) ScansLent nowhere (ScanHas stops)
     (λ s xs r t has step fine. (step.next.answers).gives stops xs has fine)
     (λ s xs r t has step fine. absurd step) s xs has
 
 pub lends_end : (stops : Error → Bool) (s t : Scan) (e : Error) → ScansLent s (Some (Err e)) t
-    → Deals (answer_stops stops) ScansLent nowhere t []
+    → YieldsExactly (answer_stops stops) ScansLent nowhere t []
 lends_end stops s t e step = scan_lends stops t []
     (sym (ended_left t step.next.ends), inl step.next.ends)
 
@@ -633,7 +633,7 @@ lent_falls s t (Some r) step = scan_falls s t r step.next
 
 -- the first block was read
 pub first_left : (body : List ℕ) (g count : ℕ) (es : List Entry) (next : ℕ)
-    → block_told body 0 ≡ Ok (es, next) → scan_told body count g
+    → block_result body 0 ≡ Ok (es, next) → scan_results body count g
     ≡ entries_from body g es next (count - 1)
 first_left body g count es next told =
     let k : max 1 count ≡ suc (count - 1) = omega arith in
@@ -642,13 +642,13 @@ first_left body g count es next told =
 
 -- it could not be read
 pub fault_left : (body : List ℕ) (g count : ℕ) (e : Error)
-    → fault_of (load_at_told body 0 Data) ≡ Some e → scan_told body count g ≡ Err e ∷ []
+    → fault_of (load_at_result body 0 Data) ≡ Some e → scan_results body count g ≡ Err e ∷ []
 fault_left body g count e fault =
     let k : max 1 count ≡ suc (count - 1) = omega arith in
     ap (entries_from body g [] 0) k
     ∙ block_left body g 0 (count - 1)
     ∙ ap (λ (r : Result Loaded Error). next_left body g (count - 1)
-    (r >>= λ b. Ok (entries_of b, behind 0 b))) (fault_is (load_at_told body 0 Data) e fault)
+    (r >>= λ b. Ok (entries_of b, behind 0 b))) (fault_is (load_at_result body 0 Data) e fault)
 
 pub same_left : (b d : List ℕ) (g : ℕ) (es fs : List Entry) (next m n : ℕ) → b ≡ d → es ≡ fs → m ≡ n
     → entries_from b g es next m ≡ entries_from d g fs next n

@@ -18,8 +18,8 @@ use Rattle.lsm_iters.specs.block_index.Left.{Left, LeftGives}
 use Rattle.lsm_iters.specs.Bounds.{lower_edge, upper_edge}
 use Rattle.lsm_readers.specs.BlockIndexes.{table_index}
 use Rattle.lsm_readers.specs.point.Read.{◌>>=◌}
-use Rattle.lsm_readers.specs.Sizes.{dealt, size_of, size_told, size_within, sizes_told}
-use Rattle.lsm_readers.specs.Stored.{BearsOut, StoresList}
+use Rattle.lsm_readers.specs.Sizes.{yielded, size_of, size_result, size_within, sizes_result}
+use Rattle.lsm_readers.specs.Stored.{Matches, StoresList}
 use Rattle.lsm_readers.specs.point.Table.{IsOpen, OpenTable}
 use Rattle.lsm_readers.proofs.StoredParts.{stored_index}
 
@@ -58,21 +58,21 @@ abbrev Front : Type 0
 Front = Option R × List R
 
 next_in : (n : ℕ) (xs : List R) (h : Handle) (ys : List R) → front_of xs ≡ (Some (Ok h), ys)
-    → added n (dealt xs) ≡ added (min (n + h.size) most) (dealt ys)
+    → added n (yielded xs) ≡ added (min (n + h.size) most) (yielded ys)
 next_in n [] h ys is =
     let wrong : None ≡ Some (Ok h) = ap (λ (p : Front). p.0) is in absurd cc
 next_in n (Ok x ∷ xs) h ys is =
     let one : Some (Ok x) ≡ Some (Ok h) = ap (λ (p : Front). p.0) is in
     let same : x ≡ h = cc in
     let rest : xs ≡ ys = ap (λ (p : Front). p.1) is in
-    one_more n x (dealt xs)
-    ∙ ap (λ (y : Handle). added (min (n + y.size) most) (dealt xs)) same
-    ∙ ap (λ (zs : List R). added (min (n + h.size) most) (dealt zs)) rest
+    one_more n x (yielded xs)
+    ∙ ap (λ (y : Handle). added (min (n + y.size) most) (yielded xs)) same
+    ∙ ap (λ (zs : List R). added (min (n + h.size) most) (yielded zs)) rest
 next_in n (Err e ∷ xs) h ys is =
     let wrong : Some (Err e) ≡ Some (Ok h) = ap (λ (p : Front). p.0) is in absurd cc
 
 fault_in : (n : ℕ) (xs : List R) (e : Error) → (front_of xs).0 ≡ Some (Err e)
-    → added n (dealt xs) ≡ Err e
+    → added n (yielded xs) ≡ Err e
 fault_in n [] e is = absurd cc
 fault_in n (Ok x ∷ xs) e is = absurd cc
 fault_in n (Err d ∷ xs) e is = let same : d ≡ e = cc in ap (λ (x : Error). Err x) same
@@ -80,26 +80,26 @@ fault_in n (Err d ∷ xs) e is = let same : d ≡ e = cc in ap (λ (x : Error). 
 module _ (n : ℕ) (s : Left) (t : Left) where
   -- a handle that is dealt is added
   pub added_next : (h : Handle) → LeftGives front_of s (Some (Ok h)) t
-      → added n (dealt s.results) ≡ added (min (n + h.size) most) (dealt t.results)
+      → added n (yielded s.results) ≡ added (min (n + h.size) most) (yielded t.results)
   added_next h step = next_in n s.results h t.results step.answer
 
   -- a refusal is the one that stands there
   pub added_fault : (e : Error) → LeftGives front_of s (Some (Err e)) t
-      → Fails e (added n (dealt s.results))
+      → Fails e (added n (yielded s.results))
   added_fault e step = λ memory. fault_in n s.results e (step.answer.0 memory)
 
   -- nothing is left to be added
-  pub added_last : n < 2 ^ 64 → LeftGives front_of s None t → added n (dealt s.results) ≡ Ok n
+  pub added_last : n < 2 ^ 64 → LeftGives front_of s None t → added n (yielded s.results) ≡ Ok n
   added_last fits step =
       let all : min (n + size_of []) most ≡ n = omega (arith, fits) in
-      ap (λ (xs : List R). added n (dealt xs)) step.answer.0 ∙ ap (λ (m : ℕ). Ok m) all
+      ap (λ (xs : List R). added n (yielded xs)) step.answer.0 ∙ ap (λ (m : ℕ). Ok m) all
 
 -- ---- of bytes that store a list
 
-dealt_all : (hs : List Handle) → dealt (ok_results hs) ≡ Ok hs
-dealt_all [] = refl
-dealt_all (h ∷ hs) =
-    ap (λ (told : Result (List Handle) Error). told >>= λ xs. Ok (h ∷ xs)) (dealt_all hs)
+yielded_all : (hs : List Handle) → yielded (ok_results hs) ≡ Ok hs
+yielded_all [] = refl
+yielded_all (h ∷ hs) =
+    ap (λ (told : Result (List Handle) Error). told >>= λ xs. Ok (h ∷ xs)) (yielded_all hs)
 
 -- a part of some handles takes no more than all of them
 abbrev TakesLess : List Handle → List Handle → Type 0
@@ -166,7 +166,7 @@ memory_alone n (Ok x) gives = tt
 memory_alone n (Err e) gives = memory_is e (no_fault (is_memory e) n e gives)
 
 module _ (t : OpenTable) (held : IsOpen t) (es : List Entry) (stored : StoresList t.bytes es)
-    (borne : BearsOut t.parts.facts es stored.handles) (fits : t.parts.facts.file_size < 2 ^ 64)
+    (borne : Matches t.parts.facts es stored.handles) (fits : t.parts.facts.file_size < 2 ^ 64)
     (low high : Bound (List ℕ)) where
   within_most : size_within stored low high ≤ t.parts.facts.file_size
   within_most = omega (
@@ -176,26 +176,26 @@ module _ (t : OpenTable) (held : IsOpen t) (es : List Entry) (stored : StoresLis
   )
 
   -- the index tells the sizes of the list's blocks
-  stored_told : size_told t low high ≡ Ok (size_within stored low high)
-  stored_told =
+  stored_result : size_result t low high ≡ Ok (size_within stored low high)
+  stored_result =
       let hs = window stored.handles (lower_edge low) (upper_edge high) in
       let same : min (size_of hs) most ≡ size_of hs = omega (arith, within_most, fits) in
-      ap sizes_told (stored_index t.bytes es stored t.global_seqno held.recovered.pin_filter
+      ap sizes_result (stored_index t.bytes es stored t.global_seqno held.recovered.pin_filter
       held.recovered.pin_index t.parts held.recovered.told (lower_edge low) (upper_edge high))
       ∙ ap (λ (told : Result (List Handle) Error). told >>= λ xs. Ok (min (size_of xs) most))
-      (dealt_all hs)
+      (yielded_all hs)
       ∙ ap (λ (n : ℕ). Ok n) same
 
   -- ---- by what an iterator of the index deals
 
   module _ (rs : List R) (index : Index) (r : Result ℕ Error)
       (between : rs ≡ index.told (lower_edge low) (upper_edge high)) (same : index ≡ table_index t)
-      (gives : Gives (λ (x : ℕ). x) r (sizes_told rs)) where
+      (gives : Gives (λ (x : ℕ). x) r (sizes_result rs)) where
     gives_size : Gives (λ (x : ℕ). x) r (Ok (size_within stored low high))
     gives_size = subst (λ (told : Result ℕ Error). Gives (λ (x : ℕ). x) r told)
-        (ap sizes_told between
-        ∙ ap (λ (i : Index). sizes_told (i.told (lower_edge low) (upper_edge high))) same
-        ∙ stored_told) gives
+        (ap sizes_result between
+        ∙ ap (λ (i : Index). sizes_result (i.told (lower_edge low) (upper_edge high))) same
+        ∙ stored_result) gives
 
     pub size_is : IfOk r (λ x. x ≡ size_within stored low high)
     size_is = value_is (size_within stored low high) r gives_size

@@ -11,12 +11,12 @@ use Rattle.sst_entries.proofs.KeyLemmas.{same_is, same_itself}
 use Rattle.sst_blocks.specs.filter.Filter.{BloomFilter, admits, filter_in}
 use Rattle.sst_blocks.specs.filter.KeyHash.{hash_of}
 use Rattle.sst_blocks.specs.declared.block_type.BlockType.TheVariants.{Filter}
-use Rattle.sst_blocks.specs.Block.{Loaded, load_told}
+use Rattle.sst_blocks.specs.Block.{Loaded, load_result}
 use Rattle.sst_blocks.specs.Handle.{Handle}
 use Rattle.sst_blocks.specs.Handles.{reaches}
 use Rattle.sst_blocks.specs.Place.{Place, place_of}
 use Rattle.lsm_readers.specs.point.Answer.{block_admits, filter_admits, part_admits}
-use Rattle.lsm_readers.specs.point.Parts.{filter_told, tops_told}
+use Rattle.lsm_readers.specs.point.Parts.{filter_result, tops_result}
 use Rattle.lsm_readers.specs.point.Read.{◌>>=◌}
 use Rattle.lsm_readers.specs.Stored.{Admits, FilterHas, FiltersLoad, LoadsAs}
 use Rattle.lsm_readers.proofs.FileFilters.{Asked}
@@ -94,7 +94,7 @@ module _ (body key : List ℕ) where
   by_load f (Err e) told = absurd cc
 
   pinned_same : (tops : Option (List Handle)) (filter : Option BloomFilter)
-      (place : Option Place) (pin : Bool) → filter_told body (cond pin place None) ≡ Ok filter
+      (place : Option Place) (pin : Bool) → filter_result body (cond pin place None) ≡ Ok filter
       → (filter_admits body tops filter place key (hash_of key)).told
       ≡ (filter_admits body tops None place key (hash_of key)).told
   pinned_same (Some tops) filter place pin told = refl
@@ -102,22 +102,22 @@ module _ (body key : List ℕ) where
   pinned_same None (Some f) place false told = absurd cc
   pinned_same None (Some f) None true told = absurd cc
   pinned_same None (Some f) (Some p) true told =
-      sym (by_load f (load_told body p.offset p.size Filter) told)
+      sym (by_load f (load_result body p.offset p.size Filter) told)
 
 module _ (body : List ℕ) (filter_tli place : Option Place) (keys : List (List ℕ))
     (has : FilterHas body filter_tli place keys) where
   -- it answers, and a no says that the key is none of the keys
   pub filter_asked : (tops : Option (List Handle)) (filter : Option BloomFilter) (pin : Bool)
-      → tops_told body filter_tli ≡ Ok tops → filter_told body (cond pin place None) ≡ Ok filter
+      → tops_result body filter_tli ≡ Ok tops → filter_result body (cond pin place None) ≡ Ok filter
       → (key : List ℕ)
       → Asked (filter_admits body tops filter place key (hash_of key)).told keys key
   filter_asked tops filter pin told pinned key =
-      let same : tops ≡ has.tops = ok_same (tops_told body filter_tli) tops has.tops told has.told
+      let same : tops ≡ has.tops = ok_same (tops_result body filter_tli) tops has.tops told has.told
       in
       let unpinned = filter_answers body key has.tops place has.loads in
       record {
         answer = unpinned.answer;
-        told_is = pinned_same body key tops filter place pin pinned
+        reported_is = pinned_same body key tops filter place pin pinned
             ∙ ap (λ (ts : Option (List Handle)). (filter_admits body ts None place key
             (hash_of key)).told) same ∙ unpinned.is;
         no = λ denied. is_false (has_key key keys) (λ there.
@@ -127,7 +127,7 @@ module _ (body : List ℕ) (filter_tli place : Option Place) (keys : List (List 
       }
 
 loads_opens : (body : List ℕ) (place : Option Place) → FiltersLoad body None place
-    → (filter : Option BloomFilter) × (filter_told body place ≡ Ok filter)
+    → (filter : Option BloomFilter) × (filter_result body place ≡ Ok filter)
 loads_opens body None loads = (None, refl)
 loads_opens body (Some p) loads = (
   Some (filter_in (loads.block).payload),
@@ -137,10 +137,10 @@ loads_opens body (Some p) loads = (
 -- and it loads where it is to stay
 pub filter_opens : (body : List ℕ) (filter_tli place : Option Place) (keys : List (List ℕ))
     (pin : Bool) → FilterHas body filter_tli place keys → (filter : Option BloomFilter)
-    × (filter_told body (cond (pin && is_none filter_tli) place None) ≡ Ok filter)
+    × (filter_result body (cond (pin && is_none filter_tli) place None) ≡ Ok filter)
 filter_opens body filter_tli place keys false has = (None, refl)
 filter_opens body (Some tli) place keys true has = (None, refl)
 filter_opens body None place keys true has =
-    let none : has.tops ≡ None = ok_same (tops_told body None) has.tops None has.told refl in
+    let none : has.tops ≡ None = ok_same (tops_result body None) has.tops None has.told refl in
     loads_opens body place (subst (λ (ts : Option (List Handle)). FiltersLoad body ts place) none
     has.loads)

@@ -11,7 +11,7 @@ use Rattle.sst_entries.specs.Stream.{ok_results}
 use Rattle.sst_entries.specs.Strict.{IsStrictAfter, is_before, last_of}
 use Rattle.sst_entries.proofs.Strictness.{strict_back, strict_front}
 use Rattle.sst_blocks.specs.declared.block_type.BlockType.TheVariants.{Index}
-use Rattle.sst_blocks.specs.Block.{Loaded, handles_of, load_told}
+use Rattle.sst_blocks.specs.Block.{Loaded, handles_of, load_result}
 use Rattle.sst_blocks.specs.Handle.{Handle}
 use Rattle.sst_blocks.specs.Handles.{AreStrictHandles, end_of, reaches, window}
 use Rattle.sst_blocks.specs.Place.{Place, place_of}
@@ -20,9 +20,9 @@ use Rattle.sst_blocks.specs.table.Parts.{joined_parts}
 use Rattle.sst_blocks.specs.table.Partitions.{last_end}
 use Rattle.lsm_readers.specs.declared.regions.ParsedRegions.{ParsedRegions}
 use Rattle.lsm_readers.specs.point.IndexKinds.{PinnedIndex, full, two_level, volatile, handle_by}
-use Rattle.lsm_readers.specs.point.IndexKinds.{handle_in_block, handle_in_part, handles_told}
+use Rattle.lsm_readers.specs.point.IndexKinds.{handle_in_block, handle_in_part, handles_result}
 use Rattle.lsm_readers.specs.point.IndexKinds.{index_over}
-use Rattle.lsm_readers.specs.point.IndexKinds.{index_told, place_in}
+use Rattle.lsm_readers.specs.point.IndexKinds.{index_result, place_in}
 use Rattle.lsm_readers.specs.point.Read.{◌>>=◌}
 use Rattle.lsm_readers.specs.Stored.{HasPartitions, IndexHas, NamesPart}
 use Rattle.lsm_readers.proofs.ChunkReads.{after}
@@ -39,10 +39,10 @@ found_in (Ok b) hs f told = let same : handles_of b ≡ hs = cc in
 found_in (Err e) hs f told = absurd cc
 
 finds_here : (body : List ℕ) (place : Place) (hs : List Handle) (key : List ℕ) (bound : ℕ)
-    → handles_told body place ≡ Ok hs
+    → handles_result body place ≡ Ok hs
     → (handle_in_block body key bound place).told ≡ Ok (place_in hs key bound)
 finds_here body place hs key bound told =
-    found_in (load_told body place.offset place.size Index) hs
+    found_in (load_result body place.offset place.size Index) hs
     (λ (xs : List Handle). place_in xs key bound) told
 
 -- ---- what the partition answers that a top level names
@@ -94,7 +94,7 @@ module _ (body : List ℕ) (key : List ℕ) (bound : ℕ) where
 -- ---- the index
 
 -- an index finds the first of some handles that reaches a key, and has their windows
-pub record TellsHandles (body : List ℕ) (tli : Place) (hs : List Handle) (index : PinnedIndex)
+pub record ReportsHandles (body : List ℕ) (tli : Place) (hs : List Handle) (index : PinnedIndex)
     : Type 0 where
   pub finds : (key : List ℕ) (bound : ℕ)
       → (handle_by body index tli key bound).told ≡ Ok (place_in hs key bound)
@@ -102,17 +102,17 @@ pub record TellsHandles (body : List ℕ) (tli : Place) (hs : List Handle) (inde
       → (index_over body index tli).told lo hi ≡ ok_results (window hs lo hi)
 
 module _ (body : List ℕ) (tli : Place) (hs : List Handle) (strict : AreStrictHandles hs) where
-  full_tells : TellsHandles body tli hs (full hs)
-  full_tells = record { finds = λ key bound. refl; windows = λ lo hi. refl }
+  full_reports : ReportsHandles body tli hs (full hs)
+  full_reports = record { finds = λ key bound. refl; windows = λ lo hi. refl }
 
-  volatile_tells : handles_told body tli ≡ Ok hs → TellsHandles body tli hs volatile
-  volatile_tells told = record {
+  volatile_reports : handles_result body tli ≡ Ok hs → ReportsHandles body tli hs volatile
+  volatile_reports told = record {
     finds = λ key bound. finds_here body tli hs key bound told;
     windows = λ lo hi. between_here body tli hs lo hi told;
   }
 
-  parts_tell : (p : HasPartitions body tli hs) → TellsHandles body tli hs (two_level p.tops)
-  parts_tell p =
+  parts_report : (p : HasPartitions body tli hs) → ReportsHandles body tli hs (two_level p.tops)
+  parts_report p =
       let line : AreStrictHandles (joined_parts p.parts) = subst AreStrictHandles (sym p.whole)
       strict in
       record {
@@ -129,27 +129,27 @@ module _ (body : List ℕ) (tli : Place) (hs : List Handle) (strict : AreStrictH
         (ap (λ (s : Result (List Handle) Error). s >>= λ ys. Ok (made ys)) is) told
 
     tells : (section : Option Place) (pin : Bool) → IndexHas body section tli hs
-        → cond (is_some section) (handles_told body tli >>= λ tops. Ok (two_level tops))
-        (cond pin (handles_told body tli >>= λ handles. Ok (full handles)) (Ok volatile))
-        ≡ Ok index → TellsHandles body tli hs index
-    tells None true has told = subst (TellsHandles body tli hs)
-        (kept (handles_told body tli) (λ xs. full xs) hs has told) full_tells
+        → cond (is_some section) (handles_result body tli >>= λ tops. Ok (two_level tops))
+        (cond pin (handles_result body tli >>= λ handles. Ok (full handles)) (Ok volatile))
+        ≡ Ok index → ReportsHandles body tli hs index
+    tells None true has told = subst (ReportsHandles body tli hs)
+        (kept (handles_result body tli) (λ xs. full xs) hs has told) full_reports
     tells None false has told = let same : volatile ≡ index = cc in
-        subst (TellsHandles body tli hs) same (volatile_tells has)
-    tells (Some place) pin has told = subst (TellsHandles body tli hs)
-        (kept (handles_told body tli) (λ xs. two_level xs) has.tops has.told told) (parts_tell has)
+        subst (ReportsHandles body tli hs) same (volatile_reports has)
+    tells (Some place) pin has told = subst (ReportsHandles body tli hs)
+        (kept (handles_result body tli) (λ xs. two_level xs) has.tops has.told told) (parts_report has)
 
 -- whatever stays loaded of an index that has some handles, it tells them
-pub index_tells : (body : List ℕ) (regions : ParsedRegions) (pin : Bool) (index : PinnedIndex)
+pub index_reports : (body : List ℕ) (regions : ParsedRegions) (pin : Bool) (index : PinnedIndex)
     (hs : List Handle) → AreStrictHandles hs → IndexHas body regions.index regions.tli hs
-    → index_told body regions pin ≡ Ok index → TellsHandles body regions.tli hs index
-index_tells body regions pin index hs strict has told =
+    → index_result body regions pin ≡ Ok index → ReportsHandles body regions.tli hs index
+index_reports body regions pin index hs strict has told =
     tells body regions.tli hs strict index regions.index pin has told
 
 -- and it loads
 pub index_opens : (body : List ℕ) (regions : ParsedRegions) (pin : Bool) (hs : List Handle)
     → IndexHas body regions.index regions.tli hs
-    → (index : PinnedIndex) × (index_told body regions pin ≡ Ok index)
+    → (index : PinnedIndex) × (index_result body regions pin ≡ Ok index)
 index_opens body regions pin hs has = opens regions.index pin has
   where
     goes : (r : Result (List Handle) Error) (made : List Handle → PinnedIndex) (xs : List Handle)
@@ -158,12 +158,12 @@ index_opens body regions pin hs has = opens regions.index pin has
 
     opens : (section : Option Place) (pin : Bool) → IndexHas body section regions.tli hs
         → (index : PinnedIndex) × (cond (is_some section)
-        (handles_told body regions.tli >>= λ tops. Ok (two_level tops))
-        (cond pin (handles_told body regions.tli >>= λ handles. Ok (full handles)) (Ok volatile))
+        (handles_result body regions.tli >>= λ tops. Ok (two_level tops))
+        (cond pin (handles_result body regions.tli >>= λ handles. Ok (full handles)) (Ok volatile))
         ≡ Ok index)
-    opens None true has = (full hs, goes (handles_told body regions.tli) (λ xs. full xs) hs has)
+    opens None true has = (full hs, goes (handles_result body regions.tli) (λ xs. full xs) hs has)
     opens None false has = (volatile, refl)
     opens (Some place) pin has = (
       two_level has.tops,
-      goes (handles_told body regions.tli) (λ xs. two_level xs) has.tops has.told,
+      goes (handles_result body regions.tli) (λ xs. two_level xs) has.tops has.told,
     )

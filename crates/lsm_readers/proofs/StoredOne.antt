@@ -5,14 +5,14 @@ use Rattle.std.specs.List.{AllZip}
 use Rattle.sst_blocks.specs.Sections.{body_of}
 use Rattle.sst_entries.specs.Entry.{Entry}
 use Rattle.sst_blocks.specs.declared.block_type.BlockType.TheVariants.{Data}
-use Rattle.sst_blocks.specs.Block.{entries_of, load_told}
+use Rattle.sst_blocks.specs.Block.{entries_of, load_result}
 use Rattle.sst_blocks.specs.Handle.{Handle}
 use Rattle.sst_blocks.specs.Place.{Place, place_of}
 use Rattle.sst_blocks.specs.table.Chunks.{joined}
 use Rattle.sst_blocks.specs.table.Parts.{joined_parts}
 use Rattle.lsm_readers.specs.declared.regions.ParsedRegions.{ParsedRegions}
-use Rattle.lsm_readers.specs.point.IndexKinds.{handles_told}
-use Rattle.lsm_readers.specs.point.Parts.{places_told}
+use Rattle.lsm_readers.specs.point.IndexKinds.{handles_result}
+use Rattle.lsm_readers.specs.point.Parts.{places_result}
 use Rattle.lsm_readers.specs.Stored.{IndexHas, NamesChunk, NamesPart, StoresList}
 use Rattle.lsm_readers.proofs.Recovered.{ok_same}
 
@@ -34,18 +34,18 @@ module _ (body : List ℕ) where
   chunk_one h c d a b =
       sym a.entries
       ∙ ap entries_of
-      (ok_same (load_told body h.offset h.size Data) a.block b.block a.loads b.loads)
+      (ok_same (load_result body h.offset h.size Data) a.block b.block a.loads b.loads)
       ∙ b.entries
 
   part_one : (top : Handle) (p q : List Handle) → NamesPart body top p → NamesPart body top q
       → p ≡ q
-  part_one top p q a b = ok_same (handles_told body (place_of top)) p q a.handles b.handles
+  part_one top p q a b = ok_same (handles_result body (place_of top)) p q a.handles b.handles
 
   index_one : (section : Option Place) (tli : Place) (hs ks : List Handle)
       → IndexHas body section tli hs → IndexHas body section tli ks → hs ≡ ks
-  index_one None tli hs ks a b = ok_same (handles_told body tli) hs ks a b
+  index_one None tli hs ks a b = ok_same (handles_result body tli) hs ks a b
   index_one (Some section) tli hs ks a b =
-      let tops = ok_same (handles_told body tli) a.tops b.tops a.told b.told in
+      let tops = ok_same (handles_result body tli) a.tops b.tops a.told b.told in
       let named = subst (λ (ts : List Handle). AllZip (NamesPart body) ts a.parts) tops a.named in
       sym a.whole
       ∙ ap joined_parts (zip_one (NamesPart body) part_one b.tops a.parts b.parts named b.named)
@@ -55,7 +55,7 @@ pub stored_one : (bytes : List ℕ) (xs ys : List Entry) → StoresList bytes xs
     → xs ≡ ys
 stored_one bytes xs ys s t =
     let body = body_of bytes in
-    let regions = ok_same (places_told bytes) s.regions t.regions s.places t.places in
+    let regions = ok_same (places_result bytes) s.regions t.regions s.places t.places in
     let index = subst (λ (r : ParsedRegions). IndexHas body r.index r.tli s.handles) regions
     s.index in
     let handles = index_one body (t.regions).index (t.regions).tli s.handles t.handles index

@@ -12,10 +12,10 @@ use Rattle.sst_entries.specs.declared.error.Error.TheVariants.{GlobalSeqNoTooLar
 use Rattle.sst_entries.specs.Entry.{Entry}
 use Rattle.sst_entries.specs.Error.{Faults, Gives}
 use Rattle.sst_entries.specs.Point.{point, within}
-use Rattle.sst_entries.specs.Stream.{Deals, answer_stops, nowhere, ok_results}
+use Rattle.sst_entries.specs.Stream.{YieldsExactly, answer_stops, nowhere, ok_results}
 use Rattle.sst_entries.specs.Strict.{IsStrict}
 use Rattle.sst_blocks.specs.declared.block_type.BlockType.TheVariants.{Data}
-use Rattle.sst_blocks.specs.Block.{load_at_told}
+use Rattle.sst_blocks.specs.Block.{load_at_result}
 use Rattle.sst_blocks.specs.Handle.{Handle}
 use Rattle.sst_blocks.specs.Handles.{window}
 use Rattle.sst_blocks.specs.table.Chunks.{joined}
@@ -27,17 +27,17 @@ use Rattle.lsm_iters.specs.Rows.{Bounded, rows}
 use Rattle.lsm_readers.specs.declared.regions.ParsedRegions.{ParsedRegions}
 use Rattle.lsm_readers.specs.point.Answer.{answer, filter_admits}
 use Rattle.lsm_readers.specs.point.IndexKinds.{index_over}
-use Rattle.lsm_readers.specs.point.Meta.{Facts, meta_told}
-use Rattle.lsm_readers.specs.point.Parts.{Parts, Pinned, facts_fitting, parts_told, pinned_told}
-use Rattle.lsm_readers.specs.point.Parts.{places_told, recovered_told}
+use Rattle.lsm_readers.specs.point.Meta.{Facts, meta_result}
+use Rattle.lsm_readers.specs.point.Parts.{Parts, Pinned, facts_fitting, parts_result, pinned_result}
+use Rattle.lsm_readers.specs.point.Parts.{places_result, recovered_result}
 use Rattle.lsm_readers.specs.Scan.{LendsList, Scan, ScansLent, ScansList, ScansNext, fault_of}
-use Rattle.lsm_readers.specs.Scan.{scan_told}
-use Rattle.lsm_readers.specs.Stored.{BearsOut, FilterHas, IndexHas, StoresList, fits_told}
+use Rattle.lsm_readers.specs.Scan.{scan_results}
+use Rattle.lsm_readers.specs.Stored.{Matches, FilterHas, IndexHas, StoresList, fits_result}
 use Rattle.lsm_readers.proofs.FileFilters.{Asked}
 use Rattle.lsm_readers.proofs.Recovered.{PinnedSteps, Steps, ok_same, pinned_steps, steps}
 use Rattle.lsm_readers.proofs.StoredChunks.{handles_strict}
 use Rattle.lsm_readers.proofs.StoredFilters.{filter_asked, filter_opens}
-use Rattle.lsm_readers.proofs.StoredIndex.{TellsHandles, index_opens, index_tells}
+use Rattle.lsm_readers.proofs.StoredIndex.{ReportsHandles, index_opens, index_reports}
 use Rattle.lsm_readers.proofs.StoredPoints.{reads_first}
 use Rattle.lsm_readers.proofs.StoredRanges.{LeavesRoom, window_rows}
 use Rattle.lsm_readers.proofs.Steps.{same_fault}
@@ -63,12 +63,12 @@ by_number view (Err e) false parts gives =
 -- opening tells the parts that its steps tell
 recovers_by : (bytes : List ℕ) (g : ℕ) (pin_filter pin_index : Bool) (regions : ParsedRegions)
     (facts : Facts) (pinned : Pinned) (large : Bool) → trailer_fault bytes ≡ None
-    → places_told bytes ≡ Ok regions → meta_told (body_of bytes) regions.metadata ≡ Ok facts
+    → places_result bytes ≡ Ok regions → meta_result (body_of bytes) regions.metadata ≡ Ok facts
     → facts_fitting facts g ≡ unless_large large facts
-    → pinned_told (body_of bytes) regions pin_filter pin_index ≡ Ok pinned
-    → recovered_told bytes g pin_filter pin_index
+    → pinned_result (body_of bytes) regions pin_filter pin_index ≡ Ok pinned
+    → recovered_result bytes g pin_filter pin_index
     ≡ unless_large large (record { facts = facts; regions = regions; pinned = pinned })
-unfolding parts_told
+unfolding parts_result
 recovers_by bytes g pin_filter pin_index regions facts pinned true trailer places meta fits pins =
     rw (trailer, places, meta, fits) refl
 recovers_by bytes g pin_filter pin_index regions facts pinned false trailer places meta fits pins =
@@ -81,8 +81,8 @@ module _ (bytes : List ℕ) (es : List Entry) (t : StoresList bytes es) where
   -- ---- opening
 
   pinned_goes : (pin_filter pin_index : Bool) → (pinned : Pinned)
-      × (pinned_told body t.regions pin_filter pin_index ≡ Ok pinned)
-  unfolding pinned_told
+      × (pinned_result body t.regions pin_filter pin_index ≡ Ok pinned)
+  unfolding pinned_result
   pinned_goes pin_filter pin_index =
       let index = index_opens body t.regions pin_index t.handles t.index in
       let filter = filter_opens body t.regions.filter_tli t.regions.filter (keys_of es) pin_filter
@@ -103,7 +103,7 @@ module _ (bytes : List ℕ) (es : List Entry) (t : StoresList bytes es) where
   is_large g = ltb (2 ^ 64 - 1) (highest_seqno es + g)
 
   -- the bytes are recovered where it does not, and refused else
-  recovers : (g : ℕ) (pin_filter pin_index : Bool) → recovered_told bytes g pin_filter pin_index
+  recovers : (g : ℕ) (pin_filter pin_index : Bool) → recovered_result bytes g pin_filter pin_index
       ≡ unless_large (is_large g) (parts_for pin_filter pin_index)
   recovers g pin_filter pin_index =
       let fits : facts_fitting t.facts g ≡ unless_large (is_large g) t.facts =
@@ -114,22 +114,22 @@ module _ (bytes : List ℕ) (es : List Entry) (t : StoresList bytes es) where
 
   -- so a call that opens them refuses just that, memory aside
   pub opens_by : {X : Type 0} (view : X → Parts) (r : Result X Error) (g : ℕ)
-      (pin_filter pin_index : Bool) → Gives view r (recovered_told bytes g pin_filter pin_index)
-      → Gives (nothing {X = X}) r (fits_told es g)
+      (pin_filter pin_index : Bool) → Gives view r (recovered_result bytes g pin_filter pin_index)
+      → Gives (nothing {X = X}) r (fits_result es g)
   opens_by view r g pin_filter pin_index gives =
       by_number view r (is_large g) (parts_for pin_filter pin_index)
       (subst (λ (told : Result Parts Error). Gives view r told) (recovers g pin_filter pin_index)
       gives)
 
   pub stored_fits : (g : ℕ) (pin_filter pin_index : Bool) (parts : Parts)
-      → recovered_told bytes g pin_filter pin_index ≡ Ok parts → fits_told es g ≡ Ok tt
+      → recovered_result bytes g pin_filter pin_index ≡ Ok parts → fits_result es g ≡ Ok tt
   stored_fits g pin_filter pin_index parts told =
       opens_by (λ (p : Parts). p) (Ok parts) g pin_filter pin_index told
 
   -- ---- what was recovered
 
   module _ (g : ℕ) (pin_filter pin_index : Bool) (parts : Parts)
-      (told : recovered_told bytes g pin_filter pin_index ≡ Ok parts) where
+      (told : recovered_result bytes g pin_filter pin_index ≡ Ok parts) where
     the_steps : Steps bytes g pin_filter pin_index parts
     the_steps = steps bytes g pin_filter pin_index parts told
 
@@ -137,16 +137,16 @@ module _ (bytes : List ℕ) (es : List Entry) (t : StoresList bytes es) where
     pins = pinned_steps body parts.regions pin_filter pin_index parts.pinned (the_steps.pinned)
 
     regions_are : t.regions ≡ parts.regions
-    regions_are = ok_same (places_told bytes) t.regions parts.regions t.places (the_steps.regions)
+    regions_are = ok_same (places_result bytes) t.regions parts.regions t.places (the_steps.regions)
 
     facts_are : t.facts ≡ parts.facts
-    facts_are = ok_same (meta_told body parts.regions.metadata) t.facts parts.facts
-        (subst (λ (r : ParsedRegions). meta_told body r.metadata ≡ Ok t.facts) regions_are t.meta)
+    facts_are = ok_same (meta_result body parts.regions.metadata) t.facts parts.facts
+        (subst (λ (r : ParsedRegions). meta_result body r.metadata ≡ Ok t.facts) regions_are t.meta)
         (the_steps.facts)
 
     -- the table says of itself what the list says
-    pub bears_out : BearsOut parts.facts es t.handles
-    bears_out = subst (λ (f : Facts). BearsOut f es t.handles) facts_are t.borne
+    pub bears_out : Matches parts.facts es t.handles
+    bears_out = subst (λ (f : Facts). Matches f es t.handles) facts_are t.borne
 
     fits : highest_seqno es + g < 2 ^ 64
     fits = subst (λ (n : ℕ). n + g < 2 ^ 64) (bears_out.seqno_max) (the_steps.fits)
@@ -161,8 +161,8 @@ module _ (bytes : List ℕ) (es : List Entry) (t : StoresList bytes es) where
     chunks_fit : highest_seqno (joined t.blocks) + g < 2 ^ 64
     chunks_fit = of_chunks (λ (xs : List Entry). highest_seqno xs + g < 2 ^ 64) fits
 
-    index : TellsHandles body parts.regions.tli t.handles parts.pinned.index
-    index = index_tells body parts.regions pin_index parts.pinned.index t.handles
+    index : ReportsHandles body parts.regions.tli t.handles parts.pinned.index
+    index = index_reports body parts.regions pin_index parts.pinned.index t.handles
         (handles_strict body t.handles t.blocks t.named line)
         (subst (λ (r : ParsedRegions). IndexHas body r.index r.tli t.handles) regions_are t.index)
         (pins.index)
@@ -200,20 +200,20 @@ module _ (bytes : List ℕ) (es : List Entry) (t : StoresList bytes es) where
         t.whole chunks)
 
     pub stored_scan : 0 < length es
-        → scan_told body parts.facts.data_block_count g ≡ ok_results (lift es g)
+        → scan_results body parts.facts.data_block_count g ≡ ok_results (lift es g)
     stored_scan some = (scans some).all
 
     pub stored_scans : (r : Result Scan Error) → ((stops : Error → Bool)
-        → stops OutOfMemory ≡ true → IfOk r (λ s. Deals (answer_stops stops) ScansNext nowhere s
-        (scan_told body parts.facts.data_block_count g)))
-        → Faults r (fault_of (load_at_told body 0 Data)) → ScansList r es g
-    stored_scans r deals faults = scan_opens r body parts.facts.data_block_count g es t.none scans
-        deals faults
+        → stops OutOfMemory ≡ true → IfOk r (λ s. YieldsExactly (answer_stops stops) ScansNext nowhere s
+        (scan_results body parts.facts.data_block_count g)))
+        → Faults r (fault_of (load_at_result body 0 Data)) → ScansList r es g
+    stored_scans r yields faults = scan_opens r body parts.facts.data_block_count g es t.none scans
+        yields faults
 
     pub stored_lends : (r : Result Scan Error) → ((stops : Error → Bool)
-        → stops OutOfMemory ≡ true → IfOk r (λ s. Deals (answer_stops stops) ScansLent nowhere s
-        (scan_told body parts.facts.data_block_count g)))
-        → Faults r (fault_of (load_at_told body 0 Data)) → LendsList r es g
+        → stops OutOfMemory ≡ true → IfOk r (λ s. YieldsExactly (answer_stops stops) ScansLent nowhere s
+        (scan_results body parts.facts.data_block_count g)))
+        → Faults r (fault_of (load_at_result body 0 Data)) → LendsList r es g
     stored_lends r lends faults = lends_list r body parts.facts.data_block_count g es t.none scans
         lends faults
 

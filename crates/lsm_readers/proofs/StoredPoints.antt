@@ -30,7 +30,7 @@ use Rattle.lsm_readers.proofs.ChunkReads.{chunk_here, chunk_passed}
 use Rattle.lsm_readers.proofs.FileFilters.{Asked}
 use Rattle.lsm_readers.proofs.FilterReads.{no_entry}
 use Rattle.lsm_readers.proofs.StoredChunks.{chunk_reaches}
-use Rattle.lsm_readers.proofs.StoredIndex.{TellsHandles}
+use Rattle.lsm_readers.proofs.StoredIndex.{ReportsHandles}
 
 -- ---- numbers with the global number added
 
@@ -80,10 +80,10 @@ module _ (body : List ℕ) (g : ℕ) (key : List ℕ) (low : ℕ) where
   found es = Ok (option_map (lifted g) (find (is_hit key low) es))
 
   -- the read of one chunk by its handle
-  chunk_told : (h : Handle) (c : List Entry) → NamesChunk body h c
+  chunk_result : (h : Handle) (c : List Entry) → NamesChunk body h c
       → (match_at body g key low (place_of h)).told ≡ found c
   unfolding point
-  chunk_told h c n = ap (λ (r : Result Loaded Error). r
+  chunk_result h c n = ap (λ (r : Result Loaded Error). r
       >>= λ b. Ok (option_map (lifted g) (point (entries_of b) key low))) n.loads
       ∙ ap found n.entries
 
@@ -96,7 +96,7 @@ module _ (body : List ℕ) (g : ℕ) (key : List ℕ) (low : ℕ) where
       → (b : Bool) → reaches key low h ≡ b → Reads o rest
       → Reads (cond b (Some h) o) ((x ∷ xs) ++ rest)
   decided last h x xs rest o n strict true late more =
-      chunk_told h (x ∷ xs) n ∙ ap (λ (p : Option Entry). Ok (option_map (lifted g) p))
+      chunk_result h (x ∷ xs) n ∙ ap (λ (p : Option Entry). Ok (option_map (lifted g) p))
       (sym (chunk_here key low last x xs rest strict
       (sym (chunk_reaches body h (x ∷ xs) n key low) ∙ late)))
   decided last h x xs rest o n strict false early more =
@@ -125,7 +125,7 @@ module _ (body : List ℕ) (g : ℕ) (key : List ℕ) (low : ℕ) where
 
 module _ (body : List ℕ) (g : ℕ) (parts : Parts) (hs : List Handle) (cs : List (List Entry))
     (named : AllZip (NamesChunk body) hs cs) (strict : IsStrict (joined cs))
-    (index : TellsHandles body parts.regions.tli hs parts.pinned.index)
+    (index : ReportsHandles body parts.regions.tli hs parts.pinned.index)
     (asks : (key : List ℕ) → Asked (filter_admits body parts.pinned.filter_tops
     parts.pinned.filter parts.regions.filter key (hash_of key)).told (keys_of (joined cs)) key)
     (lowest : parts.facts.seqno_min ≡ lowest_seqno (joined cs)) where
@@ -153,7 +153,7 @@ module _ (body : List ℕ) (g : ℕ) (parts : Parts) (hs : List Handle) (cs : Li
         (subst (λ (n : ℕ). low ≤ n) lowest (ltb-false _ _ e)))
     low_or_read true e =
         ap (λ (r : Result Bool Error). rest (r >>= λ b. (handle_for body parts key low b).told))
-        (asks key).told_is ∙ behind_answer (asks key).answer refl
+        (asks key).reported_is ∙ behind_answer (asks key).answer refl
 
   lifted_point : (key : List ℕ) (bound : ℕ) → point (lift es g) key bound
       ≡ option_map (lifted g) (find (is_hit key (bound - g)) es)

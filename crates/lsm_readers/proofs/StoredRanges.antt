@@ -34,7 +34,7 @@ use Rattle.sst_blocks.specs.table.Chunks.{joined}
 use Rattle.sst_blocks.specs.table.Facts.{highest_seqno}
 use Rattle.sst_blocks.specs.table.Index.{last_entry}
 use Rattle.lsm_iters.specs.Bounds.{lower_edge, upper_edge}
-use Rattle.lsm_iters.specs.Lift.{lift, lift_told, lifted, lifted_told}
+use Rattle.lsm_iters.specs.Lift.{lift, lift_results, lifted, lifted_result}
 use Rattle.lsm_iters.specs.Rows.{Bounded, block_rows, rows, rows_in}
 use Rattle.lsm_readers.proofs.ChunkReads.{later, not_before}
 use Rattle.lsm_readers.proofs.FileLengths.{last_some}
@@ -126,7 +126,7 @@ module _ (body : List ℕ) (g : ℕ) (low high : Bound (List ℕ)) where
   row h = block_rows bounded h
 
   abbrev told : List Entry → List (Result Entry Error)
-  told es = lift_told g (within low high es)
+  told es = lift_results g (within low high es)
 
   -- a handle has the rows of its chunk
   row_is : (h : Handle) (c : List Entry) → NamesChunk body h c → row h ≡ told c
@@ -142,8 +142,8 @@ module _ (body : List ℕ) (g : ℕ) (low high : Bound (List ℕ)) where
       let p = λ (e : Entry). is_from low e.user_key && is_to high e.user_key in
       ap (λ (rs : List (Result Entry Error)). rs ++ flat_map row hs) (row_is h c named.0)
       ∙ ap (λ (rs : List (Result Entry Error)). told c ++ rs) (rows_whole hs cs named.1)
-      ∙ sym (map-append (lifted_told g) (filter p c) (filter p (joined cs)))
-      ∙ ap (lift_told g) (sym (filter-append p c (joined cs)))
+      ∙ sym (map-append (lifted_result g) (filter p c) (filter p (joined cs)))
+      ∙ ap (lift_results g) (sym (filter-append p c (joined cs)))
 
   -- a block before the first that may hold the lower bound's key has none
   module _ (key : List ℕ) (none : (k : List ℕ) → key_lt k key ≡ true → is_from low k ≡ false) where
@@ -166,7 +166,7 @@ module _ (body : List ℕ) (g : ℕ) (low high : Bound (List ℕ)) where
         (sym (chunk_reaches body h c named.0 key (2 ^ 64 - 1)) ∙ early) in
         let beside = all_more P Q (λ e lt. not_from low high e.user_key (none e.user_key lt)) c
         before in
-        row_is h c named.0 ∙ ap (lift_told g) (none_within low high c beside) in (
+        row_is h c named.0 ∙ ap (lift_results g) (none_within low high c beside) in (
           here,
           early_rows (last_of last c) hs cs named.1 (strict_back last c (joined cs) strict)
               (all_behind LeavesRoom c (joined cs) room),
@@ -194,7 +194,7 @@ module _ (body : List ℕ) (g : ℕ) (low high : Bound (List ℕ)) where
         ap (key_lt key) (sym (named.0).end_key) ∙ above in
         let beside = all_more P Q (λ e lt. not_to low high e.user_key (none e.user_key lt))
         (joined cs) (all_above key (last_entry c) (joined cs) behind end) in
-        rows_whole hs cs named.1 ∙ ap (lift_told g) (none_within low high (joined cs) beside) in
+        rows_whole hs cs named.1 ∙ ap (lift_results g) (none_within low high (joined cs) beside) in
         (here, late_rows (last_of last c) hs cs named.1 rest)
 
 -- ---- by the bounds
@@ -234,19 +234,19 @@ rows_ok b (h ∷ hs) = ap (λ (rs : List (Result Entry Error)). block_rows b h +
 
 -- where the highest number fits, those of a list are its lifted entries within the bounds
 list_step : (b : Bool) (r : Result Entry Error) (e : Entry) (xs : List Entry) (ys : List Entry)
-    (g : ℕ) → r ≡ Ok e → lift_told g xs ≡ ok_results ys → (x : Entry) → lifted_told g x ≡ r
-    → lift_told g (cond b (x ∷ xs) xs) ≡ ok_results (cond b (e ∷ ys) ys)
+    (g : ℕ) → r ≡ Ok e → lift_results g xs ≡ ok_results ys → (x : Entry) → lifted_result g x ≡ r
+    → lift_results g (cond b (x ∷ xs) xs) ≡ ok_results (cond b (e ∷ ys) ys)
 list_step true r e xs ys g is more x told = rw (told ∙ is, more) refl
 list_step false r e xs ys g is more x told = more
 
 list_rows : (g : ℕ) (low high : Bound (List ℕ)) (es : List Entry) → highest_seqno es + g < 2 ^ 64
-    → lift_told g (within low high es) ≡ ok_results (within low high (lift es g))
+    → lift_results g (within low high es) ≡ ok_results (within low high (lift es g))
 unfolding highest_seqno
 list_rows g low high [] fits = refl
 list_rows g low high (e ∷ es) fits =
     let here : e.seqno + g < 2 ^ 64 = omega (arith, fits) in
     let more : highest_seqno es + g < 2 ^ 64 = omega (arith, fits) in
-    list_step (is_from low e.user_key && is_to high e.user_key) (lifted_told g e) (lifted g e)
+    list_step (is_from low e.user_key && is_to high e.user_key) (lifted_result g e) (lifted g e)
     (within low high es) (within low high (lift es g)) g (lifted_ok g e here)
     (list_rows g low high es more) e refl
 

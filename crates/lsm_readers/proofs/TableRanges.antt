@@ -11,28 +11,28 @@ use Rattle.sst_entries.specs.declared.stream.Direction.TheVariants.{Front, Back}
 use Rattle.sst_entries.specs.Entry.{Entry}
 use Rattle.sst_entries.specs.Error.{is_memory}
 use Rattle.sst_entries.specs.Point.{within}
-use Rattle.sst_entries.specs.Stream.{Deals, NoneStops, Runs, answer_stops, back_of, but_first, deal}
+use Rattle.sst_entries.specs.Stream.{YieldsExactly, NoneStops, Runs, answer_stops, back_of, but_first, yield_each}
 use Rattle.sst_entries.specs.Stream.{first, front_of, ok_results}
 use Rattle.sst_entries.proofs.Booleans.{apart, is_false}
 use Rattle.sst_entries.proofs.StreamLemmas.{map_reverse}
 use Rattle.sst_entries.proofs.Refusals.{memory_is}
 use Rattle.sst_blocks.specs.declared.opened.Opened.{Opened}
 use Rattle.sst_blocks.specs.Handle.{Handle}
-use Rattle.lsm_iters.specs.block_index.Dealt.{DealsEnding, ended_at_error}
+use Rattle.lsm_iters.specs.block_index.Yielded.{YieldsEnding, ended_at_error}
 use Rattle.lsm_iters.specs.block_index.Left.{with_index_loads}
 use Rattle.lsm_iters.specs.Bounds.{lower_edge, upper_edge}
 use Rattle.lsm_iters.specs.Lending.{RangeLends}
-use Rattle.lsm_iters.specs.Lift.{lift, lift_told}
+use Rattle.lsm_iters.specs.Lift.{lift, lift_results}
 use Rattle.lsm_iters.specs.Range.{Next, Range, RangeGives, back_next, data_loaded, front_next}
 use Rattle.lsm_iters.specs.Range.{index_to_come, left_in, opened_in, range_left, to_come}
 use Rattle.lsm_iters.specs.Rows.{Bounded, rows}
 use Rattle.lsm_iters.proofs.Cuts.{all_within}
 use Rattle.lsm_iters.proofs.RangeEnds.{if_false}
-use Rattle.lsm_iters.proofs.LentLaws.{lending_deals}
-use Rattle.lsm_iters.proofs.RangeLaws.{range_deals}
+use Rattle.lsm_iters.proofs.LentLaws.{lending_yields}
+use Rattle.lsm_iters.proofs.RangeLaws.{range_yields}
 use Rattle.lsm_readers.specs.BlockIndexes.{table_index}
-use Rattle.lsm_readers.specs.Ranges.{DealsAll, DealsWithin, IsRangeOf, LoadsAtMost, blocks_within}
-use Rattle.lsm_readers.specs.Ranges.{bounded, index_within, range_told}
+use Rattle.lsm_readers.specs.Ranges.{YieldsAll, YieldsWithin, IsRangeOf, LoadsAtMost, blocks_within}
+use Rattle.lsm_readers.specs.Ranges.{bounded, index_within, range_results}
 use Rattle.lsm_readers.specs.Stored.{StoresList}
 use Rattle.lsm_readers.specs.point.Table.{IsOpen, OpenTable}
 use Rattle.lsm_readers.proofs.StoredParts.{stored_blocks, stored_rows}
@@ -64,35 +64,35 @@ module _ (stops : Error → Bool) (memory : stops OutOfMemory ≡ true) where
 
 -- the answers at the back, by the list in reverse
 abbrev BackOk : List R → List Direction → Type 0
-BackOk zs ends = ended_at_error (first zs ∷ deal (reverse (but_first zs)) ends) ≡ first zs
-    ∷ deal (reverse (but_first zs)) ends
+BackOk zs ends = ended_at_error (first zs ∷ yield_each (reverse (but_first zs)) ends) ≡ first zs
+    ∷ yield_each (reverse (but_first zs)) ends
 
 by_back : (ys : List Entry) (ends : List Direction)
-    → ((us : List Entry) → ended_at_error (deal (ok_results us) ends) ≡ deal (ok_results us) ends)
+    → ((us : List Entry) → ended_at_error (yield_each (ok_results us) ends) ≡ yield_each (ok_results us) ends)
     → BackOk (ok_results ys) ends
 by_back [] ends more = ap (λ (rs : List (Option R)). None ∷ rs) (more [])
 by_back (y ∷ ys) ends more =
     let zs = reverse (ok_results ys) in
-    let rest : ended_at_error (deal zs ends) ≡ deal zs ends =
-    subst (λ (xs : List R). ended_at_error (deal xs ends) ≡ deal xs ends) (sym (map_reverse ys))
+    let rest : ended_at_error (yield_each zs ends) ≡ yield_each zs ends =
+    subst (λ (xs : List R). ended_at_error (yield_each xs ends) ≡ yield_each xs ends) (sym (map_reverse ys))
     (more (reverse ys)) in
     ap (λ (rs : List (Option R)). Some (Ok y) ∷ rs) rest
 
-deal_ok : (xs : List Entry) (ends : List Direction)
-    → ended_at_error (deal (ok_results xs) ends) ≡ deal (ok_results xs) ends
-deal_ok xs [] = refl
-deal_ok [] (Front ∷ ends) = ap (λ (rs : List (Option R)). None ∷ rs) (deal_ok [] ends)
-deal_ok (x ∷ xs) (Front ∷ ends) = ap (λ (rs : List (Option R)). Some (Ok x) ∷ rs) (deal_ok xs ends)
-deal_ok xs (Back ∷ ends) = subst (λ (zs : List R). BackOk zs ends) (sym (map_reverse xs))
-    (by_back (reverse xs) ends (λ us. deal_ok us ends))
+yield_ok : (xs : List Entry) (ends : List Direction)
+    → ended_at_error (yield_each (ok_results xs) ends) ≡ yield_each (ok_results xs) ends
+yield_ok xs [] = refl
+yield_ok [] (Front ∷ ends) = ap (λ (rs : List (Option R)). None ∷ rs) (yield_ok [] ends)
+yield_ok (x ∷ xs) (Front ∷ ends) = ap (λ (rs : List (Option R)). Some (Ok x) ∷ rs) (yield_ok xs ends)
+yield_ok xs (Back ∷ ends) = subst (λ (zs : List R). BackOk zs ends) (sym (map_reverse xs))
+    (by_back (reverse xs) ends (λ us. yield_ok us ends))
 
-pub deals_values : {S : Type 0} (front back : S → Option R → S → Type 0) (may may_back : S → Type 0)
-    (s : S) (xs : List Entry) → DealsEnding front back may may_back s (ok_results xs)
+pub yields_values : {S : Type 0} (front back : S → Option R → S → Type 0) (may may_back : S → Type 0)
+    (s : S) (xs : List Entry) → YieldsEnding front back may may_back s (ok_results xs)
     → (stops : Error → Bool) → stops OutOfMemory ≡ true
-    → Deals (answer_stops stops) front back s (ok_results xs)
-deals_values front back may may_back s xs d stops memory = record {
+    → YieldsExactly (answer_stops stops) front back s (ok_results xs)
+yields_values front back may may_back s xs d stops memory = record {
   answers = λ ends rs t runs fine. d.answers ends rs t runs (none_memory stops memory rs fine)
-      ∙ deal_ok xs ends;
+      ∙ yield_ok xs ends;
 }
 
 -- ---- how many blocks are loaded
@@ -194,26 +194,26 @@ module _ {A : Type 0} (t : OpenTable) (low high : Bound (List ℕ)) (s : Range A
       is.of
       ∙ ap (λ i. i.loads (lower_edge low) (upper_edge high)) is.index
 
-  pub left_is : range_left s ≡ range_told t low high
+  pub left_is : range_left s ≡ range_results t low high
   left_is =
-      ap (λ (es : List Entry). lift_told s.of.global_seqno es
-      ++ (rows s.of (to_come s) ++ lift_told s.of.global_seqno s.back)) is.front
-      ∙ ap (λ (es : List Entry). rows s.of (to_come s) ++ lift_told s.of.global_seqno es) is.back
+      ap (λ (es : List Entry). lift_results s.of.global_seqno es
+      ++ (rows s.of (to_come s) ++ lift_results s.of.global_seqno s.back)) is.front
+      ∙ ap (λ (es : List Entry). rows s.of (to_come s) ++ lift_results s.of.global_seqno es) is.back
       ∙ append-nil (rows s.of (to_come s))
       ∙ ap (λ (b : Bounded). rows b (to_come s)) is.of
       ∙ ap (rows (bounded t low high)) come
 
   -- it deals what the table tells
-  pub table_deals : DealsEnding gives back_gives (λ _. Unit {0}) (λ _. Unit {0}) s
-      (range_told t low high)
-  table_deals = subst (λ (xs : List R). DealsEnding gives back_gives (λ _. Unit {0})
-      (λ _. Unit {0}) s xs) left_is (range_deals s)
+  pub table_yields : YieldsEnding gives back_gives (λ _. Unit {0}) (λ _. Unit {0}) s
+      (range_results t low high)
+  table_yields = subst (λ (xs : List R). YieldsEnding gives back_gives (λ _. Unit {0})
+      (λ _. Unit {0}) s xs) left_is (range_yields s)
 
   -- and lends it from the front
-  pub table_lends : DealsEnding RangeLends back_gives (λ _. Unit {0}) (λ _. Unit {0}) s
-      (range_told t low high)
-  table_lends = subst (λ (xs : List R). DealsEnding RangeLends back_gives (λ _. Unit {0})
-      (λ _. Unit {0}) s xs) left_is (lending_deals s)
+  pub table_lends : YieldsEnding RangeLends back_gives (λ _. Unit {0}) (λ _. Unit {0}) s
+      (range_results t low high)
+  table_lends = subst (λ (xs : List R). YieldsEnding RangeLends back_gives (λ _. Unit {0})
+      (λ _. Unit {0}) s xs) left_is (lending_yields s)
 
   loads_few : (blocks : ℕ) → length told ≡ blocks
       → LoadsAtMost gives back_gives blocks (index_within t low high) s
@@ -241,19 +241,19 @@ module _ {A : Type 0} (t : OpenTable) (low high : Bound (List ℕ)) (s : Range A
   -- ---- of bytes that store a list
 
   module _ (held : IsOpen t) (es : List Entry) (stored : StoresList t.bytes es) where
-    pub list_deals : DealsWithin gives back_gives low high es t.global_seqno s
-    list_deals stops memory =
+    pub list_yields : YieldsWithin gives back_gives low high es t.global_seqno s
+    list_yields stops memory =
         let of_list = stored_rows t.bytes es stored t.global_seqno held.recovered.pin_filter
         held.recovered.pin_index t.parts held.recovered.told low high in
-        let deals = subst (λ (xs : List R). DealsEnding gives back_gives (λ _. Unit {0})
-        (λ _. Unit {0}) s xs) of_list table_deals in
-        deals_values gives back_gives (λ _. Unit {0}) (λ _. Unit {0}) s
-        (within low high (lift es t.global_seqno)) deals stops memory
+        let yields = subst (λ (xs : List R). YieldsEnding gives back_gives (λ _. Unit {0})
+        (λ _. Unit {0}) s xs) of_list table_yields in
+        yields_values gives back_gives (λ _. Unit {0}) (λ _. Unit {0}) s
+        (within low high (lift es t.global_seqno)) yields stops memory
 
-    pub list_lends : DealsWithin RangeLends back_gives low high es t.global_seqno s
+    pub list_lends : YieldsWithin RangeLends back_gives low high es t.global_seqno s
     list_lends stops memory = record {
       answers = λ ends rs u runs fine.
-          (list_deals stops memory).answers ends rs u (gives_along ends rs s u runs) fine;
+          (list_yields stops memory).answers ends rs u (gives_along ends rs s u runs) fine;
     }
 
     pub list_loads : LoadsAtMost gives back_gives (blocks_within stored low high)
@@ -267,10 +267,10 @@ module _ {A : Type 0} (t : OpenTable) (low high : Bound (List ℕ)) (s : Range A
         (index_within t low high) s
     list_lends_few ends rs u runs = list_loads ends rs u (gives_along ends rs s u runs)
 
-pub deals_all : {S : Type 0} (front back : S → Option R → S → Type 0) (r : Result S Error)
-    (es : List Entry) (g : ℕ) → IfOk r (DealsWithin front back Unbounded Unbounded es g)
-    → IfOk r (DealsAll front back es g)
-deals_all front back (Ok s) es g deals = λ stops memory. subst
-    (λ (xs : List Entry). Deals (answer_stops stops) front back s (ok_results xs))
-    (all_within (lift es g)) (deals stops memory)
-deals_all front back (Err e) es g deals = tt
+pub yields_all_of : {S : Type 0} (front back : S → Option R → S → Type 0) (r : Result S Error)
+    (es : List Entry) (g : ℕ) → IfOk r (YieldsWithin front back Unbounded Unbounded es g)
+    → IfOk r (YieldsAll front back es g)
+yields_all_of front back (Ok s) es g yields = λ stops memory. subst
+    (λ (xs : List Entry). YieldsExactly (answer_stops stops) front back s (ok_results xs))
+    (all_within (lift es g)) (yields stops memory)
+yields_all_of front back (Err e) es g yields = tt

@@ -21,7 +21,7 @@ use Rattle.lsm_readers.specs.Verification.{ended_found, in_index, index_ahead, n
 use Rattle.lsm_readers.specs.Verification.{next_found, partition_found, parts_steps}
 use Rattle.lsm_readers.specs.Verification.{places_found, places_in, rest_found, steps_left}
 use Rattle.lsm_readers.proofs.VerifyBlocks.{size_less}
-use Rattle.lsm_readers.proofs.VerifySteps.{answer, then_ok, told_is}
+use Rattle.lsm_readers.proofs.VerifySteps.{answer, then_ok, reported_is}
 
 -- ---- options
 
@@ -255,14 +255,14 @@ module _ (body : List ℕ) (parts : Parts) where
   unfolding part_found partition_found
   part_is top left = part_by (handles_found body section.Index (place_of top)) top left
 
-  told_handles : (top : Handle) (hs : List Handle) → partition_found body top ≡ Ok hs
+  handles_of_result : (top : Handle) (hs : List Handle) → partition_found body top ≡ Ok hs
       → handles_found body section.Index (place_of top) ≡ Ok hs
   unfolding partition_found
-  told_handles top hs is =
+  handles_of_result top hs is =
       let one = then_ok (handles_found body section.Index (place_of top))
       (λ (xs : List Handle). top_named top xs >>= λ _. answer xs) hs is in
       let two = then_ok (top_named top one.0) (λ _. answer one.0) hs one.2 in
-      let same : one.0 ≡ hs = told_is one.0 hs two.2 in
+      let same : one.0 ≡ hs = reported_is one.0 hs two.2 in
       one.1 ∙ ap (λ (xs : List Handle). answer xs) same
 
   pub part_goes : (top : Handle) (tops hs : List Handle) (left : Unread)
@@ -275,7 +275,7 @@ module _ (body : List ℕ) (parts : Parts) where
         ∙ ap (λ (r : Result (List Handle) Finding). r >>= λ hs. blocks_found body parts left hs)
         is));
     steps =
-        let told = ap count_told (told_handles top hs is) in
+        let told = ap count_told (handles_of_result top hs is) in
         omega (arith, told);
     reads = (hs, is, refl, refl);
     sizes = omega arith;

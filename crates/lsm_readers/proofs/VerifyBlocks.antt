@@ -10,7 +10,7 @@ use Rattle.sst_blocks.specs.declared.section.SectionName.TheVariants as section
 use Rattle.sst_entries.specs.Entry.{Entry}
 use Rattle.sst_entries.specs.Strict.{last_of}
 use Rattle.sst_blocks.specs.declared.block_type.BlockType.TheVariants.{Data}
-use Rattle.sst_blocks.specs.Block.{Loaded, entries_of, load_told}
+use Rattle.sst_blocks.specs.Block.{Loaded, entries_of, load_result}
 use Rattle.sst_blocks.specs.Handle.{Handle}
 use Rattle.sst_blocks.specs.Handles.{end_of}
 use Rattle.sst_blocks.specs.Place.{Place, place_of}
@@ -20,7 +20,7 @@ use Rattle.sst_blocks.specs.table.Parts.{joined_parts}
 use Rattle.lsm_readers.specs.declared.verify.Counts.{Counts}
 use Rattle.lsm_readers.specs.Findings.{BlockComes, ComesBehindParts, ComesWithin, IsFirstFinding}
 use Rattle.lsm_readers.specs.Findings.{PartComes, Reads, ReadsBlocks, in_block, in_index, in_part}
-use Rattle.lsm_readers.specs.point.IndexKinds.{handles_told}
+use Rattle.lsm_readers.specs.point.IndexKinds.{handles_result}
 use Rattle.lsm_readers.specs.point.Parts.{Parts}
 use Rattle.lsm_readers.specs.Stored.{AreLaid, IndexHas, NamesChunk, NamesPart}
 use Rattle.lsm_readers.specs.declared.verify.Finding.{Finding}
@@ -34,7 +34,7 @@ use Rattle.lsm_readers.proofs.VerifyEntries.{entries_go, entries_low, entries_re
 use Rattle.lsm_readers.proofs.VerifyEntries.{reads_none}
 use Rattle.lsm_readers.proofs.VerifySteps.{end_goes, end_ok, located_goes, located_ok, place_goes}
 use Rattle.lsm_readers.proofs.VerifySteps.{place_ok, some_goes, some_ok, spent_goes, spent_ok}
-use Rattle.lsm_readers.proofs.VerifySteps.{answer, then_err, then_goes, then_ok, told_is}
+use Rattle.lsm_readers.proofs.VerifySteps.{answer, then_err, then_goes, then_ok, reported_is}
 
 -- ---- the end of a block
 
@@ -73,7 +73,7 @@ last_none section h (e ∷ es) u told = omega arith
 
 module _ (body : List ℕ) (h : Handle) where
   chunk_ok : (c : List Entry) → chunk_found body (place_of h) ≡ Ok c
-      → (block : Loaded) × (load_told body h.offset h.size Data ≡ Ok block)
+      → (block : Loaded) × (load_result body h.offset h.size Data ≡ Ok block)
       × (entries_of block ≡ c) × (0 < length c)
   chunk_ok c told =
       let b = then_ok _ _ c told in
@@ -204,7 +204,7 @@ module _ (body : List ℕ) (parts : Parts) where
       let c = then_ok _ _ new n.2 in
       let e = then_ok _ _ new c.2 in
       let l = then_ok _ _ new e.2 in
-      let same : e.0 ≡ new = told_is e.0 new l.2 in
+      let same : e.0 ≡ new = reported_is e.0 new l.2 in
       let count = count_ok meta h.size old.counts n.0 p.2 in
       let chunk = chunk_ok body h c.0 c.1 in
       let begun = with_counts old (less meta h.size old.counts count.0 count.1) in
@@ -261,7 +261,7 @@ module _ (body : List ℕ) (parts : Parts) where
       size_stays body parts h.offset (with_counts old n.0) c.0 e.0 e.1 in
       let rest : (n.0).size ≡ count.1 = ap (λ (k : Counts). k.size) count.2 in
       let last : (e.0).counts.size ≡ new.counts.size =
-      ap (λ (l : Unread). l.counts.size) (told_is e.0 new l.2) in
+      ap (λ (l : Unread). l.counts.size) (reported_is e.0 new l.2) in
       omega (arith, count.4, stays, rest, last)
 
   left_part : (old : Unread) (h : Handle) (new : Unread) → IsPart old → ReadsBlock old h new
@@ -462,7 +462,7 @@ module _ (body : List ℕ) (parts : Parts) where
     pub reads : Blocks old handles new
 
   named_ok : (section : Option Place) (old : Unread) (hs : List Handle) (new : Unread) → IsPart old
-      → handles_told body parts.regions.tli ≡ Ok hs
+      → handles_result body parts.regions.tli ≡ Ok hs
       → named_found body parts old section hs ≡ Ok new
       → (handles : List Handle) × IndexHas body section parts.regions.tli handles
       × Blocks old handles new
@@ -484,14 +484,14 @@ module _ (body : List ℕ) (parts : Parts) where
   unfolding index_found
   index_ok old new fits found =
       let hs = then_ok _ _ new found in
-      let told = located_ok _ _ (handles_told body parts.regions.tli) hs.0 hs.1 in
+      let told = located_ok _ _ (handles_result body parts.regions.tli) hs.0 hs.1 in
       let is = named_ok parts.regions.index old hs.0 new fits told hs.2 in
       record { handles = is.0; index = is.1; reads = is.2 }
 
   named_go : (section : Option Place) (old : Unread) (handles : List Handle) (new : Unread)
       → IsPart old → IndexHas body section parts.regions.tli handles
       → Blocks old handles new → (hs : List Handle)
-      × (handles_told body parts.regions.tli ≡ Ok hs) × (mid : Unread)
+      × (handles_result body parts.regions.tli ≡ Ok hs) × (mid : Unread)
       × (named_found body parts old section hs ≡ Ok mid) × IsPart mid × Blocks mid [] new
   named_go None old handles new fits has reads =
       let one = blocks_go old handles [] new fits
@@ -511,7 +511,7 @@ module _ (body : List ℕ) (parts : Parts) where
       let is = named_go parts.regions.index old handles new fits has reads in (
         is.2,
         then_goes _ _ is.0 _
-            (located_goes _ _ (handles_told body parts.regions.tli) is.0 is.1) is.3,
+            (located_goes _ _ (handles_result body parts.regions.tli) is.0 is.1) is.3,
         is.4,
         is.5,
       )
@@ -633,7 +633,7 @@ module _ (body : List ℕ) (parts : Parts) where
           ]
 
     named_err : (section : Option Place) (hs : List Handle) → parts.regions.index ≡ section
-        → handles_told body parts.regions.tli ≡ Ok hs → IsPart start
+        → handles_result body parts.regions.tli ≡ Ok hs → IsPart start
         → named_found body parts start section hs ≡ Err f → IsFirstFinding body parts f
     named_err None hs kind index fits told = blocks_err start hs fits (λ mid h others end at r. (
       mid,
@@ -663,5 +663,5 @@ module _ (body : List ℕ) (parts : Parts) where
         (named_found body parts start parts.regions.index) f told) [
           | inl here ↦ in_index filters here
           | inr more ↦ named_err parts.regions.index more.0 refl
-              (located_ok _ _ (handles_told body parts.regions.tli) more.0 more.1) fits more.2
+              (located_ok _ _ (handles_result body parts.regions.tli) more.0 more.1) fits more.2
         ]

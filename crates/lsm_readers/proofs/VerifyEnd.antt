@@ -9,7 +9,7 @@ use Rattle.sst_entries.specs.declared.error.Error.{Error}
 use Rattle.sst_entries.specs.Entry.{Entry}
 use Rattle.sst_entries.specs.Strict.{last_of}
 use Rattle.sst_blocks.specs.declared.block_type.BlockType.TheVariants.{Data, Filter}
-use Rattle.sst_blocks.specs.Block.{Loaded, load_at_told, load_told}
+use Rattle.sst_blocks.specs.Block.{Loaded, load_at_result, load_result}
 use Rattle.sst_blocks.specs.Handle.{Handle}
 use Rattle.sst_blocks.specs.Place.{Place, place_of}
 use Rattle.sst_blocks.specs.table.Facts.{lowest_seqno}
@@ -32,9 +32,9 @@ use Rattle.lsm_readers.proofs.VerifySteps.{same_found_ok, then_goes, then_ok}
 module _ (body : List ℕ) where
   filter_ok : (place : Place) (u : Unit {0}) → filter_found body place ≡ Ok u
       → LoadsAs body place Filter
-  filter_ok place u h = go (load_told body place.offset place.size Filter) refl h
+  filter_ok place u h = go (load_result body place.offset place.size Filter) refl h
     where
-      go : (r : Result Loaded Error) → load_told body place.offset place.size Filter ≡ r
+      go : (r : Result Loaded Error) → load_result body place.offset place.size Filter ≡ r
           → passed (located FilterSection place.offset r) ≡ Ok u → LoadsAs body place Filter
       go (Ok b) is h = record { block = b; loads = is }
       go (Err e) is h = absurd cc
@@ -143,9 +143,9 @@ module _ (body : List ℕ) (parts : Parts) where
   key_in o = unwrap_or (option_map (λ (e : Entry). e.user_key) o) []
 
   no_block : (u : Unit {0}) → unnamed_found body ≡ Ok u → HasNoBlock body
-  no_block u h = go (load_at_told body 0 Data) refl h
+  no_block u h = go (load_at_result body 0 Data) refl h
     where
-      go : (r : Result Loaded Error) → load_at_told body 0 Data ≡ r → unnamed_by r ≡ Ok u
+      go : (r : Result Loaded Error) → load_at_result body 0 Data ≡ r → unnamed_by r ≡ Ok u
           → HasNoBlock body
       go (Ok b) is h = absurd cc
       go (Err e) is h = record { fault = e; refused = is }

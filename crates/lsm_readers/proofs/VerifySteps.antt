@@ -22,8 +22,8 @@ abbrev pub answer : {A : Type 0} → A → Result A Finding
 answer x = Ok x
 
 -- one value is told
-pub told_is : {A : Type 0} (x y : A) → answer x ≡ Ok y → x ≡ y
-told_is x y h = cc
+pub reported_is : {A : Type 0} (x y : A) → answer x ≡ Ok y → x ≡ y
+reported_is x y h = cc
 
 -- a step that found nothing went on from a value
 pub then_ok : {A B : Type 0} (r : Result A Finding) (f : A → Result B Finding) (y : B)

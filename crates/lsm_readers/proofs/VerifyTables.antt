@@ -21,10 +21,10 @@ use Rattle.lsm_readers.specs.declared.verify.VerifyError.{VerifyError}
 use Rattle.lsm_readers.specs.declared.verify.VerifyError.TheVariants.{Found, OutOfMemory}
 use Rattle.lsm_readers.specs.Findings.{IsFirstFinding, Reads, ReadsBlocks, StartsAt, at_end}
 use Rattle.lsm_readers.specs.Findings.{in_filter}
-use Rattle.lsm_readers.specs.point.Meta.{Facts, meta_told}
+use Rattle.lsm_readers.specs.point.Meta.{Facts, meta_result}
 use Rattle.lsm_readers.specs.OfList.{ends_of}
-use Rattle.lsm_readers.specs.point.Parts.{Parts, places_told, tops_told}
-use Rattle.lsm_readers.specs.Stored.{Admits, AreLaid, BearsOut, FilterHas, FiltersLoad}
+use Rattle.lsm_readers.specs.point.Parts.{Parts, places_result, tops_result}
+use Rattle.lsm_readers.specs.Stored.{Admits, AreLaid, Matches, FilterHas, FiltersLoad}
 use Rattle.lsm_readers.specs.Stored.{IndexHas, NamesChunk, StoresList}
 use Rattle.lsm_readers.specs.point.Table.{IsOpen, OpenTable}
 use Rattle.lsm_readers.specs.Verify.{◌>>=◌, Finds, Unread, all_found, filters_found, index_found}
@@ -33,7 +33,7 @@ use Rattle.lsm_readers.proofs.Recovered.{PinnedSteps, Steps, ok_same, pinned_ste
 use Rattle.lsm_readers.proofs.VerifyBlocks.{IsPart, index_err, index_go, index_ok}
 use Rattle.lsm_readers.proofs.VerifyEnd.{NothingLeft, counts_go, counts_ok, filters_go, filters_ok}
 use Rattle.lsm_readers.proofs.VerifyEnd.{lowest_within, range_go, range_ok}
-use Rattle.lsm_readers.proofs.VerifySteps.{then_err, then_goes, then_ok, told_is}
+use Rattle.lsm_readers.proofs.VerifySteps.{then_err, then_goes, then_ok, reported_is}
 
 no_fault : {A : Type 0} (fault : Option Error) (told : Result A Error) (x : A)
     → unless fault told ≡ Ok x → fault ≡ None
@@ -92,7 +92,7 @@ module _ (t : OpenTable) (open_table : IsOpen t) where
       let f = then_ok _ _ v h in
       let e = then_ok _ _ v f.2 in
       let i = then_ok _ _ e.0 e.1 in
-      let same = told_is (verified_of parts.facts) v e.2 in
+      let same = reported_is (verified_of parts.facts) v e.2 in
       let n = then_ok _ _ e.0 i.2 in
       let read = index_ok body parts (unread_of parts.facts) i.0 (unread_fits body parts) i.1 in
       let blocks = read.reads in
@@ -148,15 +148,15 @@ module _ (t : OpenTable) (open_table : IsOpen t) where
 
   module _ (es : List Entry) (s : StoresList t.bytes es) where
     regions_are : s.regions ≡ parts.regions
-    regions_are = ok_same (places_told t.bytes) s.regions parts.regions s.places the_steps.regions
+    regions_are = ok_same (places_result t.bytes) s.regions parts.regions s.places the_steps.regions
 
     facts_are : s.facts ≡ parts.facts
-    facts_are = ok_same (meta_told body parts.regions.metadata) s.facts parts.facts
-        (subst (λ (r : ParsedRegions). meta_told body r.metadata ≡ Ok s.facts) regions_are s.meta)
+    facts_are = ok_same (meta_result body parts.regions.metadata) s.facts parts.facts
+        (subst (λ (r : ParsedRegions). meta_result body r.metadata ≡ Ok s.facts) regions_are s.meta)
         the_steps.facts
 
-    borne : BearsOut parts.facts es s.handles
-    borne = subst (λ (f : Facts). BearsOut f es s.handles) facts_are s.borne
+    borne : Matches parts.facts es s.handles
+    borne = subst (λ (f : Facts). Matches f es s.handles) facts_are s.borne
 
     index : IndexHas body parts.regions.index parts.regions.tli s.handles
     index = subst (λ (r : ParsedRegions). IndexHas body r.index r.tli s.handles) regions_are
@@ -167,7 +167,7 @@ module _ (t : OpenTable) (open_table : IsOpen t) where
         regions_are s.filter
 
     tops_are : filter.tops ≡ parts.pinned.filter_tops
-    tops_are = ok_same (tops_told body parts.regions.filter_tli) filter.tops
+    tops_are = ok_same (tops_result body parts.regions.filter_tli) filter.tops
         parts.pinned.filter_tops filter.told pins.filter_tops
 
     -- nothing is left behind the list
@@ -260,12 +260,12 @@ module _ (t : OpenTable) (open_table : IsOpen t) where
 
 -- ---- a call that tells what is found
 
-pub all_sound : (t : OpenTable) → IsOpen t → (r : Result Verified VerifyError)
+pub all_valid : (t : OpenTable) → IsOpen t → (r : Result Verified VerifyError)
     → Finds (λ (v : Verified). v) r (table_found (body_of t.bytes) t.parts)
     → IfOk r (λ v. (es : List Entry) × (s : StoresList t.bytes es) × (v.item_count ≡ length es)
     × (v.data_block_count ≡ length s.handles))
-all_sound t open_table (Ok v) told = sound t open_table v told
-all_sound t open_table (Err e) told = tt
+all_valid t open_table (Ok v) told = sound t open_table v told
+all_valid t open_table (Err e) told = tt
 
 pub all_complete : (t : OpenTable) → IsOpen t → (r : Result Verified VerifyError)
     → Finds (λ (v : Verified). v) r (table_found (body_of t.bytes) t.parts) → (es : List Entry)

@@ -121,15 +121,15 @@ module _ {A : Type 0} (p : A → Bool) where
   -- ---- a top level over parts
 
   -- where a top fails no item of its part passes, and where it passes one does
-  pub record Tells (top : A) (part : List A) : Type 0 where
+  pub record ReportsOf (top : A) (part : List A) : Type 0 where
     pub none : p top ≡ false → AllByRecursion (λ x. p x ≡ false) part
     pub some : p top ≡ true → (rest : List A) → up_to_first p (part ++ rest) ≡ up_to_first p part
 
-  abbrev pub AllTell : List A → List (List A) → Type 0
-  AllTell [] [] = Unit {0}
-  AllTell (top ∷ tops) (part ∷ parts) = Tells top part × AllTell tops parts
-  AllTell [] (part ∷ parts) = ⊥
-  AllTell (top ∷ tops) [] = ⊥
+  abbrev pub AllReport : List A → List (List A) → Type 0
+  AllReport [] [] = Unit {0}
+  AllReport (top ∷ tops) (part ∷ parts) = ReportsOf top part × AllReport tops parts
+  AllReport [] (part ∷ parts) = ⊥
+  AllReport (top ∷ tops) [] = ⊥
 
 module _ {A B : Type 0} (p q : A → Bool) (f : A → B) (R : A → List B) where
   abbrev cut : List A → List A
@@ -143,7 +143,7 @@ module _ {A B : Type 0} (p q : A → Bool) (f : A → B) (R : A → List B) wher
   AllCut [] (part ∷ parts) = ⊥
   AllCut (top ∷ tops) [] = ⊥
 
-  passed : (tops : List A) (parts : List (List A)) → AllTell p tops parts → AllCut tops parts
+  passed : (tops : List A) (parts : List (List A)) → AllReport p tops parts → AllCut tops parts
       → AllByRecursion (λ t. p t ≡ false → R t ≡ []) tops
   passed [] [] told cuts = tt
   passed (t ∷ ts) (xs ∷ ps) told cuts =
@@ -154,7 +154,7 @@ module _ {A B : Type 0} (p q : A → Bool) (f : A → B) (R : A → List B) wher
   passed [] (xs ∷ ps) told cuts = absurd told
   passed (t ∷ ts) [] told cuts = absurd told
 
-  up_to : (tops : List A) (parts : List (List A)) → AllTell q tops parts → AllCut tops parts
+  up_to : (tops : List A) (parts : List (List A)) → AllReport q tops parts → AllCut tops parts
       → Rises p (joined_parts parts) → flat_map R (up_to_first q tops)
       ≡ map f (cut (joined_parts parts))
   up_to [] [] told cuts rises = refl
@@ -185,8 +185,8 @@ module _ {A B : Type 0} (p q : A → Bool) (f : A → B) (R : A → List B) wher
   up_to (t ∷ ts) [] told cuts rises = absurd told
 
   -- the windows of the parts that a window of the tops names are the window of all
-  pub parts_cut : (tops : List A) (parts : List (List A)) → AllTell p tops parts
-      → AllTell q tops parts → AllCut tops parts → Rises p (joined_parts parts)
+  pub parts_cut : (tops : List A) (parts : List (List A)) → AllReport p tops parts
+      → AllReport q tops parts → AllCut tops parts → Rises p (joined_parts parts)
       → flat_map R (from_first p (up_to_first q tops))
       ≡ map f (from_first p (up_to_first q (joined_parts parts)))
   parts_cut tops parts low high cuts rises =

@@ -34,6 +34,6 @@ pub record AreCutAlike {a b : List ℕ} {es : List Entry} (t : IsTable a es) (u 
   pub spills : t.spills ≡ u.spills
 
 -- Two indexes have the same results between any two edges.
-abbrev pub TellAlike : Index → Index → Type 0
-TellAlike one other = (lower : Option (List ℕ × ℕ)) (upper : Option (List ℕ)) →
+abbrev pub ReadAlike : Index → Index → Type 0
+ReadAlike one other = (lower : Option (List ℕ × ℕ)) (upper : Option (List ℕ)) →
     one.told lower upper ≡ other.told lower upper

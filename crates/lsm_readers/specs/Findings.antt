@@ -14,7 +14,7 @@ use Rattle.sst_blocks.specs.table.Filters.{keys_after}
 use Rattle.sst_blocks.specs.table.Parts.{joined_parts}
 use Rattle.lsm_readers.specs.declared.verify.Counts.{Counts}
 use Rattle.lsm_readers.specs.declared.verify.Finding.{Finding}
-use Rattle.lsm_readers.specs.point.IndexKinds.{handles_told}
+use Rattle.lsm_readers.specs.point.IndexKinds.{handles_result}
 use Rattle.lsm_readers.specs.point.Parts.{Parts}
 use Rattle.lsm_readers.specs.Stored.{Admits, AreLaid, IndexHas, NamesChunk, NamesPart}
 use Rattle.lsm_readers.specs.Verify.{◌>>=◌, Unread, block_found, end_found, filters_found}
@@ -71,7 +71,7 @@ pub record ComesBehindParts (body : List ℕ) (place : Place) (front : List Hand
   pub tops : List Handle
   pub others : List Handle
   pub parts : List (List Handle)
-  pub told : handles_told body place ≡ Ok (tops ++ top ∷ others)
+  pub told : handles_result body place ≡ Ok (tops ++ top ∷ others)
   pub named : AllZip (NamesPart body) tops parts
   pub whole : joined_parts parts ≡ front
 
@@ -89,7 +89,7 @@ pub record ComesWithin (body : List ℕ) (place : Place) (front : List Handle) (
 -- In the order of the index, a data block's handle comes directly after these.
 abbrev pub BlockComes : List ℕ → Option Place → Place → List Handle → Handle → Type 0
 BlockComes body None tli front h =
-    (others : List Handle) × (handles_told body tli ≡ Ok (front ++ h ∷ others))
+    (others : List Handle) × (handles_result body tli ≡ Ok (front ++ h ∷ others))
 BlockComes body (Some section) tli front h = ComesWithin body tli front h
 
 -- In the order of the index, a partition's handle comes directly after these data block handles.

@@ -109,8 +109,8 @@ pub record SaysList {bytes : List ℕ} {es : List Entry} (t : IsTable bytes es) 
 
 -- The result of opening the table of a list: its parts, if its highest seqno fits with the global
 -- one added.
-abbrev pub list_told : {bytes : List ℕ} {es : List Entry} → IsTable bytes es → ℕ → Bool → Bool
+abbrev pub list_result : {bytes : List ℕ} {es : List Entry} → IsTable bytes es → ℕ → Bool → Bool
     → Result Parts Error
-list_told {bytes} {es} t g pin_filter pin_index =
+list_result {bytes} {es} t g pin_filter pin_index =
     if nat_lt (2 ^ 64 - 1) (highest_seqno es + g) then Err GlobalSeqNoTooLarge
     else Ok (parts_said t pin_filter pin_index)

@@ -8,7 +8,7 @@ use Rattle.sst_entries.specs.declared.error.Error.TheVariants.{OutOfMemory}
 use Rattle.sst_entries.specs.declared.stream.Direction.{Direction}
 use Rattle.sst_entries.specs.Entry.{Entry}
 use Rattle.sst_entries.specs.Point.{within}
-use Rattle.sst_entries.specs.Stream.{Deals, Runs, answer_stops, ok_results}
+use Rattle.sst_entries.specs.Stream.{YieldsExactly, Runs, answer_stops, ok_results}
 use Rattle.sst_blocks.specs.declared.opened.Opened.{Opened}
 use Rattle.sst_blocks.specs.Handles.{window}
 use Rattle.sst_blocks.specs.Opened.{none_opened}
@@ -32,8 +32,8 @@ bounded t low high = record {
 
 -- The entries within the bounds, global seqno applied, of the blocks between the bounds' edges. A
 -- block that cannot be loaded contributes its error.
-abbrev pub range_told : OpenTable → Bound (List ℕ) → Bound (List ℕ) → List (Result Entry Error)
-range_told t low high =
+abbrev pub range_results : OpenTable → Bound (List ℕ) → Bound (List ℕ) → List (Result Entry Error)
+range_results t low high =
     rows (bounded t low high) ((table_index t).told (lower_edge low) (upper_edge high))
 
 -- A range iterator before its first step: nothing was sought or loaded.
@@ -50,18 +50,18 @@ pub record IsRangeOf {A : Type 0} (t : OpenTable) (low high : Bound (List ℕ)) 
 
 -- If its reader stops at `OutOfMemory`, it yields a list's entries within the bounds at any ends,
 -- global seqno applied.
-abbrev pub DealsWithin : {S : Type 0} (front back : S → Option (Result Entry Error) → S → Type 0)
+abbrev pub YieldsWithin : {S : Type 0} (front back : S → Option (Result Entry Error) → S → Type 0)
     → Bound (List ℕ) → Bound (List ℕ) → List Entry → ℕ → S → Type 0
-DealsWithin front back low high es g s =
+YieldsWithin front back low high es g s =
     (stops : Error → Bool) → stops OutOfMemory ≡ true →
-    Deals (answer_stops stops) front back s (ok_results (within low high (lift es g)))
+    YieldsExactly (answer_stops stops) front back s (ok_results (within low high (lift es g)))
 
 -- If its reader stops at `OutOfMemory`, it yields all entries of a list, global seqno applied.
-abbrev pub DealsAll : {S : Type 0} (front back : S → Option (Result Entry Error) → S → Type 0)
+abbrev pub YieldsAll : {S : Type 0} (front back : S → Option (Result Entry Error) → S → Type 0)
     → List Entry → ℕ → S → Type 0
-DealsAll front back es g s =
+YieldsAll front back es g s =
     (stops : Error → Bool) → stops OutOfMemory ≡ true →
-    Deals (answer_stops stops) front back s (ok_results (lift es g))
+    YieldsExactly (answer_stops stops) front back s (ok_results (lift es g))
 
 -- At most this many data blocks and index blocks were loaded, and no others.
 pub record AreFew (blocks index : ℕ) (o : Opened) : Type 0 where

@@ -7,13 +7,13 @@ use Rattle.sst_blocks.specs.declared.block_type.BlockType.TheVariants.{Data}
 use Rattle.sst_entries.specs.declared.error.Error.{Error}
 use Rattle.sst_entries.specs.declared.error.Error.TheVariants.{OutOfMemory}
 use Rattle.sst_blocks.specs.declared.opened.Opened.{Opened}
-use Rattle.sst_blocks.specs.Block.{Loaded, load_at_told, position_fault, entries_of, header_len}
+use Rattle.sst_blocks.specs.Block.{Loaded, load_at_result, position_fault, entries_of, header_len}
 use Rattle.sst_entries.specs.Entry.{Entry}
 use Rattle.sst_entries.specs.Error.{is_memory}
 use Rattle.sst_blocks.specs.Opened.{with_load}
-use Rattle.sst_entries.specs.Stream.{Answers, Deals, ok_results, front_of, nowhere, answer_stops}
+use Rattle.sst_entries.specs.Stream.{Answers, YieldsExactly, ok_results, front_of, nowhere, answer_stops}
 pub use Rattle.sst_entries.specs.Stream.{up_to_error}
-pub use Rattle.lsm_iters.specs.Lift.{lifted_told}
+pub use Rattle.lsm_iters.specs.Lift.{lifted_result}
 use Rattle.lsm_iters.specs.Lift.{lift}
 use Rattle.lsm_readers.specs.point.Read.{◌>>=◌}
 
@@ -28,26 +28,26 @@ abbrev pub behind : ℕ → Loaded → ℕ
 behind position b = position + header_len + length b.payload
 
 -- A number of consecutive data blocks from an offset on, up to the first load error.
-unfoldable pub blocks_told : List ℕ → ℕ → ℕ → List (Result Loaded Error)
-blocks_told body position zero = []
-blocks_told body position (suc n) =
-    then_blocks (load_at_told body position Data) (λ b. blocks_told body (behind position b) n)
+unfoldable pub blocks_results : List ℕ → ℕ → ℕ → List (Result Loaded Error)
+blocks_results body position zero = []
+blocks_results body position (suc n) =
+    then_blocks (load_at_result body position Data) (λ b. blocks_results body (behind position b) n)
 
 -- The entries of a block, global seqno applied, or its load error.
-abbrev pub entries_told : ℕ → Result Loaded Error → List (Result Entry Error)
-entries_told g (Ok b) = map (lifted_told g) (entries_of b)
-entries_told g (Err e) = Err e ∷ []
+abbrev pub entries_results : ℕ → Result Loaded Error → List (Result Entry Error)
+entries_results g (Ok b) = map (lifted_result g) (entries_of b)
+entries_results g (Err e) = Err e ∷ []
 
 -- The entries left of a block and those of a number of blocks from an offset on, up to the first
 -- error.
 unfoldable pub entries_from : List ℕ → ℕ → List Entry → ℕ → ℕ → List (Result Entry Error)
 entries_from body g es position count =
     up_to_error
-    (map (lifted_told g) es ++ flat_map (entries_told g) (blocks_told body position count))
+    (map (lifted_result g) es ++ flat_map (entries_results g) (blocks_results body position count))
 
 -- The results of a scan of a number of blocks; the first block is always read.
-abbrev pub scan_told : List ℕ → ℕ → ℕ → List (Result Entry Error)
-scan_told body count g = entries_from body g [] 0 (max 1 count)
+abbrev pub scan_results : List ℕ → ℕ → ℕ → List (Result Entry Error)
+scan_results body count g = entries_from body g [] 0 (max 1 count)
 
 -- The error of a result.
 abbrev pub fault_of : {X : Type 0} → Result X Error → Option Error
@@ -55,9 +55,9 @@ fault_of (Ok x) = None
 fault_of (Err e) = Some e
 
 -- The entries of the data block at an offset, and the offset of the next block.
-abbrev pub block_told : List ℕ → ℕ → Result (List Entry × ℕ) Error
-block_told body position =
-    load_at_told body position Data >>= λ b. Ok (entries_of b, behind position b)
+abbrev pub block_result : List ℕ → ℕ → Result (List Entry × ℕ) Error
+block_result body position =
+    load_at_result body position Data >>= λ b. Ok (entries_of b, behind position b)
 
 -- A scan: the bytes before the trailer, the entry lent, the entries left of the current block, and
 -- the next block's offset. Also the number of blocks left, the global seqno, and the load counts.
@@ -97,7 +97,7 @@ lend_first s others (Err e) = (Err e, ended s)
 -- The same for the entries left of the current block, if any.
 abbrev pub lend_next : Scan → List Entry → Result Bool Error × Scan
 lend_next s [] = (Ok false, unlent s)
-lend_next s (e ∷ es) = lend_first s es (lifted_told s.global_seqno e)
+lend_next s (e ∷ es) = lend_first s es (lifted_result s.global_seqno e)
 
 -- The counts after a number of data block loads.
 abbrev pub loads : ℕ → Opened → Opened
@@ -118,7 +118,7 @@ scan_loads_behind (Err e) more = 0
 unfoldable pub loads_from : List ℕ → ℕ → ℕ → ℕ
 loads_from body position zero = 0
 loads_from body position (suc n) =
-    suc (scan_loads_behind (block_told body position) (λ next. loads_from body next n))
+    suc (scan_loads_behind (block_result body position) (λ next. loads_from body next n))
 
 -- The number of blocks loaded for the next entry.
 abbrev pub loads_of : Scan → ℕ
@@ -134,7 +134,7 @@ FaultsAtBlock s r =
 abbrev pub FaultsAtEntry : Scan → Option (Result Entry Error) → Type 0
 FaultsAtEntry s r =
     (e : Entry) (es : List Entry) → s.entries ≡ e ∷ es → (f : Error) →
-    lifted_told s.global_seqno e ≡ Err f → r ≡ Some (Err f)
+    lifted_result s.global_seqno e ≡ Err f → r ≡ Some (Err f)
 
 -- One step yields the next result, and an error ends the scan for good. It counts each load and
 -- makes exactly those needed, or fewer, but at least one of them, on an allocation failure.
@@ -157,12 +157,12 @@ pub record ScansNext (s : Scan) (r : Option (Result Entry Error)) (t : Scan) : T
 pub record ScansLent (s : Scan) (r : Option (Result Entry Error)) (t : Scan) : Type 0 where
   pub next : ScansNext s r t
   pub there : (e : Entry) (es : List Entry) → s.entries ≡ e ∷ es
-      → r ≡ Some (lifted_told s.global_seqno e)
+      → r ≡ Some (lifted_result s.global_seqno e)
 
 -- A scan before its first step: only its first block was taken from the number of blocks.
 pub record IsNewScan (body : List ℕ) (count g : ℕ) (s : Scan) : Type 0 where
   pub lent : s.lent ≡ None
-  pub left : scan_left s ≡ scan_told body count g
+  pub left : scan_left s ≡ scan_results body count g
   pub blocks : s.blocks ≡ count - 1
 
 -- A bound on the number of items left.
@@ -174,10 +174,10 @@ scan_size s = length (scan_left s) + s.blocks
 abbrev pub ScansList : Result Scan Error → List Entry → ℕ → Type 0
 ScansList r es g = MatchResult r
     (λ s. (stops : Error → Bool) → stops OutOfMemory ≡ true →
-    Deals (answer_stops stops) ScansNext nowhere s (ok_results (lift es g)))
+    YieldsExactly (answer_stops stops) ScansNext nowhere s (ok_results (lift es g)))
     (λ e. 0 < length es → e ≡ OutOfMemory)
 
 -- The scan lends the list.
 abbrev pub LendsList : Result Scan Error → List Entry → ℕ → Type 0
 LendsList r es g = IfOk r (λ s. (stops : Error → Bool) → stops OutOfMemory ≡ true →
-    Deals (answer_stops stops) ScansLent nowhere s (ok_results (lift es g)))
+    YieldsExactly (answer_stops stops) ScansLent nowhere s (ok_results (lift es g)))

@@ -16,18 +16,18 @@ abbrev pub size_of : List Handle → ℕ
 size_of hs = sum_by (λ (h : Handle). h.size) hs
 
 -- The handles that an index yields, or its first error.
-abbrev pub dealt : List (Result Handle Error) → Result (List Handle) Error
-dealt [] = Ok []
-dealt (Ok h ∷ rs) = dealt rs >>= λ hs. Ok (h ∷ hs)
-dealt (Err e ∷ rs) = Err e
+abbrev pub yielded : List (Result Handle Error) → Result (List Handle) Error
+yielded [] = Ok []
+yielded (Ok h ∷ rs) = yielded rs >>= λ hs. Ok (h ∷ hs)
+yielded (Err e ∷ rs) = Err e
 
 -- Their total size, saturated at `u64::MAX`, or the index's first error.
-abbrev pub sizes_told : List (Result Handle Error) → Result ℕ Error
-sizes_told rs = dealt rs >>= λ hs. Ok (min (size_of hs) (2 ^ 64 - 1))
+abbrev pub sizes_result : List (Result Handle Error) → Result ℕ Error
+sizes_result rs = yielded rs >>= λ hs. Ok (min (size_of hs) (2 ^ 64 - 1))
 
 -- The total size of the blocks that a table's index has between two bounds' edges.
-abbrev pub size_told : OpenTable → Bound (List ℕ) → Bound (List ℕ) → Result ℕ Error
-size_told t low high = sizes_told ((table_index t).told (lower_edge low) (upper_edge high))
+abbrev pub size_result : OpenTable → Bound (List ℕ) → Bound (List ℕ) → Result ℕ Error
+size_result t low high = sizes_result ((table_index t).told (lower_edge low) (upper_edge high))
 
 -- The total size of the data blocks that two bounds need, which `blocks_within` counts.
 abbrev pub size_within : {bytes : List ℕ} {es : List Entry} → StoresList bytes es

@@ -10,7 +10,7 @@ use Rattle.sst_entries.specs.Strict.{IsStrict}
 use Rattle.sst_blocks.specs.filter.KeyHash.{hash_of}
 use Rattle.sst_blocks.specs.declared.block_type.BlockType.{BlockType}
 use Rattle.sst_blocks.specs.declared.block_type.BlockType.TheVariants.{Data, Filter}
-use Rattle.sst_blocks.specs.Block.{Loaded, entries_of, load_at_told, load_told}
+use Rattle.sst_blocks.specs.Block.{Loaded, entries_of, load_at_result, load_result}
 use Rattle.sst_blocks.specs.Handle.{Handle}
 use Rattle.sst_blocks.specs.Place.{Place, place_of}
 use Rattle.sst_blocks.specs.table.Chunks.{joined}
@@ -22,10 +22,10 @@ use Rattle.sst_blocks.specs.table.Partitions.{last_end}
 use Rattle.sst_blocks.specs.table.Parts.{joined_parts}
 use Rattle.lsm_readers.specs.declared.regions.ParsedRegions.{ParsedRegions}
 use Rattle.lsm_readers.specs.point.Answer.{filter_admits}
-use Rattle.lsm_readers.specs.point.IndexKinds.{handles_told}
-use Rattle.lsm_readers.specs.point.Meta.{Facts, meta_told}
+use Rattle.lsm_readers.specs.point.IndexKinds.{handles_result}
+use Rattle.lsm_readers.specs.point.Meta.{Facts, meta_result}
 use Rattle.lsm_readers.specs.OfList.{ends_of}
-use Rattle.lsm_readers.specs.point.Parts.{places_told, tops_told}
+use Rattle.lsm_readers.specs.point.Parts.{places_result, tops_result}
 
 -- ---- data blocks
 
@@ -33,7 +33,7 @@ use Rattle.lsm_readers.specs.point.Parts.{places_told, tops_told}
 -- seqno.
 pub record NamesChunk (body : List ℕ) (h : Handle) (c : List Entry) : Type 0 where
   pub block : Loaded
-  pub loads : load_told body h.offset h.size Data ≡ Ok block
+  pub loads : load_result body h.offset h.size Data ≡ Ok block
   pub entries : entries_of block ≡ c
   pub some : 0 < length c
   pub end_key : h.end_key ≡ (last_entry c).user_key
@@ -49,7 +49,7 @@ AreLaid at (h ∷ hs) = (h.offset ≡ at) × AreLaid (at + h.size) hs
 -- A top-level handle names an index block with these handles, at least one, and carries the last
 -- one's end key and seqno.
 pub record NamesPart (body : List ℕ) (top : Handle) (part : List Handle) : Type 0 where
-  pub handles : handles_told body (place_of top) ≡ Ok part
+  pub handles : handles_result body (place_of top) ≡ Ok part
   pub some : 0 < length part
   pub end_key : top.end_key ≡ (last_end part).user_key
   pub seqno : top.seqno ≡ (last_end part).seqno
@@ -58,13 +58,13 @@ pub record NamesPart (body : List ℕ) (top : Handle) (part : List Handle) : Typ
 pub record HasPartitions (body : List ℕ) (place : Place) (hs : List Handle) : Type 0 where
   pub tops : List Handle
   pub parts : List (List Handle)
-  pub told : handles_told body place ≡ Ok tops
+  pub told : handles_result body place ≡ Ok tops
   pub named : AllZip (NamesPart body) tops parts
   pub whole : joined_parts parts ≡ hs
 
 -- The index has these handles: in one block, or in partitions if there is a section of them.
 abbrev pub IndexHas : List ℕ → Option Place → Place → List Handle → Type 0
-IndexHas body None tli hs = handles_told body tli ≡ Ok hs
+IndexHas body None tli hs = handles_result body tli ≡ Ok hs
 IndexHas body (Some section) tli hs = HasPartitions body tli hs
 
 -- ---- the filter
@@ -72,7 +72,7 @@ IndexHas body (Some section) tli hs = HasPartitions body tli hs
 -- A block of this type loads at an offset.
 pub record LoadsAs (body : List ℕ) (place : Place) (kind : BlockType) : Type 0 where
   pub block : Loaded
-  pub loads : load_told body place.offset place.size kind ≡ Ok block
+  pub loads : load_result body place.offset place.size kind ≡ Ok block
 
 -- Each filter partition loads; without a top level, the one filter block if there is one.
 abbrev pub FiltersLoad : List ℕ → Option (List Handle) → Option Place → Type 0
@@ -90,7 +90,7 @@ Admits body tops place key =
 pub record FilterHas (body : List ℕ) (filter_tli place : Option Place) (keys : List (List ℕ))
     : Type 0 where
   pub tops : Option (List Handle)
-  pub told : tops_told body filter_tli ≡ Ok tops
+  pub told : tops_result body filter_tli ≡ Ok tops
   pub loads : FiltersLoad body tops place
   pub admits : AllByRecursion (Admits body tops place) keys
 
@@ -98,7 +98,7 @@ pub record FilterHas (body : List ℕ) (filter_tli place : Option Place) (keys :
 
 -- The meta block's facts match the entries and the handles of the data blocks. The version, id,
 -- timestamp, index block count and all items that are not among the facts are not compared.
-pub record BearsOut (said : Facts) (es : List Entry) (hs : List Handle) : Type 0 where
+pub record Matches (said : Facts) (es : List Entry) (hs : List Handle) : Type 0 where
   pub data_block_count : said.data_block_count ≡ length hs
   pub key_range : said.key_range ≡ ends_of es
   pub seqno_min : said.seqno_min ≡ lowest_seqno es
@@ -113,7 +113,7 @@ pub record BearsOut (said : Facts) (es : List Entry) (hs : List Handle) : Type 0
 -- No data block loads at offset 0.
 pub record HasNoBlock (body : List ℕ) : Type 0 where
   pub fault : Error
-  pub refused : load_at_told body 0 Data ≡ Err fault
+  pub refused : load_at_result body 0 Data ≡ Err fault
 
 -- The bytes store a list: every part of the file loads, and the data blocks are contiguous from
 -- offset 0. The list is strict with seqnos below `u64::MAX`, the filter excludes none of its keys,
@@ -121,9 +121,9 @@ pub record HasNoBlock (body : List ℕ) : Type 0 where
 pub record StoresList (bytes : List ℕ) (es : List Entry) : Type 0 where
   pub trailer : trailer_fault bytes ≡ None
   pub regions : ParsedRegions
-  pub places : places_told bytes ≡ Ok regions
+  pub places : places_result bytes ≡ Ok regions
   pub facts : Facts
-  pub meta : meta_told (body_of bytes) regions.metadata ≡ Ok facts
+  pub meta : meta_result (body_of bytes) regions.metadata ≡ Ok facts
   pub blocks : List (List Entry)
   pub handles : List Handle
   pub whole : joined blocks ≡ es
@@ -133,12 +133,12 @@ pub record StoresList (bytes : List ℕ) (es : List Entry) : Type 0 where
   pub filter : FilterHas (body_of bytes) regions.filter_tli regions.filter (keys_of es)
   pub strict : IsStrict es
   pub numbers : AllByRecursion (λ (e : Entry). e.seqno < 2 ^ 64 - 1) es
-  pub borne : BearsOut facts es handles
+  pub borne : Matches facts es handles
   -- A table without entries has no data block.
   pub none : length es ≡ 0 → HasNoBlock (body_of bytes)
 
 -- The result of opening bytes that store a list: its highest seqno must fit with the global one
 -- added.
-abbrev pub fits_told : List Entry → ℕ → Result (Unit {0}) Error
-fits_told es g =
+abbrev pub fits_result : List Entry → ℕ → Result (Unit {0}) Error
+fits_result es g =
     if nat_lt (2 ^ 64 - 1) (highest_seqno es + g) then Err GlobalSeqNoTooLarge else Ok tt

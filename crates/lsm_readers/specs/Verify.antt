@@ -14,7 +14,7 @@ pub use Rattle.sst_entries.specs.Strict.{may_follow}
 use Rattle.sst_blocks.specs.filter.KeyHash.{hash_of}
 use Rattle.sst_blocks.specs.declared.block_type.BlockType.{BlockType}
 use Rattle.sst_blocks.specs.declared.block_type.BlockType.TheVariants.{Data, Filter, Index}
-use Rattle.sst_blocks.specs.Block.{entries_of, load_at_told, load_told, place_fault}
+use Rattle.sst_blocks.specs.Block.{entries_of, load_at_result, load_result, place_fault}
 use Rattle.sst_blocks.specs.Handle.{Handle}
 use Rattle.sst_blocks.specs.Handles.{end_of}
 use Rattle.sst_blocks.specs.Place.{Place, place_of}
@@ -30,7 +30,7 @@ use Rattle.lsm_readers.specs.declared.verify.Verified.{Verified}
 use Rattle.lsm_readers.specs.declared.verify.VerifyError.{VerifyError}
 use Rattle.lsm_readers.specs.declared.verify.VerifyError.TheVariants.{Found, OutOfMemory}
 use Rattle.lsm_readers.specs.point.Answer.{filter_admits}
-use Rattle.lsm_readers.specs.point.IndexKinds.{handles_told}
+use Rattle.lsm_readers.specs.point.IndexKinds.{handles_result}
 use Rattle.lsm_readers.specs.point.Meta.{Facts}
 use Rattle.lsm_readers.specs.point.Parts.{Parts}
 pub use Rattle.lsm_readers.specs.point.Read.{◌>>=◌}
@@ -183,7 +183,7 @@ some_found at (e ∷ es) = Ok (e ∷ es)
 -- The entries of a data block.
 abbrev pub chunk_found : List ℕ → Place → Result (List Entry) Finding
 chunk_found body place =
-    located section.Data place.offset (load_told body place.offset place.size Data) >>= λ block.
+    located section.Data place.offset (load_result body place.offset place.size Data) >>= λ block.
     some_found place.offset (entries_of block)
 
 -- A handle carries this end key and this seqno.
@@ -228,7 +228,7 @@ blocks_found body parts left (h ∷ hs) =
 
 -- The handles of an index block, or a finding at its offset.
 abbrev pub handles_found : List ℕ → SectionName → Place → Result (List Handle) Finding
-handles_found body section place = located section place.offset (handles_told body place)
+handles_found body section place = located section place.offset (handles_result body place)
 
 -- A top-level handle matches the last handle of its partition.
 abbrev pub top_named : Handle → List Handle → Result (Unit {0}) Finding
@@ -267,7 +267,7 @@ passed (Err f) = Err f
 -- A filter block loads.
 abbrev pub filter_found : List ℕ → Place → Result (Unit {0}) Finding
 filter_found body place = passed
-    (located section.Filter place.offset (load_told body place.offset place.size Filter))
+    (located section.Filter place.offset (load_result body place.offset place.size Filter))
 
 unfoldable pub tops_found : List ℕ → List Handle → Result (Unit {0}) Finding
 tops_found body [] = Ok tt
@@ -314,7 +314,7 @@ unnamed_by (Ok block) = Err (finding section.Data 0 fault.Unnamed)
 unnamed_by (Err e) = Ok tt
 
 abbrev pub unnamed_found : List ℕ → Result (Unit {0}) Finding
-unnamed_found body = unnamed_by (load_at_told body 0 Data)
+unnamed_found body = unnamed_by (load_at_result body 0 Data)
 
 -- The last entry has the meta block's greatest key. Without entries, both keys are empty and there
 -- is no data block.

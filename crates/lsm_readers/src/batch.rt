@@ -2,7 +2,7 @@
 ghost use Rattle.std.specs.Prelude.{◌≡◌, ◌-◌, ◌<◌, ◌≤◌, Option, Ok, IfOk, IfSome, false};
 ghost use Rattle.std.specs.Prelude.{length, replicate, slice_set};
 ghost use Rattle.std.specs.List.{All};
-ghost use Rattle.lsm_readers.specs.point.Batch.{AreFound, IsLookup, query_told};
+ghost use Rattle.lsm_readers.specs.point.Batch.{AreFound, IsLookup, query_result};
 ghost use Rattle.lsm_readers.specs.point.Words.{Entry, Gives, admitted_handle, parts_of};
 ghost use Rattle.lsm_readers.specs.point.Words.{with_load};
 ghost use Rattle.sst_blocks.specs.declared.block_type.BlockType.TheVariants.{Data};
@@ -111,7 +111,7 @@ fn answer_lookup<S: LoadBlocks>(
         ≡ Ok handle }
     ensures told { let parts = parts_of inner.now in
         Gives (λ (found : Option Entry). found) result
-        (query_told (S.body source.old) inner.now.global_seqno parts query.now) }
+        (query_result (S.body source.old) inner.now.global_seqno parts query.now) }
     ensures body { S.body source.new ≡ S.body source.old }
 {
     let low = query.seqno.saturating_sub(inner.global_seqno);
@@ -191,10 +191,10 @@ pub(crate) fn read_lookups<S: LoadBlocks>(
     requires lookups { let parts = parts_of inner.now in
         All (IsLookup (S.body source.old) inner.now.global_seqno parts queries.now) lookups.now }
     requires found { let parts = parts_of inner.now in
-        let told = query_told (S.body source.old) inner.now.global_seqno parts in
+        let told = query_result (S.body source.old) inner.now.global_seqno parts in
         AreFound told queries.now batch.old.found.items batch.old.done.items }
     ensures found { let parts = parts_of inner.now in
-        let told = query_told (S.body source.old) inner.now.global_seqno parts in
+        let told = query_result (S.body source.old) inner.now.global_seqno parts in
         AreFound told queries.now batch.new.found.items batch.new.done.items }
     ensures body { S.body source.new ≡ S.body source.old }
 {

@@ -4,7 +4,7 @@ ghost use Rattle.sst_blocks.specs.Starts.{HoldsEntries};
 ghost use Rattle.sst_entries.specs.declared.error.Error.TheVariants.{OutOfMemory};
 ghost use Rattle.lsm_readers.specs.point.Keeping.{IsLoaded, KeepsOf};
 ghost use Rattle.lsm_readers.specs.point.Words.{FaultsFirst, Gives, Loaded, body_of, entries_of};
-ghost use Rattle.lsm_readers.specs.point.Words.{load_told, none_opened, place_fault, point};
+ghost use Rattle.lsm_readers.specs.point.Words.{load_result, none_opened, place_fault, point};
 
 use sst_blocks::{
     Block, BlockHandle, BlockSource, BlockType, DataBlock, Error, InternalValue, LoadBlocks,
@@ -142,7 +142,7 @@ fn load_kept<A: Allocator + Clone>(
     requires kept { KeepsOf (body_of source.now) kept.old }
     ensures told { let body = body_of source.now in
         Gives (λ (b : Loaded). b) result
-        (load_told body handle.now.offset handle.now.size kind) }
+        (load_result body handle.now.offset handle.now.size kind) }
     ensures first { let body = body_of source.now in
         FaultsFirst result (place_fault body handle.now.offset handle.now.size kind) }
     ensures kept { KeepsOf (body_of source.now) kept.new }

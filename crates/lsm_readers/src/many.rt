@@ -1,7 +1,7 @@
 //! Point reads of many keys in one table.
 ghost use Rattle.std.specs.Prelude.{◌≡◌, IsOk, Option, []};
 ghost use Rattle.std.specs.List.{All};
-ghost use Rattle.lsm_readers.specs.point.Batch.{AreFound, IsLookup, query_told};
+ghost use Rattle.lsm_readers.specs.point.Batch.{AreFound, IsLookup, query_result};
 ghost use Rattle.lsm_readers.specs.point.Many.{answers_to};
 ghost use Rattle.lsm_readers.specs.point.Words.{Entry, Gives, body_of, parts_of};
 
@@ -31,7 +31,7 @@ fn get_one<A: Allocator + Clone>(
 ) -> Result<Option<InternalValue<A>>, Error>
     ensures told { let parts = parts_of inner.now in
         Gives (λ (found : Option Entry). found) result
-        (query_told (body_of blocks.now) inner.now.global_seqno parts query.now) }
+        (query_result (body_of blocks.now) inner.now.global_seqno parts query.now) }
 {
     let key = query.key.as_slice();
     let mut source = Counted::new(blocks);
@@ -53,10 +53,10 @@ fn read_ahead<A: Allocator + Clone>(
     requires lookups { let parts = parts_of inner.now in
         All (IsLookup (body_of blocks.now) inner.now.global_seqno parts queries.now) lookups.now }
     requires found { let parts = parts_of inner.now in
-        let told = query_told (body_of blocks.now) inner.now.global_seqno parts in
+        let told = query_result (body_of blocks.now) inner.now.global_seqno parts in
         AreFound told queries.now batch.old.found.items batch.old.done.items }
     ensures found { let parts = parts_of inner.now in
-        let told = query_told (body_of blocks.now) inner.now.global_seqno parts in
+        let told = query_result (body_of blocks.now) inner.now.global_seqno parts in
         AreFound told queries.now batch.new.found.items batch.new.done.items }
 {
     let mut named = Vec::with_capacity(blocks.allocator().clone()?, AHEAD)?;
@@ -84,10 +84,10 @@ fn read_ordered<A: Allocator + Clone>(
 ) -> Result<(), AllocError>
     requires source { body_of source.old.0 ≡ body_of blocks.now }
     requires found { let parts = parts_of inner.now in
-        let told = query_told (body_of blocks.now) inner.now.global_seqno parts in
+        let told = query_result (body_of blocks.now) inner.now.global_seqno parts in
         AreFound told queries.now batch.old.found.items batch.old.done.items }
     ensures found { let parts = parts_of inner.now in
-        let told = query_told (body_of blocks.now) inner.now.global_seqno parts in
+        let told = query_result (body_of blocks.now) inner.now.global_seqno parts in
         AreFound told queries.now batch.new.found.items batch.new.done.items }
 {
     let lookups = find_lookups(source, inner, queries, order, blocks.allocator().clone()?)?;
@@ -103,10 +103,10 @@ fn read_batch<A: Allocator + Clone>(
     batch: &mut Batch<A>,
 ) -> Result<(), AllocError>
     requires found { let parts = parts_of inner.now in
-        let told = query_told (body_of blocks.now) inner.now.global_seqno parts in
+        let told = query_result (body_of blocks.now) inner.now.global_seqno parts in
         AreFound told queries.now batch.old.found.items batch.old.done.items }
     ensures found { let parts = parts_of inner.now in
-        let told = query_told (body_of blocks.now) inner.now.global_seqno parts in
+        let told = query_result (body_of blocks.now) inner.now.global_seqno parts in
         AreFound told queries.now batch.new.found.items batch.new.done.items }
 {
     if queries.len() < 2 {
@@ -133,10 +133,10 @@ fn read_rest<A: Allocator + Clone>(
     batch: Batch<A>,
 ) -> Result<Vec<Option<InternalValue<A>>, A>, Error>
     requires { let parts = parts_of inner.now in
-        let told = query_told (body_of blocks.now) inner.now.global_seqno parts in
+        let told = query_result (body_of blocks.now) inner.now.global_seqno parts in
         AreFound told queries.now batch.found.items batch.done.items }
     ensures { let parts = parts_of inner.now in
-        let told = query_told (body_of blocks.now) inner.now.global_seqno parts in
+        let told = query_result (body_of blocks.now) inner.now.global_seqno parts in
         Gives (λ found. found.items) result (answers_to told queries.now) }
 {
     let Batch { mut found, done } = batch;
@@ -167,7 +167,7 @@ pub fn many_in<A: Allocator + Clone>(
     queries: &[Query<A>],
 ) -> Result<Vec<Option<InternalValue<A>>, A>, Error>
     ensures told { let parts = parts_of inner.now in
-        let told = query_told (body_of blocks.now) inner.now.global_seqno parts in
+        let told = query_result (body_of blocks.now) inner.now.global_seqno parts in
         Gives (λ found. found.items) result (answers_to told queries.now) }
     // Without queries it fails only if a clone of the allocator does.
     ensures calm { queries.now ≡ [] → ((alloc : A) → A.is_infallible alloc) → IsOk result }

@@ -4,15 +4,15 @@ ghost use Rattle.sst_entries.specs.Error.{FaultsFirst, Gives};
 ghost use Rattle.sst_blocks.specs.Block.{place_fault};
 ghost use Rattle.sst_blocks.specs.declared.block_type.BlockType.TheVariants.{Meta};
 ghost use Rattle.sst_blocks.specs.Sections.{body_of};
-ghost use Rattle.lsm_readers.specs.point.Meta.{item_told, number8_told, number16_told, u64_told};
-ghost use Rattle.lsm_readers.specs.point.Meta.{one_byte_told, byte_told, first_byte_told};
-ghost use Rattle.lsm_readers.specs.point.Meta.{first_told};
-ghost use Rattle.lsm_readers.specs.point.Meta.{version_number_told, version_told, kinds_told};
-ghost use Rattle.lsm_readers.specs.point.Meta.{compressions_told, created_told, numbers_told};
-ghost use Rattle.lsm_readers.specs.point.Meta.{keys_told};
-ghost use Rattle.lsm_readers.specs.point.Meta.{seqnos_told, rest_told, facts_of, facts_told};
-ghost use Rattle.lsm_readers.specs.point.Meta.{meta_told};
-ghost use Rattle.lsm_readers.specs.point.Meta.{meta_item_told};
+ghost use Rattle.lsm_readers.specs.point.Meta.{item_result, number8_result, number16_result, u64_result};
+ghost use Rattle.lsm_readers.specs.point.Meta.{one_byte_result, byte_result, first_byte_result};
+ghost use Rattle.lsm_readers.specs.point.Meta.{first_result};
+ghost use Rattle.lsm_readers.specs.point.Meta.{version_number_result, version_result, kinds_result};
+ghost use Rattle.lsm_readers.specs.point.Meta.{compressions_result, created_result, numbers_result};
+ghost use Rattle.lsm_readers.specs.point.Meta.{keys_result};
+ghost use Rattle.lsm_readers.specs.point.Meta.{seqnos_result, rest_result, facts_of, facts_result};
+ghost use Rattle.lsm_readers.specs.point.Meta.{meta_result};
+ghost use Rattle.lsm_readers.specs.point.Meta.{meta_item_result};
 ghost use Rattle.lsm_readers.specs.declared.meta.Numbers.{Numbers};
 ghost use Rattle.lsm_sorted.specs.version.KeyRange.{Interval};
 
@@ -61,9 +61,9 @@ pub struct ParsedMeta<A: Allocator = Global> {
 }
 
 /// The value of an item. Fails with [`Error::MetaKeyMissing`] if there is none.
-#[tactic(auto, unfolding(crate::specs::point::Meta::item_told))]
+#[tactic(auto, unfolding(crate::specs::point::Meta::item_result))]
 fn item<A: Allocator>(block: &DataBlock<A>, name: ItemName) -> Result<Slice<A>, Error>
-    ensures { Gives (λ (v : List ℕ). v) result (item_told block.now name) }
+    ensures { Gives (λ (v : List ℕ). v) result (item_result block.now name) }
 {
     match block.point_read(name.key(), SeqNo::MAX)? {
         Some(item) => Ok(item.value),
@@ -73,7 +73,7 @@ fn item<A: Allocator>(block: &DataBlock<A>, name: ItemName) -> Result<Slice<A>, 
 
 #[tactic(auto, unfolding(sst_blocks::specs::Number::num8))]
 fn number8(value: &[u8]) -> Result<u64, Error>
-    ensures { result ≡ number8_told value.now }
+    ensures { result ≡ number8_result value.now }
 {
     if value.len() < 8 {
         return Err(Error::InvalidMetaValue);
@@ -83,7 +83,7 @@ fn number8(value: &[u8]) -> Result<u64, Error>
 
 #[tactic(auto, unfolding(sst_blocks::specs::Number::num16))]
 fn number16(value: &[u8]) -> Result<u128, Error>
-    ensures { result ≡ number16_told value.now }
+    ensures { result ≡ number16_result value.now }
 {
     if value.len() < 16 {
         return Err(Error::InvalidMetaValue);
@@ -91,9 +91,9 @@ fn number16(value: &[u8]) -> Result<u128, Error>
     Ok(LittleEndian::read_u128(value))
 }
 
-#[tactic(auto, unfolding(crate::specs::point::Meta::u64_told))]
+#[tactic(auto, unfolding(crate::specs::point::Meta::u64_result))]
 fn u64_item<A: Allocator>(block: &DataBlock<A>, name: ItemName) -> Result<u64, Error>
-    ensures { Gives (λ (n : ℕ). n) result (u64_told block.now name) }
+    ensures { Gives (λ (n : ℕ). n) result (u64_result block.now name) }
 {
     let value = item(block, name)?;
     let number = number8(value.as_slice());
@@ -102,7 +102,7 @@ fn u64_item<A: Allocator>(block: &DataBlock<A>, name: ItemName) -> Result<u64, E
 }
 
 fn test_byte(value: &[u8], byte: u8, fault: Error) -> Result<(), Error>
-    ensures { result ≡ one_byte_told value.now byte fault }
+    ensures { result ≡ one_byte_result value.now byte fault }
 {
     if value == [byte].as_slice() {
         Ok(())
@@ -111,14 +111,14 @@ fn test_byte(value: &[u8], byte: u8, fault: Error) -> Result<(), Error>
     }
 }
 
-#[tactic(auto, unfolding(crate::specs::point::Meta::byte_told))]
+#[tactic(auto, unfolding(crate::specs::point::Meta::byte_result))]
 fn byte_item<A: Allocator>(
     block: &DataBlock<A>,
     name: ItemName,
     byte: u8,
     fault: Error,
 ) -> Result<(), Error>
-    ensures { Gives (λ (_ : _). tt) result (byte_told block.now name byte fault) }
+    ensures { Gives (λ (_ : _). tt) result (byte_result block.now name byte fault) }
 {
     let value = item(block, name)?;
     let tested = test_byte(value.as_slice(), byte, fault);
@@ -127,7 +127,7 @@ fn byte_item<A: Allocator>(
 }
 
 fn test_first(value: &[u8], byte: u8, fault: Error) -> Result<(), Error>
-    ensures { result ≡ first_byte_told value.now byte fault }
+    ensures { result ≡ first_byte_result value.now byte fault }
 {
     if value.is_empty() {
         return Err(Error::InvalidMetaValue);
@@ -135,14 +135,14 @@ fn test_first(value: &[u8], byte: u8, fault: Error) -> Result<(), Error>
     if value[0] == byte { Ok(()) } else { Err(fault) }
 }
 
-#[tactic(auto, unfolding(crate::specs::point::Meta::first_told))]
+#[tactic(auto, unfolding(crate::specs::point::Meta::first_result))]
 fn first_item<A: Allocator>(
     block: &DataBlock<A>,
     name: ItemName,
     byte: u8,
     fault: Error,
 ) -> Result<(), Error>
-    ensures { Gives (λ (_ : _). tt) result (first_told block.now name byte fault) }
+    ensures { Gives (λ (_ : _). tt) result (first_result block.now name byte fault) }
 {
     let value = item(block, name)?;
     let tested = test_first(value.as_slice(), byte, fault);
@@ -151,7 +151,7 @@ fn first_item<A: Allocator>(
 }
 
 fn version(value: &[u8]) -> Result<u8, Error>
-    ensures { result ≡ version_number_told value.now }
+    ensures { result ≡ version_number_result value.now }
 {
     if value == [3].as_slice() || value == [4].as_slice() {
         Ok(value[0])
@@ -160,9 +160,9 @@ fn version(value: &[u8]) -> Result<u8, Error>
     }
 }
 
-#[tactic(auto, unfolding(crate::specs::point::Meta::version_told))]
+#[tactic(auto, unfolding(crate::specs::point::Meta::version_result))]
 fn version_item<A: Allocator>(block: &DataBlock<A>) -> Result<u8, Error>
-    ensures { Gives (λ (n : ℕ). n) result (version_told block.now) }
+    ensures { Gives (λ (n : ℕ). n) result (version_result block.now) }
 {
     let value = item(block, ItemName::TableVersion)?;
     let number = version(value.as_slice());
@@ -170,9 +170,9 @@ fn version_item<A: Allocator>(block: &DataBlock<A>) -> Result<u8, Error>
     number
 }
 
-#[tactic(auto, unfolding(crate::specs::point::Meta::kinds_told))]
+#[tactic(auto, unfolding(crate::specs::point::Meta::kinds_result))]
 fn test_kinds<A: Allocator>(block: &DataBlock<A>) -> Result<(), Error>
-    ensures { Gives (λ (_ : _). tt) result (kinds_told block.now) }
+    ensures { Gives (λ (_ : _). tt) result (kinds_result block.now) }
 {
     byte_item(
         block,
@@ -194,9 +194,9 @@ fn test_kinds<A: Allocator>(block: &DataBlock<A>) -> Result<(), Error>
     )
 }
 
-#[tactic(auto, unfolding(crate::specs::point::Meta::compressions_told))]
+#[tactic(auto, unfolding(crate::specs::point::Meta::compressions_result))]
 fn test_compressions<A: Allocator>(block: &DataBlock<A>) -> Result<(), Error>
-    ensures { Gives (λ (_ : _). tt) result (compressions_told block.now) }
+    ensures { Gives (λ (_ : _). tt) result (compressions_result block.now) }
 {
     first_item(
         block,
@@ -212,9 +212,9 @@ fn test_compressions<A: Allocator>(block: &DataBlock<A>) -> Result<(), Error>
     )
 }
 
-#[tactic(auto, unfolding(crate::specs::point::Meta::created_told))]
+#[tactic(auto, unfolding(crate::specs::point::Meta::created_result))]
 fn created_item<A: Allocator>(block: &DataBlock<A>) -> Result<u128, Error>
-    ensures { Gives (λ (n : ℕ). n) result (created_told block.now) }
+    ensures { Gives (λ (n : ℕ). n) result (created_result block.now) }
 {
     let value = item(block, ItemName::CreatedAt)?;
     let number = number16(value.as_slice());
@@ -236,9 +236,9 @@ struct Numbers {
     weak_tombstone_reclaimable: u64,
 }
 
-#[tactic(auto, unfolding(crate::specs::point::Meta::numbers_told))]
+#[tactic(auto, unfolding(crate::specs::point::Meta::numbers_result))]
 fn number_items<A: Allocator>(block: &DataBlock<A>) -> Result<Numbers, Error>
-    ensures { Gives (λ (n : Numbers). n) result (numbers_told block.now) }
+    ensures { Gives (λ (n : Numbers). n) result (numbers_result block.now) }
 {
     let id = u64_item(block, ItemName::TableId)?;
     let item_count = u64_item(block, ItemName::ItemCount)?;
@@ -261,18 +261,18 @@ fn number_items<A: Allocator>(block: &DataBlock<A>) -> Result<Numbers, Error>
     })
 }
 
-#[tactic(auto, unfolding(crate::specs::point::Meta::keys_told))]
+#[tactic(auto, unfolding(crate::specs::point::Meta::keys_result))]
 fn key_items<A: Allocator>(block: &DataBlock<A>) -> Result<KeyRange<A>, Error>
-    ensures { Gives (λ (r : Interval). r) result (keys_told block.now) }
+    ensures { Gives (λ (r : Interval). r) result (keys_result block.now) }
 {
     let min = item(block, ItemName::KeyMin)?;
     let ends = beside(min, item(block, ItemName::KeyMax))?;
     Ok(KeyRange::new(ends))
 }
 
-#[tactic(auto, unfolding(crate::specs::point::Meta::seqnos_told))]
+#[tactic(auto, unfolding(crate::specs::point::Meta::seqnos_result))]
 fn seqno_items<A: Allocator>(block: &DataBlock<A>) -> Result<(SeqNo, SeqNo), Error>
-    ensures { Gives (λ (n : ℕ × ℕ). n) result (seqnos_told block.now) }
+    ensures { Gives (λ (n : ℕ × ℕ). n) result (seqnos_result block.now) }
 {
     let min = u64_item(block, ItemName::SeqnoMin)?;
     let max = u64_item(block, ItemName::SeqnoMax)?;
@@ -285,7 +285,7 @@ fn read_rest<A: Allocator>(
     table_version: u8,
     numbers: Numbers,
 ) -> Result<ParsedMeta<A>, Error>
-    ensures { Gives facts_of result (rest_told block.now table_version numbers) }
+    ensures { Gives facts_of result (rest_result block.now table_version numbers) }
 {
     let created_at = created_item(block)?;
     let key_range = key_items(block)?;
@@ -310,7 +310,7 @@ fn read_rest<A: Allocator>(
 }
 
 fn read_facts<A: Allocator>(block: &DataBlock<A>) -> Result<ParsedMeta<A>, Error>
-    ensures { Gives facts_of result (facts_told block.now) }
+    ensures { Gives facts_of result (facts_result block.now) }
 {
     let table_version = version_item(block)?;
     test_kinds(block)?;
@@ -336,7 +336,7 @@ impl<A: Allocator + Clone> ParsedMeta<A> {
         source: &BlockSource<A>,
         handle: &BlockHandle,
     ) -> Result<ParsedMeta<A>, Error>
-        ensures told { Gives facts_of result (meta_told (body_of source.now) handle.now) }
+        ensures told { Gives facts_of result (meta_result (body_of source.now) handle.now) }
         ensures early { let body = body_of source.now in
             FaultsFirst result (place_fault body handle.now.offset handle.now.size Meta) }
     {
@@ -361,7 +361,7 @@ pub fn load_item<A: Allocator + Clone>(
     name: ItemName,
 ) -> Result<Slice<A>, Error>
     ensures told { Gives (λ (v : List ℕ). v) result
-        (meta_item_told (body_of source.now) handle.now name) }
+        (meta_item_result (body_of source.now) handle.now name) }
     ensures early { let body = body_of source.now in
         FaultsFirst result (place_fault body handle.now.offset handle.now.size Meta) }
 {

@@ -4,9 +4,9 @@ ghost use Rattle.sst_blocks.specs.declared.block_type.BlockType.TheVariants.{Ind
 ghost use Rattle.sst_entries.specs.declared.error.Error.TheVariants.{OutOfMemory};
 ghost use Rattle.lsm_readers.specs.point.Words.{DoesRead, FaultsFirst, Gives, Handle, body_of};
 ghost use Rattle.lsm_readers.specs.point.Words.{handle_by, handle_in_block, place_fault};
-ghost use Rattle.lsm_readers.specs.point.Words.{handles_told, index_len, pinned_index_of};
+ghost use Rattle.lsm_readers.specs.point.Words.{handles_result, index_len, pinned_index_of};
 ghost use Rattle.lsm_readers.specs.point.Words.{index_over};
-ghost use Rattle.lsm_readers.specs.point.Words.{index_read, index_told, kind_kept, index_kind_of};
+ghost use Rattle.lsm_readers.specs.point.Words.{index_read, index_result, kind_kept, index_kind_of};
 ghost use Rattle.lsm_readers.specs.point.Words.{on_each_read, partitioned};
 ghost use Rattle.lsm_iters.specs.block_index.Index.{on_demand, two_level};
 
@@ -38,7 +38,7 @@ pub fn load_handles<A: Allocator + Clone>(
     handle: &BlockHandle,
 ) -> Result<IndexBlock<A>, Error>
     ensures told { Gives (λ (handles : List Handle). handles) result
-        (handles_told (body_of source.now) handle.now) }
+        (handles_result (body_of source.now) handle.now) }
     ensures early { let body = body_of source.now in
         FaultsFirst result (place_fault body handle.now.offset handle.now.size Index) }
 {
@@ -107,7 +107,7 @@ impl<A: Allocator + Clone> PinnedBlockIndex<A> {
         pin_index: bool,
     ) -> Result<PinnedBlockIndex<A>, Error>
         ensures { Gives pinned_index_of result
-            (index_told (body_of source.now) regions.now pin_index) }
+            (index_result (body_of source.now) regions.now pin_index) }
     {
         if regions.index.is_some() {
             return Ok(PinnedBlockIndex::TwoLevel(load_handles(source, &regions.tli)?));

@@ -1,7 +1,7 @@
 //! Point reads over any block source.
 ghost use Rattle.std.specs.Prelude.{◌≡◌, ◌+◌, ◌<◌, ◌^◌, [], ℕ, List, Option, IfOk, IfSome, IsOk};
 ghost use Rattle.std.specs.Option.{option_map};
-ghost use Rattle.sst_blocks.specs.Asked.{told_map};
+ghost use Rattle.sst_blocks.specs.Asked.{result_map};
 ghost use Rattle.sst_blocks.specs.EntryPlace.{IsPlacedIn, entry_placed};
 ghost use Rattle.lsm_readers.specs.point.Words.{DoesRead, Entry, FaultsFirst, Gives, LoadsFew};
 ghost use Rattle.lsm_readers.specs.point.Words.{Opens};
@@ -224,7 +224,7 @@ fn place_at<A: Allocator + Clone>(
     opened: &mut Opened,
 ) -> Result<Option<EntryPlace>, Error>
     requires { seqno + global_seqno < 2 ^ 64 }
-    ensures read { let found = told_map (option_map (entry_placed source.now)) result in
+    ensures read { let found = result_map (option_map (entry_placed source.now)) result in
         let read = match_at (body_of source.now) global_seqno key.now seqno handle.now in
         DoesRead found read opened.old opened.new }
     ensures placed { IfOk result (λ found. IfSome found (IsPlacedIn source.now)) }
@@ -243,7 +243,7 @@ fn read_place<A: Allocator + Clone>(
 ) -> (Result<Option<EntryPlace>, Error>, Opened)
     requires { key_hash ≡ hash_of key.now }
     ensures read { let parts = parts_of inner.now in
-        let found = told_map (option_map (entry_placed source.now)) result.0 in
+        let found = result_map (option_map (entry_placed source.now)) result.0 in
         let read = answer (body_of source.now) inner.now.global_seqno parts key.now seqno in
         DoesRead found read none_opened result.1 }
     ensures placed { IfOk result.0 (λ found. IfSome found (IsPlacedIn source.now)) }

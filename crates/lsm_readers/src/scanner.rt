@@ -2,11 +2,11 @@
 ghost use Rattle.std.specs.Prelude.{◌≡◌, ◌<◌, ◌-◌, ◌↔◌, ℕ, [], Bool, List, None, Some, Ok};
 ghost use Rattle.std.specs.Prelude.{Err, true, is_some, IsTrue, IfOk, IfErr};
 ghost use Rattle.std.specs.Iterator.{at_most};
-ghost use Rattle.lsm_readers.specs.Words.{CanDeal, Deals, Entry, Faults, FaultsFirst, Gives};
+ghost use Rattle.lsm_readers.specs.Words.{CanYield, YieldsExactly, Entry, Faults, FaultsFirst, Gives};
 ghost use Rattle.lsm_readers.specs.Words.{IsNewScan, Scan, ScansLent, ScansNext, answer_stops};
-ghost use Rattle.lsm_readers.specs.Words.{block_told, body_of, ended, fault_of, lend_next};
-ghost use Rattle.lsm_readers.specs.Words.{load_at_told, none_opened, nowhere, position_fault};
-ghost use Rattle.lsm_readers.specs.Words.{scan_size, scan_told, with_load};
+ghost use Rattle.lsm_readers.specs.Words.{block_result, body_of, ended, fault_of, lend_next};
+ghost use Rattle.lsm_readers.specs.Words.{load_at_result, none_opened, nowhere, position_fault};
+ghost use Rattle.lsm_readers.specs.Words.{scan_size, scan_results, with_load};
 ghost use Rattle.sst_blocks.specs.declared.block_type.BlockType.TheVariants.{Data};
 ghost use Rattle.sst_entries.specs.declared.error.Error.{Error};
 ghost use Rattle.sst_entries.specs.declared.error.Error.TheVariants.{OutOfMemory};
@@ -76,7 +76,7 @@ fn block_at<A: Allocator + Clone>(
     position: u64,
     opened: &mut Opened,
 ) -> Result<(DataBlock<A>, u64), Error>
-    ensures told { let block = block_told (body_of source.now) position in
+    ensures told { let block = block_result (body_of source.now) position in
         Gives (λ (x : List Entry × ℕ). x) result block }
     ensures early { FaultsFirst result (position_fault (body_of source.now) position Data) }
     ensures counted { opened.new ≡ with_load Data opened.old }
@@ -102,34 +102,34 @@ impl<A: Allocator + Clone> Scanner<A> {
         compression: CompressionType,
         global_seqno: SeqNo,
     ) -> Result<Scanner<A>, Error>
-        ensures refused { Faults result (fault_of (load_at_told (body_of source.now) 0 Data)) }
+        ensures refused { Faults result (fault_of (load_at_result (body_of source.now) 0 Data)) }
         // A fault of the block's header, checksum or count takes precedence over `OutOfMemory`.
         ensures early { FaultsFirst result (position_fault (body_of source.now) 0 Data) }
         ensures opened { IfOk result (λ s. s.opened ≡ with_load Data none_opened) }
         ensures left { IfOk result (IsNewScan (body_of source.now) block_count global_seqno) }
         // Except for `OutOfMemory`, it yields the entries of the blocks.
-        ensures deals { (stops : Error → Bool) → stops OutOfMemory ≡ true →
+        ensures yields { (stops : Error → Bool) → stops OutOfMemory ≡ true →
             let gives = ⟦<Scanner<A> as Iterator>⟧.next_gives in
-            let left = scan_told (body_of source.now) block_count global_seqno in
-            IfOk result (λ s. Deals (answer_stops stops) gives nowhere s left) }
+            let left = scan_results (body_of source.now) block_count global_seqno in
+            IfOk result (λ s. YieldsExactly (answer_stops stops) gives nowhere s left) }
         ensures can { let gives = ⟦<Scanner<A> as Iterator>⟧.next_gives in
             let may = ⟦<Scanner<A> as Iterator>⟧.can_next in
-            IfOk result (λ s. CanDeal gives nowhere may may s) }
+            IfOk result (λ s. CanYield gives nowhere may may s) }
         // After any error it is exhausted.
         ensures ends { (stops : Error → Bool) (s t : Scan) (e : Error) →
             ⟦<Scanner<A> as Iterator>⟧.next_gives s (Some (Err e)) t →
-            Deals (answer_stops stops) ⟦<Scanner<A> as Iterator>⟧.next_gives nowhere t [] }
+            YieldsExactly (answer_stops stops) ⟦<Scanner<A> as Iterator>⟧.next_gives nowhere t [] }
         // As a lending iterator it yields the same.
         ensures lends { (stops : Error → Bool) → stops OutOfMemory ≡ true →
             let advances = ⟦<Scanner<A> as Lending>⟧.advances in
-            let left = scan_told (body_of source.now) block_count global_seqno in
-            IfOk result (λ s. Deals (answer_stops stops) advances nowhere s left) }
+            let left = scan_results (body_of source.now) block_count global_seqno in
+            IfOk result (λ s. YieldsExactly (answer_stops stops) advances nowhere s left) }
         ensures can_lend { let advances = ⟦<Scanner<A> as Lending>⟧.advances in
             let may = ⟦<Scanner<A> as Lending>⟧.can_advance in
-            IfOk result (λ s. CanDeal advances nowhere may may s) }
+            IfOk result (λ s. CanYield advances nowhere may may s) }
         ensures lends_end { (stops : Error → Bool) (s t : Scan) (e : Error) →
             ⟦<Scanner<A> as Lending>⟧.advances s (Some (Err e)) t →
-            Deals (answer_stops stops) ⟦<Scanner<A> as Lending>⟧.advances nowhere t [] }
+            YieldsExactly (answer_stops stops) ⟦<Scanner<A> as Lending>⟧.advances nowhere t [] }
     {
         match compression {
             CompressionType::None => {}
@@ -192,7 +192,7 @@ impl<A: Allocator + Clone> Scanner<A> {
     fn next_block(&mut self) -> Result<(), Error>
         requires { 0 < self.old.blocks }
         ensures ok { IfOk result (λ _. (es : List Entry) × (next : ℕ) ×
-            (block_told self.old.body self.old.position ≡ Ok (es, next)) ×
+            (block_result self.old.body self.old.position ≡ Ok (es, next)) ×
             (self.new ≡ record self.old {
               lent = None;
               entries = es;
@@ -202,7 +202,7 @@ impl<A: Allocator + Clone> Scanner<A> {
             })) }
         ensures err { IfErr result (λ e.
             self.new ≡ record (ended self.old) { opened = with_load Data self.old.opened }) }
-        ensures refused { Faults result (fault_of (block_told self.old.body self.old.position)) }
+        ensures refused { Faults result (fault_of (block_result self.old.body self.old.position)) }
         ensures early { FaultsFirst result (position_fault self.old.body self.old.position Data) }
     {
         match block_at(&self.source, self.position, &mut self.opened) {

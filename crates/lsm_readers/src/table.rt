@@ -2,23 +2,23 @@
 ghost use Rattle.std.specs.Prelude.{◌≡◌, ◌≢◌, ◌+◌, ℕ, Bool, List, [], Option, Some, Result, Ok};
 ghost use Rattle.std.specs.Prelude.{Err, false, true, length, IfOk, IfErr, IsOk, MatchResult};
 ghost use Rattle.std.specs.Prelude.{is_some};
-ghost use Rattle.lsm_readers.specs.Words.{BloomFilter, CanDeal, Deals, Entry, Faults, FaultsFirst};
+ghost use Rattle.lsm_readers.specs.Words.{BloomFilter, CanYield, YieldsExactly, Entry, Faults, FaultsFirst};
 ghost use Rattle.lsm_readers.specs.Words.{Gives, Handle, IsNewScan, IsOpen, IsRecovered, IsTable};
-ghost use Rattle.lsm_readers.specs.Words.{BearsOut, NamesBlocksOf, StoresList, fits_told};
+ghost use Rattle.lsm_readers.specs.Words.{Matches, NamesBlocksOf, StoresList, fits_result};
 ghost use Rattle.lsm_readers.specs.Words.{Loaded, LoadsFew, OpenTable, Opens, SaysList, Scan};
 ghost use Rattle.lsm_readers.specs.Words.{ScansList, answer_stops, body_of, early_fault, early_in};
 ghost use Rattle.lsm_readers.specs.Words.{LendsList, ends_of};
-ghost use Rattle.lsm_readers.specs.Words.{facts_of, fault_of, filter_len, filter_told};
-ghost use Rattle.lsm_readers.specs.Words.{fitting_told, hash_of, index_len, key_bound, lift};
-ghost use Rattle.lsm_readers.specs.Words.{list_told, load_at_told, load_told, none_opened, nowhere};
-ghost use Rattle.lsm_readers.specs.Words.{facts_fitting, overlaps_bounds, parts_of, parts_told};
-ghost use Rattle.lsm_readers.specs.Words.{AreCutAlike, OpenedWith, StoresItsBlocks, TellAlike};
+ghost use Rattle.lsm_readers.specs.Words.{facts_of, fault_of, filter_len, filter_result};
+ghost use Rattle.lsm_readers.specs.Words.{fitting_result, hash_of, index_len, key_bound, lift};
+ghost use Rattle.lsm_readers.specs.Words.{list_result, load_at_result, load_result, none_opened, nowhere};
+ghost use Rattle.lsm_readers.specs.Words.{facts_fitting, overlaps_bounds, parts_of, parts_result};
+ghost use Rattle.lsm_readers.specs.Words.{AreCutAlike, OpenedWith, StoresItsBlocks, ReadAlike};
 ghost use Rattle.lsm_readers.specs.Words.{kind_for};
 ghost use Rattle.lsm_readers.specs.Words.{index_kind_of};
-ghost use Rattle.lsm_readers.specs.Words.{index_read, pinned_filter, pinned_of, pinned_told};
-ghost use Rattle.lsm_readers.specs.Words.{place_fault, place_size, places_told, point, table_index};
-ghost use Rattle.lsm_readers.specs.Words.{position_fault, recovered_told, scan_told, table_answer};
-ghost use Rattle.lsm_readers.specs.Words.{tops_told, volatile, with_load, within};
+ghost use Rattle.lsm_readers.specs.Words.{index_read, pinned_filter, pinned_of, pinned_result};
+ghost use Rattle.lsm_readers.specs.Words.{place_fault, place_size, places_result, point, table_index};
+ghost use Rattle.lsm_readers.specs.Words.{position_fault, recovered_result, scan_results, table_answer};
+ghost use Rattle.lsm_readers.specs.Words.{tops_result, volatile, with_load, within};
 ghost use Rattle.std.specs.Arc.{arc_value};
 ghost use Rattle.sst_blocks.specs.declared.block_type.BlockType.TheVariants.{Data, Index, Meta};
 ghost use Rattle.sst_entries.specs.declared.error.Error.{Error};
@@ -104,7 +104,7 @@ impl<A: Allocator> Deref for Table<A> {
 impl<A: Allocator> Ranged for Table<A> {
     ghost use Rattle.std.proofs.Common.{ap};
     ghost use Rattle.std.specs.Prelude.{List, ℕ};
-    ghost use Rattle.lsm_readers.specs.point.Parts.{key_range_told};
+    ghost use Rattle.lsm_readers.specs.point.Parts.{key_range_result};
 
     type Alloc = A;
 
@@ -113,13 +113,13 @@ impl<A: Allocator> Ranged for Table<A> {
 
     ghost meaning = { λ t. (t.bytes, t.global_seqno) };
 
-    ghost range = { λ t. key_range_told t.bytes };
+    ghost range = { λ t. key_range_result t.bytes };
 
     fn key_range(&self) -> &KeyRange<A> {
         &self.inner.metadata.key_range
     }
 
-    ghost steady = { λ x y same. ap (λ (m : List ℕ × ℕ). key_range_told m.0) same };
+    ghost steady = { λ x y same. ap (λ (m : List ℕ × ℕ). key_range_result m.0) same };
 }
 
 impl<A: Allocator> fmt::Debug for Table<A> {
@@ -137,7 +137,7 @@ fn load_filter_index<A: Allocator + Clone>(
     handle: Option<BlockHandle>,
 ) -> Result<Option<IndexBlock<A>>, Error>
     ensures { Gives (λ (tops : Option (List Handle)). tops) result
-        (tops_told (body_of source.now) handle) }
+        (tops_result (body_of source.now) handle) }
 {
     match handle {
         None => Ok(None),
@@ -151,7 +151,7 @@ fn load_filter<A: Allocator + Clone>(
     handle: Option<BlockHandle>,
 ) -> Result<Option<FilterBlock<A>>, Error>
     ensures { Gives (λ (filter : Option BloomFilter). filter) result
-        (filter_told (body_of source.now) handle) }
+        (filter_result (body_of source.now) handle) }
 {
     let Some(handle) = handle else {
         return Ok(None);
@@ -181,7 +181,7 @@ fn load_pinned<A: Allocator + Clone>(
     pin_index: bool,
 ) -> Result<PinnedBlocks<A>, Error>
     ensures { Gives pinned_of result
-        (pinned_told (body_of source.now) regions.now pin_filter pin_index) }
+        (pinned_result (body_of source.now) regions.now pin_filter pin_index) }
 {
     let index = PinnedBlockIndex::load(source, regions, pin_index)?;
     let (index, filter_index) = beside(index, load_filter_index(source, regions.filter_tli))?;
@@ -215,7 +215,7 @@ fn fitting_metadata<A: Allocator + Clone>(
     handle: &BlockHandle,
     global_seqno: SeqNo,
 ) -> Result<ParsedMeta<A>, Error>
-    ensures told { let facts = fitting_told (body_of source.now) handle.now global_seqno in
+    ensures told { let facts = fitting_result (body_of source.now) handle.now global_seqno in
         Gives facts_of result facts }
     ensures early { let body = body_of source.now in
         FaultsFirst result (place_fault body handle.now.offset handle.now.size Meta) }
@@ -253,8 +253,8 @@ fn recover_inner<A: Allocator + Clone>(
     pin_index: bool,
 ) -> Result<Inner<A>, Error>
     ensures told { Gives parts_of result
-        (parts_told source.now global_seqno pin_filter pin_index) }
-    ensures early { FaultsFirst result (early_in (body_of source.now) (places_told source.now)) }
+        (parts_result source.now global_seqno pin_filter pin_index) }
+    ensures early { FaultsFirst result (early_in (body_of source.now) (places_result source.now)) }
     ensures number { IfOk result (λ inner. inner.global_seqno ≡ global_seqno) }
     ensures tree { IfOk result (λ inner. inner.tree_id ≡ tree_id) }
     ensures checksum { IfOk result (λ inner. inner.checksum ≡ checksum) }
@@ -321,7 +321,7 @@ impl<A: Allocator + Clone> Table<A> {
         pin_index: bool,
     ) -> Result<Table<A>, Error>
         ensures told { Gives (λ (t : OpenTable). t.parts) result
-            (recovered_told bytes global_seqno pin_filter pin_index) }
+            (recovered_result bytes global_seqno pin_filter pin_index) }
         // A fault that is found before any allocation takes precedence over `OutOfMemory`.
         ensures early { FaultsFirst result (early_fault bytes) }
         // A table written from a list, with an index restart interval of 1, opens if the highest
@@ -329,10 +329,10 @@ impl<A: Allocator + Clone> Table<A> {
         ensures list { (es : List Entry) (t : IsTable bytes es) →
             t.options.index_block_restart_interval ≡ 1 →
             Gives (λ (t : OpenTable). t.parts) result
-            (list_told t global_seqno pin_filter pin_index) }
+            (list_result t global_seqno pin_filter pin_index) }
         // Bytes that store a list, whoever wrote them, open if the highest seqno fits.
         ensures stores { (es : List Entry) → StoresList bytes es →
-            Gives (λ (t : OpenTable). tt) result (fits_told es global_seqno) }
+            Gives (λ (t : OpenTable). tt) result (fits_result es global_seqno) }
         ensures bytes { IfOk result (λ t. t.bytes ≡ bytes) }
         ensures number { IfOk result (λ t. t.global_seqno ≡ global_seqno) }
         ensures tree { IfOk result (λ t. t.tree_id ≡ tree_id) }
@@ -431,34 +431,34 @@ impl<A: Allocator + Clone> Table<A> {
     ///
     /// The first fault of loading that block, or [`Error::OutOfMemory`].
     pub fn scan(&self) -> Result<Scanner<A>, Error>
-        ensures refused { Faults result (fault_of (load_at_told (body_of self.now.bytes) 0 Data)) }
+        ensures refused { Faults result (fault_of (load_at_result (body_of self.now.bytes) 0 Data)) }
         // A fault of the block's header, checksum or count takes precedence over `OutOfMemory`.
         ensures early { FaultsFirst result (position_fault (body_of self.now.bytes) 0 Data) }
         // Except for `OutOfMemory`, it yields the entries of `data_block_count` blocks.
-        ensures deals { (stops : Error → Bool) → stops OutOfMemory ≡ true →
+        ensures yields { (stops : Error → Bool) → stops OutOfMemory ≡ true →
             let gives = ⟦<Scanner<A> as Iterator>⟧.next_gives in
             let count = self.now.parts.facts.data_block_count in
-            let left = scan_told (body_of self.now.bytes) count self.now.global_seqno in
-            IfOk result (λ s. Deals (answer_stops stops) gives nowhere s left) }
+            let left = scan_results (body_of self.now.bytes) count self.now.global_seqno in
+            IfOk result (λ s. YieldsExactly (answer_stops stops) gives nowhere s left) }
         ensures can { let gives = ⟦<Scanner<A> as Iterator>⟧.next_gives in
             let may = ⟦<Scanner<A> as Iterator>⟧.can_next in
-            IfOk result (λ s. CanDeal gives nowhere may may s) }
+            IfOk result (λ s. CanYield gives nowhere may may s) }
         // After any error it is exhausted.
         ensures ends { (stops : Error → Bool) (s t : Scan) (e : Error) →
             ⟦<Scanner<A> as Iterator>⟧.next_gives s (Some (Err e)) t →
-            Deals (answer_stops stops) ⟦<Scanner<A> as Iterator>⟧.next_gives nowhere t [] }
+            YieldsExactly (answer_stops stops) ⟦<Scanner<A> as Iterator>⟧.next_gives nowhere t [] }
         // As a lending iterator it yields the same.
         ensures lends { (stops : Error → Bool) → stops OutOfMemory ≡ true →
             let advances = ⟦<Scanner<A> as Lending>⟧.advances in
             let count = self.now.parts.facts.data_block_count in
-            let left = scan_told (body_of self.now.bytes) count self.now.global_seqno in
-            IfOk result (λ s. Deals (answer_stops stops) advances nowhere s left) }
+            let left = scan_results (body_of self.now.bytes) count self.now.global_seqno in
+            IfOk result (λ s. YieldsExactly (answer_stops stops) advances nowhere s left) }
         ensures can_lend { let advances = ⟦<Scanner<A> as Lending>⟧.advances in
             let may = ⟦<Scanner<A> as Lending>⟧.can_advance in
-            IfOk result (λ s. CanDeal advances nowhere may may s) }
+            IfOk result (λ s. CanYield advances nowhere may may s) }
         ensures lends_end { (stops : Error → Bool) (s t : Scan) (e : Error) →
             ⟦<Scanner<A> as Lending>⟧.advances s (Some (Err e)) t →
-            Deals (answer_stops stops) ⟦<Scanner<A> as Lending>⟧.advances nowhere t [] }
+            YieldsExactly (answer_stops stops) ⟦<Scanner<A> as Lending>⟧.advances nowhere t [] }
         ensures opened { IfOk result (λ s. s.opened ≡ with_load Data none_opened) }
         ensures left { let count = self.now.parts.facts.data_block_count in
             IfOk result (IsNewScan (body_of self.now.bytes) count self.now.global_seqno) }
@@ -520,7 +520,7 @@ impl<A: Allocator> Table<A> {
         ensures parts { (es : List Entry) (t : IsTable self.now.bytes es) →
             SaysList t self.now.parts }
         ensures facts { (es : List Entry) (t : StoresList self.now.bytes es) →
-            BearsOut self.now.parts.facts es t.handles }
+            Matches self.now.parts.facts es t.handles }
         ensures range { (es : List Entry) → StoresList self.now.bytes es →
             ⟦<Table<A> as Ranged>⟧.range self.now ≡ ends_of es }
         ensures one { (xs ys : List Entry) → StoresList self.now.bytes xs →
@@ -540,7 +540,7 @@ impl<A: Allocator> Table<A> {
     pub fn names_blocks_as(&self, other: &Table<A>)
         ensures alike { (es : List Entry) (t : IsTable self.now.bytes es) →
             (u : IsTable other.now.bytes es) → AreCutAlike t u →
-            TellAlike (table_index self.now) (table_index other.now) }
+            ReadAlike (table_index self.now) (table_index other.now) }
         // They are the handles of the data blocks of the list that this table stores. By the clause
         // before they are those of the other table too.
         ensures names { (es : List Entry) (t : StoresList self.now.bytes es) →
@@ -618,7 +618,7 @@ impl<A: Allocator> Table<A> {
         ensures size { let parts = self.now.parts in
             result ≡ index_len parts.pinned.index parts.regions.tli }
         ensures payload { (b : Loaded) → let parts = self.now.parts in
-            load_told (body_of self.now.bytes) parts.regions.tli.offset parts.regions.tli.size Index
+            load_result (body_of self.now.bytes) parts.regions.tli.offset parts.regions.tli.size Index
             ≡ Ok b → parts.pinned.index ≢ volatile → result ≡ length b.payload }
     {
         let inner: &Inner<A> = &self.inner;

@@ -19,7 +19,7 @@ use Rattle.lsm_iters.proofs.RangeEnds.{if_false}
 use Rattle.lsm_readers.specs.Ranges.{IsRangeOf}
 use Rattle.lsm_readers.specs.point.Table.{OpenTable}
 use Rattle.lsm_readers.proofs.TableRanges.{come, index_come, left_is}
-use Rattle.lsm_run_parts.specs.RunParts.{Part, RunSpan, is_edge, part_loads, part_told, span_part_at}
+use Rattle.lsm_run_parts.specs.RunParts.{Part, RunSpan, is_edge, part_loads, part_read_results, span_part_at}
 use Rattle.lsm_run_parts.specs.RunParts.{span_parts_between, span_parts_from}
 use Rattle.lsm_run_parts.specs.Tables.{Unopened}
 use Rattle.lsm_run_parts.specs.Tables.{KeepsTables, coming_tables, none_unopened, place_taken}
@@ -68,7 +68,7 @@ module _ {A : Type 0} where
 -- ---- a reader of a table before its first step
 
 module _ {A : Type 0} (p : Part) (s : Range A) (is : IsRangeOf p.table p.low p.high s) where
-  reader_left : range_left s ≡ part_told p
+  reader_left : range_left s ≡ part_read_results p
   reader_left = left_is p.table p.low p.high s is
 
   reader_loads : range_loads s ≡ part_loads p

@@ -8,8 +8,8 @@ use Rattle.sst_entries.specs.Entry.{Entry}
 use Rattle.lsm_sorted.specs.version.KeyRange.{Interval}
 use Rattle.lsm_iters.specs.Bounds.{lower_edge, upper_edge}
 use Rattle.lsm_readers.specs.BlockIndexes.{table_index}
-use Rattle.lsm_readers.specs.point.Parts.{key_range_told}
-use Rattle.lsm_readers.specs.Ranges.{index_within, range_told}
+use Rattle.lsm_readers.specs.point.Parts.{key_range_result}
+use Rattle.lsm_readers.specs.Ranges.{index_within, range_results}
 use Rattle.lsm_readers.specs.point.Table.{OpenTable}
 
 -- a table, and the bounds within which it is read
@@ -19,8 +19,8 @@ pub record Part : Type 0 where
   pub high : Bound (List ℕ)
 
 -- the results that a reader of it yields
-abbrev pub part_told : Part → List (Result Entry Error)
-part_told p = range_told p.table p.low p.high
+abbrev pub part_read_results : Part → List (Result Entry Error)
+part_read_results p = range_results p.table p.low p.high
 
 -- the number of handles of data blocks that its index has between the bounds' edges
 abbrev pub handles_within : Part → ℕ
@@ -71,7 +71,7 @@ ends_given tables places = (unwrap_or places.0 0, unwrap_or places.1 (length tab
 
 -- the tables' key ranges
 abbrev pub range_of : OpenTable → Interval
-range_of t = key_range_told t.bytes
+range_of t = key_range_result t.bytes
 
 abbrev pub ranges_of : List OpenTable → List Interval
 ranges_of tables = map range_of tables

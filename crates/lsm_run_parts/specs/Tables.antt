@@ -7,7 +7,7 @@ use Rattle.sst_entries.specs.declared.stream.Direction.{Direction}
 use Rattle.sst_entries.specs.declared.stream.Direction.TheVariants.{Front, Back}
 use Rattle.sst_entries.specs.Entry.{Entry}
 use Rattle.lsm_iters.specs.walk.Parts.{Coming, Loading, loads_in}
-use Rattle.lsm_run_parts.specs.RunParts.{Part, part_loads, part_told}
+use Rattle.lsm_run_parts.specs.RunParts.{Part, part_loads, part_read_results}
 
 -- the unopened tables, and the number of those opened
 pub record Unopened : Type 0 where
@@ -15,8 +15,8 @@ pub record Unopened : Type 0 where
   pub opened : ℕ
 
 -- the results of unopened tables, and a bound on the loads of their readers
-abbrev pub run_parts_told : List Part → List (Result Entry Error)
-run_parts_told ps = flat_map part_told ps
+abbrev pub run_parts_results : List Part → List (Result Entry Error)
+run_parts_results ps = flat_map part_read_results ps
 
 abbrev pub parts_loads : List Part → ℕ
 parts_loads ps = sum_by part_loads ps
@@ -28,7 +28,7 @@ place_taken Back lo hi = (hi - 1, lo, hi - 1)
 
 -- an unopened table; opening it does not read its bytes
 abbrev pub table_named : Part → Result (Loading Entry) Error
-table_named p = Ok (record { results = part_told p; early = None })
+table_named p = Ok (record { results = part_read_results p; early = None })
 
 -- the unopened tables, and a bound on the loads of their readers
 abbrev pub coming_tables : Unopened → Coming Entry

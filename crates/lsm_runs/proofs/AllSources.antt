@@ -14,19 +14,19 @@ use Rattle.either.specs.declared.Either.TheVariants.{Left, Right}
 use Rattle.sst_entries.specs.declared.error.Error.{Error}
 use Rattle.sst_entries.specs.Entry.{Entry}
 use Rattle.sst_entries.specs.Point.{is_from, is_to, within}
-use Rattle.sst_entries.specs.Stream.{CanDeal, Deals, answer_stops, but_first, but_last, first, last}
+use Rattle.sst_entries.specs.Stream.{CanYield, YieldsExactly, answer_stops, but_first, but_last, first, last}
 use Rattle.sst_entries.specs.Stream.{ok_results}
 use Rattle.sst_entries.proofs.Lists.{all_append}
 use Rattle.sst_entries.proofs.StreamLemmas.{can_after_back, can_by, can_front, can_now}
 use Rattle.sst_entries.proofs.StreamLemmas.{can_now_back}
-use Rattle.sst_entries.proofs.StreamLemmas.{deals_back, deals_by, deals_front}
+use Rattle.sst_entries.proofs.StreamLemmas.{yields_back, yields_by, yields_front}
 use Rattle.sst_blocks.specs.table.Chunks.{joined}
 use Rattle.lsm_sorted.specs.merge.Ends.{R}
 use Rattle.lsm_sorted.specs.merge.Union.{Ascends}
 use Rattle.lsm_sorted.specs.Below.{GivesBelow, below_of}
 use Rattle.lsm_sorted.specs.declared.below.Below.{Below}
 use Rattle.lsm_sorted.proofs.BelowLemmas.{MayBoth, MayFront, can_below}
-use Rattle.lsm_runs.specs.RunLists.{DealTogether, DealWithin, DealsList, single}
+use Rattle.lsm_runs.specs.RunLists.{YieldTogether, YieldWithin, YieldsList, single}
 use Rattle.lsm_runs.proofs.Together.{cut, join}
 use Rattle.lsm_runs.proofs.Unions.{filter_ascends}
 
@@ -42,10 +42,10 @@ module _ {S T : Type 0} (front back : S → Option R → S → Type 0)
 
   module _ (stops : Error → Bool) where
     abbrev Has : S → List R → Type 0
-    Has = Deals (answer_stops stops) front back
+    Has = YieldsExactly (answer_stops stops) front back
 
     abbrev HasToo : T → List R → Type 0
-    HasToo = Deals (answer_stops stops) front_too back_too
+    HasToo = YieldsExactly (answer_stops stops) front_too back_too
 
     abbrev Either_has : Either S T → List R → Type 0
     Either_has s xs = MatchEither s (λ x. Has x xs) (λ y. HasToo y xs)
@@ -54,32 +54,32 @@ module _ {S T : Type 0} (front back : S → Option R → S → Type 0)
         → InFront s r t → answer_stops stops r ≡ false
         → (r ≡ first xs) × Either_has t (but_first xs)
     at_front (Left x) xs r (Left y) has step fine =
-        deals_front (answer_stops stops) front back x xs r y has step fine
+        yields_front (answer_stops stops) front back x xs r y has step fine
     at_front (Left x) xs r (Right y) has step fine = absurd step
     at_front (Right x) xs r (Left y) has step fine = absurd step
     at_front (Right x) xs r (Right y) has step fine =
-        deals_front (answer_stops stops) front_too back_too x xs r y has step fine
+        yields_front (answer_stops stops) front_too back_too x xs r y has step fine
 
     at_back : (s : Either S T) (xs : List R) (r : Option R) (t : Either S T) → Either_has s xs
         → Behind s r t → answer_stops stops r ≡ false → (r ≡ last xs) × Either_has t (but_last xs)
     at_back (Left x) xs r (Left y) has step fine =
-        deals_back (answer_stops stops) front back x xs r y has step fine
+        yields_back (answer_stops stops) front back x xs r y has step fine
     at_back (Left x) xs r (Right y) has step fine = absurd step
     at_back (Right x) xs r (Left y) has step fine = absurd step
     at_back (Right x) xs r (Right y) has step fine =
-        deals_back (answer_stops stops) front_too back_too x xs r y has step fine
+        yields_back (answer_stops stops) front_too back_too x xs r y has step fine
 
-    one_deals : (s : Either S T) (xs : List R) → Either_has s xs
-        → Deals (answer_stops stops) InFront Behind s xs
-    one_deals s xs has =
-        deals_by (answer_stops stops) InFront Behind Either_has at_front at_back s xs has
+    one_yields : (s : Either S T) (xs : List R) → Either_has s xs
+        → YieldsExactly (answer_stops stops) InFront Behind s xs
+    one_yields s xs has =
+        yields_by (answer_stops stops) InFront Behind Either_has at_front at_back s xs has
 
   -- ---- where it may be asked
 
   module _ (can can_back : S → Type 0) (can_too can_back_too : T → Type 0) where
     abbrev May : Either S T → Type 0
-    May s = MatchEither s (CanDeal front back can can_back)
-        (CanDeal front_too back_too can_too can_back_too)
+    May s = MatchEither s (CanYield front back can can_back)
+        (CanYield front_too back_too can_too can_back_too)
 
     ready : (s : Either S T) → May s
         → MatchEither s can can_too × MatchEither s can_back can_back_too
@@ -105,7 +105,7 @@ module _ {S T : Type 0} (front back : S → Option R → S → Type 0)
         can_after_back front_too back_too can_too can_back_too x r y may step
 
     pub one_asked : (s : Either S T) → May s
-        → CanDeal InFront Behind (λ e. MatchEither e can can_too)
+        → CanYield InFront Behind (λ e. MatchEither e can can_too)
         (λ e. MatchEither e can_back can_back_too) s
     one_asked s may =
         can_by InFront Behind (λ e. MatchEither e can can_too)
@@ -113,30 +113,30 @@ module _ {S T : Type 0} (front back : S → Option R → S → Type 0)
 
   -- ---- several together
 
-  lefts : (sources : List S) (dealt : List (List Entry))
-      → AllZip (λ (s : S) (es : List Entry). DealsList front back es s) sources dealt
-      → AllZip (λ (s : Either S T) (es : List Entry). DealsList InFront Behind es s)
-      (map (λ (x : S). Left x) sources) dealt
+  lefts : (sources : List S) (yielded : List (List Entry))
+      → AllZip (λ (s : S) (es : List Entry). YieldsList front back es s) sources yielded
+      → AllZip (λ (s : Either S T) (es : List Entry). YieldsList InFront Behind es s)
+      (map (λ (x : S). Left x) sources) yielded
   lefts [] [] all = tt
-  lefts [] (es ∷ dealt) all = absurd all
+  lefts [] (es ∷ yielded) all = absurd all
   lefts (s ∷ sources) [] all = absurd all
-  lefts (s ∷ sources) (es ∷ dealt) all = (
-    λ stops memory. one_deals stops (Left s) (ok_results es) (all.0 stops memory),
-    lefts sources dealt all.1,
+  lefts (s ∷ sources) (es ∷ yielded) all = (
+    λ stops memory. one_yields stops (Left s) (ok_results es) (all.0 stops memory),
+    lefts sources yielded all.1,
   )
 
   module _ (low high : Bound (List ℕ)) where
     -- of the further sources what lies within the bounds
     rights : (sources : List T) (lists : List (List Entry))
-        → AllZip (λ (s : T) (es : List Entry). DealsList front_too back_too (within low high es) s)
+        → AllZip (λ (s : T) (es : List Entry). YieldsList front_too back_too (within low high es) s)
         sources lists
-        → AllZip (λ (s : Either S T) (es : List Entry). DealsList InFront Behind es s)
+        → AllZip (λ (s : Either S T) (es : List Entry). YieldsList InFront Behind es s)
         (map (λ (y : T). Right y) sources) (map (within low high) lists)
     rights [] [] all = tt
     rights [] (es ∷ lists) all = absurd all
     rights (s ∷ sources) [] all = absurd all
     rights (s ∷ sources) (es ∷ lists) all = (
-      λ stops memory. one_deals stops (Right s) (ok_results (within low high es))
+      λ stops memory. one_yields stops (Right s) (ok_results (within low high es))
           (all.0 stops memory),
       rights sources lists all.1,
     )
@@ -158,9 +158,9 @@ module _ {S T : Type 0} (front back : S → Option R → S → Type 0)
         ∙ ap (λ (ls : List (List Entry)). within low high es ∷ ls) (single_cut lists)
 
     zip_append : (xs ys : List (Either S T)) (ls ms : List (List Entry))
-        → AllZip (λ (s : Either S T) (es : List Entry). DealsList InFront Behind es s) xs ls
-        → AllZip (λ (s : Either S T) (es : List Entry). DealsList InFront Behind es s) ys ms
-        → AllZip (λ (s : Either S T) (es : List Entry). DealsList InFront Behind es s) (xs ++ ys)
+        → AllZip (λ (s : Either S T) (es : List Entry). YieldsList InFront Behind es s) xs ls
+        → AllZip (λ (s : Either S T) (es : List Entry). YieldsList InFront Behind es s) ys ms
+        → AllZip (λ (s : Either S T) (es : List Entry). YieldsList InFront Behind es s) (xs ++ ys)
         (ls ++ ms)
     zip_append [] ys [] ms h k = k
     zip_append [] ys (es ∷ ls) ms h k = absurd h
@@ -168,27 +168,27 @@ module _ {S T : Type 0} (front back : S → Option R → S → Type 0)
     zip_append (x ∷ xs) ys (es ∷ ls) ms h k = (h.0, zip_append xs ys ls ms h.1 k)
 
     pub together_all : (readers : List S) (sources : List T) (lists : List (List (List Entry)))
-        (further : List (List Entry)) → DealTogether front back readers (map (cut low high) lists)
-        → DealWithin front_too back_too low high sources further
-        → DealTogether InFront Behind
+        (further : List (List Entry)) → YieldTogether front back readers (map (cut low high) lists)
+        → YieldWithin front_too back_too low high sources further
+        → YieldTogether InFront Behind
         (map (λ (y : T). Right y) sources ++ map (λ (x : S). Left x) readers)
         (map (cut low high) (map single further ++ lists))
     together_all readers sources lists further d w =
-        subst (λ (found : List (List Entry)). DealTogether InFront Behind
+        subst (λ (found : List (List Entry)). YieldTogether InFront Behind
         (map (λ (y : T). Right y) sources ++ map (λ (x : S). Left x) readers) found)
         (ap (λ (ls : List (List Entry)). ls ++ map (cut low high) lists)
         (sym (single_cut further))
         ∙ sym (map-append (cut low high) (map single further) lists))
         (record {
-          dealt = map (within low high) further ++ d.dealt;
-          same = join (map (within low high) further) d.dealt
+          yielded = map (within low high) further ++ d.yielded;
+          same = join (map (within low high) further) d.yielded
               ∙ ap (λ (es : List Entry). joined (map (within low high) further) ++ es) d.same
               ∙ sym (join (map (within low high) further) (map (cut low high) lists));
-          ascend = all_append Ascends (map (within low high) further) d.dealt
+          ascend = all_append Ascends (map (within low high) further) d.yielded
               (each_ascends further w.ascend) d.ascend;
-          deal = zip_append (map (λ (y : T). Right y) sources) (map (λ (x : S). Left x) readers)
-              (map (within low high) further) d.dealt (rights sources further w.deal)
-              (lefts readers d.dealt d.deal);
+          yield_each = zip_append (map (λ (y : T). Right y) sources) (map (λ (x : S). Left x) readers)
+              (map (within low high) further) d.yielded (rights sources further w.yield_each)
+              (lefts readers d.yielded d.yield_each);
         })
 
 -- what holds of the parts holds of all
@@ -220,7 +220,7 @@ module _ {S T : Type 0} (front back : S → Option R → S → Type 0)
   all_left = either left left_too
 
   abbrev pub IsAsked : Below (Either S T) → Type 0
-  IsAsked = CanDeal (GivesBelow (MayFront AllFront AllBehind Can CanBack all_left) AllFront)
+  IsAsked = CanYield (GivesBelow (MayFront AllFront AllBehind Can CanBack all_left) AllFront)
       (GivesBelow (MayBoth AllFront AllBehind Can CanBack all_left) AllBehind)
       (MayFront AllFront AllBehind Can CanBack all_left)
       (MayBoth AllFront AllBehind Can CanBack all_left)
@@ -229,8 +229,8 @@ module _ {S T : Type 0} (front back : S → Option R → S → Type 0)
   Ends b = IsFinite (all_left b.iter)
 
   asked_below : (e : Either S T)
-      → MatchEither e (CanDeal front back can can_back)
-      (CanDeal front_too back_too can_too can_back_too) → IsFinite (all_left e)
+      → MatchEither e (CanYield front back can can_back)
+      (CanYield front_too back_too can_too can_back_too) → IsFinite (all_left e)
       → IsAsked (below_of bound e)
   asked_below e may ends =
       can_below AllFront AllBehind Can CanBack all_left (below_of bound e) (record {
@@ -242,9 +242,9 @@ module _ {S T : Type 0} (front back : S → Option R → S → Type 0)
     abbrev pub all_of_them : List (Either S T)
     all_of_them = map (λ (y : T). Right y) sources ++ map (λ (x : S). Left x) readers
 
-    pub each_asked : All (CanDeal front back can can_back) readers
+    pub each_asked : All (CanYield front back can can_back) readers
         → All (λ (x : S). IsFinite (left x)) readers
-        → All (CanDeal front_too back_too can_too can_back_too) sources
+        → All (CanYield front_too back_too can_too can_back_too) sources
         → All (λ (y : T). IsFinite (left_too y)) sources
         → All IsAsked (map (below_of bound) all_of_them)
     each_asked may ends may_too ends_too =

@@ -15,9 +15,9 @@ use Rattle.sst_entries.specs.declared.stream.Direction.{Direction}
 use Rattle.sst_entries.specs.declared.stream.Direction.TheVariants.{Front, Back}
 use Rattle.std.specs.Option.{option_or}
 use Rattle.sst_entries.specs.Error.{Faults, is_memory}
-use Rattle.sst_entries.specs.Stream.{Deals, NoneStops, Runs, answer_stops, deal, first, nowhere}
+use Rattle.sst_entries.specs.Stream.{YieldsExactly, NoneStops, Runs, answer_stops, yield_each, first, nowhere}
 use Rattle.sst_entries.proofs.Refusals.{memory_is}
-use Rattle.lsm_iters.specs.block_index.Dealt.{DealsEnding, ended_at_error}
+use Rattle.lsm_iters.specs.block_index.Yielded.{YieldsEnding, ended_at_error}
 use Rattle.lsm_sorted.specs.merge.Ends.{R}
 use Rattle.lsm_readers.specs.Scan.{up_to_error}
 use Rattle.lsm_readers.specs.point.Table.{OpenTable}
@@ -29,7 +29,7 @@ use Rattle.lsm_sorted.specs.declared.compaction.Rules.{Rules}
 use Rattle.lsm_runs.specs.RunScan.{scan_fault, table_scan, tables_scan}
 use Rattle.lsm_runs.proofs.RunLoops.{mapped_at, take_next}
 use Rattle.lsm_runs.proofs.Together.{zip_push}
-use Rattle.lsm_runs.specs.compaction.AnyRuns.{BeginsWith, DealsResults, first_block_fault}
+use Rattle.lsm_runs.specs.compaction.AnyRuns.{BeginsWith, YieldsResults, first_block_fault}
 use Rattle.lsm_runs.specs.compaction.AnyRuns.{first_blocks_fault, scans_of}
 use Rattle.lsm_runs.specs.compaction.Packed.{has_table}
 
@@ -37,14 +37,14 @@ use Rattle.lsm_runs.specs.compaction.Packed.{has_table}
 
 module _ {S : Type 0} (next : S → Option R → S → Type 0) where
   none_left : (ends : List Direction)
-      → map {B = Option R} (λ (r : Option R). None) (deal [] ends) ≡ deal [] ends
+      → map {B = Option R} (λ (r : Option R). None) (yield_each [] ends) ≡ yield_each [] ends
   none_left [] = refl
   none_left (Front ∷ ends) = ap (λ (rs : List (Option R)). None ∷ rs) (none_left ends)
   none_left (Back ∷ ends) = ap (λ (rs : List (Option R)). None ∷ rs) (none_left ends)
 
   ended : (xs : List R) (ends : List Direction) (rs : List (Option R)) (s t : S)
       → Runs next nowhere s ends rs t
-      → ended_at_error (deal (up_to_error xs) ends) ≡ deal (up_to_error xs) ends
+      → ended_at_error (yield_each (up_to_error xs) ends) ≡ yield_each (up_to_error xs) ends
   ended xs [] rs s t runs = refl
   ended xs (e ∷ ends) [] s t runs = absurd runs
   ended xs (Back ∷ ends) (r ∷ rs) s t runs = absurd runs.1
@@ -71,19 +71,19 @@ module _ {S : Type 0} (next : S → Option R → S → Type 0) where
         | inr not ↦ not
       ]
 
-  pub deals_ended : (xs : List R) (s : S)
-      → DealsEnding next nowhere (λ _. Unit {0}) (λ _. Unit {0}) s (up_to_error xs)
-      → DealsResults next (up_to_error xs) s
-  deals_ended xs s d stops memory = record {
+  pub yields_ended : (xs : List R) (s : S)
+      → YieldsEnding next nowhere (λ _. Unit {0}) (λ _. Unit {0}) s (up_to_error xs)
+      → YieldsResults next (up_to_error xs) s
+  yields_ended xs s d stops memory = record {
     answers = λ ends rs t runs fine. d.answers ends rs t runs (none_memory stops memory rs fine)
         ∙ ended xs ends rs s t runs;
   }
 
 pub scanned_any : {S : Type 0} (next : S → Option R → S → Type 0) (ts : List OpenTable)
     (r : Result S Error)
-    → IfOk r (λ s. DealsEnding next nowhere (λ _. Unit {0}) (λ _. Unit {0}) s (tables_scan ts))
-    → IfOk r (DealsResults next (tables_scan ts))
-scanned_any next ts (Ok s) d = deals_ended next (flat_map table_scan ts) s d
+    → IfOk r (λ s. YieldsEnding next nowhere (λ _. Unit {0}) (λ _. Unit {0}) s (tables_scan ts))
+    → IfOk r (YieldsResults next (tables_scan ts))
+scanned_any next ts (Ok s) d = yields_ended next (flat_map table_scan ts) s d
 scanned_any next ts (Err e) d = tt
 
 -- ---- scans of several runs
@@ -174,26 +174,26 @@ module _ {X S : Type 0} (f : X → List OpenTable) (next : S → Option R → S 
     (xs : List X) where
   abbrev pub ScanSoFar : List S → ℕ → Type 0
   ScanSoFar sources n =
-      AllZip (λ s rs. DealsResults next rs s) sources (scans_of (take n (map f xs)))
+      AllZip (λ s rs. YieldsResults next rs s) sources (scans_of (take n (map f xs)))
 
   module _ (i : ℕ) (x : X) (less : i < length xs) (is : x ≡ get_or xs i x) where
     there : slice_get (map f xs) i ≡ Some (f x)
     there = mapped_at f xs i x (slice_at xs i x less is)
 
     pub scan_more : (sources : List S) (s : S) → ScanSoFar sources i → has_table (f x) ≡ true
-        → DealsResults next (tables_scan (f x)) s → ScanSoFar (sources ++ s ∷ []) (i + 1)
-    scan_more sources s all some deals =
-        subst (λ (scans : List (List R)). AllZip (λ t rs. DealsResults next rs t)
+        → YieldsResults next (tables_scan (f x)) s → ScanSoFar (sources ++ s ∷ []) (i + 1)
+    scan_more sources s all some yields =
+        subst (λ (scans : List (List R)). AllZip (λ t rs. YieldsResults next rs t)
         (sources ++ s ∷ []) scans)
         (sym (ap scans_of (take_next (map f xs) i (f x) there)
         ∙ scans_more (take i (map f xs)) (f x) some))
-        (zip_push (λ t rs. DealsResults next rs t) sources (scans_of (take i (map f xs))) s
-        (tables_scan (f x)) all deals)
+        (zip_push (λ t rs. YieldsResults next rs t) sources (scans_of (take i (map f xs))) s
+        (tables_scan (f x)) all yields)
 
     pub scan_passed : (sources : List S) → ScanSoFar sources i → has_table (f x) ≡ false
         → ScanSoFar sources (i + 1)
     scan_passed sources all none =
-        subst (λ (scans : List (List R)). AllZip (λ t rs. DealsResults next rs t) sources scans)
+        subst (λ (scans : List (List R)). AllZip (λ t rs. YieldsResults next rs t) sources scans)
         (sym (ap scans_of (take_next (map f xs) i (f x) there)
         ∙ scans_same (take i (map f xs)) (f x) none)) all
 
@@ -218,9 +218,9 @@ module _ {X S : Type 0} (f : X → List OpenTable) (next : S → Option R → S 
     }
 
   pub scan_all : (sources : List S) (i : ℕ) → ScanSoFar sources i → length xs ≤ i
-      → AllZip (λ s rs. DealsResults next rs s) sources (scans_of (map f xs))
+      → AllZip (λ s rs. YieldsResults next rs s) sources (scans_of (map f xs))
   scan_all sources i all past =
-      subst (λ (runs : List (List OpenTable)). AllZip (λ s rs. DealsResults next rs s) sources
+      subst (λ (runs : List (List OpenTable)). AllZip (λ s rs. YieldsResults next rs s) sources
       (scans_of runs)) (take_all i (map f xs) (omega (arith, length-map xs f, past))) all
 
   -- all first blocks are loaded
@@ -254,8 +254,8 @@ block_of_first r (t ∷ ts) some faults = faults t refl
 
 pub each_stops : {S : Type 0} (next : S → Option R → S → Type 0) (stops : Error → Bool)
     → stops OutOfMemory ≡ true → (sources : List S) (lists : List (List R))
-    → AllZip (λ s rs. DealsResults next rs s) sources lists
-    → AllZip (Deals (answer_stops stops) next nowhere) sources lists
+    → AllZip (λ s rs. YieldsResults next rs s) sources lists
+    → AllZip (YieldsExactly (answer_stops stops) next nowhere) sources lists
 each_stops next stops memory [] [] all = tt
 each_stops next stops memory [] (rs ∷ lists) all = absurd all
 each_stops next stops memory (s ∷ sources) [] all = absurd all
@@ -268,7 +268,7 @@ pub compacts_as : {M T F C : Type 0} (next : M → Option R → M → Type 0)
     (gives : F → Entry → Result Verdict Error → F → Type 0) (gets : C → Entry → C → Type 0) (f : F)
     (c : C) (source_in : T → M) (filter_in : T → F) (callback_in : T → C) (r : Result T Error)
     (xs : List R) → IfOk r (λ t. CompactsLentResults next m last t rules gives gets f c source_in
-    filter_in callback_in) → Deals (answer_stops is_memory) next nowhere m xs
+    filter_in callback_in) → YieldsExactly (answer_stops is_memory) next nowhere m xs
     → IfOk r (λ t. CompactsAs gives gets rules f c xs last t filter_in callback_in)
 compacts_as next last m rules gives gets f c source_in filter_in callback_in (Ok t) xs law has =
     record {

@@ -76,22 +76,22 @@ module _ (key : List ℕ) (bound : ℕ) where
   -- ---- one run
 
   -- it tells an answer that is as good as the first match in its lists
-  abbrev Tells : Option Entry → List OpenTable → Option Entry → Type 0
-  Tells found ts own = (next : Option Entry)
+  abbrev ReportsOf : Option Entry → List OpenTable → Option Entry → Type 0
+  ReportsOf found ts own = (next : Option Entry)
       × ((run_read_behind key bound found ts).told ≡ Ok next)
       × (leading_of found next ≡ leading_of found own)
 
   abbrev told_by : Option Entry → Option OpenTable → Result (Option Entry) Error
   told_by found o = (table_read key bound (worth_asking found o)).told
 
-  run_tells : (found : Option Entry) (ts : List OpenTable) (ls : List (List Entry))
+  run_reports : (found : Option Entry) (ts : List OpenTable) (ls : List (List Entry))
       → HoldLists ts ls → are_in_order (ranges_of ts) ≡ true → IsOfKey key bound found
-      → Tells found ts (point (joined ls) key bound)
+      → ReportsOf found ts (point (joined ls) key bound)
   unfolding point
-  run_tells found [] [] h order is = (None, refl, refl)
-  run_tells found [] (es ∷ ls) h order is = absurd h
-  run_tells found (t ∷ ts) [] h order is = absurd h
-  run_tells found (t ∷ ts) (es ∷ ls) h order is =
+  run_reports found [] [] h order is = (None, refl, refl)
+  run_reports found [] (es ∷ ls) h order is = absurd h
+  run_reports found (t ∷ ts) [] h order is = absurd h
+  run_reports found (t ∷ ts) (es ∷ ls) h order is =
       let r = range_of t in
       let p = parts r (ranges_of ts) order in
       let by_first : Bool → Option OpenTable =
@@ -121,7 +121,7 @@ module _ (key : List ℕ) (bound : ℕ) where
             let own : point (joined (es ∷ ls)) key bound ≡ point (joined ls) key bound =
             past_others key bound es (joined ls)
             (others_outside key bound r es miss (held_keys t es h.0)) in
-            let more = run_tells found ts ls h.1 p.rest is in (
+            let more = run_reports found ts ls h.1 p.rest is in (
               more.0,
               ap (λ (b : Bool). told_by found (by_first b)) miss ∙ more.1,
               more.2 ∙ ap (leading_of found) (sym own),
@@ -143,7 +143,7 @@ module _ (key : List ℕ) (bound : ℕ) where
   age_point found (ts ∷ runs) (ls ∷ lists) h is =
       let order : are_in_order (ranges_of ts) ≡ true = h.0.0 in
       let own = point (joined ls) key bound in
-      let one = run_tells found ts ls h.0.1 order is in
+      let one = run_reports found ts ls h.0.1 order is in
       let union : point (union_in (ls ∷ lists)) key bound
       ≡ leading_of own (point (union_in lists) key bound) =
       ap (λ (es : List Entry). point es key bound) (union_more key bound ls lists)

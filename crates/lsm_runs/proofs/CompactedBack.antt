@@ -181,10 +181,10 @@ fits_behind label target es xs run ids cut is first fits =
 
 -- ---- the first fault of writing a list and what is kept of it
 
-first_told : (x y z : Option Error) (e : Error) → y ≡ None → option_or x y ≡ Some e
+first_result : (x y z : Option Error) (e : Error) → y ≡ None → option_or x y ≡ Some e
     → option_or x z ≡ Some e
-first_told None y z e none told = absurd (let wrong : None ≡ Some e = sym none ∙ told in cc)
-first_told (Some a) y z e none told = told
+first_result None y z e none told = absurd (let wrong : None ≡ Some e = sym none ∙ told in cc)
+first_result (Some a) y z e none told = told
 
 no_tables : (size target : ℕ) (tables : List (List Entry)) → AreTables size target [] tables
     → tables ≡ []
@@ -207,7 +207,7 @@ module _ (ids : Option ℕ) (target moment : ℕ) (es : List Entry) (from_1 : id
       → highest_seqno es + 0 < 2 ^ 64 → chain_fault ids target moment es 0 ≡ Some e
       → both_fault target es tables left ≡ Some e
   first_refused e tables left small told =
-      first_told (tables_fault (Some 1) target 0 es) (number_fault es 0)
+      first_result (tables_fault (Some 1) target 0 es) (number_fault es 0)
       (tables_fault (ids_behind (Some 1) target (length tables)) target 0 left) e
       (small_number es 0 small) (sym first_is ∙ told)
 

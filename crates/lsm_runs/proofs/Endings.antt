@@ -13,7 +13,7 @@ use Rattle.lsm_runs.specs.compaction.AnyRuns.{TookList}
 use Rattle.lsm_runs.specs.compaction.Chain.{writes_fault}
 use Rattle.lsm_runs.specs.compaction.Compacted.{RunsOn}
 use Rattle.lsm_runs.specs.compaction.Filtered.{IsWritten, RefusesWritten, WroteUntil}
-use Rattle.lsm_runs.specs.compaction.Observed.{GoesOnAt, WasTold, told_of}
+use Rattle.lsm_runs.specs.compaction.Observed.{GoesOnAt, WasNotified, told_of}
 use Rattle.lsm_runs.specs.declared.compaction.any_runs.CompactionOutcome.{CompactionOutcome}
 use Rattle.lsm_runs.specs.declared.compaction.any_runs.CompactionOutcome.TheVariants.{OutOfOrder}
 use Rattle.lsm_runs.specs.declared.compaction.any_runs.CompactionOutcome.TheVariants.{Stopped}
@@ -29,7 +29,7 @@ pub record Ended {S O A : Type 0} (gives : S → Option R → S → Type 0)
     (q : O) (out : Result (CompactionOutcome A) Error) : Type 0 where
   pub written : IfOk out (λ r. IsWritten gives w s says o r u q)
   pub made : IfOk out (HasMade w)
-  pub told : IfOk out (λ r. WasTold says w r o q)
+  pub told : IfOk out (λ r. WasNotified says w r o q)
   pub refused : IfErr out (λ e. RefusesWritten gives w s says o e q)
 
 module _ {S O : Type 0} (gives : S → Option R → S → Type 0)

@@ -34,7 +34,7 @@ use Rattle.lsm_runs.specs.declared.compaction.any_runs.CompactionOutcome.TheVari
 use Rattle.lsm_runs.proofs.AnyWritten.{may_not, none_writable}
 use Rattle.lsm_runs.specs.declared.compaction.observer.CompactionProgress.{CompactionProgress}
 use Rattle.lsm_runs.proofs.FilteredFront.{front_of, in_order}
-use Rattle.lsm_runs.proofs.Observing.{told_nothing, yields_more}
+use Rattle.lsm_runs.proofs.Observing.{reported_nothing, yields_more}
 
 -- entries stop no one
 pub none_stops : (stops : Error → Bool) (es : List Entry)
@@ -232,7 +232,7 @@ came_memory gives gets rules f c xs w says o e memory = record {
   callback = c;
   given = record { filter = f; part = part_none gives gets rules f c xs };
   fails = λ fine. let both : true ≡ false = sym memory ∙ fine in absurd cc;
-  told = told_nothing says w o;
+  told = reported_nothing says w o;
 }
 
 pub came_none : {F C O X : Type 0} (gives : F → Entry → Result Verdict Error → F → Type 0)
@@ -272,8 +272,8 @@ memory_faults (Err e) told none memory = λ fine.
     let both : true ≡ false = sym (ap is_memory memory) ∙ fine in absurd cc
 
 -- a refusal for want of memory is no fault
-pub memory_tells : {X : Type 0} (P : Error → Type 0) (r : Result X Error)
+pub memory_reports : {X : Type 0} (P : Error → Type 0) (r : Result X Error)
     → IfErr r (λ e. e ≡ OutOfMemory) → IfErr r (λ e. is_memory e ≡ false → P e)
-memory_tells P (Ok x) memory = tt
-memory_tells P (Err e) memory = λ fine.
+memory_reports P (Ok x) memory = tt
+memory_reports P (Err e) memory = λ fine.
     let both : true ≡ false = sym (ap is_memory memory) ∙ fine in absurd cc

@@ -22,9 +22,9 @@ use Rattle.sst_blocks.specs.table.MetaBlock.{BlockCounts, meta_entries, name_of,
 use Rattle.sst_blocks.specs.table.Table.{IsTable}
 use Rattle.sst_blocks.specs.declared.table.label.Label.{Label}
 use Rattle.sst_blocks.specs.declared.table.options.Options.{Options}
-use Rattle.lsm_readers.specs.point.Meta.{byte_told, facts_told, first_told, item_told, kinds_told}
-use Rattle.lsm_readers.specs.point.Meta.{meta_told, version_told}
-use Rattle.lsm_readers.specs.point.Parts.{Parts, parts_told, recovered_told}
+use Rattle.lsm_readers.specs.point.Meta.{byte_result, facts_result, first_result, item_result, kinds_result}
+use Rattle.lsm_readers.specs.point.Meta.{meta_result, version_result}
+use Rattle.lsm_readers.specs.point.Parts.{Parts, parts_result, recovered_result}
 use Rattle.lsm_readers.proofs.FileContent.{first_short, last_short, longest_below, meta_short}
 use Rattle.lsm_readers.proofs.FileParts.{regions_here, short_file, trailer_here}
 use Rattle.lsm_readers.proofs.FileSections.{meta_items_read, the_items, the_regions, written}
@@ -44,24 +44,24 @@ module _ (v : TableVersion) (label : Label) (options : Options) (cs : List (List
   abbrev es : List Entry
   es = meta_entries v label options cs blocks
 
-  version_read : version_told es ≡ Ok (version_number v)
-  unfolding version_told item_told point name_of
+  version_read : version_result es ≡ Ok (version_number v)
+  unfolding version_result item_result point name_of
   version_read = known_version v
 
-  kinds_refused : kinds_told es ≡ Err UnsupportedIndexInterval
-  unfolding kinds_told byte_told first_told item_told point name_of
+  kinds_refused : kinds_result es ≡ Err UnsupportedIndexInterval
+  unfolding kinds_result byte_result first_result item_result point name_of
   kinds_refused = rw other refl
 
-  items_refused : facts_told es ≡ Err UnsupportedIndexInterval
-  unfolding facts_told
+  items_refused : facts_result es ≡ Err UnsupportedIndexInterval
+  unfolding facts_result
   items_refused = rw (version_read, kinds_refused) refl
 
 module _ (v : TableVersion) (label : Label) (options : Options) (spills : List ℕ) (es : List Entry)
     (c : Content) (is : IsContent v options spills es c) (fits : Fits v label options c)
     (strict : IsStrict es)
     (short : length (finished (written v label options c)) < 2 ^ 63) where
-  items_here : meta_told (body_of (finished (written v label options c)))
-      (the_regions v label options c).metadata ≡ facts_told (the_items v label options c)
+  items_here : meta_result (body_of (finished (written v label options c)))
+      (the_regions v label options c).metadata ≡ facts_result (the_items v label options c)
   items_here =
       let key = longest_below v in
       let small = meta_short v label options spills es c is fits strict short in
@@ -73,9 +73,9 @@ module _ (v : TableVersion) (label : Label) (options : Options) (spills : List �
 
   written_refused : (g : ℕ) (pin_filter pin_index : Bool)
       → (options.index_block_restart_interval == 1) ≡ false
-      → recovered_told (finished (written v label options c)) g pin_filter pin_index
+      → recovered_result (finished (written v label options c)) g pin_filter pin_index
       ≡ Err UnsupportedIndexInterval
-  unfolding parts_told
+  unfolding parts_result
   written_refused g pin_filter pin_index other =
       let refused = items_here
       ∙ items_refused v label options c.blocks (counted_blocks options c) other in
@@ -85,12 +85,12 @@ module _ (v : TableVersion) (label : Label) (options : Options) (spills : List �
         refused,
       ) refl
 
-pub interval_told : (stored : List ℕ) (es : List Entry) (t : IsTable stored es)
+pub interval_result : (stored : List ℕ) (es : List Entry) (t : IsTable stored es)
     → length stored < 2 ^ 63 → (g : ℕ) (pin_filter pin_index : Bool)
     → (t.options.index_block_restart_interval == 1) ≡ false
-    → recovered_told stored g pin_filter pin_index ≡ Err UnsupportedIndexInterval
-interval_told stored es t short g pin_filter pin_index other =
-    ap (λ (b : List ℕ). recovered_told b g pin_filter pin_index) t.file.are
+    → recovered_result stored g pin_filter pin_index ≡ Err UnsupportedIndexInterval
+interval_result stored es t short g pin_filter pin_index other =
+    ap (λ (b : List ℕ). recovered_result b g pin_filter pin_index) t.file.are
     ∙ written_refused t.version t.label t.options t.spills es t.file.content t.file.is t.fits
     t.strict (short_file stored es t short) g pin_filter pin_index other
 
@@ -144,31 +144,31 @@ by_interval {P} n one other = elim (n == 1) as (λ b. (n == 1) ≡ b → P) [
 module _ (label : Label) (options : Options) (es : List Entry) (id sum : ℕ) (bytes own : List ℕ)
     (same : bytes ≡ own) (f : IsTableWith label options es id sum bytes)
     (short : length own < 2 ^ 63) (g : ℕ) (pin_filter pin_index : Bool) where
-  other_told : (options.index_block_restart_interval == 1) ≡ false
-      → recovered_told own g pin_filter pin_index ≡ Err UnsupportedIndexInterval
-  other_told other =
+  other_result : (options.index_block_restart_interval == 1) ≡ false
+      → recovered_result own g pin_filter pin_index ≡ Err UnsupportedIndexInterval
+  other_result other =
       let t = subst (λ (b : List ℕ). (t : IsTable b es)
       × ((t.options.index_block_restart_interval == 1) ≡ false)) same (
         f.table,
         ap (λ (x : Options). x.index_block_restart_interval == 1) f.options_are ∙ other,
       ) in
-      interval_told own es t.0 short g pin_filter pin_index t.1
+      interval_result own es t.0 short g pin_filter pin_index t.1
 
   -- it was opened
-  pub opened_fits : (parts : Parts) → recovered_told own g pin_filter pin_index ≡ Ok parts
+  pub opened_fits : (parts : Parts) → recovered_result own g pin_filter pin_index ≡ Ok parts
       → (options.index_block_restart_interval ≡ 1 → number_fault es g ≡ None)
       → opens_fault options es g ≡ None
   opened_fits parts told fits = by_interval options.index_block_restart_interval
       (λ one. opens_one options es g one ∙ fits one)
-      (λ other. let no : Ok parts ≡ Err UnsupportedIndexInterval = sym told ∙ other_told other in
+      (λ other. let no : Ok parts ≡ Err UnsupportedIndexInterval = sym told ∙ other_result other in
       absurd cc)
 
   -- it was refused
-  pub refused_so : (e : Error) → recovered_told own g pin_filter pin_index ≡ Err e
+  pub refused_so : (e : Error) → recovered_result own g pin_filter pin_index ≡ Err e
       → (options.index_block_restart_interval ≡ 1 → number_fault es g ≡ Some e)
       → opens_fault options es g ≡ Some e
   refused_so e told passes = by_interval options.index_block_restart_interval
       (λ one. opens_one options es g one ∙ passes one)
-      (λ other. let both : Err e ≡ Err UnsupportedIndexInterval = sym told ∙ other_told other in
+      (λ other. let both : Err e ≡ Err UnsupportedIndexInterval = sym told ∙ other_result other in
       let is : e ≡ UnsupportedIndexInterval = cc in
       opens_other options es g f.some other ∙ sym (ap (λ (x : Error). Some x) is))

@@ -11,19 +11,19 @@ use Rattle.sst_entries.specs.declared.stream.Direction.{Direction}
 use Rattle.sst_entries.specs.declared.stream.Direction.TheVariants.{Front, Back}
 use Rattle.sst_entries.specs.Entry.{Entry}
 use Rattle.sst_entries.specs.Error.{is_memory}
-use Rattle.sst_entries.specs.Stream.{Deals, NoneStops, Runs, answer_stops, deal, nowhere}
+use Rattle.sst_entries.specs.Stream.{YieldsExactly, NoneStops, Runs, answer_stops, yield_each, nowhere}
 use Rattle.sst_entries.proofs.Refusals.{memory_is}
-use Rattle.lsm_iters.specs.block_index.Dealt.{DealsEnding, ended_at_error}
+use Rattle.lsm_iters.specs.block_index.Yielded.{YieldsEnding, ended_at_error}
 use Rattle.lsm_sorted.specs.merge.Ends.{R}
 use Rattle.lsm_sorted.specs.merge.InPlace.{merge_of, up_to_error}
 use Rattle.lsm_sorted.specs.merge.Union.{Ascends, entries_among}
 use Rattle.lsm_readers.specs.point.Table.{OpenTable}
-use Rattle.lsm_sorted.specs.Below.{below_of, below_told, numbered_below}
+use Rattle.lsm_sorted.specs.Below.{below_of, below_results, numbered_below}
 use Rattle.lsm_sorted.specs.lending.LentNewest.{newest_results}
 use Rattle.lsm_sorted.specs.declared.below.Below.{Below}
-use Rattle.lsm_sorted.proofs.BelowLemmas.{deals_in_front}
+use Rattle.lsm_sorted.proofs.BelowLemmas.{yields_in_front}
 use Rattle.lsm_sorted.specs.LentBelow.{LendsBelow, MayLendBelow}
-use Rattle.lsm_runs.specs.LentNewestRuns.{LendsNewest, LendsResults, runs_told_within, span_told}
+use Rattle.lsm_runs.specs.LentNewestRuns.{LendsNewest, LendsResults, runs_results_within, span_results}
 use Rattle.lsm_runs.specs.LentRun.{RunLends}
 use Rattle.lsm_run_parts.specs.RunParts.{RunSpan}
 use Rattle.lsm_runs.specs.RunRange.{IsRunOf, RunRange, run_left, run_size}
@@ -36,14 +36,14 @@ use Rattle.lsm_runs.proofs.Unions.{filter_ascends}
 
 module _ {S : Type 0} (next : S → Option R → S → Type 0) where
   none_left : (xs : List R) (ends : List Direction)
-      → map {B = Option R} (λ (r : Option R). None) (deal xs ends) ≡ deal [] ends
+      → map {B = Option R} (λ (r : Option R). None) (yield_each xs ends) ≡ yield_each [] ends
   none_left xs [] = refl
   none_left xs (Front ∷ ends) = ap (λ (rs : List (Option R)). None ∷ rs) (none_left _ ends)
   none_left xs (Back ∷ ends) = ap (λ (rs : List (Option R)). None ∷ rs) (none_left _ ends)
 
   ended : (xs : List R) (ends : List Direction) (rs : List (Option R)) (s t : S)
       → Runs next nowhere s ends rs t
-      → ended_at_error (deal xs ends) ≡ deal (up_to_error xs) ends
+      → ended_at_error (yield_each xs ends) ≡ yield_each (up_to_error xs) ends
   ended xs [] rs s t runs = refl
   ended xs (e ∷ ends) [] s t runs = absurd runs
   ended xs (Back ∷ ends) (r ∷ rs) s t runs = absurd runs.1
@@ -71,7 +71,7 @@ module _ {S : Type 0} (next : S → Option R → S → Type 0) where
       ]
 
   ends_lending : (xs : List R) (s : S)
-      → DealsEnding next nowhere (λ _. Unit {0}) (λ _. Unit {0}) s xs
+      → YieldsEnding next nowhere (λ _. Unit {0}) (λ _. Unit {0}) s xs
       → LendsResults next (up_to_error xs) s
   ends_lending xs s d stops memory = record {
     answers = λ ends rs t runs fine. d.answers ends rs t runs (none_memory stops memory rs fine)
@@ -81,10 +81,10 @@ module _ {S : Type 0} (next : S → Option R → S → Type 0) where
 -- ---- below a bound
 
 entries_below : (bound : ℕ) (rs : List R)
-    → entries_among (below_told bound rs) ≡ numbered_below bound (entries_among rs)
+    → entries_among (below_results bound rs) ≡ numbered_below bound (entries_among rs)
 entries_below bound [] = refl
 entries_below bound (Ok x ∷ rs) = elim (nat_lt x.seqno bound) as
-    (λ b. entries_among (cond b (Ok x ∷ below_told bound rs) (below_told bound rs))
+    (λ b. entries_among (cond b (Ok x ∷ below_results bound rs) (below_results bound rs))
     ≡ cond b (x ∷ numbered_below bound (entries_among rs))
     (numbered_below bound (entries_among rs))) [
       | true ↦ ap (λ (es : List Entry). x ∷ es) (entries_below bound rs)
@@ -94,7 +94,7 @@ entries_below bound (Err e ∷ rs) = entries_below bound rs
 
 below_ascend : (bound : ℕ) (lists : List (List R))
     → AllByRecursion (λ (rs : List R). Ascends (entries_among rs)) lists
-    → AllByRecursion (λ (rs : List R). Ascends (entries_among rs)) (map (below_told bound) lists)
+    → AllByRecursion (λ (rs : List R). Ascends (entries_among rs)) (map (below_results bound) lists)
 below_ascend bound [] up = tt
 below_ascend bound (rs ∷ lists) up = (
   subst Ascends (sym (entries_below bound rs))
@@ -109,11 +109,11 @@ module _ {A : Type 0} (bound : ℕ) where
   Below_lends = LendsBelow RunLends (λ _. Unit {0}) run_size
 
   one_lends : (s : RunRange A) (run : List OpenTable × RunSpan) → IsRunOf run.0 run.1 s
-      → LendsResults Below_lends (below_told bound (span_told run)) (below_of bound s)
+      → LendsResults Below_lends (below_results bound (span_results run)) (below_of bound s)
   one_lends s run is stops memory =
-      (deals_in_front RunLends (MayLendBelow RunLends (λ _. Unit {0}) run_size) s bound
-      (below_of bound s) refl).deals stops (span_told run)
-      (subst (λ (xs : List R). Deals (answer_stops stops) RunLends nowhere s (up_to_error xs))
+      (yields_in_front RunLends (MayLendBelow RunLends (λ _. Unit {0}) run_size) s bound
+      (below_of bound s) refl).yields stops (span_results run)
+      (subst (λ (xs : List R). YieldsExactly (answer_stops stops) RunLends nowhere s (up_to_error xs))
       (new_left run.0 run.1 s is)
       (ends_lending RunLends (run_left s) s (lending_front s) stops memory))
 
@@ -121,8 +121,8 @@ module _ {A : Type 0} (bound : ℕ) where
       (spans : List (List OpenTable × RunSpan))
       → AllZip (λ (u : RunRange A) (run : List OpenTable × RunSpan). IsRunOf run.0 run.1 u)
       ss spans
-      → AllZip (Deals (answer_stops stops) Below_lends nowhere) (map (below_of bound) ss)
-      (map (below_told bound) (map span_told spans))
+      → AllZip (YieldsExactly (answer_stops stops) Below_lends nowhere) (map (below_of bound) ss)
+      (map (below_results bound) (map span_results spans))
   each_lends stops memory [] [] all = tt
   each_lends stops memory [] (run ∷ spans) all = absurd all
   each_lends stops memory (s ∷ ss) [] all = absurd all
@@ -136,15 +136,15 @@ module _ {A : Type 0} (bound : ℕ) where
       → AllZip (λ (u : RunRange A) (run : List OpenTable × RunSpan). IsRunOf run.0 run.1 u)
       ss (spans_within low high runs)
       → AllByRecursion (λ (rs : List R). Ascends (entries_among rs))
-      (runs_told_within low high runs)
+      (runs_results_within low high runs)
       → LendsNewest Below_lends below next t
       → LendsResults next (newest_results (merge_of
-      (map (below_told bound) (runs_told_within low high runs)))) t
+      (map (below_results bound) (runs_results_within low high runs)))) t
   newest_places next t low high runs ss below are spans up law stops memory =
-      let told = map (below_told bound) (runs_told_within low high runs) in
+      let told = map (below_results bound) (runs_results_within low high runs) in
       law.places stops told memory (record {
-        deal = subst (λ (bs : List (Below (RunRange A))). AllZip
-            (Deals (answer_stops stops) Below_lends nowhere) bs told) (sym are)
+        yield_each = subst (λ (bs : List (Below (RunRange A))). AllZip
+            (YieldsExactly (answer_stops stops) Below_lends nowhere) bs told) (sym are)
             (each_lends stops memory ss (spans_within low high runs) spans);
-        ascend = below_ascend bound (runs_told_within low high runs) up;
+        ascend = below_ascend bound (runs_results_within low high runs) up;
       })

@@ -13,7 +13,7 @@ use Rattle.lsm_iters.specs.walk.Parts.{LoadGives}
 use Rattle.lsm_iters.specs.walk.Walks.{WalkTakes}
 use Rattle.lsm_iters.proofs.Reaching.{Going, Reached, entered, fault, item, kept, rest, starts}
 use Rattle.lsm_iters.specs.Lending.{RangeLends}
-use Rattle.lsm_iters.specs.Lift.{lifted_told}
+use Rattle.lsm_iters.specs.Lift.{lifted_result}
 use Rattle.lsm_iters.specs.Range.{LendsOn, Range, range_remains}
 use Rattle.lsm_iters.proofs.Moved.{none_to_come, takes_moved}
 use Rattle.lsm_iters.proofs.RangeLaws.{range_step}
@@ -47,7 +47,7 @@ module _ {A : Type 0} where
       let same : s ≡ stands.range = let is : Some s ≡ Some stands.range = stands.is in cc in
       step.there (ap (λ (u : Range A). u.handles.sought) same ∙ stands.sought) stands.entry
       (ap (λ (u : Range A). first u.front) same ∙ ap first stands.front)
-      ∙ ap (λ (u : Range A). Some (lifted_told u.of.global_seqno stands.entry)) same
+      ∙ ap (λ (u : Range A). Some (lifted_result u.of.global_seqno stands.entry)) same
       ∙ ap (λ (y : R). Some y) (sym stands.told)
 
   pub reader_lends : (s : Range A) (r : Option R) (t : Range A) → RangeLends s r t

@@ -8,19 +8,19 @@ use Rattle.std.proofs.lemmas.Bool.{lt-ltb}
 use Rattle.std.proofs.lemmas.List.Elements.{All-filter, All-head, All-tail}
 use Rattle.sst_entries.specs.Entry.{Entry}
 use Rattle.sst_entries.specs.Point.{is_from, is_to, within}
-use Rattle.sst_entries.specs.Stream.{Deals, answer_stops, ok_results}
+use Rattle.sst_entries.specs.Stream.{YieldsExactly, answer_stops, ok_results}
 use Rattle.sst_blocks.specs.table.Chunks.{joined}
 use Rattle.lsm_sorted.specs.merge.Ends.{R}
 use Rattle.lsm_sorted.specs.merge.Union.{Ascends, newest, sort_entries}
 use Rattle.lsm_sorted.specs.Below.{GivesBelow, below_of, numbered_below}
-use Rattle.lsm_sorted.specs.NewestLaws.{AnswersNewest, CanAskNewest, DealsNewest, IsNewestOf}
+use Rattle.lsm_sorted.specs.NewestLaws.{AnswersNewest, CanAskNewest, YieldsNewest, IsNewestOf}
 use Rattle.lsm_sorted.specs.declared.below.Below.{Below}
 use Rattle.lsm_sorted.specs.declared.mvcc_stream.MvccStream.{MvccStream}
 use Rattle.lsm_sorted.specs.declared.merge.Merger.{Merger}
-use Rattle.lsm_sorted.proofs.BelowLemmas.{MayBoth, MayFront, below_entries, deals_below}
-use Rattle.lsm_runs.specs.RunLists.{DealTogether, DealsList}
+use Rattle.lsm_sorted.proofs.BelowLemmas.{MayBoth, MayFront, below_entries, yields_below}
+use Rattle.lsm_runs.specs.RunLists.{YieldTogether, YieldsList}
 use Rattle.lsm_runs.specs.SeveralRuns.{union_in}
-use Rattle.lsm_runs.proofs.Together.{newest_dealt}
+use Rattle.lsm_runs.proofs.Together.{newest_yielded}
 use Rattle.lsm_runs.proofs.Unions.{filter_ascends, filter_joined, filter_sorted}
 
 -- where all are numbered below the bound, all stay
@@ -60,68 +60,68 @@ module _ (bound : ℕ) where
     abbrev pub Behind : Below S → Option R → Below S → Type 0
     Behind = GivesBelow (MayBoth front back can can_back left) back
 
-    one_below : (s : S) (es : List Entry) → DealsList front back es s
-        → DealsList InFront Behind (numbered_below bound es) (below_of bound s)
-    one_below s es deals stops memory =
-        subst (λ (rs : List R). Deals (answer_stops stops) InFront Behind (below_of bound s) rs)
+    one_below : (s : S) (es : List Entry) → YieldsList front back es s
+        → YieldsList InFront Behind (numbered_below bound es) (below_of bound s)
+    one_below s es yields stops memory =
+        subst (λ (rs : List R). YieldsExactly (answer_stops stops) InFront Behind (below_of bound s) rs)
         (below_entries bound es)
-        ((deals_below front back (MayFront front back can can_back left)
+        ((yields_below front back (MayFront front back can can_back left)
         (MayBoth front back can can_back left) s bound Behind (λ t r u step. step)
-        (below_of bound s) refl).deals stops (ok_results es) (deals stops memory))
+        (below_of bound s) refl).yields stops (ok_results es) (yields stops memory))
 
-    each_below : (sources : List S) (dealt : List (List Entry))
-        → AllZip (λ (s : S) (es : List Entry). DealsList front back es s) sources dealt
-        → AllZip (λ (s : Below S) (es : List Entry). DealsList InFront Behind es s)
-        (map (below_of bound) sources) (map (numbered_below bound) dealt)
+    each_below : (sources : List S) (yielded : List (List Entry))
+        → AllZip (λ (s : S) (es : List Entry). YieldsList front back es s) sources yielded
+        → AllZip (λ (s : Below S) (es : List Entry). YieldsList InFront Behind es s)
+        (map (below_of bound) sources) (map (numbered_below bound) yielded)
     each_below [] [] all = tt
-    each_below [] (es ∷ dealt) all = absurd all
+    each_below [] (es ∷ yielded) all = absurd all
     each_below (s ∷ sources) [] all = absurd all
-    each_below (s ∷ sources) (es ∷ dealt) all =
-        (one_below s es all.0, each_below sources dealt all.1)
+    each_below (s ∷ sources) (es ∷ yielded) all =
+        (one_below s es all.0, each_below sources yielded all.1)
 
     pub together_below : (sources : List S) (found : List (List Entry))
-        → DealTogether front back sources found
-        → DealTogether InFront Behind (map (below_of bound) sources)
+        → YieldTogether front back sources found
+        → YieldTogether InFront Behind (map (below_of bound) sources)
         (map (numbered_below bound) found)
     together_below sources found d = record {
-      dealt = map (numbered_below bound) d.dealt;
-      same = sym (numbered_joined d.dealt) ∙ ap (numbered_below bound) d.same
+      yielded = map (numbered_below bound) d.yielded;
+      same = sym (numbered_joined d.yielded) ∙ ap (numbered_below bound) d.same
           ∙ numbered_joined found;
-      ascend = each_ascends d.dealt d.ascend;
-      deal = each_below sources d.dealt d.deal;
+      ascend = each_ascends d.yielded d.ascend;
+      yield_each = each_below sources d.yielded d.yield_each;
     }
 
     -- what is newest of the entries below the bound that they have together, sorted
     pub newest_numbered : {T : Type 0} (next next_back : T → Option R → T → Type 0) (t : T)
         (sources : List S) (found : List (List Entry)) (es : List Entry)
-        → sort_entries (joined found) ≡ es → DealTogether front back sources found
-        → DealsNewest InFront Behind (map (below_of bound) sources) next next_back t
-        → DealsList next next_back (newest (numbered_below bound es)) t
+        → sort_entries (joined found) ≡ es → YieldTogether front back sources found
+        → YieldsNewest InFront Behind (map (below_of bound) sources) next next_back t
+        → YieldsList next next_back (newest (numbered_below bound es)) t
     newest_numbered next next_back t sources found es is d law =
-        subst (λ (us : List Entry). DealsList next next_back (newest us) t)
+        subst (λ (us : List Entry). YieldsList next next_back (newest us) t)
         (ap sort_entries (sym (numbered_joined found))
         ∙ sym (filter_sorted (λ (e : Entry). nat_lt e.seqno bound) (joined found))
         ∙ ap (numbered_below bound) is)
-        (newest_dealt InFront Behind next next_back t (map (below_of bound) sources)
+        (newest_yielded InFront Behind next next_back t (map (below_of bound) sources)
         (map (numbered_below bound) found) (together_below sources found d) law)
 
     -- of sources that are these below the bound
     pub newest_numbered_of : {T : Type 0} (next next_back : T → Option R → T → Type 0) (t : T)
         (bs : List (Below S)) (sources : List S) (found : List (List Entry)) (es : List Entry)
         → bs ≡ map (below_of bound) sources → sort_entries (joined found) ≡ es
-        → DealTogether front back sources found
-        → DealsNewest InFront Behind bs next next_back t
-        → DealsList next next_back (newest (numbered_below bound es)) t
+        → YieldTogether front back sources found
+        → YieldsNewest InFront Behind bs next next_back t
+        → YieldsList next next_back (newest (numbered_below bound es)) t
     newest_numbered_of next next_back t bs sources found es are is d law =
         newest_numbered next next_back t sources found es is d
-        (subst (λ (xs : List (Below S)). DealsNewest InFront Behind xs next next_back t) are law)
+        (subst (λ (xs : List (Below S)). YieldsNewest InFront Behind xs next next_back t) are law)
 
 -- ---- of equal lists
 
-pub dealt_as : {T : Type 0} (next next_back : T → Option R → T → Type 0) (t : T)
-    (xs ys : List Entry) → xs ≡ ys → DealsList next next_back xs t → DealsList next next_back ys t
-dealt_as next next_back t xs ys is h =
-    subst (λ (es : List Entry). DealsList next next_back es t) is h
+pub yielded_as : {T : Type 0} (next next_back : T → Option R → T → Type 0) (t : T)
+    (xs ys : List Entry) → xs ≡ ys → YieldsList next next_back xs t → YieldsList next next_back ys t
+yielded_as next next_back t xs ys is h =
+    subst (λ (es : List Entry). YieldsList next next_back es t) is h
 
 pub starts_as : {X A : Type 0} (s : MvccStream (Merger X A) R) (bs cs : List X) → bs ≡ cs
     → IsNewestOf bs s → IsNewestOf cs s

@@ -32,9 +32,9 @@ use Rattle.lsm_writers.proofs.ListWriting.{same_label, written_gained}
 use Rattle.lsm_runs.specs.compaction.AnyRuns.{results_fault, took_all}
 use Rattle.lsm_runs.specs.compaction.Filtered.{FailsAt, FailsToEnd, RefusesWritten}
 use Rattle.lsm_runs.specs.compaction.Observed.{GoesOnAt, IsCounted, StoppedAt, StopsAtLast}
-use Rattle.lsm_runs.specs.compaction.Observed.{TellsNext}
-use Rattle.lsm_runs.specs.compaction.Observed.{ToldOfPart, progress_at, told_behind}
-use Rattle.lsm_runs.specs.compaction.Observed.{told_count, told_of}
+use Rattle.lsm_runs.specs.compaction.Observed.{NotifiesNext}
+use Rattle.lsm_runs.specs.compaction.Observed.{NotifiedOfPart, progress_at, steps_after}
+use Rattle.lsm_runs.specs.compaction.Observed.{steps_count, told_of}
 use Rattle.lsm_runs.specs.declared.compaction.observer.CompactionProgress.{CompactionProgress}
 use Rattle.lsm_runs.proofs.AnyTaken.{Taking, are_taken, taking_more, taking_none}
 use Rattle.lsm_runs.proofs.Opening.{or_first}
@@ -44,14 +44,14 @@ use Rattle.lsm_runs.proofs.WrittenBy.{present_is, since_more, since_now}
 
 -- ---- what is told, table by table
 
-told_more : (before ts : List (List Entry)) (t : List Entry)
-    → told_behind before (ts ++ t ∷ [])
-    ≡ told_behind before ts ++ progress_at (before ++ (ts ++ t ∷ [])) ∷ []
-told_more before [] t = refl
-told_more before (u ∷ ts) t =
+reported_more : (before ts : List (List Entry)) (t : List Entry)
+    → steps_after before (ts ++ t ∷ [])
+    ≡ steps_after before ts ++ progress_at (before ++ (ts ++ t ∷ [])) ∷ []
+reported_more before [] t = refl
+reported_more before (u ∷ ts) t =
     let now = before ++ u ∷ [] in
-    ap (λ (ms : List CompactionProgress). progress_at now ∷ ms) (told_more now ts t
-    ∙ ap (λ (ys : List (List Entry)). told_behind now ts ++ progress_at ys ∷ [])
+    ap (λ (ms : List CompactionProgress). progress_at now ∷ ms) (reported_more now ts t
+    ∙ ap (λ (ys : List (List Entry)). steps_after now ts ++ progress_at ys ∷ [])
     (append_assoc before (u ∷ []) (ts ++ t ∷ [])))
 
 but_last_more : {X : Type 0} (xs : List X) (x : X) → but_last (xs ++ x ∷ []) ≡ xs
@@ -81,31 +81,31 @@ module _ {O : Type 0} (says : O → CompactionProgress → Bool → O → Type 0
       (went.0, went.1, goes_on_more ms went.0 r q m went.2 step)
 
   -- an observer that goes on was told of the finished tables
-  pub told_on : (m n : TablesWriting) (o r q : O) → GoesOnAt says o (told_of m.tables) r
-      → TellsNext says m n r true q → GoesOnAt says o (told_of n.tables) q
-  told_on m n o r q went told = elim told [
+  pub reported_on : (m n : TablesWriting) (o r q : O) → GoesOnAt says o (told_of m.tables) r
+      → NotifiesNext says m n r true q → GoesOnAt says o (told_of n.tables) q
+  reported_on m n o r q went told = elim told [
     | inl same ↦ subst (λ (ts : List (List Entry)). GoesOnAt says o (told_of ts) q) (sym same.0)
         (subst (λ (x : O). GoesOnAt says o (told_of m.tables) x) same.2 went)
     | inr more ↦
         let t = more.0 in
         let is : told_of n.tables ≡ told_of m.tables ++ progress_at n.tables ∷ [] =
-        ap told_of more.1 ∙ told_more [] m.tables t
+        ap told_of more.1 ∙ reported_more [] m.tables t
         ∙ ap (λ (ts : List (List Entry)). told_of m.tables ++ progress_at ts ∷ [])
         (sym more.1) in
         subst (λ (ms : List CompactionProgress). GoesOnAt says o ms q) (sym is)
         (goes_on_more (told_of m.tables) o r q (progress_at n.tables) went more.2)
   ]
 
-  pub told_stop : (m n : TablesWriting) (o r q : O) → GoesOnAt says o (told_of m.tables) r
-      → TellsNext says m n r false q → StopsAtLast says o (told_of n.tables) q
-  told_stop m n o r q went told = elim told [
+  pub reported_stop : (m n : TablesWriting) (o r q : O) → GoesOnAt says o (told_of m.tables) r
+      → NotifiesNext says m n r false q → StopsAtLast says o (told_of n.tables) q
+  reported_stop m n o r q went told = elim told [
     | inl same ↦ let no : false ≡ true = same.1 in absurd cc
     | inr more ↦
         let t = more.0 in
         record {
           before = told_of m.tables;
           last = progress_at n.tables;
-          are = ap told_of more.1 ∙ told_more [] m.tables t
+          are = ap told_of more.1 ∙ reported_more [] m.tables t
               ∙ ap (λ (ts : List (List Entry)). told_of m.tables ++ progress_at ts ∷ [])
               (sym more.1);
           then = r;
@@ -117,10 +117,10 @@ module _ {O : Type 0} (says : O → CompactionProgress → Bool → O → Type 0
 -- ---- an entry that is written, and counted
 
 -- counting on from a count that stays at the largest number
-pub counts_on : (n k : ℕ) → k ≡ n + 1 → min (told_count n + 1) (2 ^ 64 - 1) ≡ told_count k
+pub counts_on : (n k : ℕ) → k ≡ n + 1 → min (steps_count n + 1) (2 ^ 64 - 1) ≡ steps_count k
 counts_on n k is = omega (arith, is)
 
-pub counts_none : (es : List Entry) → told_count (length es) ≡ 0 → es ≡ []
+pub counts_none : (es : List Entry) → steps_count (length es) ≡ 0 → es ≡ []
 counts_none [] h = refl
 counts_none (e ∷ es) h = absurd (omega (arith, h))
 
@@ -227,10 +227,10 @@ same_counts a b c d p q = ap (λ (x : ℕ). counts x b) p ∙ ap (λ (y : ℕ). 
 
 module _ (m n : TablesWriting) (e : Entry) (progress : CompactionProgress)
     (counted : IsCounted progress m) where
-  tables_now : progress.tables ≡ told_count (length m.tables)
+  tables_now : progress.tables ≡ steps_count (length m.tables)
   tables_now = ap (λ (p : CompactionProgress). p.tables) counted
 
-  entries_now : progress.entries ≡ told_count (length (all_written m))
+  entries_now : progress.entries ≡ steps_count (length (all_written m))
   entries_now = ap (λ (p : CompactionProgress). p.entries) counted
 
   pub none_counted : progress.entries ≡ 0 → all_written m ≡ []
@@ -238,11 +238,11 @@ module _ (m n : TablesWriting) (e : Entry) (progress : CompactionProgress)
 
   pub some_counted : (progress.entries ≡ 0 → ⊥) → all_written m ≡ [] → ⊥
   some_counted some none = some (entries_now
-      ∙ ap (λ (es : List Entry). told_count (length es)) none)
+      ∙ ap (λ (es : List Entry). steps_count (length es)) none)
 
   module _ (listed : all_written n ≡ all_written m ++ e ∷ []) (k : ℕ)
       (is : k ≡ min (progress.entries + 1) (2 ^ 64 - 1)) where
-    entries_on : k ≡ told_count (length (all_written n))
+    entries_on : k ≡ steps_count (length (all_written n))
     entries_on = is ∙ ap (λ (x : ℕ). min (x + 1) (2 ^ 64 - 1)) entries_now
         ∙ counts_on (length (all_written m)) (length (all_written n))
         (ap length listed ∙ length-append (all_written m) (e ∷ []))
@@ -250,35 +250,35 @@ module _ (m n : TablesWriting) (e : Entry) (progress : CompactionProgress)
     -- no table was finished
     pub counted_same : n.tables ≡ m.tables
         → IsCounted (record { tables = progress.tables; entries = k }) n
-    counted_same same = same_counts progress.tables k (told_count (length n.tables))
-        (told_count (length (all_written n)))
-        (tables_now ∙ ap (λ (ts : List (List Entry)). told_count (length ts)) (sym same)) entries_on
+    counted_same same = same_counts progress.tables k (steps_count (length n.tables))
+        (steps_count (length (all_written n)))
+        (tables_now ∙ ap (λ (ts : List (List Entry)). steps_count (length ts)) (sym same)) entries_on
 
     -- one was
     pub counted_one_more : (t : List Entry) (j : ℕ) → n.tables ≡ m.tables ++ t ∷ []
         → j ≡ min (progress.tables + 1) (2 ^ 64 - 1)
         → IsCounted (record { tables = j; entries = k }) n
-    counted_one_more t j more on = same_counts j k (told_count (length n.tables))
-        (told_count (length (all_written n)))
+    counted_one_more t j more on = same_counts j k (steps_count (length n.tables))
+        (steps_count (length (all_written n)))
         (on ∙ ap (λ (x : ℕ). min (x + 1) (2 ^ 64 - 1)) tables_now
         ∙ counts_on (length m.tables) (length n.tables)
         (ap length more ∙ length-append m.tables (t ∷ []))) entries_on
 
   -- which the observer is told
-  pub told_more_tables : {O : Type 0} (says : O → CompactionProgress → Bool → O → Type 0) (o q : O)
+  pub reported_more_tables : {O : Type 0} (says : O → CompactionProgress → Bool → O → Type 0) (o q : O)
       (goes : Bool) (t : List Entry) (j : ℕ) → n.tables ≡ m.tables ++ t ∷ []
       → length (joined n.tables) ≡ length (all_written m)
       → j ≡ min (progress.tables + 1) (2 ^ 64 - 1)
       → says o (record { tables = j; entries = progress.entries }) goes q
-      → TellsNext says m n o goes q
-  told_more_tables {O} says o q goes t j more len on told =
+      → NotifiesNext says m n o goes q
+  reported_more_tables {O} says o q goes t j more len on told =
       let same : counts j progress.entries ≡ progress_at n.tables =
-      same_counts j progress.entries (told_count (length n.tables))
-      (told_count (length (joined n.tables)))
+      same_counts j progress.entries (steps_count (length n.tables))
+      (steps_count (length (joined n.tables)))
       (on ∙ ap (λ (x : ℕ). min (x + 1) (2 ^ 64 - 1)) tables_now
       ∙ counts_on (length m.tables) (length n.tables)
       (ap length more ∙ length-append m.tables (t ∷ [])))
-      (entries_now ∙ ap told_count (sym len)) in
+      (entries_now ∙ ap steps_count (sym len)) in
       inr (t, more, subst (λ (p : CompactionProgress). says o p goes q) same told)
 
 -- ---- the tables, as they are cut
@@ -492,8 +492,8 @@ module _ {S O : Type 0} (next : S → Option R → S → Type 0)
           (tables_of n)) since.target_is (are_cut n since.works cut))
 
       -- the observer was told of all tables but the last
-      pub told_of_part : ToldOfPart says w (all_written m) o q
-      told_of_part = record {
+      pub reported_of_part : NotifiedOfPart says w (all_written m) o q
+      reported_of_part = record {
         tables = tables_of m;
         cut = cut_by m h.since h.cut;
         told = subst (λ (ts : List (List Entry)). GoesOnAt says o (told_of ts) q)
@@ -501,18 +501,18 @@ module _ {S O : Type 0} (next : S → Option R → S → Type 0)
       }
 
       -- the observer stops it
-      pub told_stopped : (e : Entry) (n : TablesWriting) (r : O) → n ≡ took m e → Since w n
-          → CutSoFar n → TellsNext says m n q false r → StoppedAt says w (all_written n) o r
-      told_stopped e n r is since cut told = record {
+      pub reported_stopped : (e : Entry) (n : TablesWriting) (r : O) → n ≡ took m e → Since w n
+          → CutSoFar n → NotifiesNext says m n q false r → StoppedAt says w (all_written n) o r
+      reported_stopped e n r is since cut told = record {
         tables = n.tables;
         next = e;
         cut = subst (λ (ts : List (List Entry)). AreTables w.present.options.data_block_size
             w.target (all_written n) ts) (stopped_alone e n r is told) (cut_by n since cut);
-        told = told_stop says m n o q r h.told told;
+        told = reported_stop says m n o q r h.told told;
       }
         where
           stopped_alone : (x : Entry) (k : TablesWriting) (p : O) → k ≡ took m x
-              → TellsNext says m k q false p → tables_of k ≡ k.tables ++ (x ∷ []) ∷ []
+              → NotifiesNext says m k q false p → tables_of k ≡ k.tables ++ (x ∷ []) ∷ []
           stopped_alone x k p same (inl none) = let no : false ≡ true = none.1 in absurd cc
           stopped_alone x k p same (inr more) =
               subst (λ (v : TablesWriting). tables_of v ≡ v.tables ++ (x ∷ []) ∷ []) (sym same)
@@ -529,7 +529,7 @@ module _ {S O : Type 0} (next : S → Option R → S → Type 0)
         led = t;
         gave = h.gave;
         fails = fails;
-        told = told_of_part;
+        told = reported_of_part;
       }
 
 -- before anything is written
@@ -542,9 +542,9 @@ observing_none next says w s o fresh =
       since = since_now w fresh;
       taking = taking_none w none;
       cut = cut_first w fresh;
-      counted = same_counts 0 0 (told_count (length w.tables)) (told_count (length (all_written w)))
-          (sym (ap (λ (ts : List (List Entry)). told_count (length ts)) fresh.0))
-          (sym (ap (λ (es : List Entry). told_count (length es)) none));
+      counted = same_counts 0 0 (steps_count (length w.tables)) (steps_count (length (all_written w)))
+          (sym (ap (λ (ts : List (List Entry)). steps_count (length ts)) fresh.0))
+          (sym (ap (λ (es : List Entry). steps_count (length es)) none));
       told = subst (λ (ts : List (List Entry)). GoesOnAt says o (told_of ts) o) (sym fresh.0) refl;
       gave = subst (λ (es : List Entry). Yields next s (ok_results es) s) (sym none) refl;
     }
@@ -556,21 +556,21 @@ pub observing_more : {S O : Type 0} (next : S → Option R → S → Type 0)
     → IsFreshRun w → Observing next says w s o m t progress q → next t (Some (Ok e)) u
     → n ≡ took m e → took_fault m e ≡ None → all_written n ≡ all_written m ++ e ∷ []
     → may_be_written (all_written m) e.user_key e.seqno ≡ true → IsCounted more n
-    → TellsNext says m n q true r → Observing next says w s o n u more r
+    → NotifiesNext says m n q true r → Observing next says w s o n u more r
 observing_more next says w s o m n t u progress more q r e fresh h step is fine listed may counted
     told = record {
       since = subst (Since w) (sym is) (since_more w m fresh e h.since fine);
       taking = taking_more w m n e h.taking is fine listed may;
       cut = subst CutSoFar (sym is) (cut_so_more m e h.cut);
       counted = counted;
-      told = told_on says m n o q r h.told told;
+      told = reported_on says m n o q r h.told told;
       gave = gave_more next says w s o m t u progress q h e n listed step;
     }
 
 -- before anything is written an observer is told nothing
-pub told_nothing : {O : Type 0} (says : O → CompactionProgress → Bool → O → Type 0)
-    (w : TablesWriting) (o : O) → ToldOfPart says w [] o o
-told_nothing says w o = record {
+pub reported_nothing : {O : Type 0} (says : O → CompactionProgress → Bool → O → Type 0)
+    (w : TablesWriting) (o : O) → NotifiedOfPart says w [] o o
+reported_nothing says w o = record {
   tables = [];
   cut = record { whole = refl; each = tt };
   told = refl;

@@ -9,7 +9,7 @@ use Rattle.sst_entries.specs.Stream.{ok_results}
 use Rattle.lsm_sorted.specs.merge.Union.{entries_among}
 use Rattle.lsm_readers.specs.point.Table.{OpenTable}
 use Rattle.lsm_runs.specs.RunLists.{HoldLists, HoldsList, RunsHoldLists}
-use Rattle.lsm_runs.proofs.RunWithin.{held_told}
+use Rattle.lsm_runs.proofs.RunWithin.{held_result}
 use Rattle.lsm_runs.proofs.Unions.{entries_of}
 use Rattle.lsm_iters.proofs.Cuts.{all_within}
 
@@ -20,7 +20,7 @@ pub one_list : (t : OpenTable) (es us : List Entry) → HoldsList t es → Holds
 one_list t es us h k =
     sym (all_within es)
     ∙ same_results (within Unbounded Unbounded es) (within Unbounded Unbounded us)
-    (sym (held_told t es h Unbounded Unbounded) ∙ held_told t us k Unbounded Unbounded)
+    (sym (held_result t es h Unbounded Unbounded) ∙ held_result t us k Unbounded Unbounded)
     ∙ all_within us
 
 one_each : (ts : List OpenTable) (ls ms : List (List Entry)) → HoldLists ts ls → HoldLists ts ms

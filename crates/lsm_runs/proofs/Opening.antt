@@ -10,14 +10,14 @@ use Rattle.sst_entries.specs.Error.{is_memory}
 use Rattle.sst_blocks.specs.Fnv.{fnv1a}
 use Rattle.sst_blocks.specs.declared.version.TableVersion.TheVariants.{V4}
 use Rattle.sst_entries.specs.Point.{point}
-use Rattle.sst_entries.specs.Stream.{Deals, ok_results, nowhere, answer_stops}
+use Rattle.sst_entries.specs.Stream.{YieldsExactly, ok_results, nowhere, answer_stops}
 use Rattle.sst_blocks.specs.table.Facts.{highest_seqno}
 use Rattle.sst_blocks.specs.declared.table.label.Label.{Label}
 use Rattle.sst_blocks.specs.table.Options.{default_options}
 use Rattle.sst_blocks.specs.table.Table.{IsTable}
 use Rattle.lsm_writers.specs.Writing.{IsTableOf, list_fault}
 use Rattle.lsm_writers.proofs.CutTables.{some_length}
-use Rattle.lsm_readers.specs.OfList.{list_told, parts_said}
+use Rattle.lsm_readers.specs.OfList.{list_result, parts_said}
 use Rattle.lsm_runs.specs.compaction.Written.{IsOpened, ReadsList, number_fault, opening_fault}
 use Rattle.lsm_readers.specs.point.Answer.{lift}
 use Rattle.lsm_readers.specs.point.Parts.{Parts}
@@ -59,12 +59,12 @@ module _ (label : Label) (es : List Entry) (g : ℕ) where
       or_fine (list_fault label es) (number_fault es g) fine (rw (none, low) refl)
 
   module _ (bytes : List ℕ) (t : IsTable bytes es) (written : list_fault label es ≡ None) where
-    pub opens : (parts : Parts) → list_told t g true true ≡ Ok parts
+    pub opens : (parts : Parts) → list_result t g true true ≡ Ok parts
         → opening_fault label es g ≡ None
     opens parts told = or_fine (list_fault label es) (number_fault es g) written
         (fine_by (ltb (2 ^ 64 - 1) (highest_seqno es + g)) (parts_said t true true) parts told)
 
-    pub unopened : (e : Error) → list_told t g true true ≡ Err e → opening_fault label es g ≡ Some e
+    pub unopened : (e : Error) → list_result t g true true ≡ Err e → opening_fault label es g ≡ Some e
     unopened e told = or_second (list_fault label es) (number_fault es g) e written
         (fault_by (ltb (2 ^ 64 - 1) (highest_seqno es + g)) (parts_said t true true) e told)
 
@@ -75,7 +75,7 @@ parts_by false p q told = cc
 -- what was opened
 pub opened : (label : Label) (es : List Entry) (g id sum : ℕ) (bytes : List ℕ) (t : OpenTable)
     (f : IsTableOf label es id sum bytes) → t.bytes ≡ bytes → t.global_seqno ≡ g → t.tree_id ≡ 0
-    → t.checksum ≡ sum → list_told f.table g true true ≡ Ok t.parts → IsOpened label es g t
+    → t.checksum ≡ sum → list_result f.table g true true ≡ Ok t.parts → IsOpened label es g t
 opened label es g id sum bytes t f same number tree check told =
     let P : List ℕ → Type 0 = λ b. (x : IsTable b es) × (x.label ≡ label)
     × (x.options ≡ default_options) × (x.version ≡ V4) × (x.spills ≡ [])
@@ -125,11 +125,11 @@ value_of a b h = cc
 pub reads : (es : List Entry) (g n : ℕ) (key : List ℕ) (bound : ℕ) (found : Option Entry) (s : Scan)
     → n ≡ g → found_is (point (lift es n) key bound) ≡ found_is found
     → ((stops : Error → Bool) → stops OutOfMemory ≡ true
-    → Deals (answer_stops stops) ScansNext nowhere s (ok_results (lift es n)))
+    → YieldsExactly (answer_stops stops) ScansNext nowhere s (ok_results (lift es n)))
     → ReadsList es g key bound found s
-reads es g n key bound found s number told deals = record {
+reads es g n key bound found s number told yields = record {
   point_is = subst (λ (k : ℕ). found ≡ point (lift es k) key bound) number
       (value_of (point (lift es n) key bound) found told);
-  scan_is = λ stops memory. subst (λ (k : ℕ). Deals (answer_stops stops) ScansNext nowhere s
-      (ok_results (lift es k))) number (deals stops memory);
+  scan_is = λ stops memory. subst (λ (k : ℕ). YieldsExactly (answer_stops stops) ScansNext nowhere s
+      (ok_results (lift es k))) number (yields stops memory);
 }

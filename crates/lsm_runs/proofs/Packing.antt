@@ -17,24 +17,24 @@ use Rattle.lsm_sorted.specs.merge.Ends.{R}
 use Rattle.lsm_sorted.specs.merge.Union.{IsUnion, all_entries, entries_among, sort_entries}
 use Rattle.lsm_sorted.proofs.UnionLemmas.{merged_union, only_union}
 use Rattle.lsm_sorted.specs.version.Packing.{AreInOrder, SameTables, tables_in}
-use Rattle.lsm_readers.specs.Ranges.{range_told}
+use Rattle.lsm_readers.specs.Ranges.{range_results}
 use Rattle.lsm_readers.specs.point.Table.{OpenTable}
 use Rattle.lsm_runs.specs.compaction.Packed.{HoldUnion, PackedLaw}
 use Rattle.lsm_runs.specs.RunLists.{HoldLists, HoldsList, RunsHoldLists}
 use Rattle.lsm_run_parts.specs.RunParts.{range_of}
 use Rattle.lsm_runs.specs.SeveralRuns.{union_in}
-use Rattle.lsm_runs.proofs.RunWithin.{held_told}
+use Rattle.lsm_runs.proofs.RunWithin.{held_result}
 use Rattle.lsm_runs.proofs.Unions.{entries_of}
 use Rattle.lsm_iters.proofs.Cuts.{all_within}
 
 -- ---- the list of a table, by the table
 
 pub list_of : OpenTable → List Entry
-list_of t = entries_among (range_told t Unbounded Unbounded)
+list_of t = entries_among (range_results t Unbounded Unbounded)
 
 pub list_is : (t : OpenTable) (es : List Entry) → HoldsList t es → list_of t ≡ es
 unfolding list_of
-list_is t es h = ap entries_among (held_told t es h Unbounded Unbounded
+list_is t es h = ap entries_among (held_result t es h Unbounded Unbounded
     ∙ ap ok_results (all_within es)) ∙ entries_of es
 
 pub record Holds (t : OpenTable) : Type 0 where

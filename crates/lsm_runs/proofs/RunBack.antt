@@ -55,9 +55,9 @@ module _ (es : List Entry) (g : ℕ) (run : List OpenTable) (h : IsRunOfList es 
       (λ (xs : List Entry). IfOk r (ReadsOf front back key bound low high xs)) union_is
 
 -- a read that tells a value is refused for want of memory alone
-pub told_alone : (found : Option Entry) (e : Error) → (is_memory e ≡ false → found_is found ≡ Err e)
+pub reported_alone : (found : Option Entry) (e : Error) → (is_memory e ≡ false → found_is found ≡ Err e)
     → e ≡ OutOfMemory
-told_alone found e h = elim (cases_Bool (is_memory e)) [
+reported_alone found e h = elim (cases_Bool (is_memory e)) [
   | inl memory ↦ memory_is e memory
   | inr fine ↦ absurd (let wrong : found_is found ≡ Err e = h fine in cc)
 ]

@@ -7,8 +7,8 @@ use Rattle.std.specs.Prelude.{Option, Some, None, Result, Ok, Err, IfOk}
 use Rattle.sst_entries.specs.declared.stream.Direction.{Direction}
 use Rattle.sst_entries.specs.declared.stream.Direction.TheVariants.{Front, Back}
 use Rattle.sst_entries.specs.Stream.{Runs, front_of, back_of}
-use Rattle.lsm_iters.specs.block_index.Dealt.{DealsEnding}
-use Rattle.lsm_iters.proofs.Dealing.{Ending, deals_ending}
+use Rattle.lsm_iters.specs.block_index.Yielded.{YieldsEnding}
+use Rattle.lsm_iters.proofs.Dealing.{Ending, yields_ending}
 use Rattle.lsm_runs.specs.RunRange.{IsRunEnded, OpensAtMost, RunGives, RunRange, back_tables}
 use Rattle.lsm_runs.specs.RunRange.{front_tables, run_left, run_size}
 use Rattle.lsm_runs.proofs.RunSteps.{End, R}
@@ -25,10 +25,10 @@ module _ {A : Type 0} where
       { answer = (step.answer, λ ended. omega (arith, ended, step.lowers)); ends = step.ends }
 
   -- whatever ends are asked, what is left is dealt up to the first error
-  pub run_deals : (s : RunRange A) → DealsEnding (RunGives front_of front_tables)
+  pub run_yields : (s : RunRange A) → YieldsEnding (RunGives front_of front_tables)
       (RunGives back_of back_tables) (λ _. Unit {0}) (λ _. Unit {0}) s (run_left s)
-  run_deals s =
-      deals_ending run_left IsRunEnded nothing (RunGives front_of front_tables)
+  run_yields s =
+      yields_ending run_left IsRunEnded nothing (RunGives front_of front_tables)
       (RunGives back_of back_tables)
       (λ u r t step. ends_by front_of front_tables u r t step)
       (λ u r t step. ends_by back_of back_tables u r t step) s

@@ -6,31 +6,31 @@ use Rattle.std.specs.declared.ops.Bound.{Bound}
 use Rattle.sst_entries.specs.Entry.{Entry}
 use Rattle.sst_entries.specs.Point.{within}
 use Rattle.sst_entries.specs.Stream.{back_of, front_of, ok_results}
-use Rattle.lsm_iters.specs.block_index.Dealt.{DealsEnding}
+use Rattle.lsm_iters.specs.block_index.Yielded.{YieldsEnding}
 use Rattle.sst_blocks.specs.table.Chunks.{joined}
 use Rattle.lsm_iters.specs.Range.{Range}
 use Rattle.lsm_sorted.specs.version.Run.{ArePlacesOf, are_in_order, overlap_indexes}
 use Rattle.lsm_readers.specs.point.Table.{OpenTable}
-use Rattle.lsm_runs.specs.RunLists.{DealsList, HoldLists, span_list}
+use Rattle.lsm_runs.specs.RunLists.{YieldsList, HoldLists, span_list}
 use Rattle.lsm_run_parts.specs.RunParts.{RunSpan, span_parts_from, ranges_of, span_of, span_parts}
 use Rattle.lsm_runs.specs.RunRange.{IsRunOf, OpensAtMost, RunGives, RunRange, back_tables}
-use Rattle.lsm_run_parts.specs.Tables.{run_parts_told}
+use Rattle.lsm_run_parts.specs.Tables.{run_parts_results}
 use Rattle.lsm_runs.specs.RunRange.{front_tables, left_of_reader, run_left}
-use Rattle.lsm_runs.proofs.RunLaws.{few_between, opens_few, run_deals}
+use Rattle.lsm_runs.proofs.RunLaws.{few_between, opens_few, run_yields}
 use Rattle.lsm_runs.proofs.RunSteps.{R}
-use Rattle.lsm_runs.proofs.RunWithin.{span_deals}
-use Rattle.lsm_runs.proofs.SpanLists.{told_between}
-use Rattle.lsm_readers.proofs.TableRanges.{deals_values}
+use Rattle.lsm_runs.proofs.RunWithin.{span_yields}
+use Rattle.lsm_runs.proofs.SpanLists.{reported_between}
+use Rattle.lsm_readers.proofs.TableRanges.{yields_values}
 
 module _ {A : Type 0} (ts : List OpenTable) (span : RunSpan) (s : RunRange A)
     (is : IsRunOf ts span s) where
-  pub new_left : run_left s ≡ run_parts_told (span_parts span ts)
+  pub new_left : run_left s ≡ run_parts_results (span_parts span ts)
   new_left =
       ap (λ (o : Option (Range A)). left_of_reader o
-      ++ (run_parts_told s.unopened.parts ++ left_of_reader s.back)) is.front
-      ∙ ap (λ (o : Option (Range A)). run_parts_told s.unopened.parts ++ left_of_reader o) is.back
-      ∙ append-nil (run_parts_told s.unopened.parts)
-      ∙ ap run_parts_told is.parts
+      ++ (run_parts_results s.unopened.parts ++ left_of_reader s.back)) is.front
+      ∙ ap (λ (o : Option (Range A)). run_parts_results s.unopened.parts ++ left_of_reader o) is.back
+      ∙ append-nil (run_parts_results s.unopened.parts)
+      ∙ ap run_parts_results is.parts
 
   pub new_few : OpensAtMost (RunGives front_of front_tables) (RunGives back_of back_tables)
       (span.last + 1 - span.first) s
@@ -64,28 +64,28 @@ module _ {A : Type 0} (low high : Bound (List ℕ)) (ts : List OpenTable) (ends 
       (span_of ends low high) s is asked rs t runs in omega (arith, few, places.1)
 
 -- what is left, where it is a list
-left_deals : {A : Type 0} (s : RunRange A) (es : List Entry) → run_left s ≡ ok_results es
-    → DealsList (RunGives front_of front_tables) (RunGives back_of back_tables) es s
-left_deals s es told stops memory =
-    let deals = subst (λ (xs : List R). DealsEnding (RunGives front_of front_tables)
-    (RunGives back_of back_tables) (λ _. Unit {0}) (λ _. Unit {0}) s xs) told (run_deals s) in
-    deals_values (RunGives front_of front_tables) (RunGives back_of back_tables) (λ _. Unit {0})
-    (λ _. Unit {0}) s es deals stops memory
+left_yields : {A : Type 0} (s : RunRange A) (es : List Entry) → run_left s ≡ ok_results es
+    → YieldsList (RunGives front_of front_tables) (RunGives back_of back_tables) es s
+left_yields s es told stops memory =
+    let yields = subst (λ (xs : List R). YieldsEnding (RunGives front_of front_tables)
+    (RunGives back_of back_tables) (λ _. Unit {0}) (λ _. Unit {0}) s xs) told (run_yields s) in
+    yields_values (RunGives front_of front_tables) (RunGives back_of back_tables) (λ _. Unit {0})
+    (λ _. Unit {0}) s es yields stops memory
 
 module _ {A : Type 0} (low high : Bound (List ℕ)) (ts : List OpenTable) (ls : List (List Entry))
     (h : HoldLists ts ls) (ends : ℕ × ℕ) (s : RunRange A)
     (is : IsRunOf ts (span_of ends low high) s) where
-  pub new_deals : are_in_order (ranges_of ts) ≡ true
+  pub new_yields : are_in_order (ranges_of ts) ≡ true
       → overlap_indexes low high (ranges_of ts) ≡ Some ends
-      → DealsList (RunGives front_of front_tables) (RunGives back_of back_tables)
+      → YieldsList (RunGives front_of front_tables) (RunGives back_of back_tables)
       (within low high (joined ls)) s
-  new_deals order found = left_deals s (within low high (joined ls))
-      (new_left ts (span_of ends low high) s is ∙ span_deals low high ts ls h order ends found)
+  new_yields order found = left_yields s (within low high (joined ls))
+      (new_left ts (span_of ends low high) s is ∙ span_yields low high ts ls h order ends found)
 
   -- whatever the places are
-  pub culled_deals : DealsList (RunGives front_of front_tables) (RunGives back_of back_tables)
+  pub culled_yields : YieldsList (RunGives front_of front_tables) (RunGives back_of back_tables)
       (span_list (span_of ends low high) ls) s
-  culled_deals =
-      left_deals s (span_list (span_of ends low high) ls)
+  culled_yields =
+      left_yields s (span_list (span_of ends low high) ls)
       (new_left ts (span_of ends low high) s is
-      ∙ told_between (span_of ends low high) ends.0 (suc ends.1 - ends.0) 0 ts ls h)
+      ∙ reported_between (span_of ends low high) ends.0 (suc ends.1 - ends.0) 0 ts ls h)

@@ -13,7 +13,7 @@ use Rattle.sst_entries.specs.Error.{FaultsFirst, Gives}
 use Rattle.sst_entries.specs.Lending.{entry_of_ref}
 use Rattle.sst_blocks.specs.declared.entry_place.EntryPlace.{EntryPlace}
 use Rattle.sst_blocks.specs.declared.opened.Opened.{Opened}
-use Rattle.sst_blocks.specs.Asked.{told_map}
+use Rattle.sst_blocks.specs.Asked.{result_map}
 use Rattle.sst_blocks.specs.EntryPlace.{IsPlacedIn, entry_placed, placed_in}
 use Rattle.sst_blocks.specs.Opened.{none_opened}
 use Rattle.lsm_sorted.specs.version.KeyRange.{Interval, key_le}
@@ -93,22 +93,22 @@ module _ (tables : List OpenTable) (t : OpenTable) (run at : ℕ)
 
   -- it is the entry of the table's bytes
   pub seen_there : (found : Result (Option EntryPlace) Error) → AreThere found
-      → told_map (option_and_then (placed_in_run tables))
-      (told_map (option_map (place_in run at)) found)
-      ≡ told_map (option_map (entry_placed t.bytes)) found
+      → result_map (option_and_then (placed_in_run tables))
+      (result_map (option_map (place_in run at)) found)
+      ≡ result_map (option_map (entry_placed t.bytes)) found
   seen_there (Ok None) there = refl
   seen_there (Ok (Some p)) there = ap (λ (o : Option Entry). found_is o) (one_there p there)
   seen_there (Err e) there = refl
 
   pub all_there : (found : Result (Option EntryPlace) Error) → AreThere found
-      → IfOk (told_map (option_map (place_in run at)) found)
+      → IfOk (result_map (option_map (place_in run at)) found)
       (λ o. IfSome o (λ p. is_some (placed_in_run tables p) ≡ true))
   all_there (Ok None) there = tt
   all_there (Ok (Some p)) there = ap is_some (one_there p there)
   all_there (Err e) there = tt
 
   pub all_numbered : (found : Result (Option EntryPlace) Error)
-      → IfOk (told_map (option_map (place_in run at)) found) (λ o. IfSome o (λ p. p.run ≡ run))
+      → IfOk (result_map (option_map (place_in run at)) found) (λ o. IfSome o (λ p. p.run ≡ run))
   all_numbered (Ok None) = tt
   all_numbered (Ok (Some p)) = refl
   all_numbered (Err e) = tt
@@ -130,15 +130,15 @@ module _ (runs : List (List OpenTable)) (tables : List OpenTable) (n : ℕ)
   -- so of what was found, or the error
   seen_in_runs : (r : Result (Option RunPlace) Error)
       → IfOk r (λ found. IfSome found (λ p. p.run ≡ n))
-      → told_map (option_and_then (placed_in_run tables)) r
-      ≡ told_map (option_and_then (placed_in_runs runs)) r
+      → result_map (option_and_then (placed_in_run tables)) r
+      ≡ result_map (option_and_then (placed_in_runs runs)) r
   seen_in_runs (Ok found) is = ap (λ (o : Option Entry). found_is o) (found_in_runs found is)
   seen_in_runs (Err e) is = refl
 
   pub does_in_runs : (r : Result (Option RunPlace) Error) (read : Read (Option Entry))
       (own : Opened) → IfOk r (λ found. IfSome found (λ p. p.run ≡ n))
-      → DoesRead (told_map (option_and_then (placed_in_run tables)) r) read none_opened own
-      → DoesRead (told_map (option_and_then (placed_in_runs runs)) r) read none_opened own
+      → DoesRead (result_map (option_and_then (placed_in_run tables)) r) read none_opened own
+      → DoesRead (result_map (option_and_then (placed_in_runs runs)) r) read none_opened own
   does_in_runs r read own is does =
       subst (λ (s : Result (Option Entry) Error). DoesRead s read none_opened own)
       (seen_in_runs r is) does
@@ -164,7 +164,7 @@ one_of P a b c (inr is) here there = subst (λ (o : Option _). IfSome o P) (sym 
 
 module _ (entry : RunPlace → Option Entry) (found : Result (Option RunPlace) Error)
     (lent : Result (Option EntryRef) Error)
-    (same : told_map (option_map entry_of_ref) lent ≡ told_map (option_and_then entry) found) where
+    (same : result_map (option_map entry_of_ref) lent ≡ result_map (option_and_then entry) found) where
   pub lent_gives : (told : Result (Option Entry) Error) → Gives (option_and_then entry) found told
       → Gives (option_map entry_of_ref) lent told
   lent_gives told h = gives_seen (option_map entry_of_ref) lent told
@@ -174,7 +174,7 @@ module _ (entry : RunPlace → Option Entry) (found : Result (Option RunPlace) E
   pub lent_does : (read : Read (Option Entry)) (o o' : Opened)
       → Gives (option_and_then entry) found read.told → FaultsFirst found read.early
       → Opens found read.loads o o' → (read.loads ≡ [] → IsOk found)
-      → DoesRead (told_map (option_map entry_of_ref) lent) read o o'
+      → DoesRead (result_map (option_map entry_of_ref) lent) read o o'
   lent_does read o o' told first opens calm =
       subst (λ (r : Result (Option Entry) Error). DoesRead r read o o') (sym same)
       (does_by (option_and_then entry) found read o o' told first opens calm)

@@ -24,7 +24,7 @@ use Rattle.lsm_readers.specs.point.Table.{OpenTable}
 use Rattle.lsm_readers.proofs.StoredParts.{stored_answers}
 use Rattle.lsm_runs.specs.RunLists.{HoldLists, HoldsList, RunsHoldLists}
 use Rattle.lsm_run_parts.specs.RunParts.{range_of, ranges_of}
-use Rattle.lsm_runs.specs.SeveralRuns.{run_read, runs_told, table_read, union_in}
+use Rattle.lsm_runs.specs.SeveralRuns.{run_read, runs_result, table_read, union_in}
 use Rattle.lsm_sorted.specs.Leading.{leading_of}
 use Rattle.lsm_runs.proofs.Leading.{leading_assoc, leading_last, leading_sorted}
 use Rattle.lsm_runs.proofs.Rising.{ascends_of, run_strict}
@@ -135,7 +135,7 @@ module _ (key : List ℕ) (bound : ℕ) where
 
   pub runs_point : (found : Option Entry) (runs : List (List OpenTable))
       (lists : List (List (List Entry))) → RunsHoldLists runs lists
-      → runs_told key bound found runs ≡ Ok (leading_of found (point (union_in lists) key bound))
+      → runs_result key bound found runs ≡ Ok (leading_of found (point (union_in lists) key bound))
   unfolding point
   runs_point found [] [] h = ap (λ (o : Option Entry). Ok o) (sym (leading_last found))
   runs_point found [] (ls ∷ lists) h = absurd h
@@ -148,7 +148,7 @@ module _ (key : List ℕ) (bound : ℕ) where
       ap (λ (es : List Entry). point es key bound) (union_more ls lists)
       ∙ leading_sorted key bound (joined ls) (behind lists)
       (ascends_of (joined ls) (run_strict ts ls h.0.1 order)) in
-      ap (λ (r : Result (Option Entry) Error). r >>= λ next. runs_told key bound
+      ap (λ (r : Result (Option Entry) Error). r >>= λ next. runs_result key bound
       (leading_of found next) runs) (run_point ts ls h.0.1 order)
       ∙ runs_point (leading_of found own) runs lists h.1
       ∙ ap (λ (o : Option Entry). Ok o) (leading_assoc found own (point (union_in lists) key bound)

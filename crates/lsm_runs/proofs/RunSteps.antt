@@ -18,12 +18,12 @@ use Rattle.std.specs.Option.{option_map}
 use Rattle.lsm_iters.specs.Range.{LendsOn, Range, range_remains}
 use Rattle.lsm_iters.specs.Steps.{without_lent}
 use Rattle.lsm_iters.proofs.Ranges.{none_on}
-use Rattle.lsm_run_parts.specs.RunParts.{Part, part_loads, part_told}
+use Rattle.lsm_run_parts.specs.RunParts.{Part, part_loads, part_read_results}
 use Rattle.lsm_run_parts.specs.Tables.{Unopened}
 use Rattle.lsm_runs.specs.RunRange.{CountsTables, IsRunEnded, RunGives, lent_of_reader}
 use Rattle.lsm_run_parts.specs.Tables.{parts_loads}
 use Rattle.lsm_runs.specs.RunRange.{left_of_reader, run_left}
-use Rattle.lsm_run_parts.specs.Tables.{run_parts_told}
+use Rattle.lsm_run_parts.specs.Tables.{run_parts_results}
 use Rattle.lsm_runs.specs.RunRange.{run_size, tables_at, tables_needed}
 use Rattle.lsm_run_parts.specs.Tables.{EndsTables, KeepsTables, coming_tables}
 use Rattle.lsm_runs.specs.RunRange.{run_of}
@@ -40,13 +40,13 @@ Named = Option (Result (Loading Entry) Error)
 
 -- ---- tables that are not opened
 
-told_tables : (ps : List Part) → all_results (map table_named ps) ≡ run_parts_told ps
-told_tables [] = refl
-told_tables (p ∷ ps) = ap (λ (rs : List R). part_told p ++ rs) (told_tables ps)
+reported_tables : (ps : List Part) → all_results (map table_named ps) ≡ run_parts_results ps
+reported_tables [] = refl
+reported_tables (p ∷ ps) = ap (λ (rs : List R). part_read_results p ++ rs) (reported_tables ps)
 
 needed_tables : (ps : List Part) → needed (map table_named ps) ≡ tables_needed ps
 needed_tables [] = refl
-needed_tables (p ∷ ps) = ap (λ (n : ℕ). suc (none_behind (part_told p) n)) (needed_tables ps)
+needed_tables (p ∷ ps) = ap (λ (n : ℕ). suc (none_behind (part_read_results p) n)) (needed_tables ps)
 
 -- each of them may load something
 each_loads : (ps : List Part) → length ps ≤ parts_loads ps
@@ -73,7 +73,7 @@ module _ {A : Type 0} where
   left_is : (w : W A) → (walk_left range_remains coming_tables w).results ≡ run_left (run_of w)
   left_is w =
       ap (λ (rs : List R). left_of_reader w.front ++ (rs ++ left_of_reader w.back))
-      (told_tables w.parts.parts)
+      (reported_tables w.parts.parts)
 
   needs_is : (at : Direction) (w : W A)
       → needed_at range_remains coming_tables at w ≡ tables_at at (run_of w)

@@ -24,15 +24,15 @@ use Rattle.lsm_sorted.proofs.IntervalLemmas.{lt_to_le, lower_up, none_within, up
 use Rattle.lsm_sorted.proofs.RunLemmas.{falls-ends_before, falls-starts_within, first_and_last-none}
 use Rattle.lsm_sorted.proofs.RunLemmas.{first_and_last-some, none_count, parts}
 use Rattle.lsm_readers.specs.OfList.{ends_of}
-use Rattle.lsm_readers.specs.Ranges.{range_told}
+use Rattle.lsm_readers.specs.Ranges.{range_results}
 use Rattle.lsm_readers.specs.point.Table.{OpenTable}
 use Rattle.lsm_readers.proofs.Ends.{keys_within, nothing_within}
 use Rattle.lsm_readers.proofs.StoredParts.{bears_out, stored_rows}
 use Rattle.lsm_readers.proofs.Recovered.{range_is}
 use Rattle.lsm_runs.specs.RunLists.{HoldLists, HoldsList}
-use Rattle.lsm_run_parts.specs.RunParts.{Part, RunSpan, is_edge, span_part_at, part_told}
+use Rattle.lsm_run_parts.specs.RunParts.{Part, RunSpan, is_edge, span_part_at, part_read_results}
 use Rattle.lsm_run_parts.specs.RunParts.{span_parts_from, range_of, ranges_of, span_of, span_parts}
-use Rattle.lsm_run_parts.specs.Tables.{run_parts_told}
+use Rattle.lsm_run_parts.specs.Tables.{run_parts_results}
 use Rattle.lsm_runs.proofs.RunSteps.{R}
 
 -- ---- one table
@@ -55,9 +55,9 @@ held_keys t es h =
     subst (λ (xs : List Entry). Keys (range_of t) xs) (sym h.lifted_is)
     (lift_keys (range_of t) h.stored t.global_seqno stored)
 
-pub held_told : (t : OpenTable) (es : List Entry) → HoldsList t es → (low high : Bound (List ℕ))
-    → range_told t low high ≡ ok_results (within low high es)
-held_told t es h low high =
+pub held_result : (t : OpenTable) (es : List Entry) → HoldsList t es → (low high : Bound (List ℕ))
+    → range_results t low high ≡ ok_results (within low high es)
+held_result t es h low high =
     let pins = h.opened.recovered in
     stored_rows t.bytes h.stored h.table t.global_seqno pins.pin_filter pins.pin_index t.parts
     pins.told low high
@@ -175,15 +175,15 @@ module _ (span : RunSpan) where
 
   -- a table is read as what of its list lies within the bounds
   at_edge : (k : ℕ) (t : OpenTable) (es : List Entry) → HoldsList t es → is_edge span k ≡ true
-      → part_told (span_part_at span k t) ≡ ok_results (within low high es)
-  at_edge k t es h e = ap (λ (b : Bool). part_told (of_edge t b)) e ∙ held_told t es h low high
+      → part_read_results (span_part_at span k t) ≡ ok_results (within low high es)
+  at_edge k t es h e = ap (λ (b : Bool). part_read_results (of_edge t b)) e ∙ held_result t es h low high
 
   in_between : (k : ℕ) (t : OpenTable) (es : List Entry) → HoldsList t es → is_edge span k ≡ false
       → is_from low (range_of t).min ≡ true → is_to high (range_of t).max ≡ true
-      → part_told (span_part_at span k t) ≡ ok_results (within low high es)
+      → part_read_results (span_part_at span k t) ≡ ok_results (within low high es)
   in_between k t es h e from to =
-      ap (λ (b : Bool). part_told (of_edge t b)) e
-      ∙ held_told t es h Unbounded Unbounded
+      ap (λ (b : Bool). part_read_results (of_edge t b)) e
+      ∙ held_result t es h Unbounded Unbounded
       ∙ ap ok_results (inside_all (range_of t) es (held_keys t es h)
       ∙ sym (all_inside low high (range_of t) es (held_keys t es h) from to))
 
@@ -192,10 +192,10 @@ module _ (span : RunSpan) where
       → are_in_order (ranges_of ts) ≡ true → list_all (λ (later : Interval). key_lt prev later.min)
       (ranges_of ts) ≡ true → is_from low prev ≡ true
       → m ≡ how_many (starts_within high) (ranges_of ts) → suc span.last ≡ k + m
-      → run_parts_told (take m (span_parts_from span k ts))
+      → run_parts_results (take m (span_parts_from span k ts))
       ≡ ok_results (within low high (joined ls))
   mids k m prev [] [] h order before from many last =
-      ap (λ (n : ℕ). run_parts_told (take n [])) many
+      ap (λ (n : ℕ). run_parts_results (take n [])) many
   mids k m prev [] (es ∷ ls) h order before from many last = absurd h
   mids k m prev (t ∷ ts) [] h order before from many last = absurd h
   mids k m prev (t ∷ ts) (es ∷ ls) h order before from many last =
@@ -211,8 +211,8 @@ module _ (span : RunSpan) where
             let all : m ≡ suc n = many ∙ rw e refl in
             let rest = mids (suc k) n r.max ts ls h.1 p.rest p.before
             (lower_up low r.min r.max reaches p.formed) refl (omega (arith, last, all)) in
-            ap (λ (i : ℕ). run_parts_told (take i (span_parts_from span k (t ∷ ts)))) all
-            ∙ ap (λ (rs : List R). part_told (span_part_at span k t) ++ rs) rest
+            ap (λ (i : ℕ). run_parts_results (take i (span_parts_from span k (t ∷ ts)))) all
+            ∙ ap (λ (rs : List R). part_read_results (span_part_at span k t) ++ rs) rest
             ∙ ap (λ (rs : List R). rs ++ ok_results (within low high (joined ls)))
             (head k n t es ts h.0 order reaches refl (omega (arith, last, all)))
             ∙ sym (ok_join low high es (joined ls))
@@ -220,14 +220,14 @@ module _ (span : RunSpan) where
             let none : how_many (starts_within high) (ranges_of (t ∷ ts)) ≡ 0 =
             rw e (none_count range_of (starts_within high)
             (falls-starts_within high) t ts order e) in
-            ap (λ (i : ℕ). run_parts_told (take i (span_parts_from span k (t ∷ ts)))) (many ∙ none)
+            ap (λ (i : ℕ). run_parts_results (take i (span_parts_from span k (t ∷ ts)))) (many ∙ none)
             ∙ sym (ap ok_results (past_from low high t ts es ls h order e))
       ]
     where
       head : (k n : ℕ) (t : OpenTable) (es : List Entry) (ts : List OpenTable) → HoldsList t es
           → are_in_order (ranges_of (t ∷ ts)) ≡ true → is_from low (range_of t).min ≡ true
           → n ≡ how_many (starts_within high) (ranges_of ts) → span.last ≡ k + n
-          → part_told (span_part_at span k t) ≡ ok_results (within low high es)
+          → part_read_results (span_part_at span k t) ≡ ok_results (within low high es)
       head k zero t es ts h order reaches many last =
           at_edge k t es h (or_right (k == span.first) (k == span.last)
           (eq-eqb k span.last (omega (arith, last))))
@@ -255,7 +255,7 @@ module _ (span : RunSpan) where
       → are_in_order (ranges_of (t ∷ ts)) ≡ true → is_from low (range_of t).max ≡ true
       → suc m ≡ how_many (starts_within high) (ranges_of (t ∷ ts)) → span.first ≡ k
       → span.last ≡ k + m
-      → run_parts_told (take (suc m) (span_parts_from span k (t ∷ ts))) ≡ ok_results
+      → run_parts_results (take (suc m) (span_parts_from span k (t ∷ ts))) ≡ ok_results
       (within low high (joined (es ∷ ls)))
   firsts k m t ts es ls h order from many begin last =
       let r = range_of t in
@@ -271,7 +271,7 @@ module _ (span : RunSpan) where
       ∙ rw starts refl in
       let rest = mids (suc k) m r.max ts ls h.1 p.rest p.before from (omega (arith, fewer))
       (omega (arith, last)) in
-      ap (λ (rs : List R). part_told (span_part_at span k t) ++ rs) rest
+      ap (λ (rs : List R). part_read_results (span_part_at span k t) ++ rs) rest
       ∙ ap (λ (rs : List R). rs ++ ok_results (within low high (joined ls)))
       (at_edge k t es h.0 edge)
       ∙ sym (ok_join low high es (joined ls))
@@ -281,7 +281,7 @@ module _ (span : RunSpan) where
       → are_in_order (ranges_of ts) ≡ true → n ≡ how_many (ends_before low) (ranges_of ts)
       → suc m ≡ how_many (starts_within high) (ranges_of (drop n ts)) → span.first ≡ k + n
       → span.last ≡ k + n + m
-      → run_parts_told (take (suc m) (drop n (span_parts_from span k ts))) ≡ ok_results
+      → run_parts_results (take (suc m) (drop n (span_parts_from span k ts))) ≡ ok_results
       (within low high (joined ls))
   skips n m k [] ls h order before many begin last =
       let none : how_many (starts_within high) (ranges_of (drop n [])) ≡ 0 =
@@ -297,7 +297,7 @@ module _ (span : RunSpan) where
             let all : n ≡ suc i = before ∙ rw e refl in
             let more : suc m ≡ how_many (starts_within high) (ranges_of (drop i ts)) = many
             ∙ ap (λ (j : ℕ). how_many (starts_within high) (ranges_of (drop j (t ∷ ts)))) all in
-            ap (λ (j : ℕ). run_parts_told (take (suc m) (drop j (span_parts_from span k (t ∷ ts)))))
+            ap (λ (j : ℕ). run_parts_results (take (suc m) (drop j (span_parts_from span k (t ∷ ts)))))
             all
             ∙ skips i m (suc k) ts ls h.1 p.rest refl more (omega (arith, begin, all))
             (omega (arith, last, all))
@@ -308,7 +308,7 @@ module _ (span : RunSpan) where
             let more : suc m ≡ how_many (starts_within high) (ranges_of (t ∷ ts)) = many
             ∙ ap (λ (j : ℕ). how_many (starts_within high) (ranges_of (drop j (t ∷ ts))))
             none in
-            ap (λ (j : ℕ). run_parts_told (take (suc m) (drop j (span_parts_from span k (t ∷ ts)))))
+            ap (λ (j : ℕ). run_parts_results (take (suc m) (drop j (span_parts_from span k (t ∷ ts)))))
             none
             ∙ firsts k m t ts es ls h order (not_not (is_from low r.max) e) more
             (omega (arith, begin, none)) (omega (arith, last, none))
@@ -377,10 +377,10 @@ module _ (low high : Bound (List ℕ)) (ts : List OpenTable) (ls : List (List En
   abbrev skipped : ℕ
   skipped = how_many (ends_before low) (ranges_of ts)
 
-  pub span_deals : (ends : ℕ × ℕ) → overlap_indexes low high (ranges_of ts) ≡ Some ends
-      → run_parts_told (span_parts (span_of ends low high) ts) ≡ ok_results
+  pub span_yields : (ends : ℕ × ℕ) → overlap_indexes low high (ranges_of ts) ≡ Some ends
+      → run_parts_results (span_parts (span_of ends low high) ts) ≡ ok_results
       (within low high (joined ls))
-  span_deals ends found =
+  span_yields ends found =
       let c = counted skipped (how_many (starts_within high) (drop skipped (ranges_of ts))) ends
       found in
       let m = c.0 in
@@ -388,12 +388,12 @@ module _ (low high : Bound (List ℕ)) (ts : List OpenTable) (ls : List (List En
       ∙ ap (how_many (starts_within high)) (drop_ranges skipped ts) in
       let span = span_of ends low high in
       let wide : suc ends.1 - ends.0 ≡ suc m = omega (arith, c.2, c.3) in
-      ap (λ (i : ℕ). run_parts_told (take i (drop ends.0 (span_parts_from span 0 ts)))) wide
-      ∙ ap (λ (i : ℕ). run_parts_told (take (suc m) (drop i (span_parts_from span 0 ts)))) c.2
+      ap (λ (i : ℕ). run_parts_results (take i (drop ends.0 (span_parts_from span 0 ts)))) wide
+      ∙ ap (λ (i : ℕ). run_parts_results (take (suc m) (drop i (span_parts_from span 0 ts)))) c.2
       ∙ skips span skipped m 0 ts ls h order refl many (omega (arith, c.2)) (omega (arith, c.3))
 
-  pub none_deals : overlap_indexes low high (ranges_of ts) ≡ None → within low high (joined ls) ≡ []
-  none_deals none =
+  pub none_yields : overlap_indexes low high (ranges_of ts) ≡ None → within low high (joined ls) ≡ []
+  none_yields none =
       nothing_found low high skipped ts ls h order refl
       (ap (how_many (starts_within high)) (sym (drop_ranges skipped ts))
       ∙ uncounted skipped (how_many (starts_within high) (drop skipped (ranges_of ts))) none)

@@ -25,7 +25,7 @@ use Rattle.lsm_writers.specs.Writing.{IsTableOf, Writing, gained}
 use Rattle.lsm_writers.specs.Writing.{written}
 use Rattle.lsm_writers.proofs.ListWriting.{written_gained}
 use Rattle.lsm_writers.proofs.CutTables.{no_end}
-use Rattle.lsm_readers.specs.OfList.{list_told, parts_said}
+use Rattle.lsm_readers.specs.OfList.{list_result, parts_said}
 use Rattle.lsm_readers.specs.point.Parts.{Parts}
 use Rattle.lsm_readers.specs.Scan.{fault_of}
 use Rattle.lsm_readers.specs.point.Table.{OpenTable}
@@ -87,22 +87,22 @@ fault_same false p = refl
 
 module _ (es : List Entry) (g : ℕ) (bytes : List ℕ) (t : IsTable bytes es) where
   module _ (pin_filter pin_index : Bool) where
-    number_told : number_fault es g ≡ fault_of (list_told t g pin_filter pin_index)
-    number_told = fault_same (nat_lt (2 ^ 64 - 1) (highest_seqno es + g))
+    global_seqno_result : number_fault es g ≡ fault_of (list_result t g pin_filter pin_index)
+    global_seqno_result = fault_same (nat_lt (2 ^ 64 - 1) (highest_seqno es + g))
         (parts_said t pin_filter pin_index)
 
-    pub fits_by : (parts : Parts) → list_told t g pin_filter pin_index ≡ Ok parts
+    pub fits_by : (parts : Parts) → list_result t g pin_filter pin_index ≡ Ok parts
         → number_fault es g ≡ None
-    fits_by parts told = number_told ∙ ap fault_of told
+    fits_by parts told = global_seqno_result ∙ ap fault_of told
 
-    pub passes_by : (e : Error) → list_told t g pin_filter pin_index ≡ Err e
+    pub passes_by : (e : Error) → list_result t g pin_filter pin_index ≡ Err e
         → number_fault es g ≡ Some e
-    passes_by e told = number_told ∙ ap fault_of told
+    passes_by e told = global_seqno_result ∙ ap fault_of told
 
-  pub number_fits : (parts : Parts) → list_told t g true true ≡ Ok parts → number_fault es g ≡ None
+  pub number_fits : (parts : Parts) → list_result t g true true ≡ Ok parts → number_fault es g ≡ None
   number_fits = fits_by true true
 
-  pub number_passes : (e : Error) → list_told t g true true ≡ Err e → number_fault es g ≡ Some e
+  pub number_passes : (e : Error) → list_result t g true true ≡ Err e → number_fault es g ≡ Some e
   number_passes = passes_by true true
 
 pub small_number : (es : List Entry) (g : ℕ) → highest_seqno es + g < 2 ^ 64

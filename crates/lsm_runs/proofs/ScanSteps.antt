@@ -14,9 +14,9 @@ use Rattle.sst_entries.specs.Lending.{came}
 use Rattle.sst_entries.specs.Error.{Faults, FaultsFirst, is_memory}
 use Rattle.sst_entries.specs.Stream.{but_first, first, front_of, nowhere, ok_results}
 use Rattle.sst_blocks.specs.declared.block_type.BlockType.TheVariants.{Data}
-use Rattle.sst_blocks.specs.Block.{load_at_told}
-use Rattle.lsm_iters.specs.block_index.Dealt.{DealsEnding}
-use Rattle.lsm_iters.proofs.Dealing.{Ending, deals_ending}
+use Rattle.sst_blocks.specs.Block.{load_at_result}
+use Rattle.lsm_iters.specs.block_index.Yielded.{YieldsEnding}
+use Rattle.lsm_iters.proofs.Dealing.{Ending, yields_ending}
 use Rattle.sst_blocks.specs.table.Chunks.{joined}
 use Rattle.lsm_iters.proofs.AtEnds.{first_split}
 use Rattle.lsm_iters.specs.Lift.{lifted}
@@ -26,8 +26,8 @@ use Rattle.lsm_readers.specs.Scan.{up_to_error}
 use Rattle.lsm_readers.specs.point.Table.{OpenTable}
 use Rattle.lsm_readers.proofs.StoredParts.{stored_scan}
 use Rattle.lsm_readers.proofs.Scans.{ended_left, fault_left, scan_falls}
-use Rattle.lsm_readers.proofs.TableRanges.{deals_values}
-use Rattle.lsm_runs.specs.RunLists.{DealsList, HoldLists, HoldsList}
+use Rattle.lsm_readers.proofs.TableRanges.{yields_values}
+use Rattle.lsm_runs.specs.RunLists.{YieldsList, HoldLists, HoldsList}
 use Rattle.lsm_runs.specs.RunScan.{BeginsNext, BeginsScan, IsRunScanEnded, IsScanOf, RunScan}
 use Rattle.lsm_runs.specs.RunScan.{RunScansNext, ScansItem, left_of_scan, lent_of_run}
 use Rattle.lsm_runs.specs.RunScan.{lent_of_scan, over_scan, run_scan_left}
@@ -85,14 +85,14 @@ scan_item s t (Some (Err e)) step = record {
 
 -- of a table that cannot be scanned the scan tells the fault
 pub refused_scan : (t : OpenTable) (e : Error)
-    → (is_memory e ≡ false → fault_of (load_at_told (body_of t.bytes) 0 Data) ≡ Some e)
+    → (is_memory e ≡ false → fault_of (load_at_result (body_of t.bytes) 0 Data) ≡ Some e)
     → BeginsScan t (Err e)
 refused_scan t e fault = λ fine. ap first (fault_left
     (body_of t.bytes) t.global_seqno t.parts.facts.data_block_count e (fault fine))
 
 pub begins : (t : OpenTable) (r : Result Scan Error)
     → IfOk r (IsNewScan (body_of t.bytes) t.parts.facts.data_block_count t.global_seqno)
-    → Faults r (fault_of (load_at_told (body_of t.bytes) 0 Data)) → BeginsScan t r
+    → Faults r (fault_of (load_at_result (body_of t.bytes) 0 Data)) → BeginsScan t r
 begins t (Ok s) new faults = new
 begins t (Err e) new faults = refused_scan t e faults
 
@@ -315,12 +315,12 @@ ends_by s (Some (Err e)) t step = record {
 }
 
 -- what is left, up to the first error
-pub scan_deals : (s : RunScan) (xs : List R) → run_scan_left s ≡ xs
-    → DealsEnding RunScansNext nowhere (λ _. Unit {0}) (λ _. Unit {0}) s xs
-scan_deals s xs same =
-    subst (λ (rs : List R). DealsEnding RunScansNext nowhere (λ _. Unit {0}) (λ _. Unit {0}) s rs)
+pub scan_yields : (s : RunScan) (xs : List R) → run_scan_left s ≡ xs
+    → YieldsEnding RunScansNext nowhere (λ _. Unit {0}) (λ _. Unit {0}) s xs
+scan_yields s xs same =
+    subst (λ (rs : List R). YieldsEnding RunScansNext nowhere (λ _. Unit {0}) (λ _. Unit {0}) s rs)
     same
-    (deals_ending run_scan_left IsRunScanEnded nothing RunScansNext nowhere
+    (yields_ending run_scan_left IsRunScanEnded nothing RunScansNext nowhere
     (λ u r t step. ends_by u r t step) (λ u r t step. absurd step) s)
 
 -- ---- of a span
@@ -404,11 +404,11 @@ held_scans (t ∷ ts) (es ∷ ls) h some =
     ∙ ap (λ (rs : List R). ok_results es ++ rs) (held_scans ts ls h.1 some.1)
     ∙ sym (map-append (λ (x : Entry). Ok x) es (joined ls))
 
-pub lists_deal : (ts : List OpenTable) (ls : List (List Entry)) → HoldLists ts ls
+pub lists_yield : (ts : List OpenTable) (ls : List (List Entry)) → HoldLists ts ls
     → AllByRecursion (λ (es : List Entry). 0 < length es) ls → (s : RunScan)
-    → run_scan_left s ≡ tables_scan ts → DealsList RunScansNext nowhere (joined ls) s
-lists_deal ts ls h some s left stops memory =
+    → run_scan_left s ≡ tables_scan ts → YieldsList RunScansNext nowhere (joined ls) s
+lists_yield ts ls h some s left stops memory =
     let values : tables_scan ts ≡ ok_results (joined ls) =
     ap (λ (rs : List R). up_to_error rs) (held_scans ts ls h some) ∙ all_values (joined ls) in
-    deals_values RunScansNext nowhere (λ _. Unit {0}) (λ _. Unit {0}) s (joined ls)
-    (scan_deals s (ok_results (joined ls)) (left ∙ values)) stops memory
+    yields_values RunScansNext nowhere (λ _. Unit {0}) (λ _. Unit {0}) s (joined ls)
+    (scan_yields s (ok_results (joined ls)) (left ∙ values)) stops memory

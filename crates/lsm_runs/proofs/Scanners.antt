@@ -10,10 +10,10 @@ use Rattle.sst_entries.specs.declared.error.Error.{Error}
 use Rattle.sst_entries.specs.declared.error.Error.TheVariants.{OutOfMemory}
 use Rattle.sst_entries.specs.Entry.{Entry}
 use Rattle.sst_entries.specs.Error.{is_memory}
-use Rattle.sst_entries.specs.Stream.{CanDeal, Deals, answer_stops, first, nowhere, ok_results}
+use Rattle.sst_entries.specs.Stream.{CanYield, YieldsExactly, answer_stops, first, nowhere, ok_results}
 use Rattle.sst_blocks.specs.table.Chunks.{joined}
 use Rattle.lsm_sorted.specs.merge.Ends.{R}
-use Rattle.lsm_sorted.specs.merge.MergeLaws.{DealSorted, DealsMerged}
+use Rattle.lsm_sorted.specs.merge.MergeLaws.{YieldSorted, YieldsMerged}
 use Rattle.lsm_sorted.specs.merge.Union.{Ascends, all_entries, sort_entries, union_of}
 use Rattle.lsm_writers.proofs.Refused.{memory_alone}
 use Rattle.lsm_sorted.specs.version.Run.{ArePlacesOf, IsInOrder}
@@ -21,16 +21,16 @@ use Rattle.lsm_readers.specs.Scan.{up_to_error}
 use Rattle.lsm_readers.specs.point.Table.{OpenTable}
 use Rattle.lsm_sorted.specs.declared.compaction.Rules.{Rules}
 use Rattle.lsm_sorted.specs.Compaction.{kept, unfiltered}
-use Rattle.lsm_sorted.specs.lending.LentCompaction.{DealsCompactedEntries}
+use Rattle.lsm_sorted.specs.lending.LentCompaction.{YieldsCompactedEntries}
 use Rattle.lsm_runs.specs.compaction.Compacted.{AreMergeable, HaveEntries}
-use Rattle.lsm_runs.specs.RunLists.{DealTogether, DealsList, HoldLists}
+use Rattle.lsm_runs.specs.RunLists.{YieldTogether, YieldsList, HoldLists}
 use Rattle.lsm_run_parts.specs.RunParts.{ends_given, range_of}
 use Rattle.lsm_runs.specs.RunScan.{RunScan, RunScansNext, tables_between, tables_scan}
 use Rattle.lsm_runs.specs.SeveralRuns.{union_in}
 use Rattle.lsm_runs.proofs.Rising.{ascends_of, run_strict}
 use Rattle.lsm_runs.proofs.RunLoops.{mapped_at, take_next, zip_at}
 use Rattle.lsm_runs.proofs.ScanSteps.{all_values, held_scans}
-use Rattle.lsm_runs.proofs.Together.{each_ascends, each_deals, one_more}
+use Rattle.lsm_runs.proofs.Together.{each_ascends, each_yields, one_more}
 use Rattle.lsm_runs.proofs.Unions.{entries_joined, no_errors_joined}
 
 -- ---- a whole run
@@ -68,7 +68,7 @@ scan_wants {X} ts ls h some (Err e) told =
     (fault_first (joined ls) e (ap first (sym left) ∙ told fine)))
 
 -- a scan may always be asked
-pub scan_asked : (s : RunScan) → CanDeal RunScansNext nowhere (λ _. Unit {0}) (λ _. Unit {0}) s
+pub scan_asked : (s : RunScan) → CanYield RunScansNext nowhere (λ _. Unit {0}) (λ _. Unit {0}) s
 scan_asked s = record { at = λ ends rs t runs. (tt, tt) }
 
 -- ---- one run among several
@@ -101,10 +101,10 @@ module _ {X : Type 0} (f : X → List OpenTable) (xs : List X) (able : AreMergea
 
   module _ {S : Type 0} (front back : S → Option R → S → Type 0) where
     abbrev pub ScannedSoFar : List S → ℕ → Type 0
-    ScannedSoFar sources n = DealTogether front back sources (take n (map joined able.lists))
+    ScannedSoFar sources n = YieldTogether front back sources (take n (map joined able.lists))
 
     pub scanned_all : (sources : List S) → ScannedSoFar sources i → length xs ≤ i
-        → DealTogether front back sources (map joined able.lists)
+        → YieldTogether front back sources (map joined able.lists)
     scanned_all sources d past =
         let many : length (map joined able.lists) ≤ i =
         omega (
@@ -115,24 +115,24 @@ module _ {X : Type 0} (f : X → List OpenTable) (xs : List X) (able : AreMergea
           length-map xs f,
           past,
         ) in
-        subst (λ (found : List (List Entry)). DealTogether front back sources found)
+        subst (λ (found : List (List Entry)). YieldTogether front back sources found)
         (take_all i (map joined able.lists) many) d
 
     pub scanned_more : (x : X) (less : i < length xs) (is : x ≡ get_or xs i x) (sources : List S)
         (d : ScannedSoFar sources i) (s : S)
         → ((ls : List (List Entry)) → HoldLists (f x) ls → HaveEntries ls
-        → DealsList front back (joined ls) s) → ScannedSoFar (sources ++ s ∷ []) (i + 1)
-    scanned_more x less is sources d s deals =
+        → YieldsList front back (joined ls) s) → ScannedSoFar (sources ++ s ∷ []) (i + 1)
+    scanned_more x less is sources d s yields =
         let o = own x less is in
         let one : take (i + 1) (map joined able.lists) ≡ take i (map joined able.lists)
         ++ joined o.0 ∷ [] =
         take_next (map joined able.lists) i (joined o.0) (mapped_at joined able.lists i o.0 o.1) in
         let up : Ascends (joined o.0) = ascends_of (joined o.0)
         (run_strict (f x) o.0 o.2.1 o.2.0) in
-        subst (λ (found : List (List Entry)). DealTogether front back (sources ++ s ∷ []) found)
+        subst (λ (found : List (List Entry)). YieldTogether front back (sources ++ s ∷ []) found)
         (sym one)
         (one_more front back sources (take i (map joined able.lists)) s (joined o.0) d up
-        (deals o.0 o.2.1 (own_some x less is)))
+        (yields o.0 o.2.1 (own_some x less is)))
 
 -- ---- all of them, merged
 
@@ -145,28 +145,28 @@ module _ {S T : Type 0} (front back : S → Option R → S → Type 0)
       ∙ entries_joined (map joined lists)
 
   pub merged_together : (lists : List (List (List Entry))) (sources : List S) (t : T)
-      → DealTogether front back sources (map joined lists)
-      → DealsMerged front back sources next next_back t
-      → DealsList next next_back (union_in lists) t
+      → YieldTogether front back sources (map joined lists)
+      → YieldsMerged front back sources next next_back t
+      → YieldsList next next_back (union_in lists) t
   merged_together lists sources t d law stops memory =
-      let results = map (λ (es : List Entry). ok_results es) d.dealt in
-      let sorted : DealSorted front back stops sources results = record {
-        deal = each_deals front back stops memory sources d.dealt d.deal;
-        ascend = each_ascends front back d.dealt d.ascend;
+      let results = map (λ (es : List Entry). ok_results es) d.yielded in
+      let sorted : YieldSorted front back stops sources results = record {
+        yield_each = each_yields front back stops memory sources d.yielded d.yield_each;
+        ascend = each_ascends front back d.yielded d.ascend;
       } in
       let same : union_of results ≡ union_in lists =
-      ap sort_entries (entries_joined d.dealt ∙ d.same ∙ sym (all_lists lists)) in
-      subst (λ (es : List Entry). Deals (answer_stops stops) next next_back t (ok_results es)) same
-      (law.deals stops results sorted (no_errors_joined d.dealt))
+      ap sort_entries (entries_joined d.yielded ∙ d.same ∙ sym (all_lists lists)) in
+      subst (λ (es : List Entry). YieldsExactly (answer_stops stops) next next_back t (ok_results es)) same
+      (law.yields stops results sorted (no_errors_joined d.yielded))
 
 -- ---- and compacted
 
 -- what lends is made, and where its source deals a list, it deals what is kept of that
 pub kept_lent : {S T : Type 0} (front : S → Option R → S → Type 0)
     (next : T → Option R → T → Type 0) (source : S) (rules : Rules) (es : List Entry)
-    (r : Result T Error) → IfOk r (λ t. DealsCompactedEntries front source next t rules)
-    → DealsList front nowhere es source
-    → IfOk r (DealsList next nowhere (kept rules (unfiltered es)))
-kept_lent front next source rules es (Ok t) law deals =
-    λ stops memory. law.deals stops es memory (deals stops memory)
-kept_lent front next source rules es (Err e) law deals = tt
+    (r : Result T Error) → IfOk r (λ t. YieldsCompactedEntries front source next t rules)
+    → YieldsList front nowhere es source
+    → IfOk r (YieldsList next nowhere (kept rules (unfiltered es)))
+kept_lent front next source rules es (Ok t) law yields =
+    λ stops memory. law.yields stops es memory (yields stops memory)
+kept_lent front next source rules es (Err e) law yields = tt

@@ -13,16 +13,16 @@ use Rattle.sst_entries.specs.declared.error.Error.{Error}
 use Rattle.sst_entries.specs.declared.error.Error.TheVariants.{OutOfMemory}
 use Rattle.sst_entries.specs.Entry.{Entry}
 use Rattle.sst_entries.specs.Point.{is_from, is_to, within}
-use Rattle.sst_entries.specs.Stream.{Deals, answer_stops, ok_results}
+use Rattle.sst_entries.specs.Stream.{YieldsExactly, answer_stops, ok_results}
 use Rattle.sst_entries.proofs.Lists.{all_append}
 use Rattle.sst_blocks.specs.table.Chunks.{joined}
 use Rattle.lsm_sorted.specs.merge.Ends.{R}
-use Rattle.lsm_sorted.specs.merge.MergeLaws.{DealSorted}
+use Rattle.lsm_sorted.specs.merge.MergeLaws.{YieldSorted}
 use Rattle.lsm_sorted.specs.merge.Union.{Ascends, all_entries, entries_among, newest, sort_entries}
 use Rattle.lsm_sorted.specs.version.Run.{IsInOrder}
 use Rattle.lsm_readers.specs.point.Table.{OpenTable}
-use Rattle.lsm_sorted.specs.NewestLaws.{DealsNewest}
-use Rattle.lsm_runs.specs.RunLists.{DealTogether, DealsList, HoldLists, RunsHoldLists}
+use Rattle.lsm_sorted.specs.NewestLaws.{YieldsNewest}
+use Rattle.lsm_runs.specs.RunLists.{YieldTogether, YieldsList, HoldLists, RunsHoldLists}
 use Rattle.lsm_run_parts.specs.RunParts.{range_of}
 use Rattle.lsm_runs.specs.SeveralRuns.{union_in}
 use Rattle.lsm_runs.proofs.Rising.{ascends_of, run_strict, strict_within}
@@ -55,67 +55,67 @@ cut low high ls = within low high (joined ls)
 module _ {S : Type 0} (front back : S → Option R → S → Type 0) where
   -- ---- one reader after another
 
-  pub none_together : DealTogether front back [] []
-  none_together = record { dealt = []; same = refl; ascend = tt; deal = tt }
+  pub none_together : YieldTogether front back [] []
+  none_together = record { yielded = []; same = refl; ascend = tt; yield_each = tt }
 
   -- one more reader, of sorted entries
   pub one_more : (sources : List S) (found : List (List Entry)) (s : S) (es : List Entry)
-      → DealTogether front back sources found → Ascends es → DealsList front back es s
-      → DealTogether front back (sources ++ s ∷ []) (found ++ es ∷ [])
-  one_more sources found s es d up deals = record {
-    dealt = d.dealt ++ es ∷ [];
-    same = join d.dealt (es ∷ []) ∙ ap (λ (xs : List Entry). xs ++ joined (es ∷ [])) d.same
+      → YieldTogether front back sources found → Ascends es → YieldsList front back es s
+      → YieldTogether front back (sources ++ s ∷ []) (found ++ es ∷ [])
+  one_more sources found s es d up yields = record {
+    yielded = d.yielded ++ es ∷ [];
+    same = join d.yielded (es ∷ []) ∙ ap (λ (xs : List Entry). xs ++ joined (es ∷ [])) d.same
         ∙ sym (join found (es ∷ []));
-    ascend = all_append Ascends d.dealt (es ∷ []) d.ascend (up, tt);
-    deal = zip_push (λ (t : S) (xs : List Entry). DealsList front back xs t) sources d.dealt s es
-        d.deal deals;
+    ascend = all_append Ascends d.yielded (es ∷ []) d.ascend (up, tt);
+    yield_each = zip_push (λ (t : S) (xs : List Entry). YieldsList front back xs t) sources d.yielded s es
+        d.yield_each yields;
   }
 
   -- no reader, where there is nothing
   pub none_more : (sources : List S) (found : List (List Entry)) (es : List Entry)
-      → DealTogether front back sources found → es ≡ []
-      → DealTogether front back sources (found ++ es ∷ [])
+      → YieldTogether front back sources found → es ≡ []
+      → YieldTogether front back sources (found ++ es ∷ [])
   none_more sources found es d none = record {
-    dealt = d.dealt;
+    yielded = d.yielded;
     same = d.same ∙ sym (join found (es ∷ []) ∙ ap
         (λ (xs : List Entry). joined found ++ (xs ++ [])) none ∙ append-nil (joined found));
     ascend = d.ascend;
-    deal = d.deal;
+    yield_each = d.yield_each;
   }
 
   -- ---- what is newest of all
 
-  pub each_deals : (stops : Error → Bool) → stops OutOfMemory ≡ true
-      → (sources : List S) (dealt : List (List Entry))
-      → AllZip (λ (s : S) (es : List Entry). DealsList front back es s) sources dealt
-      → AllZip (Deals (answer_stops stops) front back) sources
-      (map (λ (es : List Entry). ok_results es) dealt)
-  each_deals stops memory [] [] all = tt
-  each_deals stops memory [] (es ∷ dealt) all = absurd all
-  each_deals stops memory (s ∷ sources) [] all = absurd all
-  each_deals stops memory (s ∷ sources) (es ∷ dealt) all =
-      (all.0 stops memory, each_deals stops memory sources dealt all.1)
+  pub each_yields : (stops : Error → Bool) → stops OutOfMemory ≡ true
+      → (sources : List S) (yielded : List (List Entry))
+      → AllZip (λ (s : S) (es : List Entry). YieldsList front back es s) sources yielded
+      → AllZip (YieldsExactly (answer_stops stops) front back) sources
+      (map (λ (es : List Entry). ok_results es) yielded)
+  each_yields stops memory [] [] all = tt
+  each_yields stops memory [] (es ∷ yielded) all = absurd all
+  each_yields stops memory (s ∷ sources) [] all = absurd all
+  each_yields stops memory (s ∷ sources) (es ∷ yielded) all =
+      (all.0 stops memory, each_yields stops memory sources yielded all.1)
 
-  pub each_ascends : (dealt : List (List Entry)) → AllByRecursion Ascends dealt
+  pub each_ascends : (yielded : List (List Entry)) → AllByRecursion Ascends yielded
       → AllByRecursion (λ (rs : List R). Ascends (entries_among rs))
-      (map (λ (es : List Entry). ok_results es) dealt)
+      (map (λ (es : List Entry). ok_results es) yielded)
   each_ascends [] up = tt
-  each_ascends (es ∷ dealt) up = (subst Ascends (sym (entries_of es)) up.0, each_ascends dealt up.1)
+  each_ascends (es ∷ yielded) up = (subst Ascends (sym (entries_of es)) up.0, each_ascends yielded up.1)
 
   -- what is newest of the entries that they have together, sorted
-  pub newest_dealt : {T : Type 0} (next next_back : T → Option R → T → Type 0) (t : T)
-      (sources : List S) (found : List (List Entry)) → DealTogether front back sources found
-      → DealsNewest front back sources next next_back t
-      → DealsList next next_back (newest (sort_entries (joined found))) t
-  newest_dealt next next_back t sources found d law stops memory =
-      let results = map (λ (es : List Entry). ok_results es) d.dealt in
-      let sorted : DealSorted front back stops sources results = record {
-        deal = each_deals stops memory sources d.dealt d.deal;
-        ascend = each_ascends d.dealt d.ascend;
+  pub newest_yielded : {T : Type 0} (next next_back : T → Option R → T → Type 0) (t : T)
+      (sources : List S) (found : List (List Entry)) → YieldTogether front back sources found
+      → YieldsNewest front back sources next next_back t
+      → YieldsList next next_back (newest (sort_entries (joined found))) t
+  newest_yielded next next_back t sources found d law stops memory =
+      let results = map (λ (es : List Entry). ok_results es) d.yielded in
+      let sorted : YieldSorted front back stops sources results = record {
+        yield_each = each_yields stops memory sources d.yielded d.yield_each;
+        ascend = each_ascends d.yielded d.ascend;
       } in
-      subst (λ (es : List Entry). Deals (answer_stops stops) next next_back t
-      (ok_results (newest (sort_entries es)))) (entries_joined d.dealt ∙ d.same)
-      (law.deals stops results sorted (no_errors_joined d.dealt))
+      subst (λ (es : List Entry). YieldsExactly (answer_stops stops) next next_back t
+      (ok_results (newest (sort_entries es)))) (entries_joined d.yielded ∙ d.same)
+      (law.yields stops results sorted (no_errors_joined d.yielded))
 
   module _ (low high : Bound (List ℕ)) (lists : List (List (List Entry))) where
     -- what all lists have together
@@ -136,12 +136,12 @@ module _ {S : Type 0} (front back : S → Option R → S → Type 0) where
         ∙ ap (λ (es : List Entry). within low high (sort_entries es)) (sym all_lists)
 
     pub newest_together : {T : Type 0} (next next_back : T → Option R → T → Type 0) (t : T)
-        (sources : List S) → DealTogether front back sources (map (cut low high) lists)
-        → DealsNewest front back sources next next_back t
-        → DealsList next next_back (newest (within low high (union_in lists))) t
+        (sources : List S) → YieldTogether front back sources (map (cut low high) lists)
+        → YieldsNewest front back sources next next_back t
+        → YieldsList next next_back (newest (within low high (union_in lists))) t
     newest_together next next_back t sources d law =
-        subst (λ (es : List Entry). DealsList next next_back (newest es) t) union_cut
-        (newest_dealt next next_back t sources (map (cut low high) lists) d law)
+        subst (λ (es : List Entry). YieldsList next next_back (newest es) t) union_cut
+        (newest_yielded next next_back t sources (map (cut low high) lists) d law)
 
 -- ---- a loop over runs, of which those up to a place have readers
 
@@ -149,13 +149,13 @@ module _ {S X : Type 0} (front back : S → Option R → S → Type 0) (f : X �
     (low high : Bound (List ℕ)) (xs : List X) (i : ℕ) (lists : List (List (List Entry)))
     (held : RunsHoldLists (map f xs) lists) where
   abbrev pub ReadSoFar : List S → ℕ → Type 0
-  ReadSoFar sources n = DealTogether front back sources (take n (map (cut low high) lists))
+  ReadSoFar sources n = YieldTogether front back sources (take n (map (cut low high) lists))
 
   abbrev Held : List OpenTable → List (List Entry) → Type 0
   Held tables ls = IsInOrder range_of tables × HoldLists tables ls
 
   pub read_all : (sources : List S) → ReadSoFar sources i → length xs ≤ i
-      → DealTogether front back sources (map (cut low high) lists)
+      → YieldTogether front back sources (map (cut low high) lists)
   read_all sources d past =
       let many : length (map (cut low high) lists) ≤ i =
       omega (
@@ -166,7 +166,7 @@ module _ {S X : Type 0} (front back : S → Option R → S → Type 0) (f : X �
         length-map xs f,
         past,
       ) in
-      subst (λ (found : List (List Entry)). DealTogether front back sources found)
+      subst (λ (found : List (List Entry)). YieldTogether front back sources found)
       (take_all i (map (cut low high) lists) many) d
 
   module _ (x : X) (less : i < length xs) (is : x ≡ get_or xs i x) (sources : List S)
@@ -186,16 +186,16 @@ module _ {S X : Type 0} (front back : S → Option R → S → Type 0) (f : X �
         (joined own.0) (run_strict (f x) own.0 own.2.1 own.2.0))
 
     pub read_more : (s : S) → ((ls : List (List Entry)) → Held (f x) ls
-        → DealsList front back (cut low high ls) s) → ReadSoFar (sources ++ s ∷ []) (i + 1)
-    read_more s deals =
-        subst (λ (found : List (List Entry)). DealTogether front back (sources ++ s ∷ []) found)
+        → YieldsList front back (cut low high ls) s) → ReadSoFar (sources ++ s ∷ []) (i + 1)
+    read_more s yields =
+        subst (λ (found : List (List Entry)). YieldTogether front back (sources ++ s ∷ []) found)
         (sym one_found)
         (one_more front back sources (take i (map (cut low high) lists)) s
-        (cut low high own.0) d own_ascends (deals own.0 own.2))
+        (cut low high own.0) d own_ascends (yields own.0 own.2))
 
     pub read_none : ((ls : List (List Entry)) → Held (f x) ls → cut low high ls ≡ [])
         → ReadSoFar sources (i + 1)
     read_none none =
-        subst (λ (found : List (List Entry)). DealTogether front back sources found) (sym one_found)
+        subst (λ (found : List (List Entry)). YieldTogether front back sources found) (sym one_found)
         (none_more front back sources (take i (map (cut low high) lists)) (cut low high own.0) d
         (none own.0 own.2))

@@ -29,7 +29,7 @@ use Rattle.lsm_runs.specs.compaction.AnyRuns.{BeginsWith, CameOf, GoesThrough, R
 use Rattle.lsm_runs.specs.compaction.Compacted.{FitsBy}
 use Rattle.lsm_runs.specs.compaction.Filtered.{CameUntil, CameUpTo, FitsThroughout, KeepsSome}
 use Rattle.lsm_runs.specs.compaction.Filtered.{RefusesForMemory}
-use Rattle.lsm_runs.specs.compaction.Observed.{WasTold}
+use Rattle.lsm_runs.specs.compaction.Observed.{WasNotified}
 use Rattle.lsm_runs.specs.declared.compaction.any_runs.CompactionOutcome.{CompactionOutcome}
 use Rattle.lsm_runs.specs.declared.compaction.any_runs.CompactionOutcome.TheVariants.{OutOfOrder}
 use Rattle.lsm_runs.specs.declared.compaction.any_runs.CompactionOutcome.TheVariants.{Stopped}
@@ -102,7 +102,7 @@ never : false ≡ true → ⊥
 never h = absurd cc
 
 pub through_kept : {A O : Type 0} (w : TablesWriting) (o q : O) (outcome : CompactionOutcome A)
-    → WasTold (GoesOn {O = O}) w outcome o q → GoesThrough outcome
+    → WasNotified (GoesOn {O = O}) w outcome o q → GoesThrough outcome
 through_kept w o q (Tables tables left) h = tt
 through_kept w o q OutOfOrder h = tt
 through_kept w o q Stopped h = never h.1.told.stopped

@@ -9,59 +9,59 @@ use Rattle.sst_entries.specs.Entry.{Entry}
 use Rattle.sst_entries.specs.Error.{is_memory}
 use Rattle.sst_entries.specs.Lending.{came}
 use Rattle.sst_entries.specs.Stream.{answer_stops, nowhere, ok_results}
-use Rattle.sst_entries.proofs.StreamLemmas.{deals_front}
+use Rattle.sst_entries.proofs.StreamLemmas.{yields_front}
 use Rattle.lsm_sorted.specs.merge.Ends.{R}
 use Rattle.lsm_writers.specs.Tables.{TablesWriting, all_written, took, took_fault}
 use Rattle.lsm_writers.specs.Writing.{IsWritable, may_be_written}
 use Rattle.lsm_writers.proofs.ListWriting.{listed_follows}
 use Rattle.lsm_runs.specs.compaction.Chain.{writes_fault}
 use Rattle.lsm_runs.proofs.Opening.{or_first}
-use Rattle.lsm_runs.specs.RunLists.{DealsList}
+use Rattle.lsm_runs.specs.RunLists.{YieldsList}
 
 -- a counted fault, where the first entry is not refused
 pub none_refused : (a b : Option Error) → a ≡ None → option_or a b ≡ b
 none_refused a b is = ap (λ (o : Option Error). option_or o b) is
 
 module _ {S : Type 0} (next : S → Option R → S → Type 0) where
-  abbrev DealsRest : List Entry → S → Type 0
-  DealsRest rest s = DealsList next nowhere rest s
+  abbrev YieldsRest : List Entry → S → Type 0
+  YieldsRest rest s = YieldsList next nowhere rest s
 
   -- ---- one call
 
-  deals_one : (rest : List Entry) (s t : S) (e : Entry) → DealsRest rest s → next s (Some (Ok e)) t
-      → (more : List Entry) × (rest ≡ e ∷ more) × DealsRest more t
-  deals_one [] s t e d step =
-      let h = deals_front (answer_stops is_memory) next nowhere s [] (Some (Ok e)) t
+  yields_one_of : (rest : List Entry) (s t : S) (e : Entry) → YieldsRest rest s → next s (Some (Ok e)) t
+      → (more : List Entry) × (rest ≡ e ∷ more) × YieldsRest more t
+  yields_one_of [] s t e d step =
+      let h = yields_front (answer_stops is_memory) next nowhere s [] (Some (Ok e)) t
       (d is_memory refl) step refl in
       let no : Some (Ok e) ≡ None = h.0 in absurd cc
-  deals_one (x ∷ rest) s t e d step =
-      let h = deals_front (answer_stops is_memory) next nowhere s (ok_results (x ∷ rest))
+  yields_one_of (x ∷ rest) s t e d step =
+      let h = yields_front (answer_stops is_memory) next nowhere s (ok_results (x ∷ rest))
       (Some (Ok e)) t (d is_memory refl) step refl in
       let same : Some (Ok e) ≡ Some (Ok x) = h.0 in
       let is : x ≡ e = cc in (
         rest,
         ap (λ (y : Entry). y ∷ rest) is,
         λ stops memory.
-            (deals_front (answer_stops stops) next nowhere s (ok_results (x ∷ rest)) (Some (Ok e)) t
+            (yields_front (answer_stops stops) next nowhere s (ok_results (x ∷ rest)) (Some (Ok e)) t
             (d stops memory) step refl).1,
       )
 
-  deals_none : (rest : List Entry) (s t : S) → DealsRest rest s → next s None t → rest ≡ []
-  deals_none [] s t d step = refl
-  deals_none (x ∷ rest) s t d step =
-      let h = deals_front (answer_stops is_memory) next nowhere s (ok_results (x ∷ rest)) None t
+  yields_none : (rest : List Entry) (s t : S) → YieldsRest rest s → next s None t → rest ≡ []
+  yields_none [] s t d step = refl
+  yields_none (x ∷ rest) s t d step =
+      let h = yields_front (answer_stops is_memory) next nowhere s (ok_results (x ∷ rest)) None t
       (d is_memory refl) step refl in
       let no : None ≡ Some (Ok x) = h.0 in absurd cc
 
   -- it refuses nothing but for want of memory
-  pub deals_fine : (rest : List Entry) (s t : S) (e : Error) → DealsRest rest s
+  pub yields_fine : (rest : List Entry) (s t : S) (e : Error) → YieldsRest rest s
       → next s (Some (Err e)) t → is_memory e ≡ false → ⊥
-  deals_fine [] s t e d step fine =
-      let h = deals_front (answer_stops is_memory) next nowhere s [] (Some (Err e)) t
+  yields_fine [] s t e d step fine =
+      let h = yields_front (answer_stops is_memory) next nowhere s [] (Some (Err e)) t
       (d is_memory refl) step fine in
       let no : Some (Err e) ≡ None = h.0 in absurd cc
-  deals_fine (x ∷ rest) s t e d step fine =
-      let h = deals_front (answer_stops is_memory) next nowhere s (ok_results (x ∷ rest))
+  yields_fine (x ∷ rest) s t e d step fine =
+      let h = yields_front (answer_stops is_memory) next nowhere s (ok_results (x ∷ rest))
       (Some (Err e)) t (d is_memory refl) step fine in
       let no : Some (Err e) ≡ Some (Ok x) = h.0 in absurd cc
 
@@ -86,23 +86,23 @@ module _ {S : Type 0} (next : S → Option R → S → Type 0) where
       (s : S) : Type 0 where
     pub rest : List Entry
     pub whole : es ≡ all_written m ++ rest
-    pub deals : DealsRest rest s
+    pub yields : YieldsRest rest s
     pub fault : writes_fault w es ≡ writes_fault m rest
 
   pub nothing_written_yet : (w : TablesWriting) (es : List Entry) (s : S) → all_written w ≡ []
-      → DealsRest es s → WritesOn w es w s
+      → YieldsRest es s → WritesOn w es w s
   nothing_written_yet w es s none d = record {
     rest = es;
     whole =
         ap (λ (xs : List Entry). xs ++ es) (sym none);
-    deals = d;
+    yields = d;
     fault = refl;
   }
 
   module _ (w : TablesWriting) (es : List Entry) (m : TablesWriting) (s t : S) (e : Entry)
       (h : WritesOn w es m s) (step : next s (Some (Ok e)) t) where
-    abbrev one : (more : List Entry) × (h.rest ≡ e ∷ more) × DealsRest more t
-    one = deals_one h.rest s t e h.deals step
+    abbrev one : (more : List Entry) × (h.rest ≡ e ∷ more) × YieldsRest more t
+    one = yields_one_of h.rest s t e h.yields step
 
     whole_one : es ≡ all_written m ++ e ∷ one.0
     whole_one = h.whole ∙ ap (λ (xs : List Entry). all_written m ++ xs) one.1
@@ -120,7 +120,7 @@ module _ {S : Type 0} (next : S → Option R → S → Type 0) where
       rest = one.0;
       whole = whole_one ∙ sym (ap (λ (xs : List Entry). xs ++ one.0) listed
           ∙ append_assoc (all_written m) (e ∷ []) one.0);
-      deals = one.2;
+      yields = one.2;
       fault = fault_one ∙ none_refused (took_fault m e) (writes_fault (took m e) one.0) fine
           ∙ ap (λ (x : TablesWriting). writes_fault x one.0) (sym is);
     }
@@ -131,7 +131,7 @@ module _ {S : Type 0} (next : S → Option R → S → Type 0) where
   module _ (w : TablesWriting) (es : List Entry) (m : TablesWriting) (s t : S)
       (h : WritesOn w es m s) (step : next s None t) where
     none_left : h.rest ≡ []
-    none_left = deals_none h.rest s t h.deals step
+    none_left = yields_none h.rest s t h.yields step
 
     pub all_taken : all_written m ≡ es
     all_taken = sym (h.whole ∙ ap (λ (xs : List Entry). all_written m ++ xs) none_left

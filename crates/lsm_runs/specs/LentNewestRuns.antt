@@ -3,39 +3,39 @@ use Rattle.std.specs.Prelude.{◌≡◌, ℕ, Bool, true, List, [], map, Option}
 use Rattle.std.specs.declared.ops.Bound.{Bound}
 use Rattle.sst_entries.specs.declared.error.Error.{Error}
 use Rattle.sst_entries.specs.declared.error.Error.TheVariants.{OutOfMemory}
-use Rattle.sst_entries.specs.Stream.{Deals, answer_stops, nowhere, ok_results}
+use Rattle.sst_entries.specs.Stream.{YieldsExactly, answer_stops, nowhere, ok_results}
 use Rattle.lsm_sorted.specs.merge.Ends.{R}
 use Rattle.lsm_sorted.specs.merge.InPlace.{merge_of, up_to_error}
-use Rattle.lsm_sorted.specs.merge.MergeLaws.{DealSorted}
+use Rattle.lsm_sorted.specs.merge.MergeLaws.{YieldSorted}
 use Rattle.lsm_sorted.specs.merge.Union.{all_errors, newest, union_of}
 use Rattle.lsm_readers.specs.point.Table.{OpenTable}
 use Rattle.lsm_sorted.specs.lending.LentNewest.{newest_results}
 use Rattle.lsm_run_parts.specs.RunParts.{RunSpan, span_parts}
-use Rattle.lsm_run_parts.specs.Tables.{run_parts_told}
+use Rattle.lsm_run_parts.specs.Tables.{run_parts_results}
 use Rattle.lsm_runs.specs.SpansRead.{spans_within}
 
 -- up to `OutOfMemory`, a stream lends the newest versions of sorted sources: of their union, or,
 -- with errors among them, of their merge up to the first error
 pub record LendsNewest {S T : Type 0} (advances : S → Option R → S → Type 0) (its : List S)
     (next : T → Option R → T → Type 0) (t : T) : Type 0 where
-  pub deals : (stops : Error → Bool) (lists : List (List R)) → stops OutOfMemory ≡ true
-      → DealSorted advances nowhere stops its lists → all_errors lists ≡ []
-      → Deals (answer_stops stops) next nowhere t (ok_results (newest (union_of lists)))
+  pub yields : (stops : Error → Bool) (lists : List (List R)) → stops OutOfMemory ≡ true
+      → YieldSorted advances nowhere stops its lists → all_errors lists ≡ []
+      → YieldsExactly (answer_stops stops) next nowhere t (ok_results (newest (union_of lists)))
   pub places : (stops : Error → Bool) (lists : List (List R)) → stops OutOfMemory ≡ true
-      → DealSorted advances nowhere stops its lists
-      → Deals (answer_stops stops) next nowhere t (newest_results (merge_of lists))
+      → YieldSorted advances nowhere stops its lists
+      → YieldsExactly (answer_stops stops) next nowhere t (newest_results (merge_of lists))
 
 -- up to `OutOfMemory`, a source lends exactly these results
 abbrev pub LendsResults : {S : Type 0} → (S → Option R → S → Type 0) → List R → S → Type 0
 LendsResults advances rs s = (stops : Error → Bool) → stops OutOfMemory ≡ true →
-    Deals (answer_stops stops) advances nowhere s rs
+    YieldsExactly (answer_stops stops) advances nowhere s rs
 
 -- the results of a span's tables up to the first error, with the bounds applied where the span
 -- begins or ends
-abbrev pub span_told : List OpenTable × RunSpan → List R
-span_told run = up_to_error (run_parts_told (span_parts run.1 run.0))
+abbrev pub span_results : List OpenTable × RunSpan → List R
+span_results run = up_to_error (run_parts_results (span_parts run.1 run.0))
 
 -- the same of each run that has a table whose range reaches past both bounds
-abbrev pub runs_told_within : Bound (List ℕ) → Bound (List ℕ) → List (List OpenTable)
+abbrev pub runs_results_within : Bound (List ℕ) → Bound (List ℕ) → List (List OpenTable)
     → List (List R)
-runs_told_within low high runs = map span_told (spans_within low high runs)
+runs_results_within low high runs = map span_results (spans_within low high runs)

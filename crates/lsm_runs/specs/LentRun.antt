@@ -7,7 +7,7 @@ use Rattle.sst_entries.specs.Stream.{front_of}
 use Rattle.lsm_iters.specs.declared.walk.Walk.{Walk}
 use Rattle.lsm_iters.specs.walk.Ends.{StepGives, remains_in}
 use Rattle.lsm_iters.specs.walk.Parts.{LoadGives}
-use Rattle.lsm_iters.specs.Lift.{lifted_told}
+use Rattle.lsm_iters.specs.Lift.{lifted_result}
 use Rattle.lsm_iters.specs.Range.{Range, range_remains}
 use Rattle.lsm_run_parts.specs.Tables.{KeepsTables, Unopened, coming_tables, none_unopened}
 pub use Rattle.lsm_runs.specs.RunRange.{lent_of_reader}
@@ -23,7 +23,7 @@ pub record Stands {A : Type 0} (reader : Option (Range A)) (x : Result Entry Err
   pub entry : Entry
   pub others : List Entry
   pub front : range.front ≡ entry ∷ others
-  pub told : x ≡ lifted_told range.of.global_seqno entry
+  pub told : x ≡ lifted_result range.of.global_seqno entry
 
 -- one step of it; an entry in a loaded block is yielded even when out of memory
 pub record ReaderLends {A : Type 0} (s : Option (Range A)) (r : Option (Result Entry Error))

@@ -7,7 +7,7 @@ use Rattle.sst_entries.specs.declared.error.Error.{Error}
 use Rattle.sst_entries.specs.declared.error.Error.TheVariants.{OutOfMemory}
 use Rattle.sst_entries.specs.Entry.{Entry}
 use Rattle.sst_entries.specs.Point.{within}
-use Rattle.sst_entries.specs.Stream.{Deals, answer_stops, ok_results}
+use Rattle.sst_entries.specs.Stream.{YieldsExactly, answer_stops, ok_results}
 use Rattle.sst_blocks.specs.table.Chunks.{joined}
 use Rattle.lsm_iters.specs.Lift.{lift}
 use Rattle.lsm_sorted.specs.merge.Union.{Ascends}
@@ -46,25 +46,25 @@ RunsHoldLists runs lists =
     AllZip (λ tables ls. IsInOrder range_of tables × HoldLists tables ls) runs lists
 
 -- up to `OutOfMemory`, a source yields exactly these entries, for every list of ends
-abbrev pub DealsList : {S : Type 0} (front back : S → Option (Result Entry Error) → S → Type 0)
+abbrev pub YieldsList : {S : Type 0} (front back : S → Option (Result Entry Error) → S → Type 0)
     → List Entry → S → Type 0
-DealsList front back es s =
+YieldsList front back es s =
     (stops : Error → Bool) → stops OutOfMemory ≡ true →
-    Deals (answer_stops stops) front back s (ok_results es)
+    YieldsExactly (answer_stops stops) front back s (ok_results es)
 
 -- sources yield sorted lists, one each, which have together exactly the entries of these lists
-pub record DealTogether {S : Type 0} (front back : S → Option (Result Entry Error) → S → Type 0)
+pub record YieldTogether {S : Type 0} (front back : S → Option (Result Entry Error) → S → Type 0)
     (sources : List S) (found : List (List Entry)) : Type 0 where
-  pub dealt : List (List Entry)
-  pub same : joined dealt ≡ joined found
-  pub ascend : AllByRecursion Ascends dealt
-  pub deal : AllZip (λ s es. DealsList front back es s) sources dealt
+  pub yielded : List (List Entry)
+  pub same : joined yielded ≡ joined found
+  pub ascend : AllByRecursion Ascends yielded
+  pub yield_each : AllZip (λ s es. YieldsList front back es s) sources yielded
 
 -- each source yields the part within the bounds of one of these lists, which are sorted
-pub record DealWithin {S : Type 0} (front back : S → Option (Result Entry Error) → S → Type 0)
+pub record YieldWithin {S : Type 0} (front back : S → Option (Result Entry Error) → S → Type 0)
     (low high : Bound (List ℕ)) (sources : List S) (lists : List (List Entry)) : Type 0 where
   pub ascend : AllByRecursion Ascends lists
-  pub deal : AllZip (λ s es. DealsList front back (within low high es) s) sources lists
+  pub yield_each : AllZip (λ s es. YieldsList front back (within low high es) s) sources lists
 
 -- the list of a source, as a run of one table
 abbrev pub single : List Entry → List (List Entry)

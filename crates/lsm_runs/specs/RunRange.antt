@@ -12,8 +12,8 @@ use Rattle.lsm_iters.specs.walk.Parts.{none_behind}
 use Rattle.lsm_iters.specs.declared.walk.Walk.{Walk}
 use Rattle.lsm_iters.specs.Range.{LendsOn, Range, range_remains}
 use Rattle.lsm_readers.specs.point.Table.{OpenTable}
-use Rattle.lsm_run_parts.specs.RunParts.{Part, RunSpan, part_told, span_parts}
-use Rattle.lsm_run_parts.specs.Tables.{Unopened, parts_loads, run_parts_told}
+use Rattle.lsm_run_parts.specs.RunParts.{Part, RunSpan, part_read_results, span_parts}
+use Rattle.lsm_run_parts.specs.Tables.{Unopened, parts_loads, run_parts_results}
 
 -- the unopened tables, the number of those opened, and the readers at the front and at the back, if
 -- opened
@@ -35,7 +35,7 @@ loads_of_reader reader = (remains_in range_remains reader).loads
 
 -- the results left, and a bound on the loads for them
 abbrev pub run_left : {A : Type 0} → RunRange A → List (Result Entry Error)
-run_left s = left_of_reader s.front ++ (run_parts_told s.unopened.parts ++ left_of_reader s.back)
+run_left s = left_of_reader s.front ++ (run_parts_results s.unopened.parts ++ left_of_reader s.back)
 
 abbrev pub run_loads : {A : Type 0} → RunRange A → ℕ
 run_loads s = loads_of_reader s.front + parts_loads s.unopened.parts + loads_of_reader s.back
@@ -60,7 +60,7 @@ pub record IsRunOf {A : Type 0} (tables : List OpenTable) (span : RunSpan) (s : 
 -- item
 abbrev pub tables_needed : List Part → ℕ
 tables_needed [] = 0
-tables_needed (p ∷ ps) = suc (none_behind (part_told p) (tables_needed ps))
+tables_needed (p ∷ ps) = suc (none_behind (part_read_results p) (tables_needed ps))
 
 -- the number of tables that one call opens, at the front and at the back: none if an open table has
 -- an item there

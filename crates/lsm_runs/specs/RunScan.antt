@@ -5,18 +5,18 @@ use Rattle.std.specs.Prelude.{MatchResult}
 use Rattle.std.specs.List.{flat_map}
 use Rattle.sst_blocks.specs.Sections.{body_of}
 use Rattle.sst_blocks.specs.declared.block_type.BlockType.TheVariants.{Data}
-use Rattle.sst_blocks.specs.Block.{load_at_told, position_fault}
+use Rattle.sst_blocks.specs.Block.{load_at_result, position_fault}
 use Rattle.sst_entries.specs.declared.error.Error.{Error}
 use Rattle.sst_entries.specs.Entry.{Entry}
 use Rattle.sst_entries.specs.Error.{is_memory}
 use Rattle.sst_entries.specs.Stream.{Lowers, first}
-use Rattle.lsm_readers.specs.Scan.{IsNewScan, Scan, fault_of, scan_left, scan_size, scan_told}
+use Rattle.lsm_readers.specs.Scan.{IsNewScan, Scan, fault_of, scan_left, scan_size, scan_results}
 use Rattle.lsm_readers.specs.Scan.{up_to_error}
 use Rattle.lsm_readers.specs.point.Table.{OpenTable}
 
 -- the results of a scan of a table, and a bound on the calls that yield something
 abbrev pub table_scan : OpenTable → List (Result Entry Error)
-table_scan t = scan_told (body_of t.bytes) t.parts.facts.data_block_count t.global_seqno
+table_scan t = scan_results (body_of t.bytes) t.parts.facts.data_block_count t.global_seqno
 
 abbrev pub table_size : OpenTable → ℕ
 table_size t = length (table_scan t) + max 1 t.parts.facts.data_block_count
@@ -24,7 +24,7 @@ table_size t = length (table_scan t) + max 1 t.parts.facts.data_block_count
 -- the error of beginning the scan of a table, except for `OutOfMemory`: that of loading its first
 -- block; and the same if it is found before any allocation
 abbrev pub scan_fault : OpenTable → Option Error
-scan_fault t = fault_of (load_at_told (body_of t.bytes) 0 Data)
+scan_fault t = fault_of (load_at_result (body_of t.bytes) 0 Data)
 
 abbrev pub early_scan_fault : OpenTable → Option Error
 early_scan_fault t = position_fault (body_of t.bytes) 0 Data

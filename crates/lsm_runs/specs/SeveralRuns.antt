@@ -36,9 +36,9 @@ abbrev pub runs_read : List ℕ → ℕ → Option Entry → List (List OpenTabl
 runs_read key bound found runs = runs_read_by (λ _ tables. run_read key bound tables) found runs
 
 -- the result of it
-abbrev pub runs_told : List ℕ → ℕ → Option Entry → List (List OpenTable)
+abbrev pub runs_result : List ℕ → ℕ → Option Entry → List (List OpenTable)
     → Result (Option Entry) Error
-runs_told key bound found runs = (runs_read key bound found runs).told
+runs_result key bound found runs = (runs_read key bound found runs).told
 
 -- a table's highest seqno, with the global seqno applied
 abbrev pub highest_number : OpenTable → ℕ

@@ -7,7 +7,7 @@ use Rattle.either.specs.declared.Either.TheVariants.{Left, Right}
 use Rattle.sst_entries.specs.declared.error.Error.{Error}
 use Rattle.sst_entries.specs.Entry.{Entry}
 use Rattle.sst_entries.specs.Stream.{back_of, front_of}
-use Rattle.lsm_iters.specs.block_index.Dealt.{DealsEnding}
+use Rattle.lsm_iters.specs.block_index.Yielded.{YieldsEnding}
 use Rattle.lsm_sorted.specs.declared.merge.Merger.{Merger}
 use Rattle.lsm_sorted.specs.version.Run.{overlap_indexes}
 use Rattle.lsm_readers.specs.point.Table.{OpenTable}
@@ -43,7 +43,7 @@ pub record IsOverSpans {A : Type 0}
     (s : MvccStream (Merger (RunRange A) A) (Result Entry Error)) : Type 0 where
   pub readers : List (RunRange A)
   pub spans : AllZip (λ reader run. IsRunOf run.0 run.1 reader) readers (spans_within low high runs)
-  pub deal : All (λ reader. DealsEnding (RunGives front_of front_tables)
+  pub yield_each : All (λ reader. YieldsEnding (RunGives front_of front_tables)
       (RunGives back_of back_tables) (λ _. Unit {0}) (λ _. Unit {0}) reader
       (run_left reader)) readers
   pub of : IsNewestOf readers s
@@ -61,7 +61,7 @@ pub record IsOverSpansBelow {A : Type 0}
     (s : MvccStream (Merger (Below (RunRange A)) A) (Result Entry Error)) : Type 0 where
   pub readers : List (RunRange A)
   pub spans : AllZip (λ reader run. IsRunOf run.0 run.1 reader) readers (spans_within low high runs)
-  pub deal : All (λ reader. DealsEnding (RunGives front_of front_tables)
+  pub yield_each : All (λ reader. YieldsEnding (RunGives front_of front_tables)
       (RunGives back_of back_tables) (λ _. Unit {0}) (λ _. Unit {0}) reader
       (run_left reader)) readers
   pub of : IsNewestOf (map (below_of bound) readers) s
@@ -83,7 +83,7 @@ pub record IsOverSourcesBelow {S A : Type 0}
     (s : MvccStream (Merger (Below (Either (RunRange A) S)) A) (Result Entry Error)) : Type 0 where
   pub readers : List (RunRange A)
   pub spans : AllZip (λ reader run. IsRunOf run.0 run.1 reader) readers (spans_within low high runs)
-  pub deal : All (λ reader. DealsEnding (RunGives front_of front_tables)
+  pub yield_each : All (λ reader. YieldsEnding (RunGives front_of front_tables)
       (RunGives back_of back_tables) (λ _. Unit {0}) (λ _. Unit {0}) reader
       (run_left reader)) readers
   pub of : IsNewestOf (map (below_of bound) (with_readers sources readers)) s

@@ -4,9 +4,9 @@ pub use Rattle.sst_entries.specs.Entry.{Entry}
 pub use Rattle.sst_entries.specs.Error.{Faults, FaultsFirst, Gives, is_memory}
 pub use Rattle.sst_entries.specs.Lending.{came, entry_of_ref}
 pub use Rattle.sst_entries.specs.Point.{point, within}
-pub use Rattle.sst_entries.specs.Stream.{CanDeal, Lowers, back_of, first, front_of, nowhere}
+pub use Rattle.sst_entries.specs.Stream.{CanYield, Lowers, back_of, first, front_of, nowhere}
 pub use Rattle.sst_blocks.specs.Opened.{none_opened}
-pub use Rattle.lsm_iters.specs.block_index.Dealt.{DealsEnding}
+pub use Rattle.lsm_iters.specs.block_index.Yielded.{YieldsEnding}
 pub use Rattle.sst_blocks.specs.table.Chunks.{joined}
 pub use Rattle.sst_blocks.specs.table.Facts.{highest_seqno}
 pub use Rattle.sst_blocks.specs.table.Options.{default_options}
@@ -17,14 +17,14 @@ pub use Rattle.lsm_readers.specs.point.Answer.{lift}
 pub use Rattle.lsm_readers.specs.point.Read.{DoesRead, Opens}
 pub use Rattle.lsm_readers.specs.point.Table.{OpenTable}
 pub use Rattle.lsm_iters.specs.walk.Ends.{taken_at}
-pub use Rattle.lsm_sorted.specs.Below.{DealsBelow, below_of, below_told, numbered_below}
+pub use Rattle.lsm_sorted.specs.Below.{YieldsBelow, below_of, below_results, numbered_below}
 pub use Rattle.lsm_sorted.specs.Leading.{leading_of}
 pub use Rattle.lsm_sorted.specs.lending.LentNewest.{newest_results}
-pub use Rattle.lsm_sorted.specs.NewestLaws.{AnswersNewest, CanAskNewest, DealsNewest, IsNewestOf}
+pub use Rattle.lsm_sorted.specs.NewestLaws.{AnswersNewest, CanAskNewest, YieldsNewest, IsNewestOf}
 pub use Rattle.lsm_run_parts.specs.RunParts.{ends_given, range_of, span_of}
 pub use Rattle.lsm_runs.specs.RunRange.{IsRunOf, OpensAtMost, RunGives, back_tables, front_tables}
 pub use Rattle.lsm_runs.specs.RunRange.{run_left, run_of, run_size, tables_at}
-pub use Rattle.lsm_runs.specs.RunLists.{DealTogether, DealWithin, DealsList, HoldLists}
+pub use Rattle.lsm_runs.specs.RunLists.{YieldTogether, YieldWithin, YieldsList, HoldLists}
 pub use Rattle.lsm_runs.specs.RunLists.{RunsHoldLists, single, span_list}
 pub use Rattle.lsm_runs.specs.RunScan.{BeginsNext, BeginsScan, IsScanOf, RunScansNext, ScansItem}
 pub use Rattle.lsm_runs.specs.RunScan.{early_scan_fault, lent_of_run, lent_of_scan, over_scan}
@@ -32,13 +32,13 @@ pub use Rattle.lsm_runs.specs.RunScan.{run_scan_size, scan_fault, tables_between
 pub use Rattle.lsm_runs.specs.SpansRead.{IsOverSourcesBelow, IsOverSpans, IsOverSpansBelow}
 pub use Rattle.lsm_runs.specs.SpansRead.{spans_within, with_readers}
 pub use Rattle.lsm_runs.specs.SeveralRuns.{LoadsEach, is_older, loads_together, run_read}
-pub use Rattle.lsm_runs.specs.SeveralRuns.{run_read_behind, runs_read, runs_read_by_age, runs_told}
+pub use Rattle.lsm_runs.specs.SeveralRuns.{run_read_behind, runs_read, runs_read_by_age, runs_result}
 pub use Rattle.lsm_runs.specs.SeveralRuns.{union_in, worth_asking}
 pub use Rattle.lsm_runs.specs.LentRun.{OpensNext, ReaderLends, RunLends, Stands, lent_of_reader}
 pub use Rattle.lsm_runs.specs.LentRun.{over_run}
 pub use Rattle.lsm_sorted.specs.LentBelow.{LendsBelow, MayLendBelow, lent_below, lent_passes}
 pub use Rattle.lsm_sorted.specs.LentBelow.{only_below}
-pub use Rattle.lsm_runs.specs.LentNewestRuns.{LendsNewest, LendsResults, runs_told_within}
+pub use Rattle.lsm_runs.specs.LentNewestRuns.{LendsNewest, LendsResults, runs_results_within}
 pub use Rattle.std.specs.Arc.{arc_value}
 pub use Rattle.std.specs.Iterator.{IsFinite, at_most}
 pub use Rattle.std.specs.List.{AllByRecursion, AllZip}
@@ -47,7 +47,7 @@ pub use Rattle.sst_entries.specs.declared.error.Error.{Error}
 pub use Rattle.sst_entries.specs.declared.error.Error.TheVariants.{OutOfMemory}
 pub use Rattle.sst_entries.specs.declared.stream.Direction.TheVariants.{Front}
 pub use Rattle.sst_blocks.specs.filter.KeyHash.{hash_of}
-pub use Rattle.sst_blocks.specs.Asked.{told_map}
+pub use Rattle.sst_blocks.specs.Asked.{result_map}
 pub use Rattle.lsm_iters.specs.walk.Walks.{WalkTakes}
 pub use Rattle.lsm_iters.specs.Range.{range_remains}
 pub use Rattle.lsm_iters.specs.Steps.{without_lent}

@@ -37,7 +37,7 @@ fn found_in(
     table: usize,
     found: Result<Option<EntryPlace>, Error>,
 ) -> Result<Option<RunPlace>, Error>
-    ensures { result ≡ spec.told_map (spec.option_map (spec.place_in run table)) found }
+    ensures { result ≡ spec.result_map (spec.option_map (spec.place_in run table)) found }
 {
     match found {
         Ok(Some(place)) => Ok(Some(RunPlace { run, table, place })),
@@ -57,7 +57,7 @@ fn place_in_run<A: Allocator + Clone>(
 ) -> (Result<Option<RunPlace>, Error>, Opened)
     requires { key_hash ≡ spec.hash_of key.now }
     ensures read { spec.IsInOrder spec.range_of run.now →
-        spec.DoesRead (spec.told_map (spec.option_and_then (spec.placed_in_run run.now)) result.0)
+        spec.DoesRead (spec.result_map (spec.option_and_then (spec.placed_in_run run.now)) result.0)
         (spec.run_read key.now seqno run.now) spec.none_opened result.1 }
     ensures number { IfOk result.0 (λ found. IfSome found (λ p. p.run ≡ number)) }
     ensures there { IfOk result.0 (λ found. IfSome found (λ p.
@@ -146,7 +146,7 @@ pub fn place_in_runs_counted<A: Allocator + Clone>(
     ensures told { spec.AllByRecursion (spec.IsInOrder spec.range_of)
         (map spec.arc_value runs.now) →
         spec.Gives (spec.option_and_then (spec.placed_in_runs (map spec.arc_value runs.now)))
-        result.0 (spec.runs_told key.now seqno None (map spec.arc_value runs.now)) }
+        result.0 (spec.runs_result key.now seqno None (map spec.arc_value runs.now)) }
     // For tables of lists, it is the first match in the sorted entries of all lists, global seqnos
     // applied.
     ensures list { (lists : List (List (List spec.Entry))) →
@@ -207,7 +207,7 @@ pub fn place_in_runs<A: Allocator + Clone>(
     ensures told { spec.AllByRecursion (spec.IsInOrder spec.range_of)
         (map spec.arc_value runs.now) →
         spec.Gives (spec.option_and_then (spec.placed_in_runs (map spec.arc_value runs.now))) result
-        (spec.runs_told key.now seqno None (map spec.arc_value runs.now)) }
+        (spec.runs_result key.now seqno None (map spec.arc_value runs.now)) }
     // For tables of lists, it is the first match in the sorted entries of all lists, global seqnos
     // applied.
     ensures list { (lists : List (List (List spec.Entry))) →
@@ -236,8 +236,8 @@ fn borrowed<'a, A: Allocator + Clone>(
     runs: &'a [Arc<Run<Table<A>, A>, A>],
     found: Result<Option<RunPlace>, Error>,
 ) -> Result<Option<EntryRef<'a>>, Error>
-    ensures { spec.told_map (spec.option_map spec.entry_of_ref) result
-        ≡ spec.told_map (spec.option_and_then (spec.placed_in_runs (map spec.arc_value runs.now)))
+    ensures { spec.result_map (spec.option_map spec.entry_of_ref) result
+        ≡ spec.result_map (spec.option_and_then (spec.placed_in_runs (map spec.arc_value runs.now)))
         found }
 {
     match found {
@@ -260,7 +260,7 @@ pub fn get_runs_ref_counted<'a, A: Allocator + Clone>(
     // for `OutOfMemory`.
     ensures told { spec.AllByRecursion (spec.IsInOrder spec.range_of)
         (map spec.arc_value runs.now) → spec.Gives (spec.option_map spec.entry_of_ref) result.0
-        (spec.runs_told key.now seqno None (map spec.arc_value runs.now)) }
+        (spec.runs_result key.now seqno None (map spec.arc_value runs.now)) }
     // For tables of lists, it is the first match in the sorted entries of all lists, global seqnos
     // applied.
     ensures list { (lists : List (List (List spec.Entry))) →
@@ -308,7 +308,7 @@ pub fn get_runs_ref<'a, A: Allocator + Clone>(
     // for `OutOfMemory`.
     ensures told { spec.AllByRecursion (spec.IsInOrder spec.range_of)
         (map spec.arc_value runs.now) → spec.Gives (spec.option_map spec.entry_of_ref) result
-        (spec.runs_told key.now seqno None (map spec.arc_value runs.now)) }
+        (spec.runs_result key.now seqno None (map spec.arc_value runs.now)) }
     // For tables of lists, it is the first match in the sorted entries of all lists, global seqnos
     // applied.
     ensures list { (lists : List (List (List spec.Entry))) →

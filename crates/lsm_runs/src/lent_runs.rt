@@ -25,11 +25,11 @@ fn lent_stream<L: Lending + Drop, A: Allocator + Clone>(
     sources: Vec<L, A>,
 ) -> Result<LentNewestOf<L, A>, Error>
     ensures none { IfOk result (λ s. ⟦<LentNewestOf<L, A> as Lending>⟧.lent s ≡ None) }
-    ensures deals { IfOk result (spec.LendsNewest L.advances sources.items
+    ensures yields { IfOk result (spec.LendsNewest L.advances sources.items
         ⟦<LentNewestOf<L, A> as Lending>⟧.advances) }
-    ensures can { All (spec.CanDeal L.advances spec.nowhere L.can_advance L.can_advance)
+    ensures can { All (spec.CanYield L.advances spec.nowhere L.can_advance L.can_advance)
         sources.items →
-        IfOk result (spec.CanDeal ⟦<LentNewestOf<L, A> as Lending>⟧.advances spec.nowhere
+        IfOk result (spec.CanYield ⟦<LentNewestOf<L, A> as Lending>⟧.advances spec.nowhere
         ⟦<LentNewestOf<L, A> as Lending>⟧.can_advance
         ⟦<LentNewestOf<L, A> as Lending>⟧.can_advance) }
     ensures err { IfErr result (λ e. e ≡ spec.OutOfMemory) }
@@ -62,7 +62,7 @@ pub fn lend_runs_at<A: Allocator + Clone>(
         spec.RunsHoldLists (map spec.arc_value runs.now) lists →
         let found = spec.newest
         (spec.numbered_below seqno (spec.within range.0 range.1 (spec.union_in lists))) in
-        IfOk result (λ s. spec.DealsList advances spec.nowhere found s) }
+        IfOk result (λ s. spec.YieldsList advances spec.nowhere found s) }
     // If every seqno is below `seqno`, it lends the newest versions of all entries within the
     // bounds.
     ensures whole { let advances = ⟦<LentNewestOfRunsAt<A> as Lending>⟧.advances in
@@ -70,18 +70,18 @@ pub fn lend_runs_at<A: Allocator + Clone>(
         spec.RunsHoldLists (map spec.arc_value runs.now) lists →
         All (λ e. e.seqno < seqno) (spec.union_in lists) →
         let found = spec.newest (spec.within range.0 range.1 (spec.union_in lists)) in
-        IfOk result (λ s. spec.DealsList advances spec.nowhere found s) }
+        IfOk result (λ s. spec.YieldsList advances spec.nowhere found s) }
     // For any tables in runs in order, whatever their bytes, whose entries within the bounds come
     // in order up to each run's first error. It lends the newest of these results below `seqno`,
     // merged up to the first error, which comes last.
     ensures places { let advances = ⟦<LentNewestOfRunsAt<A> as Lending>⟧.advances in
-        let told = spec.runs_told_within range.0 range.1 (map spec.arc_value runs.now) in
+        let told = spec.runs_results_within range.0 range.1 (map spec.arc_value runs.now) in
         spec.AllByRecursion (spec.IsInOrder spec.range_of) (map spec.arc_value runs.now) →
         spec.AllByRecursion (λ rs. spec.Ascends (spec.entries_among rs)) told →
-        let found = spec.newest_results (spec.merge_of (map (spec.below_told seqno) told)) in
+        let found = spec.newest_results (spec.merge_of (map (spec.below_results seqno) told)) in
         IfOk result (spec.LendsResults advances found) }
     // It may be called any number of times, whatever the tables' bytes.
-    ensures can { IfOk result (spec.CanDeal ⟦<LentNewestOfRunsAt<A> as Lending>⟧.advances
+    ensures can { IfOk result (spec.CanYield ⟦<LentNewestOfRunsAt<A> as Lending>⟧.advances
         spec.nowhere ⟦<LentNewestOfRunsAt<A> as Lending>⟧.can_advance
         ⟦<LentNewestOfRunsAt<A> as Lending>⟧.can_advance) }
     ensures advance { IfOk result ⟦<LentNewestOfRunsAt<A> as Lending>⟧.can_advance }

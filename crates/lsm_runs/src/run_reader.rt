@@ -56,9 +56,9 @@ impl<A: Allocator + Clone> RunReader<A> {
         ensures is { let tables = spec.arc_value run in IfOk result (λ r. IfSome r (λ reader.
             (ends : ℕ × ℕ) × spec.ArePlacesOf tables ends ×
             spec.IsRunOf tables (spec.span_of ends range.0 range.1) reader)) }
-        ensures deals { let gives = ⟦<RunReader<A> as Iterator>⟧.next_gives in
+        ensures yields { let gives = ⟦<RunReader<A> as Iterator>⟧.next_gives in
             let back_gives = ⟦<RunReader<A> as DoubleEndedIterator>⟧.next_back_gives in
-            IfOk result (λ r. IfSome r (λ reader. spec.DealsEnding gives back_gives
+            IfOk result (λ r. IfSome r (λ reader. spec.YieldsEnding gives back_gives
             (λ _. Unit {0}) (λ _. Unit {0}) reader (spec.run_left reader))) }
         // For tables of lists in a run in order, it yields the part of all lists within the bounds,
         // global seqnos applied; without a reader there is none.
@@ -68,7 +68,7 @@ impl<A: Allocator + Clone> RunReader<A> {
             (lists : List (List spec.Entry)) → spec.HoldLists tables lists →
             let found = spec.within range.0 range.1 (spec.joined lists) in
             IfOk result (λ r. MatchOption r (found ≡ [])
-            (λ reader. spec.DealsList gives back_gives found reader)) }
+            (λ reader. spec.YieldsList gives back_gives found reader)) }
         // For a run in order, it opens at most as many tables as have a range that reaches past
         // both bounds.
         ensures few { let gives = ⟦<RunReader<A> as Iterator>⟧.next_gives in
@@ -88,7 +88,7 @@ impl<A: Allocator + Clone> RunReader<A> {
             let may = ⟦<RunReader<A> as Lending>⟧.can_advance in
             let back_gives = ⟦<RunReader<A> as DoubleEndedIterator>⟧.next_back_gives in
             IfOk result (λ r. IfSome r (λ reader.
-            spec.DealsEnding advances back_gives may may reader (spec.run_left reader))) }
+            spec.YieldsEnding advances back_gives may may reader (spec.run_left reader))) }
         // For tables of lists in a run in order, it lends exactly the entries within the bounds.
         ensures lends_list { let advances = ⟦<RunReader<A> as Lending>⟧.advances in
             let back_gives = ⟦<RunReader<A> as DoubleEndedIterator>⟧.next_back_gives in
@@ -96,7 +96,7 @@ impl<A: Allocator + Clone> RunReader<A> {
             (lists : List (List spec.Entry)) → spec.HoldLists tables lists →
             let found = spec.within range.0 range.1 (spec.joined lists) in
             IfOk result (λ r. MatchOption r (found ≡ [])
-            (λ reader. spec.DealsList advances back_gives found reader)) }
+            (λ reader. spec.YieldsList advances back_gives found reader)) }
         // It opens no more tables for lending.
         ensures lends_few { let advances = ⟦<RunReader<A> as Lending>⟧.advances in
             let back_gives = ⟦<RunReader<A> as DoubleEndedIterator>⟧.next_back_gives in
@@ -134,9 +134,9 @@ impl<A: Allocator + Clone> RunReader<A> {
             let ends = spec.ends_given tables span in
             IfOk result (λ reader. spec.IsRunOf tables (spec.span_of ends range.0 range.1) reader) }
         // For every list of ends, it yields the results of its tables, up to the first error.
-        ensures deals { let gives = ⟦<RunReader<A> as Iterator>⟧.next_gives in
+        ensures yields { let gives = ⟦<RunReader<A> as Iterator>⟧.next_gives in
             let back_gives = ⟦<RunReader<A> as DoubleEndedIterator>⟧.next_back_gives in
-            IfOk result (λ reader. spec.DealsEnding gives back_gives (λ _. Unit {0}) (λ _. Unit {0})
+            IfOk result (λ reader. spec.YieldsEnding gives back_gives (λ _. Unit {0}) (λ _. Unit {0})
             reader (spec.run_left reader)) }
         // For tables of lists, it yields the span's entries, global seqnos applied: of the first
         // and the last list within the bounds, of those between all.
@@ -144,19 +144,19 @@ impl<A: Allocator + Clone> RunReader<A> {
             let back_gives = ⟦<RunReader<A> as DoubleEndedIterator>⟧.next_back_gives in
             let tables = spec.arc_value run in let ends = spec.ends_given tables span in
             (lists : List (List spec.Entry)) → spec.HoldLists tables lists → IfOk result
-            (spec.DealsList gives back_gives
+            (spec.YieldsList gives back_gives
             (spec.span_list (spec.span_of ends range.0 range.1) lists)) }
         // It lends the same from the front, also with calls at the back in between.
         ensures lends { let advances = ⟦<RunReader<A> as Lending>⟧.advances in
             let back_gives = ⟦<RunReader<A> as DoubleEndedIterator>⟧.next_back_gives in
             let may = ⟦<RunReader<A> as Lending>⟧.can_advance in
             IfOk result (λ reader.
-            spec.DealsEnding advances back_gives may may reader (spec.run_left reader)) }
+            spec.YieldsEnding advances back_gives may may reader (spec.run_left reader)) }
         ensures lends_list { let advances = ⟦<RunReader<A> as Lending>⟧.advances in
             let back_gives = ⟦<RunReader<A> as DoubleEndedIterator>⟧.next_back_gives in
             let tables = spec.arc_value run in let ends = spec.ends_given tables span in
             (lists : List (List spec.Entry)) → spec.HoldLists tables lists → IfOk result
-            (spec.DealsList advances back_gives
+            (spec.YieldsList advances back_gives
             (spec.span_list (spec.span_of ends range.0 range.1) lists)) }
         // It opens at most as many tables as the span has.
         ensures few { let gives = ⟦<RunReader<A> as Iterator>⟧.next_gives in

@@ -101,11 +101,11 @@ impl<A: Allocator + Clone> RunScanner<A> {
             IfOk result (λ s. spec.IsScanOf tables (spec.ends_given tables span) s) }
         // Except for `OutOfMemory`, it yields the results of the tables' scans, up to the first
         // error, and then nothing.
-        ensures deals { let gives = ⟦<RunScanner<A> as Iterator>⟧.next_gives in
+        ensures yields { let gives = ⟦<RunScanner<A> as Iterator>⟧.next_gives in
             let tables = spec.arc_value run in
             let left = spec.tables_scan (spec.tables_between tables (spec.ends_given tables span))
             in IfOk result
-            (λ s. spec.DealsEnding gives spec.nowhere (λ _. Unit {0}) (λ _. Unit {0}) s left) }
+            (λ s. spec.YieldsEnding gives spec.nowhere (λ _. Unit {0}) (λ _. Unit {0}) s left) }
         // For tables of lists that each have an entry, it yields these lists one after another,
         // global seqnos applied.
         ensures list { let gives = ⟦<RunScanner<A> as Iterator>⟧.next_gives in
@@ -113,19 +113,19 @@ impl<A: Allocator + Clone> RunScanner<A> {
             (spec.ends_given (spec.arc_value run) span) in
             (lists : List (List spec.Entry)) → spec.AllByRecursion (λ es. 0 < length es) lists →
             spec.HoldLists tables lists →
-            IfOk result (spec.DealsList gives spec.nowhere (spec.joined lists)) }
+            IfOk result (spec.YieldsList gives spec.nowhere (spec.joined lists)) }
         // It lends what it yields.
         ensures lends { let advances = ⟦<RunScanner<A> as Lending>⟧.advances in
             let tables = spec.arc_value run in
             let left = spec.tables_scan (spec.tables_between tables (spec.ends_given tables span))
             in IfOk result
-            (λ s. spec.DealsEnding advances spec.nowhere (λ _. Unit {0}) (λ _. Unit {0}) s left) }
+            (λ s. spec.YieldsEnding advances spec.nowhere (λ _. Unit {0}) (λ _. Unit {0}) s left) }
         ensures lends_list { let advances = ⟦<RunScanner<A> as Lending>⟧.advances in
             let tables = spec.tables_between (spec.arc_value run)
             (spec.ends_given (spec.arc_value run) span) in
             (lists : List (List spec.Entry)) → spec.AllByRecursion (λ es. 0 < length es) lists →
             spec.HoldLists tables lists →
-            IfOk result (spec.DealsList advances spec.nowhere (spec.joined lists)) }
+            IfOk result (spec.YieldsList advances spec.nowhere (spec.joined lists)) }
         // Except for `OutOfMemory`, it fails exactly with the error of beginning the first table's
         // scan.
         ensures refused { let tables = spec.arc_value run in (t : spec.OpenTable) →

@@ -35,14 +35,14 @@ fn reader_of<A: Allocator + Clone>(
         spec.IsInOrder spec.range_of (spec.arc_value run.now)
         × spec.HoldLists (spec.arc_value run.now) lists →
         let found = spec.within range.now.0 range.now.1 (spec.joined lists) in IfOk result (λ r.
-        MatchOption r (found ≡ []) (λ reader. spec.DealsList gives back_gives found reader)) }
+        MatchOption r (found ≡ []) (λ reader. spec.YieldsList gives back_gives found reader)) }
     ensures lends { let advances = ⟦<RunReader<A> as Lending>⟧.advances in
         let back_gives = ⟦<RunReader<A> as DoubleEndedIterator>⟧.next_back_gives in
         (lists : List (List spec.Entry)) →
         spec.IsInOrder spec.range_of (spec.arc_value run.now)
         × spec.HoldLists (spec.arc_value run.now) lists →
         let found = spec.within range.now.0 range.now.1 (spec.joined lists) in IfOk result (λ r.
-        MatchOption r (found ≡ []) (λ reader. spec.DealsList advances back_gives found reader)) }
+        MatchOption r (found ≡ []) (λ reader. spec.YieldsList advances back_gives found reader)) }
     // For any tables in a run in order, it is the reader of the span of those whose ranges reach
     // past both bounds.
     ensures span { let tables = spec.arc_value run.now in spec.IsInOrder spec.range_of tables →
@@ -69,13 +69,13 @@ fn readers_of<A: Allocator + Clone>(
         (lists : List (List (List spec.Entry))) →
         spec.RunsHoldLists (map spec.arc_value runs.now) lists →
         let found = map (λ ls. spec.within range.now.0 range.now.1 (spec.joined ls)) lists in
-        IfOk result (λ v. spec.DealTogether gives back_gives v.items found) }
+        IfOk result (λ v. spec.YieldTogether gives back_gives v.items found) }
     ensures lends { let advances = ⟦<RunReader<A> as Lending>⟧.advances in
         let back_gives = ⟦<RunReader<A> as DoubleEndedIterator>⟧.next_back_gives in
         (lists : List (List (List spec.Entry))) →
         spec.RunsHoldLists (map spec.arc_value runs.now) lists →
         let found = map (λ ls. spec.within range.now.0 range.now.1 (spec.joined ls)) lists in
-        IfOk result (λ v. spec.DealTogether advances back_gives v.items found) }
+        IfOk result (λ v. spec.YieldTogether advances back_gives v.items found) }
     // For any tables in runs in order, they are the readers of the spans.
     ensures spans { spec.AllByRecursion (spec.IsInOrder spec.range_of)
         (map spec.arc_value runs.now) →
@@ -104,13 +104,13 @@ pub(crate) fn readers_within<A: Allocator + Clone>(
         (lists : List (List (List spec.Entry))) →
         spec.RunsHoldLists (map spec.arc_value runs.now) lists →
         let found = map (λ ls. spec.within range.0 range.1 (spec.joined ls)) lists in
-        IfOk result (λ v. spec.DealTogether gives back_gives v.items found) }
+        IfOk result (λ v. spec.YieldTogether gives back_gives v.items found) }
     ensures lends { let advances = ⟦<RunReader<A> as Lending>⟧.advances in
         let back_gives = ⟦<RunReader<A> as DoubleEndedIterator>⟧.next_back_gives in
         (lists : List (List (List spec.Entry))) →
         spec.RunsHoldLists (map spec.arc_value runs.now) lists →
         let found = map (λ ls. spec.within range.0 range.1 (spec.joined ls)) lists in
-        IfOk result (λ v. spec.DealTogether advances back_gives v.items found) }
+        IfOk result (λ v. spec.YieldTogether advances back_gives v.items found) }
     ensures spans { spec.AllByRecursion (spec.IsInOrder spec.range_of)
         (map spec.arc_value runs.now) →
         IfOk result (λ v. spec.AllZip (λ reader span. spec.IsRunOf span.0 span.1 reader) v.items
@@ -127,7 +127,7 @@ pub(crate) fn newest_stream<I: DoubleEndedIterator<Item = IterItem<A>>, A: Alloc
     sources: Vec<I, A>,
 ) -> Result<NewestOf<I, A>, Error>
     ensures starts { IfOk result (spec.IsNewestOf sources.items) }
-    ensures deals { IfOk result (spec.DealsNewest I.next_gives I.next_back_gives sources.items
+    ensures yields { IfOk result (spec.YieldsNewest I.next_gives I.next_back_gives sources.items
         ⟦<NewestOf<I, A> as Iterator>⟧.next_gives
         ⟦<NewestOf<I, A> as DoubleEndedIterator>⟧.next_back_gives) }
     ensures past { IfOk result (spec.AnswersNewest I.next_gives I.next_back_gives sources.items
@@ -166,7 +166,7 @@ pub fn range_runs<A: Allocator + Clone>(
         (lists : List (List (List spec.Entry))) →
         spec.RunsHoldLists (map spec.arc_value runs.now) lists →
         let found = spec.newest (spec.within range.0 range.1 (spec.union_in lists)) in
-        IfOk result (λ s. spec.DealsList gives back_gives found s) }
+        IfOk result (λ s. spec.YieldsList gives back_gives found s) }
     // For any tables in runs in order, it is a stream over the readers of the spans within the
     // bounds. An error of a reader, `OutOfMemory` too, takes the place of all entries that no step
     // has taken yet. After it, only an entry already read at the other end is yielded.
@@ -177,7 +177,7 @@ pub fn range_runs<A: Allocator + Clone>(
         (spec.IsOverSpans gives back_gives range.0 range.1 (map spec.arc_value runs.now)) }
     // Both ends may be called any number of times, whatever the tables' bytes.
     ensures can { IfOk result (λ s.
-        spec.CanDeal ⟦<NewestOfRuns<A> as Iterator>⟧.next_gives
+        spec.CanYield ⟦<NewestOfRuns<A> as Iterator>⟧.next_gives
         ⟦<NewestOfRuns<A> as DoubleEndedIterator>⟧.next_back_gives
         ⟦<NewestOfRuns<A> as Iterator>⟧.can_next
         ⟦<NewestOfRuns<A> as DoubleEndedIterator>⟧.can_next_back s) }
@@ -215,7 +215,7 @@ pub fn range_runs_at<A: Allocator + Clone>(
         spec.RunsHoldLists (map spec.arc_value runs.now) lists →
         let found = spec.newest
         (spec.numbered_below seqno (spec.within range.0 range.1 (spec.union_in lists))) in
-        IfOk result (λ s. spec.DealsList gives back_gives found s) }
+        IfOk result (λ s. spec.YieldsList gives back_gives found s) }
     // If every seqno is below `seqno`, it yields what `range_runs` yields.
     ensures whole { let gives = ⟦<NewestOfRunsAt<A> as Iterator>⟧.next_gives in
         let back_gives = ⟦<NewestOfRunsAt<A> as DoubleEndedIterator>⟧.next_back_gives in
@@ -223,7 +223,7 @@ pub fn range_runs_at<A: Allocator + Clone>(
         spec.RunsHoldLists (map spec.arc_value runs.now) lists →
         All (λ e. e.seqno < seqno) (spec.union_in lists) →
         let found = spec.newest (spec.within range.0 range.1 (spec.union_in lists)) in
-        IfOk result (λ s. spec.DealsList gives back_gives found s) }
+        IfOk result (λ s. spec.YieldsList gives back_gives found s) }
     // For any tables in runs in order, it is a stream over the readers of the spans within the
     // bounds, each below `seqno`. An error of a reader, `OutOfMemory` too, takes the place of all
     // entries that no step has taken yet. After it, only an entry already read at the other end is
@@ -236,7 +236,7 @@ pub fn range_runs_at<A: Allocator + Clone>(
         range.0 range.1 seqno (map spec.arc_value runs.now)) }
     // Both ends may be called any number of times, whatever the tables' bytes.
     ensures can { IfOk result (λ s.
-        spec.CanDeal ⟦<NewestOfRunsAt<A> as Iterator>⟧.next_gives
+        spec.CanYield ⟦<NewestOfRunsAt<A> as Iterator>⟧.next_gives
         ⟦<NewestOfRunsAt<A> as DoubleEndedIterator>⟧.next_back_gives
         ⟦<NewestOfRunsAt<A> as Iterator>⟧.can_next
         ⟦<NewestOfRunsAt<A> as DoubleEndedIterator>⟧.can_next_back s) }
@@ -329,7 +329,7 @@ pub fn get_runs_counted<A: Allocator + Clone>(
     // for `OutOfMemory`.
     ensures told { spec.AllByRecursion (spec.IsInOrder spec.range_of)
         (map spec.arc_value runs.now) → spec.Gives (λ (x : Option spec.Entry). x) result.0
-        (spec.runs_told key.now seqno None (map spec.arc_value runs.now)) }
+        (spec.runs_result key.now seqno None (map spec.arc_value runs.now)) }
     // For tables of lists, it is the first match in the sorted entries of all lists, global seqnos
     // applied.
     ensures list { (lists : List (List (List spec.Entry))) →
@@ -386,7 +386,7 @@ pub fn get_runs<A: Allocator + Clone>(
     // for `OutOfMemory`.
     ensures told { spec.AllByRecursion (spec.IsInOrder spec.range_of)
         (map spec.arc_value runs.now) → spec.Gives (λ (x : Option spec.Entry). x) result
-        (spec.runs_told key.now seqno None (map spec.arc_value runs.now)) }
+        (spec.runs_result key.now seqno None (map spec.arc_value runs.now)) }
     // For tables of lists, it is the first match in the sorted entries of all lists, global seqnos
     // applied.
     ensures list { (lists : List (List (List spec.Entry))) →

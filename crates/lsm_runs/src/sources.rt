@@ -59,10 +59,10 @@ pub fn range_sources_at<S: DoubleEndedIterator<Item = IterItem<A>> + Drop, A: Al
         (lists : List (List (List spec.Entry))) →
         spec.RunsHoldLists (map spec.arc_value runs.now) lists →
         (further : List (List spec.Entry)) →
-        spec.DealWithin S.next_gives S.next_back_gives range.0 range.1 sources.items further →
+        spec.YieldWithin S.next_gives S.next_back_gives range.0 range.1 sources.items further →
         let all = spec.union_in (map spec.single further ++ lists) in
         let found = spec.newest (spec.numbered_below seqno (spec.within range.0 range.1 all)) in
-        IfOk result (λ s. spec.DealsList gives back_gives found s) }
+        IfOk result (λ s. spec.YieldsList gives back_gives found s) }
     // If every seqno is below `seqno`, it yields the newest versions of all entries within the
     // bounds.
     ensures whole { let gives = ⟦<NewestOfSourcesAt<S, A> as Iterator>⟧.next_gives in
@@ -70,11 +70,11 @@ pub fn range_sources_at<S: DoubleEndedIterator<Item = IterItem<A>> + Drop, A: Al
         (lists : List (List (List spec.Entry))) →
         spec.RunsHoldLists (map spec.arc_value runs.now) lists →
         (further : List (List spec.Entry)) →
-        spec.DealWithin S.next_gives S.next_back_gives range.0 range.1 sources.items further →
+        spec.YieldWithin S.next_gives S.next_back_gives range.0 range.1 sources.items further →
         let all = spec.union_in (map spec.single further ++ lists) in
         All (λ e. e.seqno < seqno) all →
         let found = spec.newest (spec.within range.0 range.1 all) in
-        IfOk result (λ s. spec.DealsList gives back_gives found s) }
+        IfOk result (λ s. spec.YieldsList gives back_gives found s) }
     // For any tables in runs in order, it is a stream over the sources, whatever they yield, and
     // then the readers of the spans within the bounds, each below `seqno`. An error of one of them,
     // `OutOfMemory` too, takes the place of all entries that no step has taken yet. After it, only
@@ -88,17 +88,17 @@ pub fn range_sources_at<S: DoubleEndedIterator<Item = IterItem<A>> + Drop, A: Al
         range.0 range.1 seqno (map spec.arc_value runs.now) sources.items) }
     // If the sources are finite and both their ends may be called, both ends may be called any
     // number of times, whatever the tables' bytes.
-    ensures can { All (spec.CanDeal S.next_gives S.next_back_gives S.can_next S.can_next_back)
+    ensures can { All (spec.CanYield S.next_gives S.next_back_gives S.can_next S.can_next_back)
         sources.items → All (λ s. spec.IsFinite (S.remaining s)) sources.items →
-        IfOk result (λ s. spec.CanDeal ⟦<NewestOfSourcesAt<S, A> as Iterator>⟧.next_gives
+        IfOk result (λ s. spec.CanYield ⟦<NewestOfSourcesAt<S, A> as Iterator>⟧.next_gives
         ⟦<NewestOfSourcesAt<S, A> as DoubleEndedIterator>⟧.next_back_gives
         ⟦<NewestOfSourcesAt<S, A> as Iterator>⟧.can_next
         ⟦<NewestOfSourcesAt<S, A> as DoubleEndedIterator>⟧.can_next_back s) }
     // So a `for` may iterate over it, from the front or from the back.
-    ensures next { All (spec.CanDeal S.next_gives S.next_back_gives S.can_next S.can_next_back)
+    ensures next { All (spec.CanYield S.next_gives S.next_back_gives S.can_next S.can_next_back)
         sources.items → All (λ s. spec.IsFinite (S.remaining s)) sources.items →
         IfOk result (λ s. ⟦<NewestOfSourcesAt<S, A> as Iterator>⟧.can_next s) }
-    ensures next_back { All (spec.CanDeal S.next_gives S.next_back_gives S.can_next S.can_next_back)
+    ensures next_back { All (spec.CanYield S.next_gives S.next_back_gives S.can_next S.can_next_back)
         sources.items → All (λ s. spec.IsFinite (S.remaining s)) sources.items →
         IfOk result (λ s. ⟦<NewestOfSourcesAt<S, A> as DoubleEndedIterator>⟧.can_next_back s) }
     ensures err { IfErr result (λ e. e ≡ spec.OutOfMemory) }

@@ -6,16 +6,16 @@ use Rattle.sst_entries.specs.Entry.{Entry}
 use Rattle.sst_entries.specs.declared.stream.Direction.{Direction}
 use Rattle.sst_entries.specs.declared.stream.Direction.TheVariants.{Front, Back}
 use Rattle.sst_entries.specs.Stream.{but_first, but_last, front_of, back_of, answer_stops}
-use Rattle.sst_entries.specs.Stream.{DealsFirst, DealsLast}
+use Rattle.sst_entries.specs.Stream.{YieldsFirst, YieldsLast}
 use Rattle.sst_entries.specs.declared.error.Error.{Error}
 use Rattle.lsm_sorted.specs.declared.heap.ends.Ends.{Ends}
 use Rattle.lsm_sorted.specs.declared.merge.Merger.{Merger}
-use Rattle.lsm_sorted.specs.merge.Ends.{R, Left, Asked, DealsAt}
+use Rattle.lsm_sorted.specs.merge.Ends.{R, Left, Asked, YieldsAt}
 use Rattle.lsm_sorted.specs.merge.Union.{all_errors}
 use Rattle.lsm_sorted.specs.merge.Merge.{entry_of, is_ready, SameRoom}
 use Rattle.lsm_sorted.proofs.Kept.{Kept, whole, taken, Ready, Stands, Merging, Leaves, Took, Filled}
 use Rattle.lsm_sorted.proofs.Kept.{MergeAnswer, opposite}
-use Rattle.lsm_sorted.specs.merge.Asks.{Leads, Puts, error_told, entry_told, answer_told, ended_at}
+use Rattle.lsm_sorted.specs.merge.Asks.{Leads, Puts, error_result, entry_result, answer_result, ended_at}
 use Rattle.lsm_sorted.specs.merge.Asks.{AsksSource, AsksEach, FillsIf, Fills, HoldsNone, TakesLead}
 use Rattle.lsm_sorted.specs.merge.Asks.{TakesLeadIf, TakesStep, AnswersCall}
 use Rattle.lsm_sorted.proofs.ReadyLemmas.{same_room, same_twice, ready_same, made_sources}
@@ -99,7 +99,7 @@ over_at Back xs e = let none = none_last xs e in (none, ap but_last none)
 module _ {S A : Type 0} (stops : Error → Bool) (front back : S → Option R → S → Type 0) where
   module _ (ask : S → Option R → S → Type 0) (end : Direction)
       (means : (s : Ends S) (r : Option R) (t : Ends S) → Asked ask s r t
-      → DealsAt end stops (Left stops front back) s r t) where
+      → YieldsAt end stops (Left stops front back) s r t) where
     abbrev TookOr : ℕ → List Kept → Result (Unit {0}) Error → Merger S A → Type 0
     TookOr i ks r t = MatchResult r (λ _. Took stops front back end i ks t)
         (λ e. stops e ≡ false → Contains (all_errors (map whole ks)) e)
@@ -111,9 +111,9 @@ module _ {S A : Type 0} (stops : Error → Bool) (front back : S → Option R �
     asks_took i s t r a ks stands free = subst (λ (q : Result (Unit {0}) Error). TookOr i ks q t)
         (sym a.told) (by_end end (means a.was a.answer a.is a.asked) a.puts free)
       where
-        at_front : (o : Option R) → DealsFirst stops (Left stops front back) a.was o a.is
+        at_front : (o : Option R) → YieldsFirst stops (Left stops front back) a.was o a.is
             → Puts Front i o s.heap.items t.heap.items → taken ks i Front ≡ None
-            → MatchResult (error_told o) (λ _. Took stops front back Front i ks t)
+            → MatchResult (error_result o) (λ _. Took stops front back Front i ks t)
             (λ e. stops e ≡ false → Contains (all_errors (map whole ks)) e)
         at_front None d p none = front_none stops front back s i a.within a.was a.is a.found ks
             stands t a.written d p
@@ -122,9 +122,9 @@ module _ {S A : Type 0} (stops : Error → Bool) (front back : S → Option R �
         at_front (Some (Err e)) d p none = front_err stops front back s i a.within a.was a.is
             a.found ks stands e d
 
-        at_back : (o : Option R) → DealsLast stops (Left stops front back) a.was o a.is
+        at_back : (o : Option R) → YieldsLast stops (Left stops front back) a.was o a.is
             → Puts Back i o s.heap.items t.heap.items → taken ks i Back ≡ None
-            → MatchResult (error_told o) (λ _. Took stops front back Back i ks t)
+            → MatchResult (error_result o) (λ _. Took stops front back Back i ks t)
             (λ e. stops e ≡ false → Contains (all_errors (map whole ks)) e)
         at_back None d p none = back_none stops front back s i a.within a.was a.is a.found ks stands
             t a.written d p
@@ -133,9 +133,9 @@ module _ {S A : Type 0} (stops : Error → Bool) (front back : S → Option R �
         at_back (Some (Err e)) d p none = back_err stops front back s i a.within a.was a.is a.found
             ks stands e d
 
-        by_end : (b : Direction) → DealsAt b stops (Left stops front back) a.was a.answer a.is
+        by_end : (b : Direction) → YieldsAt b stops (Left stops front back) a.was a.answer a.is
             → Puts b i a.answer s.heap.items t.heap.items → taken ks i b ≡ None
-            → MatchResult (error_told a.answer) (λ _. Took stops front back b i ks t)
+            → MatchResult (error_result a.answer) (λ _. Took stops front back b i ks t)
             (λ e. stops e ≡ false → Contains (all_errors (map whole ks)) e)
         by_end Front d p none = at_front a.answer d p none
         by_end Back d p none = at_back a.answer d p none
@@ -220,7 +220,7 @@ module _ {S A : Type 0} (stops : Error → Bool) (front back : S → Option R �
       front_turn : end ≡ Front → Leads Front k.lead s.heap.items → s.front_ready ≡ true
           → (answer : Result (Unit {0}) Error) → TookOr k.lead.source left answer t
           → SameRoom k.mid t
-          → MatchResult (entry_told (entry_of k.lead) answer)
+          → MatchResult (entry_result (entry_of k.lead) answer)
           (λ o. (o ≡ (front_of xs).0) × Merging stops front back t (front_of xs).1 errors
           × (o ≡ None → errors ≡ [])) (λ e. stops e ≡ false → Contains errors e)
       front_turn is leads now (Ok u) took same =
@@ -236,7 +236,7 @@ module _ {S A : Type 0} (stops : Error → Bool) (front back : S → Option R �
       back_turn : end ≡ Back → Leads Back k.lead s.heap.items → s.back_ready ≡ true
           → (answer : Result (Unit {0}) Error) → TookOr k.lead.source left answer t
           → SameRoom k.mid t
-          → MatchResult (entry_told (entry_of k.lead) answer)
+          → MatchResult (entry_result (entry_of k.lead) answer)
           (λ o. (o ≡ (back_of xs).0) × Merging stops front back t (back_of xs).1 errors
           × (o ≡ None → errors ≡ [])) (λ e. stops e ≡ false → Contains errors e)
       back_turn is leads now (Ok u) took same =
@@ -253,7 +253,7 @@ module _ {S A : Type 0} (stops : Error → Bool) (front back : S → Option R �
           (sym k.told) (go end refl)
         where
           go : (b : Direction) → end ≡ b → StepOr xs errors
-              (entry_told (entry_of k.lead) k.answer) t
+              (entry_result (entry_of k.lead) k.answer) t
           go Front e =
               let leads : Leads Front k.lead s.heap.items =
               subst (λ (b : Direction). Leads b k.lead s.heap.items) e k.pops.leads in
@@ -265,7 +265,7 @@ module _ {S A : Type 0} (stops : Error → Bool) (front back : S → Option R �
               subst (λ (b : Direction). taken left k.lead.source b ≡ None) (sym e)
               (front_free stops front back s k.mid xs errors was k.lead k.pops.left
               k.pops.same.sources leads ready) in
-              subst (λ (b : Direction). MatchResult (entry_told (entry_of k.lead) k.answer)
+              subst (λ (b : Direction). MatchResult (entry_result (entry_of k.lead) k.answer)
               (λ o. (o ≡ (end_of b xs).0) × Merging stops front back t (end_of b xs).1 errors
               × (o ≡ None → errors ≡ [])) (λ e. stops e ≡ false → Contains errors e)) (sym e)
               (front_turn e leads ready k.answer (asks_took k.lead.source k.mid t k.answer k.asks
@@ -281,7 +281,7 @@ module _ {S A : Type 0} (stops : Error → Bool) (front back : S → Option R �
               subst (λ (b : Direction). taken left k.lead.source b ≡ None) (sym e)
               (back_free stops front back s k.mid xs errors was k.lead k.pops.left
               k.pops.same.sources leads ready) in
-              subst (λ (b : Direction). MatchResult (entry_told (entry_of k.lead) k.answer)
+              subst (λ (b : Direction). MatchResult (entry_result (entry_of k.lead) k.answer)
               (λ o. (o ≡ (end_of b xs).0) × Merging stops front back t (end_of b xs).1 errors
               × (o ≡ None → errors ≡ [])) (λ e. stops e ≡ false → Contains errors e)) (sym e)
               (back_turn e leads ready k.answer (asks_took k.lead.source k.mid t k.answer k.asks
@@ -318,8 +318,8 @@ module _ {S A : Type 0} (stops : Error → Bool) (front back : S → Option R �
         fine' = steps_failed ask end k.step s k.led k.steps ∙ fine
 
         go : (q : Result (Option Entry) Error) → StepOr xs errors q k.led
-            → answer_stops stops (answer_told q) ≡ false
-            → MergeAnswer (Leaves stops front back) (end_of end xs) errors (answer_told q)
+            → answer_stops stops (answer_result q) ≡ false
+            → MergeAnswer (Leaves stops front back) (end_of end xs) errors (answer_result q)
             (ended_at q k.led)
         go (Ok None) step ok =
             let over = over_at end xs step.0 in (

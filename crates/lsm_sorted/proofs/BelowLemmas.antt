@@ -9,14 +9,14 @@ use Rattle.std.proofs.lemmas.List.{append-nil, reverse-append, reverse-reverse}
 use Rattle.std.proofs.lemmas.List.Elements.{filter-append}
 use Rattle.sst_entries.specs.declared.error.Error.{Error}
 use Rattle.sst_entries.specs.Entry.{Entry}
-use Rattle.sst_entries.specs.Stream.{CanDeal, Deals, answer_stops, but_first, but_last, first, last}
+use Rattle.sst_entries.specs.Stream.{CanYield, YieldsExactly, answer_stops, but_first, but_last, first, last}
 use Rattle.sst_entries.specs.Stream.{nowhere, ok_results}
 use Rattle.sst_entries.proofs.FrontLemmas.{can_in_front}
-use Rattle.sst_entries.proofs.StreamLemmas.{can_after_back, can_by, can_front, deals_back, deals_by}
-use Rattle.sst_entries.proofs.StreamLemmas.{deals_front}
+use Rattle.sst_entries.proofs.StreamLemmas.{can_after_back, can_by, can_front, yields_back, yields_by}
+use Rattle.sst_entries.proofs.StreamLemmas.{yields_front}
 use Rattle.lsm_sorted.specs.merge.Ends.{R}
 use Rattle.lsm_sorted.specs.declared.below.Below.{Below}
-use Rattle.lsm_sorted.specs.Below.{DealsBelow, GivesBelow, LetsGo, MayAsk, below_of, below_told}
+use Rattle.lsm_sorted.specs.Below.{YieldsBelow, GivesBelow, LetsGo, MayAsk, below_of, below_results}
 use Rattle.lsm_sorted.specs.Below.{numbered_below, passes}
 use Rattle.lsm_sorted.specs.Mvcc.{CanStep}
 use Rattle.lsm_sorted.proofs.MvccLemmas.{from_first}
@@ -55,47 +55,47 @@ module _ (bound : ℕ) where
   IsLow r = MatchOption r (Unit {0}) (λ (x : R). passes bound x ≡ true)
 
   kept : (x : R) (xs : List R) → passes bound x ≡ true
-      → below_told bound (x ∷ xs) ≡ x ∷ below_told bound xs
-  kept x xs low = ap (λ (b : Bool). cond b (x ∷ below_told bound xs) (below_told bound xs)) low
+      → below_results bound (x ∷ xs) ≡ x ∷ below_results bound xs
+  kept x xs low = ap (λ (b : Bool). cond b (x ∷ below_results bound xs) (below_results bound xs)) low
 
   left_out : (x : R) (xs : List R) → passes bound x ≡ false
-      → below_told bound (x ∷ xs) ≡ below_told bound xs
-  left_out x xs high = ap (λ (b : Bool). cond b (x ∷ below_told bound xs) (below_told bound xs))
+      → below_results bound (x ∷ xs) ≡ below_results bound xs
+  left_out x xs high = ap (λ (b : Bool). cond b (x ∷ below_results bound xs) (below_results bound xs))
       high
 
   reversed_by : (x : R) (xs : List R) (b : Bool)
-      → reverse (below_told bound xs) ++ cond b (x ∷ []) []
-      ≡ reverse (cond b (x ∷ below_told bound xs) (below_told bound xs))
-  reversed_by x xs true = sym (reverse-append (x ∷ []) (below_told bound xs))
-  reversed_by x xs false = append-nil (reverse (below_told bound xs))
+      → reverse (below_results bound xs) ++ cond b (x ∷ []) []
+      ≡ reverse (cond b (x ∷ below_results bound xs) (below_results bound xs))
+  reversed_by x xs true = sym (reverse-append (x ∷ []) (below_results bound xs))
+  reversed_by x xs false = append-nil (reverse (below_results bound xs))
 
   below_reverse : (xs : List R)
-      → below_told bound (reverse xs) ≡ reverse (below_told bound xs)
+      → below_results bound (reverse xs) ≡ reverse (below_results bound xs)
   below_reverse [] = refl
   below_reverse (x ∷ xs) =
-      ap (below_told bound) (reverse-append (x ∷ []) xs)
+      ap (below_results bound) (reverse-append (x ∷ []) xs)
       ∙ filter-append (passes bound) (reverse xs) (x ∷ [])
-      ∙ ap (λ (ys : List R). ys ++ below_told bound (x ∷ [])) (below_reverse xs)
+      ∙ ap (λ (ys : List R). ys ++ below_results bound (x ∷ [])) (below_reverse xs)
       ∙ reversed_by x xs (passes bound x)
 
   -- the first of a list, and the others, where it passes
   low_first : (r : Option R) (xs : List R) → r ≡ first xs → IsLow r
-      → (r ≡ first (below_told bound xs))
-      × (below_told bound (but_first xs) ≡ but_first (below_told bound xs))
+      → (r ≡ first (below_results bound xs))
+      × (below_results bound (but_first xs) ≡ but_first (below_results bound xs))
   low_first r [] is low = (is, refl)
   low_first r (x ∷ xs) is low =
       let passing : passes bound x ≡ true = subst IsLow is low in
       (is ∙ sym (ap first (kept x xs passing)), sym (ap but_first (kept x xs passing)))
 
   high_first : (x : R) (xs : List R) → Some x ≡ first xs → passes bound x ≡ false
-      → below_told bound xs ≡ below_told bound (but_first xs)
-  high_first x xs is high = ap (below_told bound) (from_first xs x is)
+      → below_results bound xs ≡ below_results bound (but_first xs)
+  high_first x xs is high = ap (below_results bound) (from_first xs x is)
       ∙ left_out x (but_first xs) high
 
   -- the last of it
   low_last : (r : Option R) (xs : List R) → r ≡ last xs → IsLow r
-      → (r ≡ last (below_told bound xs))
-      × (below_told bound (but_last xs) ≡ but_last (below_told bound xs))
+      → (r ≡ last (below_results bound xs))
+      × (below_results bound (but_last xs) ≡ but_last (below_results bound xs))
   low_last r xs is low =
       let turned = below_reverse xs in
       let both = low_first r (reverse xs) is low in (
@@ -105,15 +105,15 @@ module _ (bound : ℕ) where
       )
 
   high_last : (x : R) (xs : List R) → Some x ≡ last xs → passes bound x ≡ false
-      → below_told bound xs ≡ below_told bound (but_last xs)
+      → below_results bound xs ≡ below_results bound (but_last xs)
   high_last x xs is high =
-      sym (reverse-reverse (below_told bound xs))
+      sym (reverse-reverse (below_results bound xs))
       ∙ ap reverse (sym (below_reverse xs) ∙ high_first x (reverse xs) is high)
       ∙ sym (below_reverse (but_first (reverse xs)))
 
   -- of entries
   pub below_entries : (es : List Entry)
-      → below_told bound (ok_results es) ≡ ok_results (numbered_below bound es)
+      → below_results bound (ok_results es) ≡ ok_results (numbered_below bound es)
   below_entries [] = refl
   below_entries (e ∷ es) = elim (cases_Bool (nat_lt e.seqno bound)) [
     | inl low ↦ rw low (ap (λ (rs : List R). Ok e ∷ rs) (below_entries es))
@@ -124,7 +124,7 @@ module _ (bound : ℕ) where
 
   module _ {S : Type 0} (stops : Error → Bool) (front back : S → Option R → S → Type 0) where
     abbrev HasLeft : S → List R → Type 0
-    HasLeft = Deals (answer_stops stops) front back
+    HasLeft = YieldsExactly (answer_stops stops) front back
 
     gone_fine : (x : R) → passes bound x ≡ false → answer_stops stops (Some x) ≡ false
     gone_fine (Ok e) high = refl
@@ -132,19 +132,19 @@ module _ (bound : ℕ) where
 
     -- what is left of the source's list, where this is left of what passes
     abbrev Leaves : S → List R → Type 0
-    Leaves t zs = (ys : List R) × HasLeft t ys × (zs ≡ below_told bound ys)
+    Leaves t zs = (ys : List R) × HasLeft t ys × (zs ≡ below_results bound ys)
 
     at_front : (gone : List R) (s u t : S) (r : Option R) (xs : List R) → HasLeft s xs
         → Yields front s gone u → AllByRecursion (λ (x : R). passes bound x ≡ false) gone
         → front u r t → IsLow r → answer_stops stops r ≡ false
-        → (r ≡ first (below_told bound xs)) × Leaves t (but_first (below_told bound xs))
+        → (r ≡ first (below_results bound xs)) × Leaves t (but_first (below_results bound xs))
     at_front [] s u t r xs has gave high step low fine =
         let here = subst (λ (w : S). HasLeft w xs) gave has in
-        let one = deals_front (answer_stops stops) front back u xs r t here step fine in
+        let one = yields_front (answer_stops stops) front back u xs r t here step fine in
         let both = low_first r xs one.0 low in
         (both.0, (but_first xs, one.1, sym both.1))
     at_front (x ∷ gone) s u t r xs has gave high step low fine =
-        let one = deals_front (answer_stops stops) front back s xs (Some x) gave.0 has gave.1
+        let one = yields_front (answer_stops stops) front back s xs (Some x) gave.0 has gave.1
         (gone_fine x high.0) in
         let more = at_front gone gave.0 u t r (but_first xs) one.1 gave.2 high.1 step low fine in
         subst (λ (zs : List R). (r ≡ first zs) × Leaves t (but_first zs))
@@ -153,14 +153,14 @@ module _ (bound : ℕ) where
     at_back : (gone : List R) (s u t : S) (r : Option R) (xs : List R) → HasLeft s xs
         → Yields back s gone u → AllByRecursion (λ (x : R). passes bound x ≡ false) gone
         → back u r t → IsLow r → answer_stops stops r ≡ false
-        → (r ≡ last (below_told bound xs)) × Leaves t (but_last (below_told bound xs))
+        → (r ≡ last (below_results bound xs)) × Leaves t (but_last (below_results bound xs))
     at_back [] s u t r xs has gave high step low fine =
         let here = subst (λ (w : S). HasLeft w xs) gave has in
-        let one = deals_back (answer_stops stops) front back u xs r t here step fine in
+        let one = yields_back (answer_stops stops) front back u xs r t here step fine in
         let both = low_last r xs one.0 low in
         (both.0, (but_last xs, one.1, sym both.1))
     at_back (x ∷ gone) s u t r xs has gave high step low fine =
-        let one = deals_back (answer_stops stops) front back s xs (Some x) gave.0 has gave.1
+        let one = yields_back (answer_stops stops) front back s xs (Some x) gave.0 has gave.1
         (gone_fine x high.0) in
         let more = at_back gone gave.0 u t r (but_last xs) one.1 gave.2 high.1 step low fine in
         subst (λ (zs : List R). (r ≡ last zs) × Leaves t (but_last zs))
@@ -177,18 +177,18 @@ module _ {S : Type 0} (front back : S → Option R → S → Type 0)
   InBack = GivesBelow MayBack back
 
   -- calls at the back are of the kind that is said, or there are none
-  pub deals_below : (next_back : Below S → Option R → Below S → Type 0)
+  pub yields_below : (next_back : Below S → Option R → Below S → Type 0)
       → ((s : Below S) (r : Option R) (t : Below S) → next_back s r t → InBack s r t)
       → (t : Below S) → t ≡ below_of bound source
-      → DealsBelow front back source bound In next_back t
-  deals_below next_back as_back t is = record {
-    deals =
+      → YieldsBelow front back source bound In next_back t
+  yields_below next_back as_back t is = record {
+    yields =
         λ stops xs has.
         let Left : Below S → List R → Type 0 = λ s zs. (s.seqno ≡ bound)
         × Leaves bound stops front back s.iter zs in
-        let start : Left t (below_told bound xs) =
-        subst (λ (s : Below S). Left s (below_told bound xs)) (sym is) (refl, (xs, has, refl)) in
-        deals_by (answer_stops stops) In next_back Left
+        let start : Left t (below_results bound xs) =
+        subst (λ (s : Below S). Left s (below_results bound xs)) (sym is) (refl, (xs, has, refl)) in
+        yields_by (answer_stops stops) In next_back Left
         (λ s zs r u left step fine.
         let one = at_front bound stops front back step.before.gone s.iter step.led u.iter r
         left.1.0 left.1.1 step.before.gave
@@ -204,15 +204,15 @@ module _ {S : Type 0} (front back : S → Option R → S → Type 0)
         left.0 step.before.high) step.gives (subst (λ (n : ℕ). IsLow n r) left.0 step.low) fine in
         subst (λ (ys : List R). (r ≡ last ys) × Left u (but_last ys)) (sym left.1.2)
         (one.0, (step.same ∙ left.0, one.1)))
-        t (below_told bound xs) start;
+        t (below_results bound xs) start;
   }
 
 -- the same from the front alone
-pub deals_in_front : {S : Type 0} (front : S → Option R → S → Type 0) (May : Below S → Type 0)
+pub yields_in_front : {S : Type 0} (front : S → Option R → S → Type 0) (May : Below S → Type 0)
     (source : S) (bound : ℕ) (t : Below S) → t ≡ below_of bound source
-    → DealsBelow front nowhere source bound (GivesBelow May front) nowhere t
-deals_in_front front May source bound t is =
-    deals_below front nowhere May May source bound nowhere (λ s r u step. absurd step) t is
+    → YieldsBelow front nowhere source bound (GivesBelow May front) nowhere t
+yields_in_front front May source bound t is =
+    yields_below front nowhere May May source bound nowhere (λ s r u step. absurd step) t is
 
 -- ---- where the source may be asked
 
@@ -224,16 +224,16 @@ ends_after can left s (Some x) t ends goes = (goes.on ends).1
 
 module _ {S : Type 0} (front back : S → Option R → S → Type 0) (can can_back : S → Type 0)
     (left : S → Count) where
-  along_front : (gone : List R) (s t : S) → CanDeal front back can can_back s
-      → Yields front s gone t → CanDeal front back can can_back t
-  along_front [] s t d gave = subst (λ (w : S). CanDeal front back can can_back w) gave d
+  along_front : (gone : List R) (s t : S) → CanYield front back can can_back s
+      → Yields front s gone t → CanYield front back can can_back t
+  along_front [] s t d gave = subst (λ (w : S). CanYield front back can can_back w) gave d
   along_front (x ∷ gone) s t d gave =
       along_front gone gave.0 t (can_front front back can can_back s (Some x) gave.0 d gave.1)
       gave.2
 
-  along_back : (gone : List R) (s t : S) → CanDeal front back can can_back s
-      → Yields back s gone t → CanDeal front back can can_back t
-  along_back [] s t d gave = subst (λ (w : S). CanDeal front back can can_back w) gave d
+  along_back : (gone : List R) (s t : S) → CanYield front back can can_back s
+      → Yields back s gone t → CanYield front back can can_back t
+  along_back [] s t d gave = subst (λ (w : S). CanYield front back can can_back w) gave d
   along_back (x ∷ gone) s t d gave =
       along_back gone gave.0 t (can_after_back front back can can_back s (Some x) gave.0 d gave.1)
       gave.2
@@ -245,7 +245,7 @@ module _ {S : Type 0} (front back : S → Option R → S → Type 0) (can can_ba
   MayBoth = MayAsk front back can can_back left
 
   pub can_below : (t : Below S) → MayBoth t
-      → CanDeal (GivesBelow MayFront front) (GivesBelow MayBoth back) MayFront MayBoth t
+      → CanYield (GivesBelow MayFront front) (GivesBelow MayBoth back) MayFront MayBoth t
   can_below t may =
       can_by (GivesBelow MayFront front) (GivesBelow MayBoth back) MayFront MayBoth MayBoth
       (λ s h. (

@@ -7,7 +7,7 @@ use Rattle.std.specs.Iterator.{Count}
 use Rattle.std.proofs.lemmas.Bool.Decides.{nat_tests}
 use Rattle.std.proofs.lemmas.List.Elements.{All-set}
 use Rattle.sst_entries.specs.Entry.{Entry}
-use Rattle.sst_entries.specs.Stream.{CanDeal, answer_stops, Runs, nowhere, front_of, back_of}
+use Rattle.sst_entries.specs.Stream.{CanYield, answer_stops, Runs, nowhere, front_of, back_of}
 use Rattle.sst_entries.specs.Stream.{EndsAtError}
 use Rattle.sst_entries.specs.declared.error.Error.{Error}
 use Rattle.sst_entries.specs.declared.stream.Direction.{Direction}
@@ -16,23 +16,23 @@ use Rattle.sst_entries.proofs.StreamLemmas.{can_by, can_front}
 use Rattle.lsm_sorted.specs.declared.heap.ends.Ends.{Ends}
 use Rattle.lsm_sorted.specs.declared.merge.HeapItem.{HeapItem}
 use Rattle.lsm_sorted.specs.declared.merge.Merger.{Merger}
-use Rattle.lsm_sorted.specs.merge.Ends.{R, Left, Goes, GoesIf, AskedIf, Asked, DealsAt}
+use Rattle.lsm_sorted.specs.merge.Ends.{R, Left, Goes, GoesIf, AskedIf, Asked, YieldsAt}
 use Rattle.lsm_sorted.specs.merge.Union.{all_errors, union_of}
 use Rattle.lsm_sorted.specs.merge.Merge.{held_of, is_ready, HasPlacesIf, MayMerge, HoldsAtMost}
 use Rattle.lsm_sorted.proofs.Kept.{Leaves, LeavesIf, Failed, MergeAnswer, Merges, opposite}
-use Rattle.lsm_sorted.specs.merge.Asks.{Puts, made_ready, answer_told, ended_at, AsksSource}
+use Rattle.lsm_sorted.specs.merge.Asks.{Puts, made_ready, answer_result, ended_at, AsksSource}
 use Rattle.lsm_sorted.specs.merge.Asks.{AsksEach}
 use Rattle.lsm_sorted.specs.merge.Asks.{FillsIf, Fills, TakesLead, TakesLeadIf, TakesStep, CallsIf}
 use Rattle.lsm_sorted.specs.merge.Asks.{Calls}
 use Rattle.lsm_sorted.specs.merge.Asks.{IsMergerOf}
-use Rattle.lsm_sorted.specs.merge.MergeLaws.{DealSorted, DealsMerged, DealsUntilError}
+use Rattle.lsm_sorted.specs.merge.MergeLaws.{YieldSorted, YieldsMerged, YieldsUntilError}
 use Rattle.lsm_sorted.proofs.EndsLemmas.{asked_first, asked_last, goes_in_front}
 use Rattle.lsm_sorted.proofs.HeldLemmas.{weight, weight_true, weight_false, count_cons}
 use Rattle.lsm_sorted.proofs.RoomLemmas.{one_if, of_source, count_perm}
 use Rattle.lsm_sorted.proofs.AsksLemmas.{end_of, answers_leave, steps_failed, fills_ready}
 use Rattle.lsm_sorted.proofs.AsksLemmas.{ended_end}
 use Rattle.lsm_sorted.proofs.AsksLemmas.{fills_other, each_same}
-use Rattle.lsm_sorted.proofs.DealsMerged.{new_leaves, deals_merged, deals_until, ends_at_error}
+use Rattle.lsm_sorted.proofs.YieldsMerged.{new_leaves, yields_merged, yields_until, ends_at_error}
 
 -- ---- runs of a relation within another
 
@@ -60,7 +60,7 @@ module _ {S A : Type 0} (front back : S → Option R → S → Type 0) where
 
   module _ (ask : S → Option R → S → Type 0) (end : Direction)
       (means : (stops : Error → Bool) (s : Ends S) (r : Option R) (t : Ends S) → Asked ask s r t
-      → DealsAt end stops (Left stops front back) s r t) (May : Merger S A → Type 0)
+      → YieldsAt end stops (Left stops front back) s r t) (May : Merger S A → Type 0)
       (s t : Merger S A) (r : Option R) (call : Calls ask end May s r t) where
     call_if : (b : Bool) → s.failed ≡ b → CallsIf ask end b s r t
     call_if b e = subst (λ (f : Bool). CallsIf ask end f s r t) e call.call
@@ -86,7 +86,7 @@ module _ {S A : Type 0} (front back : S → Option R → S → Type 0) where
             (call_if false e) has ok
 
     failing : (q : Result (Option Entry) Error) (led : Merger S A) (e : Error)
-        → answer_told q ≡ Some (Err e) → Failed (ended_at q led)
+        → answer_result q ≡ Some (Err e) → Failed (ended_at q led)
     failing (Ok None) led e is = absurd cc
     failing (Ok (Some x)) led e is = absurd cc
     failing (Err f) led e is = refl
@@ -133,15 +133,15 @@ module _ {S A : Type 0} (front back : S → Option R → S → Type 0) where
 
     module _ (its : List S) (m : Merger S A) (of : IsMergerOf its m) where
       starts : (stops : Error → Bool) (lists : List (List R))
-          → DealSorted front back stops its lists → Leaves stops front back m (union_of lists)
+          → YieldSorted front back stops its lists → Leaves stops front back m (union_of lists)
           (all_errors lists)
       starts stops lists sorted = new_leaves front back m its of.sources of.empty of.no_front
-          of.no_back of.fine stops lists sorted.deal sorted.ascend
+          of.no_back of.fine stops lists sorted.yield_each sorted.ascend
 
-      pub merger_deals : DealsMerged front back its next next_back m
-      merger_deals = record {
-        deals = λ stops lists sorted none.
-            let d = deals_merged Any Failed Has stops m (union_of lists) (all_errors lists) none
+      pub merger_yields : YieldsMerged front back its next next_back m
+      merger_yields = record {
+        yields = λ stops lists sorted none.
+            let d = yields_merged Any Failed Has stops m (union_of lists) (all_errors lists) none
             (starts stops lists sorted) in
             record {
               answers = λ ends rs t runs fine. d.answers ends rs t
@@ -149,10 +149,10 @@ module _ {S A : Type 0} (front back : S → Option R → S → Type 0) where
             };
       }
 
-      pub merger_until : DealsUntilError front back its next next_back m
+      pub merger_until : YieldsUntilError front back its next next_back m
       merger_until = record {
-        deals = λ stops lists sorted.
-            let d = deals_until Any Failed Has stops m (union_of lists) (all_errors lists)
+        yields = λ stops lists sorted.
+            let d = yields_until Any Failed Has stops m (union_of lists) (all_errors lists)
             (starts stops lists sorted) in
             record {
               answers = λ ends rs t runs fine. d.answers ends rs t
@@ -165,7 +165,7 @@ module _ {S A : Type 0} (front back : S → Option R → S → Type 0) where
 module _ {S : Type 0} (front back : S → Option R → S → Type 0) (can can_back : S → Type 0) where
   abbrev CanIf : Bool → S → Type 0
   CanIf true s = Unit {0}
-  CanIf false s = CanDeal front back can can_back s
+  CanIf false s = CanYield front back can can_back s
 
   record CanEnd (s : Ends S) : Type 0 where
     pub at : CanIf s.done s.iter
@@ -302,14 +302,14 @@ module _ {S A : Type 0} (front back : S → Option R → S → Type 0) (can can_
           (ended_can k.step k.led (steps_can s k.led k.step k.steps was)) in
           record { fits = both all t.failed call.may.fits }
 
-  pub can_both : (m : Merger S A) → MayBoth m → CanDeal (Calls front Front MayFront)
+  pub can_both : (m : Merger S A) → MayBoth m → CanYield (Calls front Front MayFront)
       (Calls back Back MayBoth) MayFront MayBoth m
   can_both m may = can_by (Calls front Front MayFront)
       (Calls back Back MayBoth) MayFront MayBoth MayBoth (λ s m. (may_front s m, m)) may_again
       (λ s r t m step. step.may) m may
 
   pub can_in_front : (m : Merger S A) → MayFront m
-      → CanDeal (Calls front Front MayFront) nowhere MayFront MayFront m
+      → CanYield (Calls front Front MayFront) nowhere MayFront MayFront m
   can_in_front m may = can_by (Calls front Front MayFront) nowhere MayFront MayFront MayFront
       (λ s m. (m, m)) (λ s r t m step. step.may) (λ s r t m step. absurd step) m may
 

@@ -5,7 +5,7 @@ use Rattle.std.specs.Prelude.{Option, Some, None, Result, Ok, Err, is_some, not}
 use Rattle.std.specs.Option.{option_map}
 use Rattle.sst_entries.specs.Entry.{Entry}
 use Rattle.sst_entries.specs.Kind.{is_tombstone_kind}
-use Rattle.sst_entries.specs.Stream.{CanDeal, nowhere}
+use Rattle.sst_entries.specs.Stream.{CanYield, nowhere}
 use Rattle.sst_entries.specs.declared.error.Error.{Error}
 use Rattle.sst_entries.proofs.StreamLemmas.{can_by}
 use Rattle.lsm_sorted.specs.merge.Ends.{R}
@@ -454,8 +454,8 @@ module _ {F C : Type 0} (gives : F → Entry → Result Verdict Error → F → 
         subst (λ (r : Option R). Advances s r t) (sym (lends_nothing lent t none)) goes
 
     pub can_compacted : (s : LendingCompaction S F C A)
-        → CanDeal advances nowhere can can s.source
-        → CanDeal Advances nowhere (MayLendCompacted advances can) (MayLendCompacted advances can) s
+        → CanYield advances nowhere can can s.source
+        → CanYield Advances nowhere (MayLendCompacted advances can) (MayLendCompacted advances can) s
     can_compacted s may = can_by Advances nowhere (MayLendCompacted advances can) (MayLendCompacted advances can)
         (MayLendCompacted advances can) (λ u m. (m, m)) (λ u r t m step. step.may)
         (λ u r t m step. absurd step) s may

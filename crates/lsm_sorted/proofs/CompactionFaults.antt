@@ -7,7 +7,7 @@ use Rattle.sst_entries.specs.declared.error.Error.TheVariants.{OutOfMemory}
 use Rattle.lsm_sorted.specs.merge.Ends.{R}
 use Rattle.lsm_sorted.specs.Compaction.{Verdict}
 use Rattle.lsm_sorted.specs.Hears.{GaveEach}
-use Rattle.lsm_sorted.specs.lending.LentFaults.{AllOver, AlwaysTells, EndsIn, GaveInCalls}
+use Rattle.lsm_sorted.specs.lending.LentFaults.{AllOver, AlwaysReports, EndsIn, GaveInCalls}
 use Rattle.lsm_sorted.specs.lending.LentFaults.{NextIdles}
 use Rattle.lsm_sorted.specs.lending.LentFaults.{WantsItself}
 use Rattle.lsm_sorted.specs.lending.LentFaults.{FilterSays, PassesAllOr, PassesOr, PassingOr}
@@ -74,15 +74,15 @@ module _ {F C : Type 0} (gives : F → Entry → Result Verdict Error → F → 
         ),
       )
 
-  all_told : (rs : List (Option R)) (s u : LendingCompaction S F C A) → s.is_over ≡ false → GaveEach Next s rs u
+  all_result : (rs : List (Option R)) (s u : LendingCompaction S F C A) → s.is_over ≡ false → GaveEach Next s rs u
       → (calls : List (List (Option R))) × Meanwhile s u calls × PassesAllOr (FilterSays gives) rs calls
       × StaysOverOr (FilterSays gives) rs calls × (s.is_pending ≡ false → NextIdles rs calls)
-  all_told [] s u o each = ([], ap lender each, tt, tt, λ h. tt)
-  all_told (r ∷ rs) s u o each =
+  all_result [] s u o each = ([], ap lender each, tt, tt, λ h. tt)
+  all_result (r ∷ rs) s u o each =
       let call = each.1.live o in elim call.step.told [
         | inl passing ↦
             let passes = passes_of gives r call.step.answers call.ended passing.0 in
-            let more = all_told rs each.0 u passing.1 each.2 in (
+            let more = all_result rs each.0 u passing.1 each.2 in (
               call.step.answers ∷ more.0,
               (lender each.0, call.step.gave, more.1),
               inl (passes, more.2),
@@ -108,12 +108,12 @@ module _ {F C : Type 0} (gives : F → Entry → Result Verdict Error → F → 
       ]
 
   module _ (s : LendingCompaction S F C A) (live : s.is_over ≡ false) where
-    pub compaction_passes : AlwaysTells (PassesAllOr (FilterSays gives)) advances s.source lender Next s
+    pub compaction_passes : AlwaysReports (PassesAllOr (FilterSays gives)) advances s.source lender Next s
     compaction_passes = record {
-      of = λ rs u each. let all = all_told rs s u live each in (all.0, all.1, all.2);
+      of = λ rs u each. let all = all_result rs s u live each in (all.0, all.1, all.2);
     }
 
-    pub compaction_stays : AlwaysTells (StaysOverOr (FilterSays gives)) advances s.source lender Next s
+    pub compaction_stays : AlwaysReports (StaysOverOr (FilterSays gives)) advances s.source lender Next s
     compaction_stays = record {
-      of = λ rs u each. let all = all_told rs s u live each in (all.0, all.1, all.3);
+      of = λ rs u each. let all = all_result rs s u live each in (all.0, all.1, all.3);
     }

@@ -6,29 +6,29 @@ use Rattle.std.specs.Option.{is_some}
 use Rattle.std.specs.Iterator.{Count, IsFinite, MakesProgress, size}
 use Rattle.sst_entries.specs.declared.error.Error.{Error}
 use Rattle.lsm_sorted.specs.declared.heap.ends.Ends.{Ends}
-use Rattle.sst_entries.specs.Stream.{first, but_first, last, but_last, answer_stops, Deals, CanDeal}
-use Rattle.sst_entries.specs.Stream.{nowhere, DealsFirst, DealsLast, Steps, Lowers}
+use Rattle.sst_entries.specs.Stream.{first, but_first, last, but_last, answer_stops, YieldsExactly, CanYield}
+use Rattle.sst_entries.specs.Stream.{nowhere, YieldsFirst, YieldsLast, Steps, Lowers}
 use Rattle.sst_entries.specs.declared.stream.Direction.{Direction}
 use Rattle.sst_entries.specs.declared.stream.Direction.TheVariants.{Front, Back}
-use Rattle.lsm_sorted.specs.merge.Ends.{R, LeftIf, Left, GoesIf, Goes, AskedIf, Asked, DealsAt}
+use Rattle.lsm_sorted.specs.merge.Ends.{R, LeftIf, Left, GoesIf, Goes, AskedIf, Asked, YieldsAt}
 use Rattle.lsm_sorted.specs.merge.Ends.{ends_size}
 use Rattle.sst_entries.proofs.FrontLemmas.{can_in_front}
-use Rattle.sst_entries.proofs.StreamLemmas.{deals_front, deals_back, can_front, can_after_back}
+use Rattle.sst_entries.proofs.StreamLemmas.{yields_front, yields_back, can_front, can_after_back}
 
 pub none_first : {A : Type 0} (xs : List A) → None ≡ first xs → xs ≡ []
 none_first [] e = refl
 none_first (x ∷ xs) e = cc
 
 module _ {S : Type 0} (stops : Error → Bool) (front back : S → Option R → S → Type 0) where
-  deals_of : (s : Ends S) (xs : List R) → s.done ≡ false → Left stops front back s xs
-      → Deals (answer_stops stops) front back s.iter xs
-  deals_of s xs e h = subst (λ (b : Bool). LeftIf stops front back b s.iter xs) e h.lists
+  yields_of : (s : Ends S) (xs : List R) → s.done ≡ false → Left stops front back s xs
+      → YieldsExactly (answer_stops stops) front back s.iter xs
+  yields_of s xs e h = subst (λ (b : Bool). LeftIf stops front back b s.iter xs) e h.lists
 
-  pub some_deals : (s : Ends S) (x : R) (t : S) → s.done ≡ false → front s.iter (Some x) t
-      → DealsFirst stops (Left stops front back) s (Some x) (record { iter = t; done = s.done })
-  some_deals s x t e step xs h fine =
-      let d = deals_front (answer_stops stops) front back s.iter xs (Some x) t
-      (deals_of s xs e h) step fine in (
+  pub some_yields : (s : Ends S) (x : R) (t : S) → s.done ≡ false → front s.iter (Some x) t
+      → YieldsFirst stops (Left stops front back) s (Some x) (record { iter = t; done = s.done })
+  some_yields s x t e step xs h fine =
+      let d = yields_front (answer_stops stops) front back s.iter xs (Some x) t
+      (yields_of s xs e h) step fine in (
         d.0,
         record {
           lists = subst (λ (b : Bool). LeftIf stops front back b t (but_first xs))
@@ -36,11 +36,11 @@ module _ {S : Type 0} (stops : Error → Bool) (front back : S → Option R → 
         },
       )
 
-  pub some_deals_back : (s : Ends S) (x : R) (t : S) → s.done ≡ false → back s.iter (Some x) t
-      → DealsLast stops (Left stops front back) s (Some x) (record { iter = t; done = s.done })
-  some_deals_back s x t e step xs h fine =
-      let d = deals_back (answer_stops stops) front back s.iter xs (Some x) t
-      (deals_of s xs e h) step fine in (
+  pub some_yields_back : (s : Ends S) (x : R) (t : S) → s.done ≡ false → back s.iter (Some x) t
+      → YieldsLast stops (Left stops front back) s (Some x) (record { iter = t; done = s.done })
+  some_yields_back s x t e step xs h fine =
+      let d = yields_back (answer_stops stops) front back s.iter xs (Some x) t
+      (yields_of s xs e h) step fine in (
         d.0,
         record {
           lists = subst (λ (b : Bool). LeftIf stops front back b t (but_last xs))
@@ -48,18 +48,18 @@ module _ {S : Type 0} (stops : Error → Bool) (front back : S → Option R → 
         },
       )
 
-  pub none_deals : (s : Ends S) (t : S) → s.done ≡ false → front s.iter None t
-      → DealsFirst stops (Left stops front back) s None (record { iter = t; done = true })
-  none_deals s t e step xs h fine =
-      let d = deals_front (answer_stops stops) front back s.iter xs None t
-      (deals_of s xs e h) step fine in
+  pub none_yields : (s : Ends S) (t : S) → s.done ≡ false → front s.iter None t
+      → YieldsFirst stops (Left stops front back) s None (record { iter = t; done = true })
+  none_yields s t e step xs h fine =
+      let d = yields_front (answer_stops stops) front back s.iter xs None t
+      (yields_of s xs e h) step fine in
       (d.0, record { lists = ap but_first (none_first xs d.0) })
 
-  pub none_deals_back : (s : Ends S) (t : S) → s.done ≡ false → back s.iter None t
-      → DealsLast stops (Left stops front back) s None (record { iter = t; done = true })
-  none_deals_back s t e step xs h fine =
-      let d = deals_back (answer_stops stops) front back s.iter xs None t
-      (deals_of s xs e h) step fine in (
+  pub none_yields_back : (s : Ends S) (t : S) → s.done ≡ false → back s.iter None t
+      → YieldsLast stops (Left stops front back) s None (record { iter = t; done = true })
+  none_yields_back s t e step xs h fine =
+      let d = yields_back (answer_stops stops) front back s.iter xs None t
+      (yields_of s xs e h) step fine in (
         d.0,
         record {
           lists = ap (λ (ys : List R). reverse (but_first ys))
@@ -68,8 +68,8 @@ module _ {S : Type 0} (stops : Error → Bool) (front back : S → Option R → 
       )
 
   -- where it is done, nothing is left
-  pub done_deals : (s : Ends S) → s.done ≡ true → DealsFirst stops (Left stops front back) s None s
-  done_deals s e xs h fine =
+  pub done_yields : (s : Ends S) → s.done ≡ true → YieldsFirst stops (Left stops front back) s None s
+  done_yields s e xs h fine =
       let empty : xs ≡ [] = subst (λ (b : Bool). LeftIf stops front back b s.iter xs) e h.lists in (
         sym (ap first empty),
         record {
@@ -79,9 +79,9 @@ module _ {S : Type 0} (stops : Error → Bool) (front back : S → Option R → 
         },
       )
 
-  pub done_deals_back : (s : Ends S) → s.done ≡ true
-      → DealsLast stops (Left stops front back) s None s
-  done_deals_back s e xs h fine =
+  pub done_yields_back : (s : Ends S) → s.done ≡ true
+      → YieldsLast stops (Left stops front back) s None s
+  done_yields_back s e xs h fine =
       let empty : xs ≡ [] = subst (λ (b : Bool). LeftIf stops front back b s.iter xs) e h.lists in (
         sym (ap last empty),
         record {
@@ -94,7 +94,7 @@ module _ {S : Type 0} (stops : Error → Bool) (front back : S → Option R → 
 module _ {S : Type 0} (front back : S → Option R → S → Type 0) where
   module _ (can can_back : S → Type 0) (left : S → Count) where
     pub goes_ready : (s : Ends S) → s.done ≡ false → Goes front back can can_back left s
-        → CanDeal front back can can_back s.iter × IsFinite (left s.iter)
+        → CanYield front back can can_back s.iter × IsFinite (left s.iter)
     goes_ready s e h = subst (λ (b : Bool). GoesIf front back can can_back left b s.iter) e h.ready
 
 -- ---- a call by what it asks
@@ -110,52 +110,52 @@ module _ {S : Type 0} (ask : S → Option R → S → Type 0) (s : Ends S) where
 
 module _ {S : Type 0} (stops : Error → Bool) (front back : S → Option R → S → Type 0) where
   pub asked_first : (s : Ends S) (r : Option R) (t : Ends S) → Asked front s r t
-      → DealsFirst stops (Left stops front back) s r t
+      → YieldsFirst stops (Left stops front back) s r t
   asked_first s r t a = by_done s.done refl a.call
     where
       one : (r : Option R) → s.done ≡ false → front s.iter r t.iter → t.done ≡ is_none r
-          → DealsFirst stops (Left stops front back) s r t
-      one None e step d = subst (λ (b : Bool). DealsFirst stops (Left stops front back) s None
+          → YieldsFirst stops (Left stops front back) s r t
+      one None e step d = subst (λ (b : Bool). YieldsFirst stops (Left stops front back) s None
           (record { iter = t.iter; done = b })) (sym d)
-          (none_deals stops front back s t.iter e step)
-      one (Some x) e step d = subst (λ (b : Bool). DealsFirst stops (Left stops front back) s
+          (none_yields stops front back s t.iter e step)
+      one (Some x) e step d = subst (λ (b : Bool). YieldsFirst stops (Left stops front back) s
           (Some x) (record { iter = t.iter; done = b })) (e ∙ sym d)
-          (some_deals stops front back s x t.iter e step)
+          (some_yields stops front back s x t.iter e step)
 
       by_done : (b : Bool) → s.done ≡ b → AskedIf front b s r t
-          → DealsFirst stops (Left stops front back) s r t
-      by_done true e c = rw (c.0, c.1) (done_deals stops front back s e)
+          → YieldsFirst stops (Left stops front back) s r t
+      by_done true e c = rw (c.0, c.1) (done_yields stops front back s e)
       by_done false e c = one r e c.0 c.1
 
   pub asked_last : (s : Ends S) (r : Option R) (t : Ends S) → Asked back s r t
-      → DealsLast stops (Left stops front back) s r t
+      → YieldsLast stops (Left stops front back) s r t
   asked_last s r t a = by_done s.done refl a.call
     where
       one : (r : Option R) → s.done ≡ false → back s.iter r t.iter → t.done ≡ is_none r
-          → DealsLast stops (Left stops front back) s r t
-      one None e step d = subst (λ (b : Bool). DealsLast stops (Left stops front back) s None
+          → YieldsLast stops (Left stops front back) s r t
+      one None e step d = subst (λ (b : Bool). YieldsLast stops (Left stops front back) s None
           (record { iter = t.iter; done = b })) (sym d)
-          (none_deals_back stops front back s t.iter e step)
-      one (Some x) e step d = subst (λ (b : Bool). DealsLast stops (Left stops front back) s
+          (none_yields_back stops front back s t.iter e step)
+      one (Some x) e step d = subst (λ (b : Bool). YieldsLast stops (Left stops front back) s
           (Some x) (record { iter = t.iter; done = b })) (e ∙ sym d)
-          (some_deals_back stops front back s x t.iter e step)
+          (some_yields_back stops front back s x t.iter e step)
 
       by_done : (b : Bool) → s.done ≡ b → AskedIf back b s r t
-          → DealsLast stops (Left stops front back) s r t
-      by_done true e c = rw (c.0, c.1) (done_deals_back stops front back s e)
+          → YieldsLast stops (Left stops front back) s r t
+      by_done true e c = rw (c.0, c.1) (done_yields_back stops front back s e)
       by_done false e c = one r e c.0 c.1
 
-  pub asked_deals : (end : Direction) (s : Ends S) (r : Option R) (t : Ends S)
-      → Asked (Steps front back end) s r t → DealsAt end stops (Left stops front back) s r t
-  asked_deals Front = asked_first
-  asked_deals Back = asked_last
+  pub asked_yields : (end : Direction) (s : Ends S) (r : Option R) (t : Ends S)
+      → Asked (Steps front back end) s r t → YieldsAt end stops (Left stops front back) s r t
+  asked_yields Front = asked_first
+  asked_yields Back = asked_last
 
 -- a call at the front or the back of an iterator that may be asked at both makes progress, and it
 -- may be asked at both again
 module _ {S X : Type 0} (front back : S → Option X → S → Type 0) (can can_back : S → Type 0)
     (left : S → Count) where
-  progress : (may : S → Type 0) (s : S) (r : Option X) (t : S) → CanDeal front back can can_back t
-      → MakesProgress may left s r t → MakesProgress (CanDeal front back can can_back) left s r t
+  progress : (may : S → Type 0) (s : S) (r : Option X) (t : S) → CanYield front back can can_back t
+      → MakesProgress may left s r t → MakesProgress (CanYield front back can can_back) left s r t
   progress may s None t can p = record { on = λ ends. tt; keeps = tt; rests = p.rests }
   progress may s (Some x) t can p = record {
     on = λ ends. let q = p.on ends in
@@ -164,15 +164,15 @@ module _ {S X : Type 0} (front back : S → Option X → S → Type 0) (can can_
     rests = p.rests;
   }
 
-  pub progress_front : (s : S) (r : Option X) (t : S) → CanDeal front back can can_back s
+  pub progress_front : (s : S) (r : Option X) (t : S) → CanYield front back can can_back s
       → front s r t → MakesProgress can left s r t
-      → MakesProgress (CanDeal front back can can_back) left s r t
+      → MakesProgress (CanYield front back can can_back) left s r t
   progress_front s r t c step p = progress can s r t
       (can_front front back can can_back s r t c step) p
 
-  pub progress_back : (s : S) (r : Option X) (t : S) → CanDeal front back can can_back s
+  pub progress_back : (s : S) (r : Option X) (t : S) → CanYield front back can can_back s
       → back s r t → MakesProgress can_back left s r t
-      → MakesProgress (CanDeal front back can can_back) left s r t
+      → MakesProgress (CanYield front back can can_back) left s r t
   progress_back s r t c step p = progress can_back s r t
       (can_after_back front back can can_back s r t c step) p
 
@@ -223,7 +223,7 @@ ended_by r false e = sym (ap not e)
 module _ {S : Type 0} (front back : S → Option R → S → Type 0) (can can_back : S → Type 0)
     (left : S → Count) (s : Ends S) where
   pub goes_now : (r : Option R) (t : S) (d : Bool) → IsFinite (left s.iter) → d ≡ is_none r
-      → MakesProgress (CanDeal front back can can_back) left s.iter r t
+      → MakesProgress (CanYield front back can can_back) left s.iter r t
       → Goes front back can can_back left (record { iter = t; done = d })
   goes_now None t d ends e p = record {
     ready =
@@ -236,7 +236,7 @@ module _ {S : Type 0} (front back : S → Option R → S → Type 0) (can can_ba
   }
 
   pub lowers_now : (r : Option R) (t : S) (d : Bool) → s.done ≡ false → IsFinite (left s.iter)
-      → d ≡ is_none r → MakesProgress (CanDeal front back can can_back) left s.iter r t
+      → d ≡ is_none r → MakesProgress (CanYield front back can can_back) left s.iter r t
       → Lowers r (ends_size left s) (ends_size left (record { iter = t; done = d }))
   lowers_now None t d was ends e p = subst (λ (b : Bool). cond b 0 (size (left t)) ≡ 0) (sym e) refl
   lowers_now (Some x) t d was ends e p =

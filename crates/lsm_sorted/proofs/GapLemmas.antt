@@ -8,13 +8,13 @@ use Rattle.sst_entries.specs.Entry.{Entry}
 use Rattle.sst_entries.specs.declared.error.Error.{Error}
 use Rattle.sst_entries.specs.declared.stream.Direction.{Direction}
 use Rattle.sst_entries.specs.declared.stream.Direction.TheVariants.{Front, Back}
-use Rattle.sst_entries.specs.Stream.{Runs, Deals, answer_stops, ok_results, deal, first, but_first}
+use Rattle.sst_entries.specs.Stream.{Runs, YieldsExactly, answer_stops, ok_results, yield_each, first, but_first}
 use Rattle.sst_entries.specs.Stream.{last, but_last, EndsAtError}
-use Rattle.sst_entries.proofs.StreamLemmas.{deals_front, deals_back, map_append, map_reverse}
+use Rattle.sst_entries.proofs.StreamLemmas.{yields_front, yields_back, map_append, map_reverse}
 use Rattle.lsm_sorted.specs.merge.Ends.{R}
 use Rattle.lsm_sorted.specs.merge.Union.{all_errors, union_of}
-use Rattle.lsm_sorted.specs.merge.Merge.{Follows, DealsUntil}
-use Rattle.lsm_sorted.specs.merge.MergeLaws.{DealsBeforeErrors, DealsUntilError, every_error}
+use Rattle.lsm_sorted.specs.merge.Merge.{Follows, YieldsUntil}
+use Rattle.lsm_sorted.specs.merge.MergeLaws.{YieldsBeforeErrors, YieldsUntilError, every_error}
 use Rattle.lsm_sorted.specs.Outlook.{StopsAtNone}
 use Rattle.lsm_sorted.specs.Gap.{IsUpToGap, MergesUpToGap}
 use Rattle.lsm_sorted.proofs.PeekedLemmas.{last_of, others_of}
@@ -89,12 +89,12 @@ module _ (stops : Error → Bool) (errors : List Error) where
   module _ {T : Type 0} (next next_back : T → Option R → T → Type 0) where
     -- a source that has met no error yet
     pub record Unfailed (t : T) (es : List Entry) : Type 0 where
-      pub deals : Deals (answer_stops every_error) next next_back t (ok_results es)
-      pub until : DealsUntil stops next next_back t es errors
+      pub yields : YieldsExactly (answer_stops every_error) next next_back t (ok_results es)
+      pub until : YieldsUntil stops next next_back t es errors
       pub ends : EndsAtError next next_back t
 
     none_left : (ds : List Direction) (rs : List (Option R)) (t u : T)
-        → Runs next next_back t ds rs u → AllByRecursion (λ r. r ≡ None) rs → rs ≡ deal [] ds
+        → Runs next next_back t ds rs u → AllByRecursion (λ r. r ≡ None) rs → rs ≡ yield_each [] ds
     none_left [] [] t u runs h = refl
     none_left [] (r ∷ rs) t u runs h = absurd runs
     none_left (d ∷ ds) [] t u runs h = absurd runs
@@ -110,11 +110,11 @@ module _ (stops : Error → Bool) (errors : List Error) where
     no_ends (d ∷ ds) (r ∷ rs) t u runs e = absurd cc
 
     -- what the list is for calls that gave these answers
-    abbrev pub Told : List Entry → List Direction → List (Option R) → Type 0
-    Told es ds rs = (xs : List R) × IsUpToGap stops es errors xs × (rs ≡ deal xs ds)
+    abbrev pub Reported : List Entry → List Direction → List (Option R) → Type 0
+    Reported es ds rs = (xs : List R) × IsUpToGap stops es errors xs × (rs ≡ yield_each xs ds)
 
     at_front : (x : Entry) (es : List Entry) (ds : List Direction) (rs : List (Option R))
-        → Told es ds rs → Told (x ∷ es) (Front ∷ ds) (Some (Ok x) ∷ rs)
+        → Reported es ds rs → Reported (x ∷ es) (Front ∷ ds) (Some (Ok x) ∷ rs)
     at_front x es ds rs h = (
       Ok x ∷ h.0,
       before_gap x es h.0 h.1,
@@ -123,12 +123,12 @@ module _ (stops : Error → Bool) (errors : List Error) where
     )
 
     at_back : (x : Entry) (es : List Entry) (ds : List Direction) (rs : List (Option R))
-        → Told es ds rs → Told (es ++ x ∷ []) (Back ∷ ds) (Some (Ok x) ∷ rs)
+        → Reported es ds rs → Reported (es ++ x ∷ []) (Back ∷ ds) (Some (Ok x) ∷ rs)
     at_back x es ds rs h =
         let xs = h.0 ++ Ok x ∷ [] in
         let one : Some (Ok x) ≡ last xs = last_of xs h.0 (Ok x) refl in
-        let more : rs ≡ deal (but_last xs) ds = h.2
-        ∙ ap (λ (ys : List R). deal ys ds) (sym (others_of xs h.0 (Ok x) refl)) in
+        let more : rs ≡ yield_each (but_last xs) ds = h.2
+        ∙ ap (λ (ys : List R). yield_each ys ds) (sym (others_of xs h.0 (Ok x) refl)) in
         (xs, behind_gap x es h.0 h.1, cc (one, more))
 
     whose : (e : Error) (end : Direction) (t v : T) (es : List Entry) → Unfailed t es
@@ -143,26 +143,26 @@ module _ (stops : Error → Bool) (errors : List Error) where
         told Front runs h = (g.until.answers (Front ∷ []) (Some (Err e) ∷ []) v runs (h, tt)).0
         told Back runs h = (g.until.answers (Back ∷ []) (Some (Err e) ∷ []) v runs (h, tt)).0
 
-    pub told_up_to_gap : (ds : List Direction) (rs : List (Option R)) (t u : T) (es : List Entry)
-        → Unfailed t es → Runs next next_back t ds rs u → StopsAtNone false rs → Told es ds rs
-    told_up_to_gap [] [] t u es g runs once = (ok_results es, inl refl, refl)
-    told_up_to_gap [] (r ∷ rs) t u es g runs once = absurd runs
-    told_up_to_gap (d ∷ ds) [] t u es g runs once = absurd runs
-    told_up_to_gap (Front ∷ ds) (None ∷ rs) t u es g runs once =
-        let one = (deals_front (answer_stops every_error) next next_back t
-        (ok_results es) None runs.0 g.deals runs.1 refl).0 in
+    pub reported_up_to_gap : (ds : List Direction) (rs : List (Option R)) (t u : T) (es : List Entry)
+        → Unfailed t es → Runs next next_back t ds rs u → StopsAtNone false rs → Reported es ds rs
+    reported_up_to_gap [] [] t u es g runs once = (ok_results es, inl refl, refl)
+    reported_up_to_gap [] (r ∷ rs) t u es g runs once = absurd runs
+    reported_up_to_gap (d ∷ ds) [] t u es g runs once = absurd runs
+    reported_up_to_gap (Front ∷ ds) (None ∷ rs) t u es g runs once =
+        let one = (yields_front (answer_stops every_error) next next_back t
+        (ok_results es) None runs.0 g.yields runs.1 refl).0 in
         let none : ds ≡ [] = no_ends ds rs runs.0 u runs.2 once in
-        let more : rs ≡ deal (but_first (ok_results es)) ds = once
-        ∙ ap (deal (but_first (ok_results es))) (sym none) in
+        let more : rs ≡ yield_each (but_first (ok_results es)) ds = once
+        ∙ ap (yield_each (but_first (ok_results es))) (sym none) in
         (ok_results es, inl refl, cc (one, more))
-    told_up_to_gap (Back ∷ ds) (None ∷ rs) t u es g runs once =
-        let one = (deals_back (answer_stops every_error) next next_back t
-        (ok_results es) None runs.0 g.deals runs.1 refl).0 in
+    reported_up_to_gap (Back ∷ ds) (None ∷ rs) t u es g runs once =
+        let one = (yields_back (answer_stops every_error) next next_back t
+        (ok_results es) None runs.0 g.yields runs.1 refl).0 in
         let none : ds ≡ [] = no_ends ds rs runs.0 u runs.2 once in
-        let more : rs ≡ deal (but_last (ok_results es)) ds = once
-        ∙ ap (deal (but_last (ok_results es))) (sym none) in
+        let more : rs ≡ yield_each (but_last (ok_results es)) ds = once
+        ∙ ap (yield_each (but_last (ok_results es))) (sym none) in
         (ok_results es, inl refl, cc (one, more))
-    told_up_to_gap (Front ∷ ds) (Some (Err e) ∷ rs) t u es g runs once =
+    reported_up_to_gap (Front ∷ ds) (Some (Err e) ∷ rs) t u es g runs once =
         let more = none_left ds rs runs.0 u runs.2
         (g.ends.answers (Front ∷ ds) (Some (Err e) ∷ rs) u runs) in (
           Err e ∷ [],
@@ -170,7 +170,7 @@ module _ (stops : Error → Bool) (errors : List Error) where
           ap
               (λ (qs : List (Option R)). Some (Err e) ∷ qs) more,
         )
-    told_up_to_gap (Back ∷ ds) (Some (Err e) ∷ rs) t u es g runs once =
+    reported_up_to_gap (Back ∷ ds) (Some (Err e) ∷ rs) t u es g runs once =
         let more = none_left ds rs runs.0 u runs.2
         (g.ends.answers (Back ∷ ds) (Some (Err e) ∷ rs) u runs) in (
           Err e ∷ [],
@@ -178,16 +178,16 @@ module _ (stops : Error → Bool) (errors : List Error) where
           ap
               (λ (qs : List (Option R)). Some (Err e) ∷ qs) more,
         )
-    told_up_to_gap (Front ∷ ds) (Some (Ok x) ∷ rs) t u es g runs once =
-        let one = deals_front (answer_stops every_error) next next_back t (ok_results es)
-        (Some (Ok x)) runs.0 g.deals runs.1 refl in
+    reported_up_to_gap (Front ∷ ds) (Some (Ok x) ∷ rs) t u es g runs once =
+        let one = yields_front (answer_stops every_error) next next_back t (ok_results es)
+        (Some (Ok x)) runs.0 g.yields runs.1 refl in
         let w = ok_first es x one.0 in
         let h : Unfailed t (x ∷ w.0) = subst (Unfailed t) w.1 g in
-        let left : Deals (answer_stops every_error) next next_back runs.0 (ok_results w.0) =
-        (deals_front (answer_stops every_error) next next_back t (ok_results (x ∷ w.0))
-        (Some (Ok x)) runs.0 h.deals runs.1 refl).1 in
+        let left : YieldsExactly (answer_stops every_error) next next_back runs.0 (ok_results w.0) =
+        (yields_front (answer_stops every_error) next next_back t (ok_results (x ∷ w.0))
+        (Some (Ok x)) runs.0 h.yields runs.1 refl).1 in
         let still : Unfailed runs.0 w.0 = record {
-          deals = left;
+          yields = left;
           until = record {
             answers = λ es qs v more fine.
                 (h.until.answers (Front ∷ es) (Some (Ok x) ∷ qs) v (runs.0, runs.1, more)
@@ -198,25 +198,25 @@ module _ (stops : Error → Bool) (errors : List Error) where
                 (runs.0, runs.1, more);
           };
         } in
-        subst (λ (ys : List Entry). Told ys (Front ∷ ds) (Some (Ok x) ∷ rs)) (sym w.1)
-        (at_front x w.0 ds rs (told_up_to_gap ds rs runs.0 u w.0 still runs.2 once))
-    told_up_to_gap (Back ∷ ds) (Some (Ok x) ∷ rs) t u es g runs once =
-        let one = deals_back (answer_stops every_error) next next_back t (ok_results es)
-        (Some (Ok x)) runs.0 g.deals runs.1 refl in
+        subst (λ (ys : List Entry). Reported ys (Front ∷ ds) (Some (Ok x) ∷ rs)) (sym w.1)
+        (at_front x w.0 ds rs (reported_up_to_gap ds rs runs.0 u w.0 still runs.2 once))
+    reported_up_to_gap (Back ∷ ds) (Some (Ok x) ∷ rs) t u es g runs once =
+        let one = yields_back (answer_stops every_error) next next_back t (ok_results es)
+        (Some (Ok x)) runs.0 g.yields runs.1 refl in
         let w = ok_last es x one.0 in
         let h : Unfailed t (w.0 ++ x ∷ []) = subst (Unfailed t) w.1 g in
         let others : but_last (ok_results (w.0 ++ x ∷ [])) ≡ ok_results w.0 =
         others_of (ok_results (w.0 ++ x ∷ [])) (ok_results w.0) (Ok x)
         (map_append w.0 (x ∷ [])) in
-        let left : Deals (answer_stops every_error) next next_back runs.0 (ok_results w.0) =
-        subst (Deals (answer_stops every_error) next next_back runs.0) others
-        (deals_back (answer_stops every_error) next next_back t (ok_results (w.0 ++ x ∷ []))
-        (Some (Ok x)) runs.0 h.deals runs.1 refl).1 in
+        let left : YieldsExactly (answer_stops every_error) next next_back runs.0 (ok_results w.0) =
+        subst (YieldsExactly (answer_stops every_error) next next_back runs.0) others
+        (yields_back (answer_stops every_error) next next_back t (ok_results (w.0 ++ x ∷ []))
+        (Some (Ok x)) runs.0 h.yields runs.1 refl).1 in
         let still : Unfailed runs.0 w.0 = record {
-          deals = left;
+          yields = left;
           until = record {
             answers = λ es qs v more fine. subst
-                (λ (ys : List R). Follows errors (deal ys es) qs) others
+                (λ (ys : List R). Follows errors (yield_each ys es) qs) others
                 (h.until.answers (Back ∷ es) (Some (Ok x) ∷ qs) v (runs.0, runs.1, more)
                 (refl, fine)).1;
           };
@@ -225,23 +225,23 @@ module _ (stops : Error → Bool) (errors : List Error) where
                 (runs.0, runs.1, more);
           };
         } in
-        subst (λ (ys : List Entry). Told ys (Back ∷ ds) (Some (Ok x) ∷ rs)) (sym w.1)
-        (at_back x w.0 ds rs (told_up_to_gap ds rs runs.0 u w.0 still runs.2 once))
+        subst (λ (ys : List Entry). Reported ys (Back ∷ ds) (Some (Ok x) ∷ rs)) (sym w.1)
+        (at_back x w.0 ds rs (reported_up_to_gap ds rs runs.0 u w.0 still runs.2 once))
 
 -- of a merger, from what it deals up to an error
 pub merges_up_to_gap : {S T : Type 0} (front back : S → Option R → S → Type 0) (its : List S)
     (next next_back : T → Option R → T → Type 0) (t : T)
-    → DealsBeforeErrors front back its next next_back t
-    → DealsUntilError front back its next next_back t → EndsAtError next next_back t
+    → YieldsBeforeErrors front back its next next_back t
+    → YieldsUntilError front back its next next_back t → EndsAtError next next_back t
     → MergesUpToGap front back its next next_back t
 merges_up_to_gap front back its next next_back t before until ends = record {
-  deals = λ stops lists sorted. record {
-    answers = λ ds rs u runs once. told_up_to_gap stops (all_errors lists) next next_back ds rs t u
+  yields = λ stops lists sorted. record {
+    answers = λ ds rs u runs once. reported_up_to_gap stops (all_errors lists) next next_back ds rs t u
         (union_of lists)
         (record {
-          deals = before.deals stops lists sorted;
+          yields = before.yields stops lists sorted;
           until =
-              until.deals stops lists sorted;
+              until.yields stops lists sorted;
           ends = ends;
         }) runs once;
   };

@@ -2,7 +2,7 @@
 use Rattle.std.proofs.Common.{◌≡◌, refl, sym, ◌∙◌, ap, subst, Bool, true, false, List, [], ◌∷◌}
 use Rattle.std.specs.Prelude.{Option, Some, None, Result, Ok, Err}
 use Rattle.sst_entries.specs.Entry.{Entry}
-use Rattle.sst_entries.specs.Stream.{but_first, answer_stops, DealsFirst}
+use Rattle.sst_entries.specs.Stream.{but_first, answer_stops, YieldsFirst}
 use Rattle.sst_entries.specs.declared.error.Error.{Error}
 use Rattle.lsm_sorted.specs.merge.Ends.{R}
 use Rattle.lsm_sorted.specs.declared.compaction.Rules.{Rules}
@@ -48,7 +48,7 @@ module _ {T F C : Type 0} (stops : Error → Bool) (Has : T → List R → Type 
   going_first s f c = record { at = λ xs h. (xs, h, λ r g d ys k. k) }
 
   module _ (s u v : T) (f h k : F) (c b a : C) (x : Entry) (result : Result (Option Entry) Error)
-      (was : Going s f c u h b) (deals : DealsFirst stops Has u (Some (Ok x)) v)
+      (was : Going s f c u h b) (yields : YieldsFirst stops Has u (Some (Ok x)) v)
       (filters : Filters gives gets x h b result k a) where
     -- a turn, from what it is where the filter has told
     turn_of : (rs : List R) (answer : Option R) (turn : Turn) (d : C)
@@ -75,7 +75,7 @@ module _ {T F C : Type 0} (stops : Error → Bool) (Has : T → List R → Type 
     more t d settles = record {
       at = λ xs has.
           let w = was.at xs has in
-          let one = deals w.0 w.1 refl in
+          let one = yields w.0 w.1 refl in
           let rs = but_first w.0 in
           let whole : w.0 ≡ Ok x ∷ rs = from_first w.0 (Ok x) one.0 in
           let m = settles rs one.1 in
@@ -96,7 +96,7 @@ module _ {T F C : Type 0} (stops : Error → Bool) (Has : T → List R → Type 
         × GetsAll gets a turn.reports d) → Called s f c (Some r) t k d
     ends r t d settles xs has fine =
         let w = was.at xs has in
-        let one = deals w.0 w.1 refl in
+        let one = yields w.0 w.1 refl in
         let rs = but_first w.0 in
         let whole : w.0 ≡ Ok x ∷ rs = from_first w.0 (Ok x) one.0 in
         let m = settles rs one.1 fine in
@@ -110,40 +110,40 @@ module _ {T F C : Type 0} (stops : Error → Bool) (Has : T → List R → Type 
         )
 
   module _ (s u v : T) (f h k : F) (c b a : C) (x : Entry) (was : Going s f c u h b)
-      (deals : DealsFirst stops Has u (Some (Ok x)) v) where
+      (yields : YieldsFirst stops Has u (Some (Ok x)) v) where
     pub going_dropped : Filters gives gets x h b (Ok None) k a → Going s f c v k a
-    going_dropped filters = more s u v f h k c b a x (Ok None) was deals filters v a
+    going_dropped filters = more s u v f h k c b a x (Ok None) was yields filters v a
         (λ rs has. (turned rules (Ok None) rs, refl, refl, has, refl))
 
     pub called_filter_err : (e : Error) → Filters gives gets x h b (Err e) k a
         → Called s f c (Some (Err e)) v k a
-    called_filter_err e filters = ends s u v f h k c b a x (Err e) was deals filters (Err e) v a
+    called_filter_err e filters = ends s u v f h k c b a x (Err e) was yields filters (Err e) v a
         (λ rs has fine. (turned rules (Err e) rs, refl, refl, has, refl))
 
     module _ (y : Entry) (filters : Filters gives gets x h b (Ok (Some y)) k a) (t : T)
         (d : C) where
       pub going_on : Settles stops Has gets rules y v a (Ok true) t d → Going s f c t k d
-      going_on settles = more s u v f h k c b a x (Ok (Some y)) was deals filters t d
+      going_on settles = more s u v f h k c b a x (Ok (Some y)) was yields filters t d
           (λ rs has. let m = settles.at rs has refl in (settled rules y rs, refl, m.0, m.1, m.2))
 
       pub called_kept : Settles stops Has gets rules y v a (Ok false) t d
           → Called s f c (Some (Ok (zeroed rules y))) t k d
-      called_kept settles = ends s u v f h k c b a x (Ok (Some y)) was deals filters
+      called_kept settles = ends s u v f h k c b a x (Ok (Some y)) was yields filters
           (Ok (zeroed rules y)) t d (λ rs has fine. let m = settles.at rs has refl in
           (settled rules y rs, refl, m.0, m.1, m.2))
 
       pub called_err : (e : Error) → Settles stops Has gets rules y v a (Err e) t d
           → Called s f c (Some (Err e)) t k d
-      called_err e settles = ends s u v f h k c b a x (Ok (Some y)) was deals filters (Err e) t d
+      called_err e settles = ends s u v f h k c b a x (Ok (Some y)) was yields filters (Err e) t d
           (λ rs has fine. let m = settles.at rs has fine in
           (settled rules y rs, refl, m.0, m.1, m.2))
 
   module _ (s u v : T) (f h : F) (c b : C) (was : Going s f c u h b) where
-    pub called_source_err : (e : Error) → DealsFirst stops Has u (Some (Err e)) v
+    pub called_source_err : (e : Error) → YieldsFirst stops Has u (Some (Err e)) v
         → Called s f c (Some (Err e)) v h b
-    called_source_err e deals xs has fine =
+    called_source_err e yields xs has fine =
         let w = was.at xs has in
-        let one = deals w.0 w.1 fine in
+        let one = yields w.0 w.1 fine in
         let whole : w.0 ≡ Err e ∷ but_first w.0 = from_first w.0 (Err e) one.0 in (
           but_first w.0,
           one.1,
@@ -152,10 +152,10 @@ module _ {T F C : Type 0} (stops : Error → Bool) (Has : T → List R → Type 
               (but_first w.0)) (sym whole) failed),
         )
 
-    pub called_none : DealsFirst stops Has u None v → Called s f c None v h b
-    called_none deals xs has fine =
+    pub called_none : YieldsFirst stops Has u None v → Called s f c None v h b
+    called_none yields xs has fine =
         let w = was.at xs has in
-        let one = deals w.0 w.1 refl in
+        let one = yields w.0 w.1 refl in
         let none : w.0 ≡ [] = none_first w.0 one.0 in (
           [],
           subst (Has v) (ap but_first none) one.1,

@@ -7,7 +7,7 @@ use Rattle.std.proofs.lemmas.List.{append-nil, reverse-append, reverse-reverse}
 use Rattle.sst_entries.specs.declared.error.Error.{Error}
 use Rattle.sst_entries.specs.declared.stream.Direction.{Direction}
 use Rattle.sst_entries.specs.declared.stream.Direction.TheVariants.{Front, Back}
-use Rattle.sst_entries.specs.Stream.{Runs, Steps, NoneStops, Deals, CanDeal, answer_stops, deal}
+use Rattle.sst_entries.specs.Stream.{Runs, Steps, NoneStops, YieldsExactly, CanYield, answer_stops, yield_each}
 use Rattle.sst_entries.specs.Stream.{first, but_first, last, but_last, nowhere}
 use Rattle.sst_entries.proofs.StreamLemmas.{head_eq, tail_eq}
 use Rattle.lsm_sorted.specs.declared.heap.ends.Ends.{Ends}
@@ -54,7 +54,7 @@ pub record Parts (end : Direction) (rs : List (Option R)) (es : List Direction)
     (qs : List (Option R)) (ys : List R) : Type 0 where
   pub left : List R
   pub whole : ys ≡ with_rest end (results_in rs) left
-  pub more : qs ≡ deal left es
+  pub more : qs ≡ yield_each left es
   pub over : (done : Bool) → StopsAtNone done rs → MayGive done ys → MayGive (is_over done rs) left
 
 module _ (es : List Direction) (qs : List (Option R)) where
@@ -82,7 +82,7 @@ module _ (es : List Direction) (qs : List (Option R)) where
   some_over x rs zs left over true ys once may = absurd cc
   some_over x rs zs left over false ys once may = over false once tt
 
-  parts_front : (rs : List (Option R)) (ys : List R) → rs ++ qs ≡ deal ys (each_at Front rs ++ es)
+  parts_front : (rs : List (Option R)) (ys : List R) → rs ++ qs ≡ yield_each ys (each_at Front rs ++ es)
       → Parts Front rs es qs ys
   parts_front [] ys e = record { left = ys; whole = refl; more = e; over = λ done once may. may }
   parts_front (None ∷ rs) ys e =
@@ -105,7 +105,7 @@ module _ (es : List Direction) (qs : List (Option R)) where
         over = λ done once may. some_over x rs (but_first ys) p.left p.over done ys once may;
       }
 
-  parts_back : (rs : List (Option R)) (ys : List R) → rs ++ qs ≡ deal ys (each_at Back rs ++ es)
+  parts_back : (rs : List (Option R)) (ys : List R) → rs ++ qs ≡ yield_each ys (each_at Back rs ++ es)
       → Parts Back rs es qs ys
   parts_back [] ys e = record {
     left = ys;
@@ -140,7 +140,7 @@ module _ (es : List Direction) (qs : List (Option R)) where
       }
 
   pub parts_at : (end : Direction) (rs : List (Option R)) (ys : List R)
-      → rs ++ qs ≡ deal ys (each_at end rs ++ es) → Parts end rs es qs ys
+      → rs ++ qs ≡ yield_each ys (each_at end rs ++ es) → Parts end rs es qs ys
   parts_at Front rs ys e = parts_front rs ys e
   parts_at Back rs ys e = parts_back rs ys e
 
@@ -157,7 +157,7 @@ module _ {S : Type 0} (front back : S → Option R → S → Type 0) where
     pub once : StopsAtNone o.source.done answers
     pub told : (stops : Error → Bool) → NoneStops (answer_stops stops) rs
         → NoneStops (answer_stops stops) answers
-    pub holds : (ys : List R) → MayGive o.source.done ys → answers ≡ deal ys ends → P (list_of o ys)
+    pub holds : (ys : List R) → MayGive o.source.done ys → answers ≡ yield_each ys ends → P (list_of o ys)
 
   pub heard_none : (o : Outlook S) (P : List R → Type 0) → ((xs : List R) → P xs) → HeardFrom o [] P
   heard_none o P all = record {
@@ -215,9 +215,9 @@ module _ {S : Type 0} (front back : S → Option R → S → Type 0) where
         }
 
     -- where the source deals a list, P holds of it
-    pub heard_dealt : (stops : Error → Bool) (xs : List R) → HeardFrom o rs P
-        → Deals (answer_stops stops) front back source xs → NoneStops (answer_stops stops) rs → P xs
-    heard_dealt stops xs g d fine =
+    pub heard_yielded : (stops : Error → Bool) (xs : List R) → HeardFrom o rs P
+        → YieldsExactly (answer_stops stops) front back source xs → NoneStops (answer_stops stops) rs → P xs
+    heard_yielded stops xs g d fine =
         let h = from_start g in
         subst P (append-nil xs) (h.holds xs tt (d.answers h.ends h.answers h.led h.runs
         (h.told stops fine)))
@@ -226,8 +226,8 @@ module _ {S : Type 0} (front back : S → Option R → S → Type 0) where
 
 module _ {S : Type 0} (front back : S → Option R → S → Type 0) (can can_back : S → Type 0)
     (left : S → Count) where
-  can_after_each : (rs : List (Option R)) (s t : S) → CanDeal front back can can_back s
-      → GaveEach front s rs t → CanDeal front back can can_back t
+  can_after_each : (rs : List (Option R)) (s t : S) → CanYield front back can can_back s
+      → GaveEach front s rs t → CanYield front back can can_back t
   can_after_each rs s t d h = record {
     at = λ ends qs u runs. d.at (each_at Front rs ++ ends)
         (rs ++ qs) u (runs_append front back (each_at Front rs) ends rs qs s t u

@@ -135,14 +135,14 @@ none_before : (ps : List Placed) → AllByRecursion (NotBefore None) ps
 none_before [] = tt
 none_before (p ∷ ps) = (refl, none_before ps)
 
-told_fault : (lists : List (List R)) (k : ℕ) (at : Option Entry) (e : Error) (ps : List Placed)
+reported_fault : (lists : List (List R)) (k : ℕ) (at : Option Entry) (e : Error) (ps : List Placed)
     → k < length lists
     → ((j : ℕ) → j < k → AllByRecursion (Behind at) (places_of None (slice_index_or lists j [])))
     → ((j : ℕ) → k < j → j < length lists → AllByRecursion (NotBefore at)
     (places_of None (slice_index_or lists j [])))
     → AllByRecursion (NotBefore at) ps
     → told (others lists k (record { at = at; is = Err e } ∷ ps)) ≡ Err e ∷ []
-told_fault lists k at e ps lt before after least =
+reported_fault lists k at e ps lt before after least =
     ap (λ (qs : List Placed). up_to_error (map (λ (p : Placed). p.is) qs))
     (first_of_others lists k (record { at = at; is = Err e }) ps lt before after least)
 
@@ -153,7 +153,7 @@ pub merge_fault : (lists : List (List R)) (k : ℕ) (e : Error) (rs : List R) �
 merge_fault lists k e rs lt is free =
     ap told (sym (others_same lists k lt)
     ∙ ap (λ (l : List R). others lists k (places_of None l)) is)
-    ∙ told_fault lists k None e (places_of None rs) lt
+    ∙ reported_fault lists k None e (places_of None rs) lt
     (λ j below. fault_free (slice_index_or lists j []) (free j below))
     (λ j above within. none_before (places_of None (slice_index_or lists j [])))
     (none_before (places_of None rs))
@@ -201,9 +201,9 @@ goes_on : (lists : List (List R)) (k : ℕ) (x : Entry) (rs : List R) → k < le
 goes_on lists k x [] lt own before after free least = refl
 goes_on lists k x (Ok y ∷ rs) lt own before after free least = refl
 goes_on lists k x (Err e ∷ rs) lt own before after free least =
-    told_fault lists k (Some x) e (places_of (Some x) rs) lt before after
+    reported_fault lists k (Some x) e (places_of (Some x) rs) lt before after
     (all_not_before x x rs own least)
-    ∙ sym (told_fault lists k None e (places_of None rs) lt
+    ∙ sym (reported_fault lists k None e (places_of None rs) lt
     (λ j below. fault_free (slice_index_or lists j []) (free j below))
     (λ j above within. none_before (places_of None (slice_index_or lists j [])))
     (none_before (places_of None rs)))

@@ -19,16 +19,16 @@ use Rattle.sst_entries.specs.declared.stream.Direction.TheVariants.{Front, Back}
 use Rattle.sst_entries.proofs.StreamLemmas.{map_append}
 use Rattle.lsm_sorted.specs.declared.heap.ends.Ends.{Ends}
 use Rattle.lsm_sorted.specs.declared.merge.Merger.{Merger}
-use Rattle.lsm_sorted.specs.merge.Ends.{R, Left, Asked, DealsAt}
+use Rattle.lsm_sorted.specs.merge.Ends.{R, Left, Asked, YieldsAt}
 use Rattle.lsm_sorted.specs.merge.Union.{all_errors, union_of}
 use Rattle.lsm_sorted.specs.merge.Merge.{entry_of, is_ready}
 use Rattle.lsm_sorted.proofs.Kept.{Kept, one, whole, taken_at, kept_at, taken, Ready, Stands}
 use Rattle.lsm_sorted.proofs.Kept.{Merging, Leaves, MergeAnswer, opposite}
-use Rattle.lsm_sorted.specs.merge.Asks.{error_told, entry_told, answer_told, ended_at, SameSources}
+use Rattle.lsm_sorted.specs.merge.Asks.{error_result, entry_result, answer_result, ended_at, SameSources}
 use Rattle.lsm_sorted.specs.merge.Asks.{AsksSource, FillsIf, Fills, TakesLead, TakesLeadIf}
 use Rattle.lsm_sorted.specs.merge.Asks.{TakesStep}
 use Rattle.lsm_sorted.specs.merge.Asks.{CallsIf, Calls, IsMergerOf}
-use Rattle.lsm_sorted.specs.merge.MergeLaws.{DealSorted, IsWithinBag, join_at, but_farthest}
+use Rattle.lsm_sorted.specs.merge.MergeLaws.{YieldSorted, IsWithinBag, join_at, but_farthest}
 use Rattle.lsm_sorted.specs.merge.MergeLaws.{ComesLate}
 use Rattle.lsm_sorted.specs.merge.MergeLaws.{ErrorsComeLate, RunsAt, MeetsErrorsLate}
 use Rattle.lsm_sorted.proofs.EndsLemmas.{asked_first, asked_last}
@@ -41,7 +41,7 @@ use Rattle.lsm_sorted.proofs.StepLemmas.{end_joined, ready_turned}
 use Rattle.lsm_sorted.proofs.AsksLemmas.{end_of, each_filled, each_same, asks_took, fills_ready}
 use Rattle.lsm_sorted.proofs.AsksLemmas.{steps_failed, ended_end}
 use Rattle.lsm_sorted.proofs.ReadyLemmas.{ready_same, made_sources, made_heap, made_now, made_other}
-use Rattle.lsm_sorted.proofs.DealsMerged.{untouched, all_whole, new_merging, new_leaves}
+use Rattle.lsm_sorted.proofs.YieldsMerged.{untouched, all_whole, new_merging, new_leaves}
 use Rattle.lsm_sorted.proofs.CallsMerged.{calls_merge}
 
 -- ---- lists
@@ -264,7 +264,7 @@ still_ready Back s m same = same.back_ready
 module _ {S A : Type 0} (front back : S → Option R → S → Type 0) (ask : S → Option R → S → Type 0)
     (end : Direction)
     (means : (stops : Error → Bool) (s : Ends S) (r : Option R) (t : Ends S) → Asked ask s r t
-    → DealsAt end stops (Left stops front back) s r t) (stops : Error → Bool)
+    → YieldsAt end stops (Left stops front back) s r t) (stops : Error → Bool)
     (lists : List (List R)) where
   -- a merger that stands for what is left of the lists
   record Along (given : List Entry) (m : Merger S A) : Type 0 where
@@ -280,22 +280,22 @@ module _ {S A : Type 0} (front back : S → Option R → S → Type 0) (ask : S 
   asks_err i s t e a ks stands fine = go end a.answer a.told
       (means stops a.was a.answer a.is a.asked)
     where
-      go : (b : Direction) (o : Option R) → Err e ≡ error_told o
-          → DealsAt b stops (Left stops front back) a.was o a.is
+      go : (b : Direction) (o : Option R) → Err e ≡ error_result o
+          → YieldsAt b stops (Left stops front back) a.was o a.is
           → Some (Err e) ≡ nearest b (kept_at ks i).rest
       go Front None told d = absurd cc
       go Front (Some (Ok x)) told d = absurd cc
       go Front (Some (Err f)) told d =
           let same : f ≡ e = cc in
           front_err_first stops front back s i a.within a.was a.is a.found ks stands e
-          (subst (λ (g : Error). DealsAt Front stops (Left stops front back) a.was
+          (subst (λ (g : Error). YieldsAt Front stops (Left stops front back) a.was
           (Some (Err g)) a.is) same d) fine
       go Back None told d = absurd cc
       go Back (Some (Ok x)) told d = absurd cc
       go Back (Some (Err f)) told d =
           let same : f ≡ e = cc in
           back_err_last stops front back s i a.within a.was a.is a.found ks stands e
-          (subst (λ (g : Error). DealsAt Back stops (Left stops front back) a.was
+          (subst (λ (g : Error). YieldsAt Back stops (Left stops front back) a.was
           (Some (Err g)) a.is) same d) fine
 
   fill_along : (given : List Entry) (s t : Merger S A) (r : Result (Unit {0}) Error)
@@ -424,7 +424,7 @@ module _ {S A : Type 0} (front back : S → Option R → S → Type 0) (ask : S 
         (sym k.told) (go k.answer k.asks)
       where
         go : (q : Result (Unit {0}) Error) → AsksSource ask end k.lead.source k.mid q t
-            → MatchResult (entry_told (entry_of k.lead) q)
+            → MatchResult (entry_result (entry_of k.lead) q)
             (λ o. MatchOption o (Unit {0}) (λ x. Along (x ∷ given) t)) (Late end stops lists given)
         go (Ok u) a =
             let took = asks_took stops front back ask end (means stops) k.lead.source k.mid t
@@ -520,7 +520,7 @@ module _ {S A : Type 0} (front back : S → Option R → S → Type 0) (ask : S 
         (end_of end xs).1 errors on more leaves runs.2 fine.1) fine.0
         (answer s r j xs errors runs.1 has fine.0)
       where
-        go : (r : Option R) (q : Result (Option Entry) Error) {led : Merger S A} → r ≡ answer_told q
+        go : (r : Option R) (q : Result (Option Entry) Error) {led : Merger S A} → r ≡ answer_result q
             → TakesStep ask end s q led → runs.0 ≡ ended_at q led
             → ((x : Entry) → Along (x ∷ given) runs.0
             → Leaves stops front back runs.0 (end_of end xs).1 errors → runs.0.failed ≡ false
@@ -550,12 +550,12 @@ module _ {S A : Type 0} (front back : S → Option R → S → Type 0) (May : Me
     (its : List S) (m : Merger S A) (of : IsMergerOf its m) where
   module _ (ask : S → Option R → S → Type 0) (end : Direction)
       (means : (stops : Error → Bool) (s : Ends S) (r : Option R) (t : Ends S) → Asked ask s r t
-      → DealsAt end stops (Left stops front back) s r t) where
+      → YieldsAt end stops (Left stops front back) s r t) where
     starts_along : (stops : Error → Bool) (lists : List (List R))
-        → DealSorted front back stops its lists → Along front back ask end means stops lists [] m
+        → YieldSorted front back stops its lists → Along front back ask end means stops lists [] m
     starts_along stops lists sorted =
         let new = new_merging front back m its of.sources of.empty of.no_front of.no_back stops
-        lists sorted.deal sorted.ascend in
+        lists sorted.yield_each sorted.ascend in
         record {
           kept = map untouched lists;
           stands = new.0;
@@ -570,7 +570,7 @@ module _ {S A : Type 0} (front back : S → Option R → S → Type 0) (May : Me
           late front back ask end means stops lists May [] rs m t (union_of lists)
           (all_errors lists) of.fine (starts_along stops lists sorted)
           (new_leaves front back m its of.sources of.empty of.no_front of.no_back of.fine stops
-          lists sorted.deal sorted.ascend) (repeats (Calls ask end May) end ends rs m t runs)
+          lists sorted.yield_each sorted.ascend) (repeats (Calls ask end May) end ends rs m t runs)
           fine;
     }
 

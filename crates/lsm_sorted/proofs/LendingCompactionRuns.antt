@@ -6,11 +6,11 @@ use Rattle.std.specs.List.{AllByRecursion}
 use Rattle.std.specs.Iterator.{Yields}
 use Rattle.std.proofs.lemmas.List.{append-nil}
 use Rattle.sst_entries.specs.Entry.{Entry}
-use Rattle.sst_entries.specs.Stream.{Deals, NoneStops, answer_stops, but_first, first, nowhere}
+use Rattle.sst_entries.specs.Stream.{YieldsExactly, NoneStops, answer_stops, but_first, first, nowhere}
 use Rattle.sst_entries.specs.Stream.{ok_results, result_stops}
 use Rattle.sst_entries.specs.declared.error.Error.{Error}
 use Rattle.sst_entries.specs.declared.error.Error.TheVariants.{OutOfMemory}
-use Rattle.sst_entries.proofs.StreamLemmas.{deals_front}
+use Rattle.sst_entries.proofs.StreamLemmas.{yields_front}
 use Rattle.lsm_sorted.specs.merge.Ends.{R}
 use Rattle.lsm_sorted.specs.Compaction.{Judged, JudgedItem, Verdict, as_they_are, by_key}
 use Rattle.lsm_sorted.specs.Compaction.{items, outs}
@@ -59,18 +59,18 @@ ends_calm stops r answers ends fine =
     (fine, tt))
 
 -- answers that were passed on where no error stops
-pub told_calm : (Says : Error → Type 0) (stops : Error → Bool) (r : Option R)
+pub reported_calm : (Says : Error → Type 0) (stops : Error → Bool) (r : Option R)
     (answers : List (Option R)) → PassingOr Says r answers → answer_stops stops r ≡ false
     → NoneStops (answer_stops stops) answers
-told_calm Says stops None answers told fine = elim told [
+reported_calm Says stops None answers told fine = elim told [
   | inl faults ↦ no_faults_calm stops answers faults
   | inr says ↦ no_faults_calm stops answers says.none
 ]
-told_calm Says stops (Some (Ok x)) answers told fine = elim told [
+reported_calm Says stops (Some (Ok x)) answers told fine = elim told [
   | inl faults ↦ no_faults_calm stops answers faults
   | inr says ↦ no_faults_calm stops answers says.none
 ]
-told_calm Says stops (Some (Err e)) answers told fine = elim told [
+reported_calm Says stops (Some (Err e)) answers told fine = elim told [
   | inl ends ↦ ends_calm stops (Some (Err e)) answers ends fine
   | inr says ↦ no_faults_calm stops answers says.none
 ]
@@ -97,30 +97,30 @@ ends_less (None ∷ rs) rest ends = (
 ends_less (Some x ∷ rs) rest ends = ends_less rs rest ends
 
 module _ {S : Type 0} (advances : S → Option R → S → Type 0) (stops : Error → Bool) where
-  abbrev pub Dealt : S → List R → Type 0
-  Dealt = Deals (answer_stops stops) advances nowhere
+  abbrev pub Yielded : S → List R → Type 0
+  Yielded = YieldsExactly (answer_stops stops) advances nowhere
 
   -- what it answered, and what it has still to deal
   pub record Parts (xs : List R) (answers : List (Option R)) (t : S) : Type 0 where
     pub rest : List R
     pub is : xs ≡ results_in answers ++ rest
-    pub has : Dealt t rest
+    pub has : Yielded t rest
     pub ends : EndsAtNone answers rest
 
-  pub dealt_parts : (answers : List (Option R)) (s t : S) (xs : List R) → Dealt s xs
+  pub yielded_parts : (answers : List (Option R)) (s t : S) (xs : List R) → Yielded s xs
       → GaveEach advances s answers t → NoneStops (answer_stops stops) answers
       → Parts xs answers t
-  dealt_parts [] s t xs has gave calm = record {
+  yielded_parts [] s t xs has gave calm = record {
     rest = xs;
     is = refl;
-    has = subst (λ (u : S). Dealt u xs) gave has;
+    has = subst (λ (u : S). Yielded u xs) gave has;
     ends = tt;
   }
-  dealt_parts (None ∷ rs) s t xs has gave calm =
-      let one = deals_front (answer_stops stops) advances nowhere s xs None gave.0 has gave.1 refl
+  yielded_parts (None ∷ rs) s t xs has gave calm =
+      let one = yields_front (answer_stops stops) advances nowhere s xs None gave.0 has gave.1 refl
       in
       let none : xs ≡ [] = none_first xs one.0 in
-      let more = dealt_parts rs gave.0 t (but_first xs) one.1 gave.2 calm.1 in
+      let more = yielded_parts rs gave.0 t (but_first xs) one.1 gave.2 calm.1 in
       let same : xs ≡ results_in rs ++ more.rest =
       none ∙ sym (ap (λ (ys : List R). but_first ys) none) ∙ more.is in
       record {
@@ -129,10 +129,10 @@ module _ {S : Type 0} (advances : S → Option R → S → Type 0) (stops : Erro
         has = more.has;
         ends = (sym same ∙ none, more.ends);
       }
-  dealt_parts (Some x ∷ rs) s t xs has gave calm =
-      let one = deals_front (answer_stops stops) advances nowhere s xs (Some x) gave.0 has gave.1
+  yielded_parts (Some x ∷ rs) s t xs has gave calm =
+      let one = yields_front (answer_stops stops) advances nowhere s xs (Some x) gave.0 has gave.1
       calm.0 in
-      let more = dealt_parts rs gave.0 t (but_first xs) one.1 gave.2 calm.1 in
+      let more = yielded_parts rs gave.0 t (but_first xs) one.1 gave.2 calm.1 in
       record {
         rest = more.rest;
         is = some_first x xs one.0 ∙ ap (λ (ys : List R). x ∷ ys) more.is;
@@ -271,7 +271,7 @@ module _ {F C : Type 0} (gives : F → Entry → Result Verdict Error → F → 
             part = record {
               answers = call.step.answers;
               each = call.step.gave;
-              calm = told_calm (FilterSays gives) stops r call.step.answers passing.0 fine;
+              calm = reported_calm (FilterSays gives) stops r call.step.answers passing.0 fine;
               live = passing.1;
               rules = call.step.rules;
               does = λ z rest more g d ends will.
@@ -345,7 +345,7 @@ module _ {F C : Type 0} (gives : F → Entry → Result Verdict Error → F → 
     -- of a fresh one
     module _ (s : LendingCompaction S F C A) (plain : s.hides ≡ false) (next : s.is_pending ≡ false)
         (live : s.is_over ≡ false) (xs : List R)
-        (has : Deals (answer_stops stops) advances nowhere s.source xs) where
+        (has : YieldsExactly (answer_stops stops) advances nowhere s.source xs) where
       -- what was done so far, where nothing waits to be looked at
       done : (u : LendingCompaction S F C A) (gave : List R) (r : Option R) (run : RunsOn s gave r u)
           → u.is_pending ≡ false → EndsAtNone run.part.answers []
@@ -372,7 +372,7 @@ module _ {F C : Type 0} (gives : F → Entry → Result Verdict Error → F → 
           → CompactedLent gives gets s.rules s.filter s.callback xs gave u.filter u.callback
       whole_run gave t u fine runs last =
           let run = runs_on gave s t u None live fine runs last refl in
-          let parts = dealt_parts advances stops run.part.answers s.source u.source xs has run.part.each
+          let parts = yielded_parts advances stops run.part.answers s.source u.source xs has run.part.each
           run.part.calm in
           let none : parts.rest ≡ [] = run.ended refl parts.rest parts.ends in
           let is : xs ≡ results_in run.part.answers =
@@ -389,12 +389,12 @@ module _ {F C : Type 0} (gives : F → Entry → Result Verdict Error → F → 
           → AllByRecursion (λ x. result_stops stops x ≡ false) gave → Yields Next s gave t
           → Next t (Some (Err e)) u
           → (front rest : List R) × (xs ≡ front ++ rest)
-          × Deals (answer_stops stops) advances nowhere u.source rest
+          × YieldsExactly (answer_stops stops) advances nowhere u.source rest
           × CompactedLent gives gets s.rules s.filter s.callback front (gave ++ Err e ∷ [])
           u.filter u.callback
       until_run gave e t u goes fine runs last =
           let run = runs_on gave s t u (Some (Err e)) live fine runs last goes in
-          let parts = dealt_parts advances stops run.part.answers s.source u.source xs has run.part.each
+          let parts = yielded_parts advances stops run.part.answers s.source u.source xs has run.part.each
           run.part.calm in (
             results_in run.part.answers,
             parts.rest,
@@ -409,7 +409,7 @@ module _ {F C : Type 0} (gives : F → Entry → Result Verdict Error → F → 
           → CompactedPart gives gets s.rules s.filter s.callback xs gave u.filter u.callback
       part_run gave u fine runs =
           let run = runs_part gave s u live fine runs in
-          let parts = dealt_parts advances stops run.answers s.source u.source xs has run.each
+          let parts = yielded_parts advances stops run.answers s.source u.source xs has run.each
           run.calm in
           let all : List R = results_in run.answers ++ parts.rest in
           let left : List R = looked_at lent u parts.rest in

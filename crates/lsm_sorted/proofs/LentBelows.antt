@@ -4,7 +4,7 @@ use Rattle.std.specs.Prelude.{Option, Some, None, Ok, Err, MatchOption, is_some}
 use Rattle.std.specs.Option.{option_map}
 use Rattle.sst_entries.specs.declared.error.Error.{Error}
 use Rattle.sst_entries.specs.Entry.{Entry}
-use Rattle.sst_entries.specs.Stream.{CanDeal, Lowers, nowhere}
+use Rattle.sst_entries.specs.Stream.{CanYield, Lowers, nowhere}
 use Rattle.sst_entries.proofs.StreamLemmas.{can_by, can_front}
 use Rattle.lsm_sorted.specs.merge.Ends.{R}
 use Rattle.lsm_sorted.specs.Below.{LetsGo, below_of, passes}
@@ -37,7 +37,7 @@ lowers_less None m n k lowers few = lowers
 lowers_less (Some e) m n k lowers few = omega (arith, lowers, few)
 
 module _ {S : Type 0} (advances : S → Option R → S → Type 0) (can : S → Type 0) (left : S → ℕ)
-    (bound : ℕ) (s u t : S) (asks : CanDeal advances nowhere can can u)
+    (bound : ℕ) (s u t : S) (asks : CanYield advances nowhere can can u)
     (before : LetsGo bound advances s u) where
   -- an answer that passes
   ends_low : (r : Option R) → advances u r t
@@ -87,8 +87,8 @@ passed_fewer bound (Some e) m n high lowers = lowers
 -- ---- where the source may be asked
 
 module _ {S : Type 0} (advances : S → Option R → S → Type 0) (can : S → Type 0) (left : S → ℕ) where
-  pub can_lend_below : (t : Below S) → CanDeal advances nowhere can can t.iter
-      → CanDeal (LendsBelow advances can left) nowhere (MayLendBelow advances can left)
+  pub can_lend_below : (t : Below S) → CanYield advances nowhere can can t.iter
+      → CanYield (LendsBelow advances can left) nowhere (MayLendBelow advances can left)
       (MayLendBelow advances can left) t
   can_lend_below t asks =
       can_by (LendsBelow advances can left) nowhere (MayLendBelow advances can left)

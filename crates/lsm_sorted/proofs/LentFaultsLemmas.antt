@@ -8,7 +8,7 @@ use Rattle.sst_entries.specs.declared.error.Error.TheVariants.{OutOfMemory}
 use Rattle.lsm_sorted.specs.merge.Ends.{R}
 use Rattle.lsm_sorted.specs.merge.MergeLaws.{every_error}
 use Rattle.lsm_sorted.specs.Hears.{GaveEach}
-use Rattle.lsm_sorted.specs.lending.LentFaults.{AllOver, AlwaysTells, CallTells, EndsIn}
+use Rattle.lsm_sorted.specs.lending.LentFaults.{AllOver, AlwaysReports, CallReports, EndsIn}
 use Rattle.lsm_sorted.specs.lending.LentFaults.{GaveInCalls}
 use Rattle.lsm_sorted.specs.lending.LentFaults.{NextIdles, NoFaults, NothingCame, Passes, Passing}
 use Rattle.lsm_sorted.specs.lending.LentFaults.{PassesAll, StaysOver, WantsItself}
@@ -86,7 +86,7 @@ passes_or_wants (Some (Err e)) answers passes wants =
 module _ {S T : Type 0} (advances : S → Option R → S → Type 0) (source_of : T → S) (over : T → Bool)
     (quiet : T → Bool) (next : T → Option R → T → Type 0)
     (tells : (s : T) (r : Option R) (t : T) → next s r t
-    → CallTells advances source_of over quiet s r t) where
+    → CallReports advances source_of over quiet s r t) where
   abbrev Meanwhile : T → T → List (List (Option R)) → Type 0
   Meanwhile s u calls = GaveInCalls advances (source_of s) calls (source_of u)
 
@@ -118,14 +118,14 @@ module _ {S T : Type 0} (advances : S → Option R → S → Type 0) (source_of 
         ),
       )
 
-  all_told : (rs : List (Option R)) (s u : T) → over s ≡ false → GaveEach next s rs u
+  all_result : (rs : List (Option R)) (s u : T) → over s ≡ false → GaveEach next s rs u
       → (calls : List (List (Option R))) × Meanwhile s u calls × PassesAll rs calls
       × StaysOver rs calls × (quiet s ≡ true → NextIdles rs calls)
-  all_told [] s u o each = ([], ap source_of each, tt, tt, λ h. tt)
-  all_told (r ∷ rs) s u o each =
+  all_result [] s u o each = ([], ap source_of each, tt, tt, λ h. tt)
+  all_result (r ∷ rs) s u o each =
       let call = (tells s r each.0 each.1).live o in elim call.told [
         | inl passes ↦
-            let more = all_told rs each.0 u passes.1 each.2 in (
+            let more = all_result rs each.0 u passes.1 each.2 in (
               call.answers ∷ more.0,
               (source_of each.0, call.gave, more.1),
               inl (passes.0, more.2),
@@ -151,12 +151,12 @@ module _ {S T : Type 0} (advances : S → Option R → S → Type 0) (source_of 
       ]
 
   module _ (s : T) (live : over s ≡ false) where
-    pub always_passes : AlwaysTells PassesAll advances (source_of s) source_of next s
+    pub always_passes : AlwaysReports PassesAll advances (source_of s) source_of next s
     always_passes = record {
-      of = λ rs u each. let all = all_told rs s u live each in (all.0, all.1, all.2);
+      of = λ rs u each. let all = all_result rs s u live each in (all.0, all.1, all.2);
     }
 
-    pub always_stays : AlwaysTells StaysOver advances (source_of s) source_of next s
+    pub always_stays : AlwaysReports StaysOver advances (source_of s) source_of next s
     always_stays = record {
-      of = λ rs u each. let all = all_told rs s u live each in (all.0, all.1, all.3);
+      of = λ rs u each. let all = all_result rs s u live each in (all.0, all.1, all.3);
     }

@@ -10,7 +10,7 @@ use Rattle.sst_entries.specs.Entry.{Entry}
 use Rattle.sst_entries.specs.Lending.{came}
 use Rattle.sst_entries.specs.Stream.{answer_stops, but_first, first, nowhere}
 use Rattle.sst_entries.specs.declared.error.Error.{Error}
-use Rattle.sst_entries.proofs.StreamLemmas.{deals_front}
+use Rattle.sst_entries.proofs.StreamLemmas.{yields_front}
 use Rattle.lsm_sorted.specs.merge.Ends.{R}
 use Rattle.lsm_sorted.specs.lending.Lent.{goes_before, lent_at, IsQueue, is_queued, Has, RestIf}
 use Rattle.lsm_sorted.specs.lending.Lent.{Rests}
@@ -192,7 +192,7 @@ module _ {S : Type 0} (stops : Error → Bool) (advances : S → Option R → S 
         → Rests stops advances lent (λ j. waits j && not (j == i)) (slice_set ss i t)
         (insert qs p i) lists
     rests_lent x p is step =
-        let one = deals_front (answer_stops stops) advances nowhere s (slice_index_or lists i [])
+        let one = yields_front (answer_stops stops) advances nowhere s (slice_index_or lists i [])
         (Some (Ok x)) t had.1 step refl in
         rests_set waits ss qs (insert qs p i) lists i t h within
         (λ j apart. among_put j i p qs ∙ other j apart)
@@ -215,7 +215,7 @@ module _ {S : Type 0} (stops : Error → Bool) (advances : S → Option R → S 
     pub rests_ended : advances s None t
         → Rests stops advances lent (λ j. waits j && not (j == i)) (slice_set ss i t) qs lists
     rests_ended step =
-        let one = deals_front (answer_stops stops) advances nowhere s (slice_index_or lists i [])
+        let one = yields_front (answer_stops stops) advances nowhere s (slice_index_or lists i [])
         None t had.1 step refl in
         rests_set waits ss qs qs lists i t h within (λ j apart. refl)
         (subst (λ (b : Bool). Rest b false t (slice_index_or lists i [])) (sym had.0)
@@ -225,7 +225,7 @@ module _ {S : Type 0} (stops : Error → Bool) (advances : S → Option R → S 
     pub rests_fault : (e : Error) → advances s (Some (Err e)) t → stops e ≡ false
         → (rs : List R) × (slice_index_or lists i [] ≡ Err e ∷ rs)
     rests_fault e step fine =
-        let one = deals_front (answer_stops stops) advances nowhere s (slice_index_or lists i [])
+        let one = yields_front (answer_stops stops) advances nowhere s (slice_index_or lists i [])
         (Some (Err e)) t had.1 step fine in
         (but_first (slice_index_or lists i []), headed (Err e) (slice_index_or lists i []) one.0)
 

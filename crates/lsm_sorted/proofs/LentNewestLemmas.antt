@@ -7,21 +7,21 @@ use Rattle.std.specs.Option.{option_map}
 use Rattle.sst_entries.specs.Entry.{Entry}
 use Rattle.sst_entries.specs.Key.{same_key, key_lt}
 use Rattle.sst_entries.specs.Lending.{came}
-use Rattle.sst_entries.specs.Stream.{CanDeal, Deals, DealsFirst, Lowers, answer_stops, but_first}
+use Rattle.sst_entries.specs.Stream.{CanYield, YieldsExactly, YieldsFirst, Lowers, answer_stops, but_first}
 use Rattle.sst_entries.specs.Stream.{first}
 use Rattle.sst_entries.specs.Stream.{nowhere, ok_results}
 use Rattle.sst_entries.specs.declared.error.Error.{Error}
 use Rattle.sst_entries.specs.declared.error.Error.TheVariants.{OutOfMemory}
 use Rattle.sst_entries.proofs.KeyLemmas.{KeyLe, same_is, lt_other, le_other, lt_le}
 use Rattle.sst_entries.proofs.Lists.{all_more}
-use Rattle.sst_entries.proofs.StreamLemmas.{can_by, deals_by, deals_front}
+use Rattle.sst_entries.proofs.StreamLemmas.{can_by, yields_by, yields_front}
 use Rattle.lsm_sorted.specs.merge.Ends.{R}
 use Rattle.lsm_sorted.specs.merge.Union.{Ascends, entries_among, newest}
 use Rattle.lsm_sorted.specs.Newest.{is_of}
 use Rattle.lsm_sorted.specs.lending.LentNewest.{newest_results, is_given, news, given_key, is_other}
 use Rattle.lsm_sorted.specs.lending.LentNewest.{lent_newest}
 use Rattle.lsm_sorted.specs.lending.LentNewest.{MayNewest, LeavesNewest, AdvancesNewest}
-use Rattle.lsm_sorted.specs.lending.LentNewest.{DealsNewestResults, DealsNewestEntries}
+use Rattle.lsm_sorted.specs.lending.LentNewest.{YieldsNewestResults, YieldsNewestEntries}
 use Rattle.lsm_sorted.specs.declared.lending_newest.LendingNewest.{LendingNewest}
 use Rattle.lsm_sorted.proofs.NewestLemmas.{keys_up}
 
@@ -157,7 +157,7 @@ flipped_back false h = cc
 
 module _ {S : Type 0} (stops : Error → Bool) (advances : S → Option R → S → Type 0) where
   abbrev pub Rest : S → List R → Type 0
-  Rest = Deals (answer_stops stops) advances nowhere
+  Rest = YieldsExactly (answer_stops stops) advances nowhere
 
   -- what is still dealt of a list, where this key was given last
   abbrev pub Still : Option (List ℕ) → S → S → Type 0
@@ -169,7 +169,7 @@ module _ {S : Type 0} (stops : Error → Bool) (advances : S → Option R → S 
   still_skips k s t u None still other step xs has = cc
   still_skips k s t u (Some x) still other step xs has =
       let was = still xs has in
-      let one = deals_front (answer_stops stops) advances nowhere t was.0 (Some (Ok x)) u was.1 step
+      let one = yields_front (answer_stops stops) advances nowhere t was.0 (Some (Ok x)) u was.1 step
       refl in (
         but_first was.0,
         one.1,
@@ -186,7 +186,7 @@ module _ {S : Type 0} (stops : Error → Bool) (advances : S → Option R → S 
         → is_other (given_key s) (lent n.source) ≡ true
         → ((x : Entry) → lent n.source ≡ Some x → n.key.items ≡ x.user_key)
         → advances u (came (Ok b) (lent n.source)) n.source
-        → DealsFirst stops (LeavesNewest stops advances) s
+        → YieldsFirst stops (LeavesNewest stops advances) s
         (option_map (λ x. Ok x) (lent_newest lent n)) n
     gives_other b key same more other is step = go (lent n.source) refl
       where
@@ -194,7 +194,7 @@ module _ {S : Type 0} (stops : Error → Bool) (advances : S → Option R → S 
         lends = ap (λ (b : Bool). cond b None (cond n.has_key (lent n.source) None)) live
             ∙ ap (λ (b : Bool). cond b (lent n.source) None) key
 
-        go : (o : Option Entry) → lent n.source ≡ o → DealsFirst stops
+        go : (o : Option Entry) → lent n.source ≡ o → YieldsFirst stops
             (LeavesNewest stops advances) s (option_map (λ x. Ok x) (lent_newest lent n)) n
         go None e ys leaves fine = let no : true ≡ false = sym more ∙ same ∙ ap is_some e in
             absurd cc
@@ -202,7 +202,7 @@ module _ {S : Type 0} (stops : Error → Bool) (advances : S → Option R → S 
             let was = still leaves.rest leaves.has in
             let call : advances u (Some (Ok x)) n.source =
             subst (λ (o : Option Entry). advances u (came (Ok b) o) n.source) e step in
-            let one = deals_front (answer_stops stops) advances nowhere u was.0 (Some (Ok x))
+            let one = yields_front (answer_stops stops) advances nowhere u was.0 (Some (Ok x))
             n.source was.1 call refl in
             let fresh : is_given (given_key s) x ≡ false = flipped (is_given (given_key s) x)
             (subst (λ (o : Option Entry). is_other (given_key s) o ≡ true) e other) in
@@ -228,7 +228,7 @@ module _ {S : Type 0} (stops : Error → Bool) (advances : S → Option R → S 
         → b ≡ is_some (lent t) → b ≡ true → is_other (given_key s) (lent t) ≡ true
         → ((x : Entry) → lent t ≡ Some x → n.key.items ≡ x.user_key)
         → advances u (came (Ok b) (lent t)) t
-        → DealsFirst stops (LeavesNewest stops advances) s
+        → YieldsFirst stops (LeavesNewest stops advances) s
         (option_map (λ x. Ok x) (lent_newest lent n)) n
     gives_kept t from b key same more other is step = gives_other b key
         (subst (λ (v : S). b ≡ is_some (lent v)) (sym from) same) more
@@ -240,7 +240,7 @@ module _ {S : Type 0} (stops : Error → Bool) (advances : S → Option R → S 
       -- the source has ended
       pub gives_end : (b : Bool) → b ≡ is_some (lent n.source) → b ≡ false
           → advances u (came (Ok b) (lent n.source)) n.source
-          → DealsFirst stops (LeavesNewest stops advances) s
+          → YieldsFirst stops (LeavesNewest stops advances) s
           (option_map (λ x. Ok x) (lent_newest lent n)) n
       gives_end b same none step = go (lent n.source) refl
         where
@@ -248,7 +248,7 @@ module _ {S : Type 0} (stops : Error → Bool) (advances : S → Option R → S 
           lends_none e = ap (λ (b : Bool). cond b None (cond n.has_key (lent n.source) None)) live
               ∙ no_entry n.has_key (lent n.source) e
 
-          go : (o : Option Entry) → lent n.source ≡ o → DealsFirst stops
+          go : (o : Option Entry) → lent n.source ≡ o → YieldsFirst stops
               (LeavesNewest stops advances) s (option_map (λ x. Ok x) (lent_newest lent n)) n
           go (Some x) e ys leaves fine =
               let no : false ≡ true = sym none ∙ same ∙ ap is_some e in absurd cc
@@ -256,7 +256,7 @@ module _ {S : Type 0} (stops : Error → Bool) (advances : S → Option R → S 
               let was = still leaves.rest leaves.has in
               let call : advances u None n.source =
               subst (λ (o : Option Entry). advances u (came (Ok b) o) n.source) e step in
-              let one = deals_front (answer_stops stops) advances nowhere u was.0 None n.source
+              let one = yields_front (answer_stops stops) advances nowhere u was.0 None n.source
               was.1 call refl in
               let empty : was.0 ≡ [] = is_nothing was.0 one.0 in
               let list : ys ≡ [] = leaves.is ∙ was.2 ∙ ap (news (given_key s)) empty in (
@@ -273,10 +273,10 @@ module _ {S : Type 0} (stops : Error → Bool) (advances : S → Option R → S 
 
       -- an error of the source
       pub gives_fault : (e : Error) → advances u (Some (Err e)) n.source
-          → DealsFirst stops (LeavesNewest stops advances) s (Some (Err e)) n
+          → YieldsFirst stops (LeavesNewest stops advances) s (Some (Err e)) n
       gives_fault e step ys leaves fine =
           let was = still leaves.rest leaves.has in
-          let one = deals_front (answer_stops stops) advances nowhere u was.0 (Some (Err e))
+          let one = yields_front (answer_stops stops) advances nowhere u was.0 (Some (Err e))
           n.source was.1 step fine in
           let list : ys ≡ Err e ∷ news (given_key s) (but_first was.0) = leaves.is ∙ was.2
           ∙ ap (news (given_key s)) (begins (Err e) was.0 one.0) in (
@@ -293,7 +293,7 @@ module _ {S : Type 0} (stops : Error → Bool) (advances : S → Option R → S 
 
   -- want of memory
   pub gives_memory : {A : Type 0} (s n : LendingNewest S A) (e : Error) → e ≡ OutOfMemory
-      → DealsFirst stops (LeavesNewest stops advances) s (Some (Err e)) n
+      → YieldsFirst stops (LeavesNewest stops advances) s (Some (Err e)) n
   gives_memory s n e is ys leaves fine =
       let no : true ≡ false = sym leaves.memory ∙ sym (ap stops is) ∙ fine in absurd cc
 
@@ -315,9 +315,9 @@ module _ {S A : Type 0} (advances : S → Option R → S → Type 0) (can : S �
   abbrev Adv : LendingNewest S A → Option R → LendingNewest S A → Type 0
   Adv = AdvancesNewest advances can
 
-  pub deals_newest_results : DealsNewestResults advances s.source Adv s
-  deals_newest_results = record {
-    deals = λ stops xs memory up has. deals_by (answer_stops stops) Adv nowhere
+  pub yields_newest_results : YieldsNewestResults advances s.source Adv s
+  yields_newest_results = record {
+    yields = λ stops xs memory up has. yields_by (answer_stops stops) Adv nowhere
         (LeavesNewest stops advances) (λ t ys r u leaves step fine. step.gives stops ys leaves fine)
         (λ t ys r u leaves step fine. absurd step) s (newest_results xs) (record {
           memory = memory;
@@ -329,18 +329,18 @@ module _ {S A : Type 0} (advances : S → Option R → S → Type 0) (can : S �
         });
   }
 
-  pub deals_newest_entries : DealsNewestEntries advances s.source Adv s
-  deals_newest_entries = record {
-    deals = λ stops xs memory up has.
+  pub yields_newest_entries : YieldsNewestEntries advances s.source Adv s
+  yields_newest_entries = record {
+    yields = λ stops xs memory up has.
         let sorted : Ascends (entries_among (ok_results xs)) =
         subst Ascends (sym (entries_ok xs)) up in
-        subst (Deals (answer_stops stops) Adv nowhere s) (newest_ok xs)
-        (deals_newest_results.deals stops (ok_results xs) memory sorted has);
+        subst (YieldsExactly (answer_stops stops) Adv nowhere s) (newest_ok xs)
+        (yields_newest_results.yields stops (ok_results xs) memory sorted has);
   }
 
 pub can_newest : {S A : Type 0} (advances : S → Option R → S → Type 0) (can : S → Type 0)
-    (s : LendingNewest S A) → CanDeal advances nowhere can can s.source
-    → CanDeal (AdvancesNewest advances can) nowhere (MayNewest advances can)
+    (s : LendingNewest S A) → CanYield advances nowhere can can s.source
+    → CanYield (AdvancesNewest advances can) nowhere (MayNewest advances can)
     (MayNewest advances can) s
 can_newest advances can s may = can_by (AdvancesNewest advances can) nowhere
     (MayNewest advances can) (MayNewest advances can) (MayNewest advances can) (λ s m. (m, m))

@@ -17,7 +17,7 @@ use Rattle.std.proofs.lemmas.List.{length-map, map_push}
 use Rattle.std.proofs.lemmas.List.Elements.{All-from_recursion, All-nil, All-set}
 use Rattle.std.proofs.lemmas.List.Elements.{recursion_from_All}
 use Rattle.sst_entries.specs.Entry.{Entry}
-use Rattle.sst_entries.specs.Stream.{CanDeal, Lowers, but_first, first, nowhere}
+use Rattle.sst_entries.specs.Stream.{CanYield, Lowers, but_first, first, nowhere}
 use Rattle.sst_entries.specs.declared.error.Error.{Error}
 use Rattle.sst_entries.proofs.Lists.{all_more}
 use Rattle.sst_entries.proofs.StreamLemmas.{can_front}
@@ -69,10 +69,10 @@ module _ {S : Type 0} (advances : S → Option R → S → Type 0) (can : S → 
       ap length set ∙ set_length m.sources.items i t in
       let old : length m.sources.items ≤ vec_capacity m.queue = ready.room in
       record {
-        sources = subst (All (CanDeal advances nowhere can can)) (sym set)
-            (All-set (CanDeal advances nowhere can can) m.sources.items i t
+        sources = subst (All (CanYield advances nowhere can can)) (sym set)
+            (All-set (CanYield advances nowhere can can) m.sources.items i t
             (can_front advances nowhere can can s r t
-            (subst (CanDeal advances nowhere can can) (sym is) (ready.sources i s within)) step)
+            (subst (CanYield advances nowhere can can) (sym is) (ready.sources i s within)) step)
             ready.sources);
         known = subst (λ (n' : ℕ). All (λ q. q < n') (queued n)) (sym long) known;
         room = omega (arith, long, old, room);
@@ -102,7 +102,7 @@ module _ {S : Type 0} (advances : S → Option R → S → Type 0) (can : S → 
       let long : length n.sources.items ≡ length m.sources.items = ap length same in
       let old : length m.sources.items ≤ vec_capacity m.queue = ready.room in (
         record {
-          sources = subst (All (CanDeal advances nowhere can can)) (sym same) ready.sources;
+          sources = subst (All (CanYield advances nowhere can can)) (sym same) ready.sources;
           known = subst (λ (b : ℕ). All (λ q. q < b) (queued n)) (sym long)
               (All-from_recursion (λ q. q < length m.sources.items) (queued n)
               (all_front (λ q. q < length m.sources.items) w.source (queued n) known));
@@ -131,7 +131,7 @@ module _ {S : Type 0} (advances : S → Option R → S → Type 0) (can : S → 
       let long : length n.sources.items ≡ length m.sources.items = ap length same in
       let old : length m.sources.items ≤ vec_capacity m.queue = ready.room in
       record {
-        sources = subst (All (CanDeal advances nowhere can can)) (sym same) ready.sources;
+        sources = subst (All (CanYield advances nowhere can can)) (sym same) ready.sources;
         known = subst (All (λ q. q < length n.sources.items)) (sym none)
             (All-nil (λ q. q < length n.sources.items));
         room = omega (arith, long, old, room);

@@ -31,7 +31,7 @@ pub mod PopLemmas
 pub mod StepLemmas
 pub mod WordLemmas
 pub mod UnionLemmas
-pub mod DealsMerged
+pub mod YieldsMerged
 pub mod AsksLemmas
 pub mod CallsMerged
 pub mod LateErrors
@@ -68,7 +68,7 @@ pub mod QueueLemmas
 pub mod LentLemmas
 pub mod HeadLemmas
 pub mod LentSteps
-pub mod LentDeals
+pub mod LentYields
 pub mod LentFaultsLemmas
 pub mod LentNewestLemmas
 pub mod LentNewestListens
@@ -79,5 +79,5 @@ pub mod CompactionCalls
 pub mod CompactionFaults
 pub mod LendingCompactionRuns
 pub mod KeepsAllLemmas
-pub mod CompactionDeals
+pub mod CompactionYields
 pub mod KeptOrder

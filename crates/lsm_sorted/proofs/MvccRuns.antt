@@ -5,8 +5,8 @@ use Rattle.std.specs.Iterator.{Count, IsFinite}
 use Rattle.sst_entries.specs.Entry.{Entry}
 use Rattle.sst_entries.specs.declared.stream.Direction.{Direction}
 use Rattle.sst_entries.specs.declared.stream.Direction.TheVariants.{Front, Back}
-use Rattle.sst_entries.specs.Stream.{Runs, CanDeal, ok_results}
-use Rattle.sst_entries.specs.Stream.{deal, first, but_first, last, but_last, nowhere}
+use Rattle.sst_entries.specs.Stream.{Runs, CanYield, ok_results}
+use Rattle.sst_entries.specs.Stream.{yield_each, first, but_first, last, but_last, nowhere}
 use Rattle.sst_entries.proofs.StreamLemmas.{can_by}
 use Rattle.lsm_sorted.specs.merge.Ends.{R, Goes}
 use Rattle.lsm_sorted.specs.declared.heap.ends.Ends.{Ends}
@@ -18,31 +18,31 @@ use Rattle.lsm_sorted.specs.declared.mvcc_stream.MvccStream.{MvccStream}
 use Rattle.lsm_sorted.specs.Newest.{front_step, back_step, newest_answers}
 use Rattle.lsm_sorted.specs.Outlook.{Outlook, IsStep, before_any}
 use Rattle.lsm_sorted.specs.Hears.{Hears}
-use Rattle.lsm_sorted.specs.Mvcc.{mvcc_outlook, MayStep, StepsAt, AnswersSteps, DealsSteps}
-use Rattle.lsm_sorted.specs.Mvcc.{DealsNewestOf, CanStep}
-use Rattle.lsm_sorted.proofs.HeardLemmas.{HeardFrom, heard_none, heard_call, heard_all, heard_dealt}
+use Rattle.lsm_sorted.specs.Mvcc.{mvcc_outlook, MayStep, StepsAt, AnswersSteps, YieldsSteps}
+use Rattle.lsm_sorted.specs.Mvcc.{YieldsNewestOf, CanStep}
+use Rattle.lsm_sorted.proofs.HeardLemmas.{HeardFrom, heard_none, heard_call, heard_all, heard_yielded}
 use Rattle.lsm_sorted.proofs.HeardLemmas.{goes_on}
 use Rattle.lsm_sorted.proofs.NewestLemmas.{KeysUp, keys_up, front_newest, back_newest}
 
 -- the steps over sorted entries deal the newest of them
-newest_dealt : (ends : List Direction) (es : List Entry) → KeysUp es
-    → newest_answers (ok_results es) ends ≡ deal (ok_results (newest es)) ends
-newest_dealt [] es up = refl
-newest_dealt (Front ∷ ends) es up =
+newest_yielded : (ends : List Direction) (es : List Entry) → KeysUp es
+    → newest_answers (ok_results es) ends ≡ yield_each (ok_results (newest es)) ends
+newest_yielded [] es up = refl
+newest_yielded (Front ∷ ends) es up =
     let n = front_newest es up in
     let head : (front_step (ok_results es)).0 ≡ first (ok_results (newest es)) = n.answers in
     let tail : newest_answers (front_step (ok_results es)).1 ends
-    ≡ deal (but_first (ok_results (newest es))) ends =
-    ap (λ (xs : List R). newest_answers xs ends) n.leaves ∙ newest_dealt ends n.left n.up
-    ∙ ap (λ (xs : List R). deal xs ends) (sym n.dealt) in
+    ≡ yield_each (but_first (ok_results (newest es))) ends =
+    ap (λ (xs : List R). newest_answers xs ends) n.leaves ∙ newest_yielded ends n.left n.up
+    ∙ ap (λ (xs : List R). yield_each xs ends) (sym n.yielded) in
     cc (head, tail)
-newest_dealt (Back ∷ ends) es up =
+newest_yielded (Back ∷ ends) es up =
     let n = back_newest es up in
     let head : (back_step (ok_results es)).0 ≡ last (ok_results (newest es)) = n.answers in
     let tail : newest_answers (back_step (ok_results es)).1 ends
-    ≡ deal (but_last (ok_results (newest es))) ends =
-    ap (λ (xs : List R). newest_answers xs ends) n.leaves ∙ newest_dealt ends n.left n.up
-    ∙ ap (λ (xs : List R). deal xs ends) (sym n.dealt) in
+    ≡ yield_each (but_last (ok_results (newest es))) ends =
+    ap (λ (xs : List R). newest_answers xs ends) n.leaves ∙ newest_yielded ends n.left n.up
+    ∙ ap (λ (xs : List R). yield_each xs ends) (sym n.yielded) in
     cc (head, tail)
 
 steps_on : (end : List R → Option R × List R) (r : Option R) (rs : List (Option R)) (xs ys : List R)
@@ -86,26 +86,26 @@ module _ {S : Type 0} (front back : S → Option R → S → Type 0)
           (mvcc_outlook t) starts rs (λ xs. rs ≡ newest_answers xs ends) (along ends rs t u runs);
     }
 
-    pub deals_steps : DealsSteps front back source next next_back t
-    deals_steps = record {
-      answers = λ stops xs d ends rs u runs fine. heard_dealt front back source
+    pub yields_steps : YieldsSteps front back source next next_back t
+    yields_steps = record {
+      answers = λ stops xs d ends rs u runs fine. heard_yielded front back source
           (mvcc_outlook t) starts rs (λ ys. rs ≡ newest_answers ys ends) stops xs
           (along ends rs t u runs) d fine;
     }
 
-    pub deals_newest_of : DealsNewestOf front back source next next_back t
-    deals_newest_of = record {
-      deals = λ stops xs up d. record {
+    pub yields_newest_of : YieldsNewestOf front back source next next_back t
+    yields_newest_of = record {
+      yields = λ stops xs up d. record {
         answers =
-            λ ends rs u runs fine. deals_steps.answers stops (ok_results xs) d ends rs u runs fine
-            ∙ newest_dealt ends xs (keys_up xs up);
+            λ ends rs u runs fine. yields_steps.answers stops (ok_results xs) d ends rs u runs fine
+            ∙ newest_yielded ends xs (keys_up xs up);
       };
     }
 
 module _ {S : Type 0} (front back : S → Option R → S → Type 0) (can can_back : S → Type 0)
     (left : S → Count) (source : S) (t : MvccStream S R)
     (starts : mvcc_outlook t ≡ before_any source) where
-  pub may_start : CanDeal front back can can_back source → IsFinite (left source)
+  pub may_start : CanYield front back can can_back source → IsFinite (left source)
       → MayStep front back can can_back left t
   may_start may ends = subst (λ (e : Ends S). Goes front back can can_back left e)
       (sym (ap (λ (o : Outlook S). o.source) starts)) (record { ready = (may, ends) })

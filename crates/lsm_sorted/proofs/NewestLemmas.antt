@@ -122,12 +122,12 @@ pub record NewestStep (stepped : Option R × List R) (answer : Option R)
   pub up : KeysUp left
   pub answers : stepped.0 ≡ answer
   pub leaves : stepped.1 ≡ ok_results left
-  pub dealt : others ≡ ok_results (newest left)
+  pub yielded : others ≡ ok_results (newest left)
 
 pub front_newest : (xs : List Entry) → KeysUp xs
     → NewestStep (front_step (ok_results xs)) (first (ok_results (newest xs)))
     (but_first (ok_results (newest xs)))
-front_newest [] up = record { left = []; up = tt; answers = refl; leaves = refl; dealt = refl }
+front_newest [] up = record { left = []; up = tt; answers = refl; leaves = refl; yielded = refl }
 front_newest (x ∷ xs) up =
     let step : front_step (ok_results (x ∷ xs)) ≡ (Some (Ok x), ok_results (skip x.user_key xs)) =
     ap (settle x) (after_ok x.user_key xs) ∙ settle_ok x (skip x.user_key xs) in
@@ -136,7 +136,7 @@ front_newest (x ∷ xs) up =
       up = skip_up x.user_key xs up.1;
       answers = ap (λ (p : Option R × List R). p.0) step;
       leaves = ap (λ (p : Option R × List R). p.1) step;
-      dealt = ap ok_results (newest_skip x.user_key xs up.1 up.0);
+      yielded = ap ok_results (newest_skip x.user_key xs up.1 up.0);
     }
 
 -- ---- the back
@@ -273,14 +273,14 @@ back_at : (xs : List Entry) (zs : List Entry) → reverse xs ≡ zs → KeysUp x
 back_at xs [] e up =
     let empty : step_in_reverse (reverse (ok_results xs)) ≡ (None, []) =
     ap step_in_reverse (map_reverse xs ∙ ap ok_results e) in
-    let dealt : reverse (ok_results (newest xs)) ≡ [] = map_reverse (newest xs)
+    let yielded : reverse (ok_results (newest xs)) ≡ [] = map_reverse (newest xs)
     ∙ ap ok_results (down_newest xs up ∙ ap down e) in
     record {
       left = [];
       up = tt;
-      answers = ap (λ (p : Option R × List R). p.0) empty ∙ sym (ap first dealt);
+      answers = ap (λ (p : Option R × List R). p.0) empty ∙ sym (ap first yielded);
       leaves = ap (λ (p : Option R × List R). reverse p.1) empty;
-      dealt = ap (λ (ys : List R). reverse (but_first ys)) dealt;
+      yielded = ap (λ (ys : List R). reverse (but_first ys)) yielded;
     }
 back_at xs (z ∷ zs) e up =
     let top : Entry = (descend z zs).0 in
@@ -288,7 +288,7 @@ back_at xs (z ∷ zs) e up =
     let stepped : step_in_reverse (reverse (ok_results xs)) ≡ (Some (Ok top), ok_results rest) =
     ap step_in_reverse (map_reverse xs ∙ ap ok_results e)
     ∙ ap (λ (p : Entry × List R). settle p.0 p.1) (climb_ok z zs) ∙ settle_ok top rest in
-    let dealt : reverse (ok_results (newest xs)) ≡ Ok top ∷ ok_results (down rest) =
+    let yielded : reverse (ok_results (newest xs)) ≡ Ok top ∷ ok_results (down rest) =
     map_reverse (newest xs) ∙ ap ok_results (down_newest xs up ∙ ap down e ∙ down_step z zs) in
     let parts = descend_end z zs in
     let whole : xs ≡ reverse rest ++ reverse parts.0 =
@@ -300,9 +300,9 @@ back_at xs (z ∷ zs) e up =
     record {
       left = reverse rest;
       up = up';
-      answers = ap (λ (p : Option R × List R). p.0) stepped ∙ sym (ap first dealt);
+      answers = ap (λ (p : Option R × List R). p.0) stepped ∙ sym (ap first yielded);
       leaves = ap (λ (p : Option R × List R). reverse p.1) stepped ∙ map_reverse rest;
-      dealt = ap (λ (ys : List R). reverse (but_first ys)) dealt ∙ map_reverse (down rest)
+      yielded = ap (λ (ys : List R). reverse (but_first ys)) yielded ∙ map_reverse (down rest)
           ∙ ap ok_results (ap reverse same ∙ reverse-reverse (newest (reverse rest)));
     }
 

@@ -23,7 +23,7 @@ pub answers_newest : {S M T : Type 0} (front back : S → Option R → S → Typ
 answers_newest front back its ask ask_back m next next_back t merges steps = record {
   answers = λ stops lists sorted ends rs u runs.
       let h = steps.heard ends rs u runs in
-      let gap = (merges.deals stops lists sorted).answers h.ends h.answers h.led h.runs h.once in
+      let gap = (merges.yields stops lists sorted).answers h.ends h.answers h.led h.runs h.once in
       (gap.0, gap.1, h.holds gap.0 gap.2);
 }
 

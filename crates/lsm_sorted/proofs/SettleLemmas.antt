@@ -4,7 +4,7 @@ use Rattle.std.proofs.Common.{nat_lt, List, [], ◌∷◌}
 use Rattle.std.specs.Prelude.{Some, None, Result, Ok, Err, IfOk}
 use Rattle.sst_entries.specs.Entry.{Entry}
 use Rattle.sst_entries.specs.Key.{same_key}
-use Rattle.sst_entries.specs.Stream.{first, but_first, result_stops, DealsFirst}
+use Rattle.sst_entries.specs.Stream.{first, but_first, result_stops, YieldsFirst}
 use Rattle.sst_entries.specs.declared.error.Error.{Error}
 use Rattle.lsm_sorted.specs.merge.Ends.{R}
 use Rattle.lsm_sorted.specs.Newest.{after_key}
@@ -29,7 +29,7 @@ module _ {T C : Type 0} (stops : Error → Bool) (Has : T → List R → Type 0)
     draining_first s c = record { at = λ xs h. (xs, h, refl, λ d k. k) }
 
     pub draining_more : (s u v : T) (c b a : C) (x : Entry) → Draining s c u b
-        → DealsFirst stops Has u (Some (Ok x)) v → same_key x.user_key key ≡ true → gets b x a
+        → YieldsFirst stops Has u (Some (Ok x)) v → same_key x.user_key key ≡ true → gets b x a
         → Draining s c v a
     draining_more s u v c b a x was d same got = record {
       at = λ xs h.
@@ -74,7 +74,7 @@ module _ {T C : Type 0} (stops : Error → Bool) (Has : T → List R → Type 0)
     }
 
     pub drained_stop : {X : Type 0} (s u v t : T) (c b : C) (x : Entry) (y : X) → Draining s c u b
-        → DealsFirst stops Has u (Some (Ok x)) v → same_key x.user_key key ≡ false
+        → YieldsFirst stops Has u (Some (Ok x)) v → same_key x.user_key key ≡ false
         → ((zs : List R) → Has v zs → Has t (Ok x ∷ zs)) → DrainsKey stops Has gets key s c
         (Ok y) t b
     drained_stop s u v t c b x y was d other put = drained_at s u t c b (Ok y) was (λ zs h fine.
@@ -92,7 +92,7 @@ module _ {T C : Type 0} (stops : Error → Bool) (Has : T → List R → Type 0)
         ))
 
     pub drained_err : {X : Type 0} (s u t : T) (c b : C) (e : Error) → Draining s c u b
-        → DealsFirst stops Has u (Some (Err e)) t → DrainsKey {X = X} stops Has gets key s c
+        → YieldsFirst stops Has u (Some (Err e)) t → DrainsKey {X = X} stops Has gets key s c
         (Err e) t b
     drained_err s u t c b e was d = drained_at s u t c b (Err e) was (λ zs h fine.
         let one = d zs h fine in
@@ -105,7 +105,7 @@ module _ {T C : Type 0} (stops : Error → Bool) (Has : T → List R → Type 0)
         ))
 
     pub drained_end : {X : Type 0} (s u t : T) (c b : C) (y : X) → Draining s c u b
-        → DealsFirst stops Has u None t → DrainsKey stops Has gets key s c (Ok y) t b
+        → YieldsFirst stops Has u None t → DrainsKey stops Has gets key s c (Ok y) t b
     drained_end s u t c b y was d = drained_at s u t c b (Ok y) was (λ zs h fine.
         let one = d zs h refl in
         let none : zs ≡ [] = none_first zs one.0 in (
@@ -161,7 +161,7 @@ module _ {T C : Type 0} (stops : Error → Bool) (Has : T → List R → Type 0)
         → head_answer rules gone head ≡ head_answer rules (goes rules.evict head.kind None) head
     answer_alone gone e = ap (λ (b : Bool). head_answer rules b head) e
 
-    pub settles_end : (s t : T) (c : C) (gone : Bool) → DealsFirst stops Has s None t
+    pub settles_end : (s t : T) (c : C) (gone : Bool) → YieldsFirst stops Has s None t
         → gone ≡ goes rules.evict head.kind None
         → Settles stops Has gets rules head s c (Ok gone) t c
     settles_end s t c gone d e = settles_as s t c c (Ok gone) (λ xs h fine.
@@ -175,7 +175,7 @@ module _ {T C : Type 0} (stops : Error → Bool) (Has : T → List R → Type 0)
           refl,
         ))
 
-    pub settles_err : (s t : T) (c : C) (e : Error) → DealsFirst stops Has s (Some (Err e)) t
+    pub settles_err : (s t : T) (c : C) (e : Error) → YieldsFirst stops Has s (Some (Err e)) t
         → Settles stops Has gets rules head s c (Err e) t c
     settles_err s t c e d = settles_as s t c c (Err e) (λ xs h fine.
         let one = d xs h fine in
@@ -195,7 +195,7 @@ module _ {T C : Type 0} (stops : Error → Bool) (Has : T → List R → Type 0)
         (cond same (after_key head.user_key rs) (Ok x ∷ rs)))
 
     pub settles_other : (s v t : T) (c : C) (x : Entry) (gone : Bool)
-        → DealsFirst stops Has s (Some (Ok x)) v → same_key x.user_key head.user_key ≡ false
+        → YieldsFirst stops Has s (Some (Ok x)) v → same_key x.user_key head.user_key ≡ false
         → ((zs : List R) → Has v zs → Has t (Ok x ∷ zs)) → gone ≡ goes rules.evict head.kind None
         → Settles stops Has gets rules head s c (Ok gone) t c
     settles_other s v t c x gone d other put e = settles_as s t c c (Ok gone) (λ xs h fine.
@@ -209,7 +209,7 @@ module _ {T C : Type 0} (stops : Error → Bool) (Has : T → List R → Type 0)
           refl,
         ))
 
-    pub settles_open : (s v t : T) (c : C) (x : Entry) → DealsFirst stops Has s (Some (Ok x)) v
+    pub settles_open : (s v t : T) (c : C) (x : Entry) → YieldsFirst stops Has s (Some (Ok x)) v
         → same_key x.user_key head.user_key ≡ true → nat_lt head.seqno rules.watermark ≡ false
         → ((zs : List R) → Has v zs → Has t (Ok x ∷ zs)) → Settles stops Has gets rules head s c
         (Ok false) t c
@@ -226,7 +226,7 @@ module _ {T C : Type 0} (stops : Error → Bool) (Has : T → List R → Type 0)
         ))
 
     -- the next version is taken, and the others are drained
-    module _ (s v t : T) (c b d : C) (x : Entry) (deals : DealsFirst stops Has s (Some (Ok x)) v)
+    module _ (s v t : T) (c b d : C) (x : Entry) (yields : YieldsFirst stops Has s (Some (Ok x)) v)
         (same : same_key x.user_key head.user_key ≡ true)
         (low : nat_lt head.seqno rules.watermark ≡ true) (got : gets c x b) where
       closing : (xs : List R) → Some (Ok x) ≡ first xs
@@ -242,7 +242,7 @@ module _ {T C : Type 0} (stops : Error → Bool) (Has : T → List R → Type 0)
           → gone ≡ goes rules.evict head.kind (Some x)
           → Settles stops Has gets rules head s c (Ok gone) t d
       settles_close y gone drains e = settles_as s t c d (Ok gone) (λ xs h fine.
-          let one = deals xs h refl in
+          let one = yields xs h refl in
           let k = drains.at (but_first xs) one.1 refl in
           let rest = after_key head.user_key (but_first xs) in (
             record {
@@ -261,7 +261,7 @@ module _ {T C : Type 0} (stops : Error → Bool) (Has : T → List R → Type 0)
           → DrainsKey {X = X} stops Has gets head.user_key v b (Err e) t d
           → Settles stops Has gets rules head s c (Err e) t d
       settles_close_err e drains = settles_as s t c d (Err e) (λ xs h fine.
-          let one = deals xs h refl in
+          let one = yields xs h refl in
           let k = drains.at (but_first xs) one.1 fine in
           let rest = after_key head.user_key (but_first xs) in (
             record {

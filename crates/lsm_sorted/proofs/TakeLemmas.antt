@@ -16,7 +16,7 @@ use Rattle.std.proofs.lemmas.List.Sums.{sum_by-set}
 use Rattle.sst_entries.specs.Entry.{Entry}
 use Rattle.sst_entries.specs.declared.stream.Direction.{Direction}
 use Rattle.sst_entries.specs.declared.stream.Direction.TheVariants.{Front, Back}
-use Rattle.sst_entries.specs.Stream.{first, but_first, last, but_last, DealsFirst, DealsLast}
+use Rattle.sst_entries.specs.Stream.{first, but_first, last, but_last, YieldsFirst, YieldsLast}
 use Rattle.sst_entries.specs.declared.error.Error.{Error}
 use Rattle.lsm_sorted.specs.declared.heap.ends.Ends.{Ends}
 use Rattle.lsm_sorted.specs.declared.merge.HeapItem.{HeapItem}
@@ -233,12 +233,12 @@ module _ {S A : Type 0} (stops : Error → Bool) (front back : S → Option R �
         length_map (q ∷ qs) = let more = length_map qs in omega (arith, more)
 
     pub front_ok : (m : Merger S A) → m.sources.items ≡ slice_set s.sources.items i is
-        → (x : Entry) (h : HeapItem A) → DealsFirst stops (Left stops front back) was
+        → (x : Entry) (h : HeapItem A) → YieldsFirst stops (Left stops front back) was
         (Some (Ok x)) is → IsPermutation (h ∷ s.heap.items) m.heap.items
         → entry_of h ≡ x → h.source ≡ i → h.end ≡ Front → taken ks i Front ≡ None
         → Took stops front back Front i ks m
-    front_ok m written x h deals perm entry source end free =
-        let one = deals (kept_at ks i).rest left refl in
+    front_ok m written x h yields perm entry source end free =
+        let one = yields (kept_at ks i).rest left refl in
         moves m written Front x h (record {
           front = Some x;
           rest =
@@ -250,31 +250,31 @@ module _ {S A : Type 0} (stops : Error → Bool) (front back : S → Option R �
         refl refl (λ none. ap but_first none)
 
     pub front_none : (m : Merger S A) → m.sources.items ≡ slice_set s.sources.items i is
-        → DealsFirst stops (Left stops front back) was None is → m.heap.items ≡ s.heap.items
+        → YieldsFirst stops (Left stops front back) was None is → m.heap.items ≡ s.heap.items
         → Took stops front back Front i ks m
-    front_none m written deals heap =
-        let one = deals (kept_at ks i).rest left refl in
+    front_none m written yields heap =
+        let one = yields (kept_at ks i).rest left refl in
         let none = none_first (kept_at ks i).rest one.0 in
         stays m written Front heap none (subst (Left stops front back is)
         (ap but_first none ∙ sym none) one.1)
 
-    pub front_err : (e : Error) → DealsFirst stops (Left stops front back) was (Some (Err e)) is
+    pub front_err : (e : Error) → YieldsFirst stops (Left stops front back) was (Some (Err e)) is
         → stops e ≡ false → Contains (all_errors (map whole ks)) e
-    front_err e deals fine = among e (first_contained (kept_at ks i).rest (Err e)
-        (deals (kept_at ks i).rest left fine).0)
+    front_err e yields fine = among e (first_contained (kept_at ks i).rest (Err e)
+        (yields (kept_at ks i).rest left fine).0)
 
     -- an error is the first of what its source still deals
-    pub front_err_first : (e : Error) → DealsFirst stops (Left stops front back) was
+    pub front_err_first : (e : Error) → YieldsFirst stops (Left stops front back) was
         (Some (Err e)) is → stops e ≡ false → Some (Err e) ≡ first (kept_at ks i).rest
-    front_err_first e deals fine = (deals (kept_at ks i).rest left fine).0
+    front_err_first e yields fine = (yields (kept_at ks i).rest left fine).0
 
     pub back_ok : (m : Merger S A) → m.sources.items ≡ slice_set s.sources.items i is
-        → (x : Entry) (h : HeapItem A) → DealsLast stops (Left stops front back) was
+        → (x : Entry) (h : HeapItem A) → YieldsLast stops (Left stops front back) was
         (Some (Ok x)) is → IsPermutation (h ∷ s.heap.items) m.heap.items
         → entry_of h ≡ x → h.source ≡ i → h.end ≡ Back → taken ks i Back ≡ None
         → Took stops front back Back i ks m
-    back_ok m written x h deals perm entry source end free =
-        let one = deals (kept_at ks i).rest left refl in
+    back_ok m written x h yields perm entry source end free =
+        let one = yields (kept_at ks i).rest left refl in
         moves m written Back x h (record {
           front = (kept_at ks i).front;
           rest =
@@ -285,23 +285,23 @@ module _ {S A : Type 0} (stops : Error → Bool) (front back : S → Option R �
         refl refl (λ none. ap (λ (rs : List R). reverse (but_first (reverse rs))) none)
 
     pub back_none : (m : Merger S A) → m.sources.items ≡ slice_set s.sources.items i is
-        → DealsLast stops (Left stops front back) was None is → m.heap.items ≡ s.heap.items
+        → YieldsLast stops (Left stops front back) was None is → m.heap.items ≡ s.heap.items
         → Took stops front back Back i ks m
-    back_none m written deals heap =
-        let one = deals (kept_at ks i).rest left refl in
+    back_none m written yields heap =
+        let one = yields (kept_at ks i).rest left refl in
         let none = none_last (kept_at ks i).rest one.0 in
         stays m written Back heap none (subst (Left stops front back is)
         (ap (λ (rs : List R). reverse (but_first (reverse rs))) none ∙ sym none) one.1)
 
-    pub back_err : (e : Error) → DealsLast stops (Left stops front back) was (Some (Err e)) is
+    pub back_err : (e : Error) → YieldsLast stops (Left stops front back) was (Some (Err e)) is
         → stops e ≡ false → Contains (all_errors (map whole ks)) e
-    back_err e deals fine = among e (last_contained (kept_at ks i).rest (Err e)
-        (deals (kept_at ks i).rest left fine).0)
+    back_err e yields fine = among e (last_contained (kept_at ks i).rest (Err e)
+        (yields (kept_at ks i).rest left fine).0)
 
     -- an error is the last of what its source still deals
-    pub back_err_last : (e : Error) → DealsLast stops (Left stops front back) was (Some (Err e)) is
+    pub back_err_last : (e : Error) → YieldsLast stops (Left stops front back) was (Some (Err e)) is
         → stops e ≡ false → Some (Err e) ≡ last (kept_at ks i).rest
-    back_err_last e deals fine = (deals (kept_at ks i).rest left fine).0
+    back_err_last e yields fine = (yields (kept_at ks i).rest left fine).0
 
 -- ---- room
 

@@ -3,9 +3,9 @@ use Rattle.std.proofs.Common.{◌≡◌, refl, sym, Bool, List, [], ◌∷◌}
 use Rattle.std.specs.Prelude.{Option, Some, None, Ok, Err}
 use Rattle.sst_entries.specs.Entry.{Entry}
 use Rattle.sst_entries.specs.declared.error.Error.{Error}
-use Rattle.sst_entries.specs.Stream.{Deals, NoneStops, answer_stops, ok_results}
+use Rattle.sst_entries.specs.Stream.{YieldsExactly, NoneStops, answer_stops, ok_results}
 use Rattle.lsm_sorted.specs.merge.Ends.{R}
-use Rattle.lsm_sorted.specs.merge.Merge.{Follows, DealsUntil}
+use Rattle.lsm_sorted.specs.merge.Merge.{Follows, YieldsUntil}
 use Rattle.lsm_sorted.specs.merge.MergeLaws.{every_error}
 
 fine_for : (stops : Error → Bool) (rs : List (Option R)) → NoneStops (answer_stops every_error) rs
@@ -16,21 +16,21 @@ fine_for stops (Some (Ok x) ∷ rs) h = (refl, fine_for stops rs h.1)
 fine_for stops (Some (Err e) ∷ rs) h = absurd cc
 
 -- where no answer is an error, what follows is what is told
-told_by_all : (errors : List Error) (told rs : List (Option R))
+reported_by_all : (errors : List Error) (told rs : List (Option R))
     → NoneStops (answer_stops every_error) rs → Follows errors told rs → rs ≡ told
-told_by_all errors told [] h f = sym f
-told_by_all errors [] (r ∷ rs) h f = absurd f
-told_by_all errors (d ∷ told) (None ∷ rs) h f = let one = f.0 in let more =
-    told_by_all errors told rs h.1 f.2 in cc (one, more)
-told_by_all errors (d ∷ told) (Some (Ok x) ∷ rs) h f = let one = f.0 in let more =
-    told_by_all errors told rs h.1 f.1 in cc (one, more)
-told_by_all errors (d ∷ told) (Some (Err e) ∷ rs) h f = absurd cc
+reported_by_all errors told [] h f = sym f
+reported_by_all errors [] (r ∷ rs) h f = absurd f
+reported_by_all errors (d ∷ told) (None ∷ rs) h f = let one = f.0 in let more =
+    reported_by_all errors told rs h.1 f.2 in cc (one, more)
+reported_by_all errors (d ∷ told) (Some (Ok x) ∷ rs) h f = let one = f.0 in let more =
+    reported_by_all errors told rs h.1 f.1 in cc (one, more)
+reported_by_all errors (d ∷ told) (Some (Err e) ∷ rs) h f = absurd cc
 
-pub deals_until_error : {S : Type 0} (stops : Error → Bool) (front back : S → Option R → S → Type 0)
-    (s : S) (xs : List Entry) (errors : List Error) → DealsUntil stops front back s xs errors
-    → Deals (answer_stops every_error) front back s (ok_results xs)
-deals_until_error stops front back s xs errors d =
+pub yields_until_error : {S : Type 0} (stops : Error → Bool) (front back : S → Option R → S → Type 0)
+    (s : S) (xs : List Entry) (errors : List Error) → YieldsUntil stops front back s xs errors
+    → YieldsExactly (answer_stops every_error) front back s (ok_results xs)
+yields_until_error stops front back s xs errors d =
     record {
-      answers = λ ends rs t runs fine. told_by_all errors _ rs fine
+      answers = λ ends rs t runs fine. reported_by_all errors _ rs fine
           (d.answers ends rs t runs (fine_for stops rs fine));
     }

@@ -6,11 +6,11 @@ use Rattle.std.specs.List.{AllByRecursion}
 use Rattle.std.specs.Iterator.{Count, Yields}
 use Rattle.sst_entries.specs.Entry.{Entry}
 use Rattle.sst_entries.specs.Kind.{is_tombstone_kind}
-use Rattle.sst_entries.specs.Stream.{Deals, CanDeal, nowhere, answer_stops, result_stops, first}
+use Rattle.sst_entries.specs.Stream.{YieldsExactly, CanYield, nowhere, answer_stops, result_stops, first}
 use Rattle.sst_entries.specs.Stream.{but_first, ok_results}
 use Rattle.sst_entries.specs.declared.error.Error.{Error}
 use Rattle.lsm_sorted.specs.declared.compaction.stream.CompactionStream.{CompactionStream}
-use Rattle.sst_entries.proofs.StreamLemmas.{deals_by, can_by, tail_eq}
+use Rattle.sst_entries.proofs.StreamLemmas.{yields_by, can_by, tail_eq}
 use Rattle.lsm_sorted.specs.merge.Union.{entries_among}
 use Rattle.lsm_sorted.specs.merge.Ends.{R}
 use Rattle.lsm_sorted.specs.declared.compaction.Rules.{Rules}
@@ -168,10 +168,10 @@ module _ {S F C : Type 0} (front : S → Option R → S → Type 0) (can : S →
       )
 
   -- a compaction that keeps all but what no reader needs deals what is given
-  pub deals_outs : (s : CompactionStream S F C R) (xs : List R) → Compacts stops front s xs
-      → Deals (answer_stops stops) (CompactsNext front can left KeepsAll gets) nowhere s
+  pub yields_outs : (s : CompactionStream S F C R) (xs : List R) → Compacts stops front s xs
+      → YieldsExactly (answer_stops stops) (CompactsNext front can left KeepsAll gets) nowhere s
       (outs (rules_of s) (as_they_are xs))
-  deals_outs s xs has = deals_by (answer_stops stops)
+  yields_outs s xs has = yields_by (answer_stops stops)
       (CompactsNext front can left KeepsAll gets) nowhere (Still (rules_of s))
       (λ u ys r t was step fine. still_first (rules_of s) u ys r t was step fine)
       (λ u ys r t was step fine. absurd step)
@@ -182,7 +182,7 @@ module _ {S F C : Type 0} (front : S → Option R → S → Type 0) (can : S →
     (gives : F → Entry → Result Verdict Error → F → Type 0) (gets : C → Entry → C → Type 0) where
   -- it may be called at every state that calls lead to
   pub can_compact : (s : CompactionStream S F C R) → MayCompact front can left s
-      → CanDeal (CompactsNext front can left gives gets) nowhere (MayCompact front can left)
+      → CanYield (CompactsNext front can left gives gets) nowhere (MayCompact front can left)
       (MayCompact front can left) s
   can_compact s may = can_by (CompactsNext front can left gives gets) nowhere
       (MayCompact front can left) (MayCompact front can left) (MayCompact front can left)

@@ -5,7 +5,7 @@ use Rattle.std.specs.List.{AllByRecursion}
 use Rattle.std.specs.Iterator.{Count, IsFinite, Yields}
 use Rattle.sst_entries.specs.declared.error.Error.{Error}
 use Rattle.sst_entries.specs.Entry.{Entry}
-use Rattle.sst_entries.specs.Stream.{CanDeal, Deals, answer_stops}
+use Rattle.sst_entries.specs.Stream.{CanYield, YieldsExactly, answer_stops}
 use Rattle.lsm_sorted.specs.merge.Ends.{R}
 use Rattle.lsm_sorted.specs.declared.below.Below.{Below}
 
@@ -19,8 +19,8 @@ passes bound (Ok e) = nat_lt e.seqno bound
 passes bound (Err e) = true
 
 -- the results that pass
-abbrev pub below_told : ℕ → List R → List R
-below_told bound rs = filter (passes bound) rs
+abbrev pub below_results : ℕ → List R → List R
+below_results bound rs = filter (passes bound) rs
 
 -- a source with a bound
 abbrev pub below_of : {S : Type 0} → ℕ → S → Below S
@@ -29,7 +29,7 @@ below_of bound source = record { iter = source; seqno = bound }
 -- the source may be called, and is finite
 pub record MayAsk {S : Type 0} (front back : S → Option R → S → Type 0) (can can_back : S → Type 0)
     (left : S → Count) (s : Below S) : Type 0 where
-  pub asks : CanDeal front back can can_back s.iter
+  pub asks : CanYield front back can can_back s.iter
   pub ends : IsFinite (left s.iter)
 
 -- calls of the source from s to t returned only results that do not pass
@@ -50,7 +50,7 @@ pub record GivesBelow {S : Type 0} (May : Below S → Type 0) (ask : S → Optio
   pub low : MatchOption r (Unit {0}) (λ x. passes s.seqno x ≡ true)
 
 -- of a list that the source yields, the results that pass are yielded, up to an error in `stops`
-pub record DealsBelow {S T : Type 0} (front back : S → Option R → S → Type 0) (source : S)
+pub record YieldsBelow {S T : Type 0} (front back : S → Option R → S → Type 0) (source : S)
     (bound : ℕ) (next next_back : T → Option R → T → Type 0) (t : T) : Type 0 where
-  pub deals : (stops : Error → Bool) (xs : List R) → Deals (answer_stops stops) front back source xs
-      → Deals (answer_stops stops) next next_back t (below_told bound xs)
+  pub yields : (stops : Error → Bool) (xs : List R) → YieldsExactly (answer_stops stops) front back source xs
+      → YieldsExactly (answer_stops stops) next next_back t (below_results bound xs)

@@ -6,7 +6,7 @@ use Rattle.std.specs.Iterator.{Count, Yields}
 use Rattle.sst_entries.specs.Entry.{Entry}
 use Rattle.sst_entries.specs.declared.error.Error.{Error}
 use Rattle.sst_entries.specs.declared.stream.Direction.TheVariants.{Front}
-use Rattle.sst_entries.specs.Stream.{Deals, answer_stops, result_stops, nowhere, ok_results}
+use Rattle.sst_entries.specs.Stream.{YieldsExactly, answer_stops, result_stops, nowhere, ok_results}
 use Rattle.lsm_sorted.specs.declared.ahead.Ahead.{Ahead}
 use Rattle.lsm_sorted.specs.declared.compaction.stream.CompactionStream.{CompactionStream}
 use Rattle.lsm_sorted.specs.merge.Ends.{R, Goes}
@@ -110,14 +110,14 @@ module _ {S F C : Type 0} (front : S → Option R → S → Type 0)
 
   -- where the filter keeps all, the stream yields the compaction's output for any list that it
   -- processes
-  abbrev pub DealsOuts : Type 0
-  DealsOuts = (stops : Error → Bool) (xs : List R) → Compacts stops front s xs
-      → Deals (answer_stops stops) next nowhere s (outs (rules_of s) (as_they_are xs))
+  abbrev pub YieldsOuts : Type 0
+  YieldsOuts = (stops : Error → Bool) (xs : List R) → Compacts stops front s xs
+      → YieldsExactly (answer_stops stops) next nowhere s (outs (rules_of s) (as_they_are xs))
 
   -- the same for a list without errors: the stream yields the entries kept
-  abbrev pub DealsKept : Type 0
-  DealsKept = (stops : Error → Bool) (xs : List Entry) → Compacts stops front s (ok_results xs)
-      → Deals (answer_stops stops) next nowhere s (ok_results (kept (rules_of s) (unfiltered xs)))
+  abbrev pub YieldsKept : Type 0
+  YieldsKept = (stops : Error → Bool) (xs : List Entry) → Compacts stops front s (ok_results xs)
+      → YieldsExactly (answer_stops stops) next nowhere s (ok_results (kept (rules_of s) (unfiltered xs)))
 
 -- the error of a result, if any
 abbrev pub refusal : {X : Type 0} → Result X Error → Option Error

@@ -6,10 +6,10 @@ use Rattle.std.specs.Iterator.{Yields}
 use Rattle.sst_entries.specs.declared.error.Error.{Error}
 use Rattle.sst_entries.specs.declared.stream.Direction.{Direction}
 use Rattle.sst_entries.specs.Entry.{Entry}
-use Rattle.sst_entries.specs.Stream.{Runs, ok_results, deal}
+use Rattle.sst_entries.specs.Stream.{Runs, ok_results, yield_each}
 use Rattle.lsm_sorted.specs.merge.Ends.{R}
 use Rattle.lsm_sorted.specs.merge.Union.{all_errors, union_of}
-use Rattle.lsm_sorted.specs.merge.MergeLaws.{DealSorted}
+use Rattle.lsm_sorted.specs.merge.MergeLaws.{YieldSorted}
 use Rattle.lsm_sorted.specs.declared.compaction.Rules.{Rules}
 use Rattle.lsm_sorted.specs.Compaction.{outs, as_they_are}
 use Rattle.lsm_sorted.specs.Outlook.{StopsAtNone}
@@ -29,24 +29,24 @@ IsUpToGap stops es errors xs =
 
 -- for every list of ends, the results up to the first `None` are those of all the entries, or of
 -- the entries with a gap
-pub record DealsUpToGap {T : Type 0} (stops : Error → Bool)
+pub record YieldsUpToGap {T : Type 0} (stops : Error → Bool)
     (next next_back : T → Option R → T → Type 0) (t : T) (es : List Entry) (errors : List Error) :
     Type 0 where
   pub answers : (ends : List Direction) (rs : List (Option R)) (u : T)
       → Runs next next_back t ends rs u → StopsAtNone false rs
-      → (xs : List R) × IsUpToGap stops es errors xs × (rs ≡ deal xs ends)
+      → (xs : List R) × IsUpToGap stops es errors xs × (rs ≡ yield_each xs ends)
 
 -- the union of sorted sources is yielded, or the union with a gap
 pub record MergesUpToGap {S T : Type 0} (front back : S → Option R → S → Type 0) (its : List S)
     (next next_back : T → Option R → T → Type 0) (t : T) : Type 0 where
-  pub deals : (stops : Error → Bool) (lists : List (List R)) → DealSorted front back stops its lists
-      → DealsUpToGap stops next next_back t (union_of lists) (all_errors lists)
+  pub yields : (stops : Error → Bool) (lists : List (List R)) → YieldSorted front back stops its lists
+      → YieldsUpToGap stops next next_back t (union_of lists) (all_errors lists)
 
 -- an unfiltered compaction, called until `None`, yields the output for the union of sorted sources,
 -- or for the union with a gap
 pub record GivesUpToGap {S T : Type 0} (front back : S → Option R → S → Type 0) (its : List S)
     (rules : Rules) (next : T → Option R → T → Type 0) (t : T) : Type 0 where
-  pub gives : (stops : Error → Bool) (lists : List (List R)) → DealSorted front back stops its lists
+  pub gives : (stops : Error → Bool) (lists : List (List R)) → YieldSorted front back stops its lists
       → (gave : List R) (u v : T) → Yields next t gave u → next u None v
       → (xs : List R) × IsUpToGap stops (union_of lists) (all_errors lists) xs
       × (gave ≡ outs rules (as_they_are xs))

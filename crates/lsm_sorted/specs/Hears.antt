@@ -2,7 +2,7 @@
 use Rattle.std.specs.Prelude.{◌≡◌, Bool, false, List, [], ◌∷◌, Option}
 use Rattle.sst_entries.specs.declared.stream.Direction.{Direction}
 use Rattle.sst_entries.specs.declared.error.Error.{Error}
-use Rattle.sst_entries.specs.Stream.{Runs, NoneStops, answer_stops, deal}
+use Rattle.sst_entries.specs.Stream.{Runs, NoneStops, answer_stops, yield_each}
 use Rattle.lsm_sorted.specs.declared.heap.ends.Ends.{Ends}
 use Rattle.lsm_sorted.specs.merge.Ends.{R}
 use Rattle.lsm_sorted.specs.Outlook.{Outlook, list_of, MayGive, results_in, with_rest, is_over}
@@ -39,4 +39,4 @@ pub record Heard {S : Type 0} (front back : S → Option R → S → Type 0) (so
   pub led : S
   pub runs : Runs front back source ends answers led
   pub once : StopsAtNone false answers
-  pub holds : (xs : List R) → answers ≡ deal xs ends → P xs
+  pub holds : (xs : List R) → answers ≡ yield_each xs ends → P xs

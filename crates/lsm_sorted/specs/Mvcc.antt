@@ -4,7 +4,7 @@ use Rattle.std.specs.Iterator.{Count}
 use Rattle.sst_entries.specs.declared.error.Error.{Error}
 use Rattle.sst_entries.specs.declared.stream.Direction.{Direction}
 use Rattle.sst_entries.specs.Entry.{Entry}
-use Rattle.sst_entries.specs.Stream.{Runs, NoneStops, Deals, CanDeal, answer_stops, ok_results}
+use Rattle.sst_entries.specs.Stream.{Runs, NoneStops, YieldsExactly, CanYield, answer_stops, ok_results}
 use Rattle.std.specs.Iterator.{IsFinite}
 use Rattle.lsm_sorted.specs.merge.Ends.{R, Goes}
 use Rattle.lsm_sorted.specs.merge.Union.{Ascends, newest}
@@ -48,20 +48,20 @@ module _ {S T : Type 0} (front back : S → Option R → S → Type 0) (source :
 
   -- for a list that the source yields, the results are those of steps on it, up to an error in
   -- `stops`
-  pub record DealsSteps : Type 0 where
+  pub record YieldsSteps : Type 0 where
     pub answers : (stops : Error → Bool) (xs : List R)
-        → Deals (answer_stops stops) front back source xs
+        → YieldsExactly (answer_stops stops) front back source xs
         → (ends : List Direction) (rs : List (Option R)) (u : T) → Runs next next_back t ends rs u
         → NoneStops (answer_stops stops) rs → rs ≡ newest_answers xs ends
 
   -- for sorted entries that the source yields, the newest version of each key is yielded
-  pub record DealsNewestOf : Type 0 where
-    pub deals : (stops : Error → Bool) (xs : List Entry) → Ascends xs
-        → Deals (answer_stops stops) front back source (ok_results xs)
-        → Deals (answer_stops stops) next next_back t (ok_results (newest xs))
+  pub record YieldsNewestOf : Type 0 where
+    pub yields : (stops : Error → Bool) (xs : List Entry) → Ascends xs
+        → YieldsExactly (answer_stops stops) front back source (ok_results xs)
+        → YieldsExactly (answer_stops stops) next next_back t (ok_results (newest xs))
 
   -- if the source may be called and is finite, the stream may be called
   pub record CanStep (can can_back : S → Type 0) (left : S → Count)
       (can_next can_next_back : T → Type 0) : Type 0 where
-    pub asks : CanDeal front back can can_back source → IsFinite (left source)
-        → CanDeal next next_back can_next can_next_back t
+    pub asks : CanYield front back can can_back source → IsFinite (left source)
+        → CanYield next next_back can_next can_next_back t

@@ -1,7 +1,7 @@
 -- Guarantees for the newest versions of several sources.
 use Rattle.std.specs.Prelude.{◌≡◌, Bool, List, [], All, Option}
 use Rattle.std.specs.Iterator.{Count, IsFinite}
-use Rattle.sst_entries.specs.Stream.{Runs, Deals, CanDeal, answer_stops, ok_results, EndsAtError}
+use Rattle.sst_entries.specs.Stream.{Runs, YieldsExactly, CanYield, answer_stops, ok_results, EndsAtError}
 use Rattle.sst_entries.specs.declared.error.Error.{Error}
 use Rattle.sst_entries.specs.declared.stream.Direction.{Direction}
 use Rattle.sst_entries.specs.declared.stream.Direction.TheVariants.{Front, Back}
@@ -10,7 +10,7 @@ use Rattle.lsm_sorted.specs.declared.mvcc_stream.MvccStream.{MvccStream}
 use Rattle.lsm_sorted.specs.merge.Ends.{R}
 use Rattle.lsm_sorted.specs.merge.Union.{all_errors, union_of, newest}
 use Rattle.lsm_sorted.specs.merge.Asks.{IsMergerOf}
-use Rattle.lsm_sorted.specs.merge.MergeLaws.{DealSorted, DealsUntilError, MeetsErrorsLate}
+use Rattle.lsm_sorted.specs.merge.MergeLaws.{YieldSorted, YieldsUntilError, MeetsErrorsLate}
 use Rattle.lsm_sorted.specs.merge.MergeLaws.{every_error}
 use Rattle.lsm_sorted.specs.Gap.{IsUpToGap}
 use Rattle.lsm_sorted.specs.Mvcc.{mvcc_outlook}
@@ -28,29 +28,29 @@ pub record CanAskNewest {S T : Type 0} (front back : S → Option R → S → Ty
     (can can_back : S → Type 0) (left : S → Count) (its : List S)
     (next next_back : T → Option R → T → Type 0) (can_next can_next_back : T → Type 0)
     (t : T) : Type 0 where
-  pub asks : All (CanDeal front back can can_back) its → All (λ s. IsFinite (left s)) its
-      → CanDeal next next_back can_next can_next_back t
+  pub asks : All (CanYield front back can can_back) its → All (λ s. IsFinite (left s)) its
+      → CanYield next next_back can_next can_next_back t
 
 module _ {S : Type 0} (front back : S → Option R → S → Type 0) (its : List S) where
   module _ {T : Type 0} (next next_back : T → Option R → T → Type 0) (t : T) where
     -- if no source has an error, the stream yields the newest version of each key in the union of
     -- sorted sources
-    pub record DealsNewest : Type 0 where
-      pub deals : (stops : Error → Bool) (lists : List (List R))
-          → DealSorted front back stops its lists → all_errors lists ≡ []
-          → Deals (answer_stops stops) next next_back t (ok_results (newest (union_of lists)))
+    pub record YieldsNewest : Type 0 where
+      pub yields : (stops : Error → Bool) (lists : List (List R))
+          → YieldSorted front back stops its lists → all_errors lists ≡ []
+          → YieldsExactly (answer_stops stops) next next_back t (ok_results (newest (union_of lists)))
 
     -- if the sources have errors, the same holds as long as no error is returned
-    pub record DealsNewestUntilError : Type 0 where
-      pub deals : (stops : Error → Bool) (lists : List (List R))
-          → DealSorted front back stops its lists
-          → Deals (answer_stops every_error) next next_back t (ok_results (newest (union_of lists)))
+    pub record YieldsNewestUntilError : Type 0 where
+      pub yields : (stops : Error → Bool) (lists : List (List R))
+          → YieldSorted front back stops its lists
+          → YieldsExactly (answer_stops every_error) next next_back t (ok_results (newest (union_of lists)))
 
     -- with any errors, and after them: the results are those of steps on the union, or on the union
     -- with a gap. The gap is at the first error met.
     pub record AnswersNewest : Type 0 where
       pub answers : (stops : Error → Bool) (lists : List (List R))
-          → DealSorted front back stops its lists
+          → YieldSorted front back stops its lists
           → (ends : List Direction) (rs : List (Option R)) (u : T) → Runs next next_back t ends rs u
           → (xs : List R) × IsUpToGap stops (union_of lists) (all_errors lists) xs
           × (rs ≡ newest_answers xs ends)
@@ -60,7 +60,7 @@ module _ {S : Type 0} (front back : S → Option R → S → Type 0) (its : List
   pub record IsOverMerged {A : Type 0} (next next_back : Merger S A → Option R → Merger S A
       → Type 0) (s : MvccStream (Merger S A) R) : Type 0 where
     pub of : IsNewestOf its s
-    pub until : DealsUntilError front back its next next_back of.source
+    pub until : YieldsUntilError front back its next next_back of.source
     pub late : MeetsErrorsLate front back its Front next of.source
     pub late_back : MeetsErrorsLate front back its Back next_back of.source
     pub ends : EndsAtError next next_back of.source

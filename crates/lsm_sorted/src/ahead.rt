@@ -3,7 +3,7 @@ ghost use Rattle.sst_entries.specs.declared.error.Error.{Error};
 ghost use Rattle.std.specs.Prelude.{Bool, ◌≡◌, ℕ, ◌+◌, ◌<◌, List, ◌∷◌, false};
 ghost use Rattle.lsm_sorted.specs.merge.Ends.{R, Goes};
 ghost use Rattle.sst_entries.specs.declared.stream.Direction.TheVariants.{Front};
-ghost use Rattle.sst_entries.specs.Stream.{DealsFirst, Lowers, nowhere, front_of};
+ghost use Rattle.sst_entries.specs.Stream.{YieldsFirst, Lowers, nowhere, front_of};
 ghost use Rattle.lsm_sorted.specs.Outlook.{IsStep};
 ghost use Rattle.lsm_sorted.specs.Hears.{Hears};
 ghost use Rattle.lsm_sorted.specs.Ahead.{HoldsAhead, ahead_size, ahead_outlook};
@@ -34,8 +34,8 @@ impl<I: Iterator<Item = IterItem<A>>, A: Allocator> Ahead<I> {
     pub(crate) fn next(&mut self) -> Option<IterItem<A>>
         requires { Goes I.next_gives nowhere I.can_next I.can_next I.remaining self.old.source }
         ensures goes { Goes I.next_gives nowhere I.can_next I.can_next I.remaining self.new.source }
-        ensures deals { (stops : Error → Bool) →
-            DealsFirst stops (HoldsAhead stops I.next_gives) self.old result self.new }
+        ensures yields { (stops : Error → Bool) →
+            YieldsFirst stops (HoldsAhead stops I.next_gives) self.old result self.new }
         ensures hears { Hears I.next_gives Front result (IsStep front_of result)
             (ahead_outlook self.old) (ahead_outlook self.new) }
         ensures lowers { Lowers result (ahead_size I.remaining self.old) (ahead_size I.remaining

@@ -2,10 +2,10 @@
 ghost use Rattle.std.specs.Prelude.{◌≡◌, IfErr, IfOk, None, OnErr, is_some, map, nat_lt};
 ghost use Rattle.std.specs.Iterator.{IsFinite};
 ghost use Rattle.sst_entries.specs.Lending.{came};
-ghost use Rattle.sst_entries.specs.Stream.{CanDeal, Lowers, nowhere};
+ghost use Rattle.sst_entries.specs.Stream.{CanYield, Lowers, nowhere};
 ghost use Rattle.sst_entries.specs.declared.error.Error.TheVariants.{OutOfMemory};
 ghost use Rattle.lsm_sorted.specs.Mvcc.{CanStep};
-ghost use Rattle.lsm_sorted.specs.Below.{DealsBelow, GivesBelow, MayAsk, below_of};
+ghost use Rattle.lsm_sorted.specs.Below.{YieldsBelow, GivesBelow, MayAsk, below_of};
 ghost use Rattle.lsm_sorted.specs.LentBelow.{LendsBelow, MayLendBelow, lent_below, lent_passes};
 ghost use Rattle.lsm_sorted.specs.LentBelow.{only_below};
 
@@ -37,13 +37,13 @@ impl<I: Iterator<Item = IterItem<A>>, A: Allocator> Below<I> {
         ensures of { result ≡ below_of seqno iter }
         // For any list, up to an error that stops the source, it yields the entries below the bound
         // and the errors.
-        ensures deals { DealsBelow I.next_gives nowhere iter seqno
+        ensures yields { YieldsBelow I.next_gives nowhere iter seqno
             ⟦<Below<I> as Iterator>⟧.next_gives nowhere result }
         ensures can { CanStep I.next_gives nowhere iter ⟦<Below<I> as Iterator>⟧.next_gives nowhere
             result I.can_next I.can_next I.remaining ⟦<Below<I> as Iterator>⟧.can_next
             ⟦<Below<I> as Iterator>⟧.can_next }
         // A `for` loop may iterate over it.
-        ensures next { CanDeal I.next_gives nowhere I.can_next I.can_next iter →
+        ensures next { CanYield I.next_gives nowhere I.can_next I.can_next iter →
             IsFinite (I.remaining iter) → ⟦<Below<I> as Iterator>⟧.can_next result }
     {
         Below { iter, seqno }
@@ -55,8 +55,8 @@ impl<I: DoubleEndedIterator<Item = IterItem<A>>, A: Allocator> Below<I> {
     ///
     /// The call does nothing: its contract states the law.
     pub fn from_both_ends(&self)
-        ensures deals { (iter : I) (seqno : _) → self.now ≡ below_of seqno iter →
-            DealsBelow I.next_gives I.next_back_gives iter seqno
+        ensures yields { (iter : I) (seqno : _) → self.now ≡ below_of seqno iter →
+            YieldsBelow I.next_gives I.next_back_gives iter seqno
             ⟦<Below<I> as Iterator>⟧.next_gives
             ⟦<Below<I> as DoubleEndedIterator>⟧.next_back_gives self.now }
         ensures can { (iter : I) (seqno : _) → self.now ≡ below_of seqno iter →
@@ -66,10 +66,10 @@ impl<I: DoubleEndedIterator<Item = IterItem<A>>, A: Allocator> Below<I> {
             ⟦<Below<I> as DoubleEndedIterator>⟧.can_next_back }
         // A `for` loop may iterate over it, from the front or from the back.
         ensures next { (iter : I) (seqno : _) → self.now ≡ below_of seqno iter →
-            CanDeal I.next_gives I.next_back_gives I.can_next I.can_next_back iter →
+            CanYield I.next_gives I.next_back_gives I.can_next I.can_next_back iter →
             IsFinite (I.remaining iter) → ⟦<Below<I> as Iterator>⟧.can_next self.now }
         ensures next_back { (iter : I) (seqno : _) → self.now ≡ below_of seqno iter →
-            CanDeal I.next_gives I.next_back_gives I.can_next I.can_next_back iter →
+            CanYield I.next_gives I.next_back_gives I.can_next I.can_next_back iter →
             IsFinite (I.remaining iter) →
             ⟦<Below<I> as DoubleEndedIterator>⟧.can_next_back self.now }
     {}
@@ -89,7 +89,7 @@ fn is_low<L: Lending>(source: &L, seqno: SeqNo) -> bool
 // Advances a source to its next entry below a bound.
 #[inline]
 fn advance_below<L: Lending>(source: &mut L, seqno: SeqNo) -> Result<bool, Error>
-    requires { CanDeal L.advances nowhere L.can_advance L.can_advance source.old }
+    requires { CanYield L.advances nowhere L.can_advance L.can_advance source.old }
     ensures goes { LendsBelow L.advances L.can_advance L.left (below_of seqno source.old)
         (came result (L.lent source.new)) (below_of seqno source.new) }
     ensures more { IfOk result (λ more. more ≡ is_some (L.lent source.new)) }
@@ -117,13 +117,13 @@ impl<L: Lending> Below<L> {
         ensures lent { ⟦<Below<L> as Lending>⟧.lent result ≡ only_below seqno (L.lent source) }
         // For any list, up to an error that stops the source, it yields the entries below the bound
         // and the errors.
-        ensures deals { DealsBelow L.advances nowhere source seqno
+        ensures yields { YieldsBelow L.advances nowhere source seqno
             ⟦<Below<L> as Lending>⟧.advances nowhere result }
         // It can be advanced as often as the source can.
-        ensures can { CanDeal L.advances nowhere L.can_advance L.can_advance source →
-            CanDeal ⟦<Below<L> as Lending>⟧.advances nowhere
+        ensures can { CanYield L.advances nowhere L.can_advance L.can_advance source →
+            CanYield ⟦<Below<L> as Lending>⟧.advances nowhere
             ⟦<Below<L> as Lending>⟧.can_advance ⟦<Below<L> as Lending>⟧.can_advance result }
-        ensures advance { CanDeal L.advances nowhere L.can_advance L.can_advance source →
+        ensures advance { CanYield L.advances nowhere L.can_advance L.can_advance source →
             ⟦<Below<L> as Lending>⟧.can_advance result }
     {
         Below {

@@ -1,7 +1,7 @@
 //! Mergers whose sources have errors.
 ghost use Rattle.std.specs.Prelude.{List};
 ghost use Rattle.sst_entries.specs.Stream.{nowhere, EndsAtError};
-ghost use Rattle.lsm_sorted.specs.merge.MergeLaws.{DealsBeforeErrors, DealsUntilError};
+ghost use Rattle.lsm_sorted.specs.merge.MergeLaws.{YieldsBeforeErrors, YieldsUntilError};
 ghost use Rattle.lsm_sorted.specs.Gap.{MergesUpToGap};
 
 use crate::Merger;
@@ -15,9 +15,9 @@ use std::alloc::Allocator;
 /// states the law.
 pub fn up_to_gap<I: Iterator<Item = IterItem<A>>, A: Allocator>(merger: &Merger<I, A>)
     ensures { (its : List I) →
-        DealsBeforeErrors I.next_gives nowhere its ⟦<Merger<I, A> as Iterator>⟧.next_gives nowhere
+        YieldsBeforeErrors I.next_gives nowhere its ⟦<Merger<I, A> as Iterator>⟧.next_gives nowhere
         merger.now →
-        DealsUntilError I.next_gives nowhere its ⟦<Merger<I, A> as Iterator>⟧.next_gives nowhere
+        YieldsUntilError I.next_gives nowhere its ⟦<Merger<I, A> as Iterator>⟧.next_gives nowhere
         merger.now →
         EndsAtError ⟦<Merger<I, A> as Iterator>⟧.next_gives nowhere merger.now →
         MergesUpToGap I.next_gives nowhere its ⟦<Merger<I, A> as Iterator>⟧.next_gives nowhere

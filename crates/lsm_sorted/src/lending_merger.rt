@@ -5,7 +5,7 @@ ghost use Rattle.std.specs.Option.{option_map};
 ghost use Rattle.std.specs.Vec.{vec_capacity};
 ghost use Rattle.std.specs.List.{insert};
 ghost use Rattle.sst_entries.specs.Lending.{entry_of_ref};
-ghost use Rattle.sst_entries.specs.Stream.{CanDeal, EndsAtError, nowhere};
+ghost use Rattle.sst_entries.specs.Stream.{CanYield, EndsAtError, nowhere};
 ghost use Rattle.sst_entries.specs.declared.error.Error.{Error};
 ghost use Rattle.sst_entries.specs.declared.error.Error.TheVariants.{OutOfMemory};
 ghost use Rattle.lsm_sorted.specs.lending.Lent.{AsksOne, IsPrefix, IsReady, MayLend, StepsOn};
@@ -15,7 +15,7 @@ ghost use Rattle.lsm_sorted.specs.lending.Lent.{lent_first};
 ghost use Rattle.lsm_sorted.specs.lending.Lent.{AdvancesLent, Belongs, IsHead, LendsNoMore};
 ghost use Rattle.lsm_sorted.specs.lending.Lent.{StartsLent};
 ghost use Rattle.lsm_sorted.specs.lending.Lent.{StepLowers, lent_size, lent_total, queued};
-ghost use Rattle.lsm_sorted.specs.merge.MergeLaws.{DealsInPlace, DealsMerged};
+ghost use Rattle.lsm_sorted.specs.merge.MergeLaws.{YieldsInPlace, YieldsMerged};
 
 use crate::compare_refs;
 use sst_entries::{EntryRef, Error, Lending};
@@ -97,21 +97,21 @@ impl<L: Lending + Drop, A: Allocator> LendingMerger<L, A> {
         // It has no current entry yet.
         ensures none { IfOk result (λ m. ⟦<LendingMerger<L, A> as Lending>⟧.lent m ≡ None) }
         // For sorted sources without errors, it yields their merged entries in order.
-        ensures deals { IfOk result (λ m. DealsMerged L.advances nowhere sources.items
+        ensures yields { IfOk result (λ m. YieldsMerged L.advances nowhere sources.items
             ⟦<LendingMerger<L, A> as Lending>⟧.advances nowhere m) }
         // With errors, it yields the same up to the first one, which directly follows the entry
         // before it in its source.
-        ensures places { IfOk result (λ m. DealsInPlace L.advances nowhere sources.items
+        ensures places { IfOk result (λ m. YieldsInPlace L.advances nowhere sources.items
             ⟦<LendingMerger<L, A> as Lending>⟧.advances nowhere m) }
         // After an error it is exhausted, whatever the sources yield.
         ensures ends { IfOk result (λ m. EndsAtError
             ⟦<LendingMerger<L, A> as Lending>⟧.advances nowhere m) }
         // It can be advanced as often as its sources can.
-        ensures can { All (CanDeal L.advances nowhere L.can_advance L.can_advance) sources.items →
-            IfOk result (CanDeal ⟦<LendingMerger<L, A> as Lending>⟧.advances nowhere
+        ensures can { All (CanYield L.advances nowhere L.can_advance L.can_advance) sources.items →
+            IfOk result (CanYield ⟦<LendingMerger<L, A> as Lending>⟧.advances nowhere
             ⟦<LendingMerger<L, A> as Lending>⟧.can_advance
             ⟦<LendingMerger<L, A> as Lending>⟧.can_advance) }
-        ensures advance { All (CanDeal L.advances nowhere L.can_advance L.can_advance)
+        ensures advance { All (CanYield L.advances nowhere L.can_advance L.can_advance)
             sources.items → IfOk result ⟦<LendingMerger<L, A> as Lending>⟧.can_advance }
         ensures err { IfErr result (λ e. e ≡ OutOfMemory) }
     {

@@ -3,12 +3,12 @@ ghost use Rattle.std.specs.Prelude.{◌≡◌, ◌<◌, true, false, IfOk, IfErr
 ghost use Rattle.std.specs.Prelude.{None, OnErr, is_some};
 ghost use Rattle.sst_entries.specs.Lending.{came};
 ghost use Rattle.sst_entries.specs.Entry.{Entry};
-ghost use Rattle.sst_entries.specs.Stream.{CanDeal, Lowers, nowhere};
+ghost use Rattle.sst_entries.specs.Stream.{CanYield, Lowers, nowhere};
 ghost use Rattle.sst_entries.specs.declared.error.Error.{Error};
 ghost use Rattle.sst_entries.specs.declared.error.Error.TheVariants.{OutOfMemory};
-ghost use Rattle.lsm_sorted.specs.lending.LentFaults.{AlwaysTells, PassesAll, StaysOver};
-ghost use Rattle.lsm_sorted.specs.lending.LentNewest.{AdvancesNewest, DealsNewestEntries};
-ghost use Rattle.lsm_sorted.specs.lending.LentNewest.{DealsNewestResults, MayNewest, is_other};
+ghost use Rattle.lsm_sorted.specs.lending.LentFaults.{AlwaysReports, PassesAll, StaysOver};
+ghost use Rattle.lsm_sorted.specs.lending.LentNewest.{AdvancesNewest, YieldsNewestEntries};
+ghost use Rattle.lsm_sorted.specs.lending.LentNewest.{YieldsNewestResults, MayNewest, is_other};
 ghost use Rattle.lsm_sorted.specs.lending.LentNewest.{given_key};
 ghost use Rattle.lsm_sorted.specs.lending.LentNewest.{lent_newest, newest_left, newest_lender};
 
@@ -42,24 +42,24 @@ impl<L: Lending, A: Allocator> LendingNewest<L, A> {
         // It has no current entry yet.
         ensures none { ⟦<LendingNewest<L, A> as Lending>⟧.lent result ≡ None }
         // For a sorted list, it yields the newest version of each key.
-        ensures newest { DealsNewestEntries L.advances source
+        ensures newest { YieldsNewestEntries L.advances source
             ⟦<LendingNewest<L, A> as Lending>⟧.advances result }
         // With errors, it yields the same, and each error in order.
-        ensures places { DealsNewestResults L.advances source
+        ensures places { YieldsNewestResults L.advances source
             ⟦<LendingNewest<L, A> as Lending>⟧.advances result }
         // For any source, it passes on each error. Its only error of its own is `OutOfMemory`.
-        ensures faults { AlwaysTells PassesAll L.advances source newest_lender
+        ensures faults { AlwaysReports PassesAll L.advances source newest_lender
             ⟦<LendingNewest<L, A> as Lending>⟧.advances result }
         // After its own `OutOfMemory` it is exhausted. After the end it advances the source again,
         // and yields nothing while the source yields nothing.
-        ensures over { AlwaysTells StaysOver L.advances source newest_lender
+        ensures over { AlwaysReports StaysOver L.advances source newest_lender
             ⟦<LendingNewest<L, A> as Lending>⟧.advances result }
         // It can be advanced as often as the source can.
-        ensures can { CanDeal L.advances nowhere L.can_advance L.can_advance source →
-            CanDeal ⟦<LendingNewest<L, A> as Lending>⟧.advances nowhere
+        ensures can { CanYield L.advances nowhere L.can_advance L.can_advance source →
+            CanYield ⟦<LendingNewest<L, A> as Lending>⟧.advances nowhere
             ⟦<LendingNewest<L, A> as Lending>⟧.can_advance
             ⟦<LendingNewest<L, A> as Lending>⟧.can_advance result }
-        ensures advance { CanDeal L.advances nowhere L.can_advance L.can_advance source →
+        ensures advance { CanYield L.advances nowhere L.can_advance L.can_advance source →
             ⟦<LendingNewest<L, A> as Lending>⟧.can_advance result }
     {
         LendingNewest {

@@ -5,9 +5,9 @@ ghost use Rattle.std.specs.Iterator.{at_most, MakesProgress};
 ghost use Rattle.sst_entries.specs.declared.stream.Direction.TheVariants.{Front, Back};
 ghost use Rattle.sst_entries.specs.declared.error.Error.TheVariants.{OutOfMemory};
 ghost use Rattle.lsm_sorted.specs.merge.Words.{Adds, AsksSource, Calls, CanMerge};
-ghost use Rattle.lsm_sorted.specs.merge.Words.{DealsBeforeErrors};
-ghost use Rattle.lsm_sorted.specs.merge.Words.{DealsMerged};
-ghost use Rattle.lsm_sorted.specs.merge.Words.{DealsUntilError, EndsAtError, Entry, Fills, Goes};
+ghost use Rattle.lsm_sorted.specs.merge.Words.{YieldsBeforeErrors};
+ghost use Rattle.lsm_sorted.specs.merge.Words.{YieldsMerged};
+ghost use Rattle.lsm_sorted.specs.merge.Words.{YieldsUntilError, EndsAtError, Entry, Fills, Goes};
 ghost use Rattle.lsm_sorted.specs.merge.Words.{HasPlaces};
 ghost use Rattle.lsm_sorted.specs.merge.Words.{HoldsAtMost, HoldsNone, IsMergerOf, IsStrict};
 ghost use Rattle.lsm_sorted.specs.merge.Words.{IsUnion};
@@ -162,14 +162,14 @@ impl<I: Iterator<Item = IterItem<A>>, A: Allocator + Clone> Merger<I, A> {
         ensures places { IfOk result (λ m. m.heap.room ≡ 2 * length iterators.items) }
         // For sorted sources without errors, it yields their merged entries in order from the
         // front.
-        ensures deals { IfOk result (λ m. DealsMerged I.next_gives nowhere iterators.items
+        ensures yields { IfOk result (λ m. YieldsMerged I.next_gives nowhere iterators.items
             ⟦<Merger<I, A> as Iterator>⟧.next_gives nowhere m) }
         // With any errors, it yields the same until a call returns one.
-        ensures before { IfOk result (λ m. DealsBeforeErrors I.next_gives nowhere iterators.items
+        ensures before { IfOk result (λ m. YieldsBeforeErrors I.next_gives nowhere iterators.items
             ⟦<Merger<I, A> as Iterator>⟧.next_gives nowhere m) }
         // With errors, it yields the same until a source returns one, and that call returns the
         // error.
-        ensures until { IfOk result (λ m. DealsUntilError I.next_gives nowhere iterators.items
+        ensures until { IfOk result (λ m. YieldsUntilError I.next_gives nowhere iterators.items
             ⟦<Merger<I, A> as Iterator>⟧.next_gives nowhere m) }
         // An error comes only after the entries before it in its source, except perhaps the last of
         // them.
@@ -214,18 +214,18 @@ pub fn from_both_ends<I: DoubleEndedIterator<Item = IterItem<A>>, A: Allocator>(
     merger: &Merger<I, A>,
 )
     // For sorted sources without errors, it yields their merged entries in order.
-    ensures deals { (its : List I) → IsMergerOf its merger.now →
-        DealsMerged I.next_gives I.next_back_gives its
+    ensures yields { (its : List I) → IsMergerOf its merger.now →
+        YieldsMerged I.next_gives I.next_back_gives its
         ⟦<Merger<I, A> as Iterator>⟧.next_gives
         ⟦<Merger<I, A> as DoubleEndedIterator>⟧.next_back_gives merger.now }
     // With any errors, it yields the same until a call returns one.
     ensures before { (its : List I) → IsMergerOf its merger.now →
-        DealsBeforeErrors I.next_gives I.next_back_gives its
+        YieldsBeforeErrors I.next_gives I.next_back_gives its
         ⟦<Merger<I, A> as Iterator>⟧.next_gives
         ⟦<Merger<I, A> as DoubleEndedIterator>⟧.next_back_gives merger.now }
     // With errors, it yields the same until a source returns one, and that call returns the error.
     ensures until { (its : List I) → IsMergerOf its merger.now →
-        DealsUntilError I.next_gives I.next_back_gives its
+        YieldsUntilError I.next_gives I.next_back_gives its
         ⟦<Merger<I, A> as Iterator>⟧.next_gives
         ⟦<Merger<I, A> as DoubleEndedIterator>⟧.next_back_gives merger.now }
     // With calls at the front only, an error comes after the entries before it in its source. The

@@ -1,11 +1,11 @@
 //! A stream of the newest version of each key.
 ghost use Rattle.std.specs.Prelude.{not, ◌≡◌, ℕ, ◌+◌, ◌<◌};
 ghost use Rattle.std.specs.Iterator.{at_most, IsFinite};
-ghost use Rattle.sst_entries.specs.Stream.{CanDeal, nowhere};
+ghost use Rattle.sst_entries.specs.Stream.{CanYield, nowhere};
 ghost use Rattle.sst_entries.specs.declared.stream.Direction.TheVariants.{Front, Back};
 ghost use Rattle.sst_entries.specs.Key.{same_key, key_lt};
 ghost use Rattle.lsm_sorted.specs.Newest.{front_step, back_step};
-ghost use Rattle.lsm_sorted.specs.Mvcc.{MayStep, StepsAt, AnswersSteps, DealsSteps, DealsNewestOf};
+ghost use Rattle.lsm_sorted.specs.Mvcc.{MayStep, StepsAt, AnswersSteps, YieldsSteps, YieldsNewestOf};
 ghost use Rattle.lsm_sorted.specs.Mvcc.{CanStep, mvcc_size, mvcc_outlook, read_from};
 ghost use Rattle.lsm_sorted.specs.Outlook.{before_any};
 
@@ -49,17 +49,17 @@ impl<I: Iterator<Item = IterItem<A>>, A: Allocator> MvccStream<I> {
     /// [`MvccStream::from_both_ends`].
     pub fn new(iter: I) -> Self
         ensures starts { mvcc_outlook result ≡ before_any iter }
-        ensures may { CanDeal I.next_gives nowhere I.can_next I.can_next iter →
+        ensures may { CanYield I.next_gives nowhere I.can_next I.can_next iter →
             IsFinite (I.remaining iter) →
             MayStep I.next_gives nowhere I.can_next I.can_next I.remaining result }
         // For any source, errors included, the results are those of the steps on it.
         ensures heard { AnswersSteps I.next_gives nowhere iter
             ⟦<MvccStream<I> as Iterator>⟧.next_gives nowhere result }
         // For any list, the same up to an error that stops the source.
-        ensures steps { DealsSteps I.next_gives nowhere iter
+        ensures steps { YieldsSteps I.next_gives nowhere iter
             ⟦<MvccStream<I> as Iterator>⟧.next_gives nowhere result }
         // For sorted entries, it yields the newest version of each key.
-        ensures newest { DealsNewestOf I.next_gives nowhere iter
+        ensures newest { YieldsNewestOf I.next_gives nowhere iter
             ⟦<MvccStream<I> as Iterator>⟧.next_gives nowhere result }
         ensures can { CanStep I.next_gives nowhere iter
             ⟦<MvccStream<I> as Iterator>⟧.next_gives nowhere result
@@ -91,11 +91,11 @@ impl<I: DoubleEndedIterator<Item = IterItem<A>>, A: Allocator> MvccStream<I> {
             ⟦<MvccStream<I> as Iterator>⟧.next_gives
             ⟦<MvccStream<I> as DoubleEndedIterator>⟧.next_back_gives self.now }
         ensures steps { (iter : I) → mvcc_outlook self.now ≡ before_any iter →
-            DealsSteps I.next_gives I.next_back_gives iter
+            YieldsSteps I.next_gives I.next_back_gives iter
             ⟦<MvccStream<I> as Iterator>⟧.next_gives
             ⟦<MvccStream<I> as DoubleEndedIterator>⟧.next_back_gives self.now }
         ensures newest { (iter : I) → mvcc_outlook self.now ≡ before_any iter →
-            DealsNewestOf I.next_gives I.next_back_gives iter
+            YieldsNewestOf I.next_gives I.next_back_gives iter
             ⟦<MvccStream<I> as Iterator>⟧.next_gives
             ⟦<MvccStream<I> as DoubleEndedIterator>⟧.next_back_gives self.now }
         ensures can { (iter : I) → mvcc_outlook self.now ≡ before_any iter →

@@ -1,9 +1,9 @@
 //! The newest version of each key of several sources.
 ghost use Rattle.std.specs.Prelude.{◌≡◌, IfOk, IfErr, All, List};
 ghost use Rattle.std.specs.Iterator.{IsFinite};
-ghost use Rattle.sst_entries.specs.Stream.{CanDeal, nowhere};
+ghost use Rattle.sst_entries.specs.Stream.{CanYield, nowhere};
 ghost use Rattle.sst_entries.specs.declared.error.Error.TheVariants.{OutOfMemory};
-ghost use Rattle.lsm_sorted.specs.NewestLaws.{DealsNewest, DealsNewestUntilError, AnswersNewest};
+ghost use Rattle.lsm_sorted.specs.NewestLaws.{YieldsNewest, YieldsNewestUntilError, AnswersNewest};
 ghost use Rattle.lsm_sorted.specs.NewestLaws.{IsNewestOf, IsOverMerged, CanAskNewest};
 
 use crate::mvcc_stream::MvccStream;
@@ -29,10 +29,10 @@ pub fn newest_of<I: Iterator<Item = IterItem<A>>, A: Allocator + Clone>(
     ensures starts { IfOk result (IsNewestOf iterators.items) }
     // For sorted sources without errors, it yields the newest version of each key of their merged
     // entries.
-    ensures deals { IfOk result (DealsNewest I.next_gives nowhere iterators.items
+    ensures yields { IfOk result (YieldsNewest I.next_gives nowhere iterators.items
         ⟦<NewestOf<I, A> as Iterator>⟧.next_gives nowhere) }
     // With errors, it yields the same until a call returns an error.
-    ensures until { IfOk result (DealsNewestUntilError I.next_gives nowhere iterators.items
+    ensures until { IfOk result (YieldsNewestUntilError I.next_gives nowhere iterators.items
         ⟦<NewestOf<I, A> as Iterator>⟧.next_gives nowhere) }
     // After an error too, the results are those of the stream's steps on the merged entries. There,
     // the first error met replaces a stretch of entries.
@@ -45,7 +45,7 @@ pub fn newest_of<I: Iterator<Item = IterItem<A>>, A: Allocator + Clone>(
         ⟦<NewestOf<I, A> as Iterator>⟧.can_next
         ⟦<NewestOf<I, A> as Iterator>⟧.can_next) }
     // A `for` loop may iterate over it.
-    ensures next { All (CanDeal I.next_gives nowhere I.can_next I.can_next) iterators.items →
+    ensures next { All (CanYield I.next_gives nowhere I.can_next I.can_next) iterators.items →
         All (λ i. IsFinite (I.remaining i)) iterators.items →
         IfOk result (λ s. ⟦<NewestOf<I, A> as Iterator>⟧.can_next s) }
     ensures err { IfErr result (λ e. e ≡ OutOfMemory) }
@@ -60,12 +60,12 @@ pub fn newest_of<I: Iterator<Item = IterItem<A>>, A: Allocator + Clone>(
 pub fn newest_from_both_ends<I: DoubleEndedIterator<Item = IterItem<A>>, A: Allocator>(
     stream: &MvccStream<Merger<I, A>>,
 )
-    ensures deals { (its : List I) → IsNewestOf its stream.now →
-        DealsNewest I.next_gives I.next_back_gives its
+    ensures yields { (its : List I) → IsNewestOf its stream.now →
+        YieldsNewest I.next_gives I.next_back_gives its
         ⟦<NewestOf<I, A> as Iterator>⟧.next_gives
         ⟦<NewestOf<I, A> as DoubleEndedIterator>⟧.next_back_gives stream.now }
     ensures until { (its : List I) → IsNewestOf its stream.now →
-        DealsNewestUntilError I.next_gives I.next_back_gives its
+        YieldsNewestUntilError I.next_gives I.next_back_gives its
         ⟦<NewestOf<I, A> as Iterator>⟧.next_gives
         ⟦<NewestOf<I, A> as DoubleEndedIterator>⟧.next_back_gives stream.now }
     // After an error too, the results are those of the stream's steps on the merged entries. There,
@@ -85,11 +85,11 @@ pub fn newest_from_both_ends<I: DoubleEndedIterator<Item = IterItem<A>>, A: Allo
         ⟦<NewestOf<I, A> as DoubleEndedIterator>⟧.can_next_back stream.now }
     // A `for` loop may iterate over it, from the front or from the back.
     ensures next { (its : List I) → IsNewestOf its stream.now →
-        All (CanDeal I.next_gives I.next_back_gives I.can_next I.can_next_back) its →
+        All (CanYield I.next_gives I.next_back_gives I.can_next I.can_next_back) its →
         All (λ i. IsFinite (I.remaining i)) its →
         ⟦<NewestOf<I, A> as Iterator>⟧.can_next stream.now }
     ensures next_back { (its : List I) → IsNewestOf its stream.now →
-        All (CanDeal I.next_gives I.next_back_gives I.can_next I.can_next_back) its →
+        All (CanYield I.next_gives I.next_back_gives I.can_next I.can_next_back) its →
         All (λ i. IsFinite (I.remaining i)) its →
         ⟦<NewestOf<I, A> as DoubleEndedIterator>⟧.can_next_back stream.now }
 {

@@ -7,13 +7,13 @@ pub use Rattle.sst_entries.proofs.KeyLemmas.{hit_key, lt_other, same_itself}
 pub use Rattle.sst_entries.proofs.Lists.{all_append, all_behind, all_front, all_more}
 pub use Rattle.sst_entries.proofs.OrderLemmas.{before_trans, number_total, strict_at}
 pub use Rattle.sst_entries.proofs.Refusals.{memory_is}
-pub use Rattle.sst_entries.proofs.StreamLemmas.{deals_front, map_append}
-pub use Rattle.sst_entries.proofs.VecSource.{vec_deals}
+pub use Rattle.sst_entries.proofs.StreamLemmas.{yields_front, map_append}
+pub use Rattle.sst_entries.proofs.VecSource.{vec_yields}
 pub use Rattle.sst_blocks.proofs.Points.{parted, past_parted, read_hit, read_other, read_past}
 pub use Rattle.sst_blocks.specs.table.Facts.{is_weak}
 unfoldable pub use Rattle.sst_blocks.specs.table.Facts.{highest_seqno}
 pub use Rattle.lsm_writers.proofs.Refused.{memory_alone}
-pub use Rattle.lsm_sorted.specs.merge.MergeLaws.{DealsMerged}
+pub use Rattle.lsm_sorted.specs.merge.MergeLaws.{YieldsMerged}
 pub use Rattle.lsm_sorted.specs.merge.Union.{Ascends}
 pub use Rattle.lsm_sorted.proofs.HeldLemmas.{count_no, none_counted}
 pub use Rattle.lsm_sorted.proofs.MergedLemmas.{all_in_order, all_inserted, all_sorted_in}
@@ -25,9 +25,9 @@ pub use Rattle.lsm_sorted.proofs.PartLemmas.{reads_alike_of_part}
 pub use Rattle.lsm_sorted.proofs.ReadLemmas.{reads_alike}
 pub use Rattle.lsm_iters.proofs.Cuts.{all_within}
 pub use Rattle.lsm_sorted.specs.version.Run.{are_in_order}
-pub use Rattle.lsm_readers.specs.Stored.{fits_told}
+pub use Rattle.lsm_readers.specs.Stored.{fits_result}
 pub use Rattle.lsm_readers.specs.point.Table.{IsOpen}
-pub use Rattle.lsm_runs.specs.RunLists.{DealTogether}
+pub use Rattle.lsm_runs.specs.RunLists.{YieldTogether}
 pub use Rattle.lsm_runs.specs.RunScan.{RunScan, RunScansNext, tables_scan}
 pub use Rattle.lsm_runs.proofs.Leading.{IsOfKey, leading_sorted, leads_older, point_of_key}
 pub use Rattle.lsm_runs.proofs.OneList.{one_way}

@@ -8,7 +8,7 @@ pub use Rattle.sst_entries.specs.Point.{is_from, is_hit, is_to, read_place, with
 unfoldable pub use Rattle.sst_entries.specs.Point.{point}
 pub use Rattle.sst_entries.specs.Span.{front_length}
 pub use Rattle.sst_entries.specs.Lending.{came, entry_cmp, entry_of_ref}
-pub use Rattle.sst_entries.specs.Stream.{CanDeal, Deals, answer_stops, nowhere, ok_results}
+pub use Rattle.sst_entries.specs.Stream.{CanYield, YieldsExactly, answer_stops, nowhere, ok_results}
 pub use Rattle.sst_entries.specs.Strict.{IsStrict, is_before, version_cmp}
 unfoldable pub use Rattle.sst_entries.specs.Strict.{IsStrictAfter}
 pub use Rattle.sst_entries.specs.declared.error.Error.{Error}
@@ -35,17 +35,17 @@ pub use Rattle.sst_blocks.specs.declared.table.label.Label.{Label}
 pub use Rattle.lsm_writers.specs.Tables.{AreTables, IsFreshRun}
 pub use Rattle.lsm_writers.specs.Writing.{IsTableOf, IsWritable}
 pub use Rattle.lsm_readers.specs.point.Answer.{lift}
-pub use Rattle.lsm_readers.specs.Stored.{BearsOut, StoresList}
+pub use Rattle.lsm_readers.specs.Stored.{Matches, StoresList}
 pub use Rattle.lsm_readers.specs.point.Table.{OpenTable}
 unfoldable pub use Rattle.lsm_readers.specs.Verify.{table_found}
-pub use Rattle.lsm_readers.specs.point.Parts.{recovered_told}
+pub use Rattle.lsm_readers.specs.point.Parts.{recovered_result}
 pub use Rattle.sst_blocks.specs.Sections.{body_of}
 pub use Rattle.lsm_readers.specs.declared.verify.Finding.{Finding}
 pub use Rattle.lsm_readers.specs.Verification.{bytes_read, steps_of, verifying}
-pub use Rattle.lsm_runs.specs.RunLists.{DealWithin, DealsList, HoldLists, HoldsList, RunsHoldLists}
-pub use Rattle.lsm_runs.specs.RunLists.{DealTogether, single}
+pub use Rattle.lsm_runs.specs.RunLists.{YieldWithin, YieldsList, HoldLists, HoldsList, RunsHoldLists}
+pub use Rattle.lsm_runs.specs.RunLists.{YieldTogether, single}
 pub use Rattle.lsm_run_parts.specs.RunParts.{range_of}
-pub use Rattle.lsm_runs.specs.SeveralRuns.{runs_told, union_in}
+pub use Rattle.lsm_runs.specs.SeveralRuns.{runs_result, union_in}
 pub use Rattle.lsm_sorted.specs.Leading.{leading_of}
 pub use Rattle.lsm_runs.specs.SpansRead.{IsOverSpans}
 pub use Rattle.lsm_runs.specs.compaction.AnyRuns.{AreTablesBy, BeginsWith, CameInOrder, CameOf}
@@ -59,7 +59,7 @@ pub use Rattle.lsm_runs.specs.compaction.Filtered.{CameTo, CameUntil, CameUpTo, 
 pub use Rattle.lsm_runs.specs.compaction.ListRuns.{HasList, HaveAll}
 pub use Rattle.lsm_runs.specs.compaction.OpenedBy.{AreOpenedBy, HasRunBy, IsOpenedBy, IsRunBy}
 pub use Rattle.lsm_runs.specs.compaction.OpenedBy.{default_opening, run_with_fault}
-pub use Rattle.lsm_runs.specs.compaction.Observed.{WasTold, WasToldUntil}
+pub use Rattle.lsm_runs.specs.compaction.Observed.{WasNotified, WasNotifiedUntil}
 pub use Rattle.lsm_runs.specs.compaction.Packed.{HoldUnion}
 pub use Rattle.lsm_runs.specs.compaction.ReadsCompacted.{AreReplaced, all_shown, joined_in}
 pub use Rattle.lsm_runs.specs.compaction.Written.{IsOpened, number_fault, opening_fault}

@@ -22,7 +22,7 @@ use Rattle.sst_blocks.specs.declared.section.SectionName.TheVariants.{FilterTli}
 use Rattle.sst_blocks.specs.declared.version.TableVersion.{TableVersion}
 use Rattle.sst_blocks.specs.declared.version.TableVersion.TheVariants.{V4}
 use Rattle.sst_blocks.specs.declared.block_type.BlockType.TheVariants.{Filter}
-use Rattle.sst_blocks.specs.Block.{load_told}
+use Rattle.sst_blocks.specs.Block.{load_result}
 use Rattle.sst_blocks.specs.Handle.{Handle}
 use Rattle.sst_blocks.proofs.BlockLaws.{built_load}
 use Rattle.sst_blocks.specs.declared.filter.policy.BloomConstructionPolicy.{BloomConstructionPolicy}
@@ -119,7 +119,7 @@ hash_in (k ∷ ks) key h =
 filter_loads : (v : TableVersion) (f : BloomFilter) (pre post body : List ℕ) (offset size : ℕ)
     → IsBuilt f → offset ≡ length pre → size ≡ 24 + length (payload_of f)
     → body ≡ pre ++ filter_block v f ++ post →
-    load_told body offset size Filter ≡ Ok (record
+    load_result body offset size Filter ≡ Ok (record
     { version = v; kind = Filter; payload = payload_of f })
 filter_loads v f pre post body offset size built at len e =
     let loads = built_load v f built in

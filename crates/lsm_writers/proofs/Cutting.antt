@@ -304,11 +304,11 @@ registered_strict cs w hs before failed c h old works strict ok e =
     rw made.index (handles_strict V4 (cs ++ c ∷ []) some made.strict)
 
 -- the handle of a block by where it lies
-pub told_handle : (es written : List Entry) (at : ℕ) (block : Place) → written ≡ es
+pub reported_handle : (es written : List Entry) (at : ℕ) (block : Place) → written ≡ es
     → block ≡ record { offset = at; size = block_size V4 es }
     → handle_with (last_entry written).user_key (last_entry written).seqno block
     ≡ handle_of V4 at es
-told_handle es written at block same is =
+reported_handle es written at block same is =
     ap (λ (x : List Entry). handle_with (last_entry x).user_key (last_entry x).seqno block) same
     ∙ ap (λ (b : Place). handle_with (last_entry es).user_key (last_entry es).seqno b) is
 

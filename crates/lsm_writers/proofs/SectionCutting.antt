@@ -137,8 +137,8 @@ module _ (all : List (List Handle)) (before now : Written) (tops : List Handle)
   pub all_written : now ≡ record before { bytes = before.bytes ++ blocks all }
   all_written = d.written ∙ ap (λ ps. record before { bytes = before.bytes ++ blocks ps }) whole
 
-  pub all_told : tops ≡ index_tops V4 (length before.bytes) all
-  all_told = d.told ∙ ap (λ ps. index_tops V4 (length before.bytes) ps) whole
+  pub all_result : tops ≡ index_tops V4 (length before.bytes) all
+  all_result = d.told ∙ ap (λ ps. index_tops V4 (length before.bytes) ps) whole
 
   pub all_short : length (blocks all) < 2 ^ 32
   all_short = subst (λ ps. length (blocks ps) < 2 ^ 32) whole d.short

@@ -53,15 +53,15 @@ module _ (hs now : List Handle) (limit : ℕ) (is : now ≡ hs) where
   module _ (w u v : Written) (tops given : List Handle)
       (begun : u ≡ record w { started = w.started ++ (Index, length w.bytes) ∷ [] })
       (told : tops ≡ index_tops V4 (length u.bytes) parts_now) (same : given ≡ tops) where
-    told_now : given ≡ index_tops V4 (length w.bytes) parts
-    told_now = same ∙ told ∙ ap (λ ps. index_tops V4 (length u.bytes) ps) same_parts
+    reported_now : given ≡ index_tops V4 (length w.bytes) parts
+    reported_now = same ∙ told ∙ ap (λ ps. index_tops V4 (length u.bytes) ps) same_parts
         ∙ ap (λ (y : Written). index_tops V4 (length y.bytes) parts) begun
 
     pub top_strict : AreStrictHandles hs → AreStrictHandles given
-    top_strict h = tops_strict (is_full_index limit) (length w.bytes) hs given h told_now
+    top_strict h = tops_strict (is_full_index limit) (length w.bytes) hs given h reported_now
 
     pub top_count : length tops ≡ length parts
-    top_count = ap length (sym same) ∙ ap length told_now ∙ length_tops (length w.bytes) parts
+    top_count = ap length (sym same) ∙ ap length reported_now ∙ length_tops (length w.bytes) parts
 
     -- where no part is refused, what is refused is the top level's block
     pub top_fault : parts_fault 0 parts_now ≡ None
@@ -70,7 +70,7 @@ module _ (hs now : List Handle) (limit : ℕ) (is : now ≡ hs) where
         ap (λ (f : Option Error). option_or f (handles_fault (index_tops V4 0 parts)))
         (ap (λ ps. parts_fault 0 ps) (sym same_parts) ∙ fit)
         ∙ tops_fault 0 (length w.bytes) parts ∙ ap (λ (ts : List Handle). handles_fault ts)
-        (sym told_now)
+        (sym reported_now)
 
     pub all_behind : (x : Written) → v ≡ record u
         { bytes = u.bytes ++ flat_map (handles_block V4) parts_now }
@@ -83,7 +83,7 @@ module _ (hs now : List Handle) (limit : ℕ) (is : now ≡ hs) where
         { bytes = u.bytes ++ flat_map (handles_block V4) ps }) same_parts in
         let first : v ≡ appended w ((Index, blocks) ∷ []) =
         section_more w u v Index blocks begun longer in
-        top ∙ ap (λ (ts : List Handle). appended v ((Tli, handles_block V4 ts) ∷ [])) told_now
+        top ∙ ap (λ (ts : List Handle). appended v ((Tli, handles_block V4 ts) ∷ [])) reported_now
         ∙ section_behind w v (Index, blocks) (
           Tli,
           handles_block V4
@@ -98,7 +98,7 @@ module _ (hs now : List Handle) (limit : ℕ) (is : now ≡ hs) where
         short = subst (λ (ps : List (List Handle)). length (flat_map (handles_block V4) ps)
             < 2 ^ 32) same_parts short;
       },
-      (subst (λ (ts : List Handle). SectionFits (Tli, handles_block V4 ts)) told_now fits, tt),
+      (subst (λ (ts : List Handle). SectionFits (Tli, handles_block V4 ts)) reported_now fits, tt),
     )
 
 -- what a writer refuses that has not failed
@@ -113,11 +113,11 @@ works_fault r w kind hs failed view works fault =
 pub works_first : {X : Type 0} (r : Result X Error) (inside failed : Bool) → inside ≡ failed
     → inside ≡ false → FaultsFirst r (failed_fault failed)
 works_first r inside failed same works = λ e told. absurd
-    (none_told failed e (sym same ∙ works) told)
+    (none_result failed e (sym same ∙ works) told)
   where
-    none_told : (failed : Bool) (e : Error) → failed ≡ false → failed_fault failed ≡ Some e → ⊥
-    none_told true e works told = cc
-    none_told false e works told = cc
+    none_result : (failed : Bool) (e : Error) → failed ≡ false → failed_fault failed ≡ Some e → ⊥
+    none_result true e works told = cc
+    none_result false e works told = cc
 
 -- what a part refuses behind others: its block, then the section so far
 pub part_refused : {X : Type 0} (r : Result X Error) (e : Error) (before : ℕ) (part : List Handle)

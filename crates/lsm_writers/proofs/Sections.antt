@@ -229,11 +229,11 @@ full_written (Ok n) policy hashes w before after same held writes = λ given h.
 full_written (Err e) policy hashes w before after same held writes = tt
 
 -- and what it refuses
-pub full_told : (policy : BloomConstructionPolicy) (hashes : List ℕ) (w : Hashes)
+pub full_result : (policy : BloomConstructionPolicy) (hashes : List ℕ) (w : Hashes)
     (given : GivenKeys) → policy ≡ w.policy → hashes ≡ w.hashes → (w.hashes ≡ [] → ⊥)
     → HoldsHashes w given →
     keys_fault w.policy given.pending ≡ fault_for (tenths_of policy) (length hashes)
-full_told policy hashes w given same held some h =
+full_result policy hashes w given same held some h =
     let count : length given.pending ≡ length hashes =
     sym (ap length (held ∙ h.hashes) ∙ length-map given.pending hash_of) in
     fault_of w.policy given.pending (λ none. some
@@ -256,7 +256,7 @@ full_fault r policy hashes w given same held some works h fault =
     let told : option_or (failed_fault w.failed) (given_fault Full w.policy given)
     ≡ fault_for (tenths_of policy) (length hashes) =
     ap (λ (b : Bool). option_or (failed_fault b) (keys_fault w.policy given.pending)) works
-    ∙ full_told policy hashes w given same held some h in
+    ∙ full_result policy hashes w given same held some h in
     subst (λ x. Faults r x) (sym told) fault
 
 -- a filter that is too large is found first
@@ -267,7 +267,7 @@ pub full_first : (r : Result ℕ Error) (policy : BloomConstructionPolicy) (hash
     FaultsFirst r (option_or (failed_fault w.failed) (size_fault Full w.policy given))
 full_first r policy hashes w given same held some works h first =
     first_works r w.failed _ works (subst (λ x. FaultsFirst r x)
-    (sym (full_told policy hashes w given same held some h)) first)
+    (sym (full_result policy hashes w given same held some h)) first)
 
 pub full_none_fault : (w : Hashes) (given : GivenKeys) → w.failed ≡ false → w.hashes ≡ []
     → HoldsHashes w given →
@@ -619,9 +619,9 @@ finish_none_fault v size policy cs given failed works rest h same same' parts no
     rw (works, rest, nothing) refl
 
 -- only a writer that has failed refuses before memory is asked for
-pub spent_told : (inside failed : Bool) (other : Option Error) → inside ≡ failed → inside ≡ true
+pub spent_result : (inside failed : Bool) (other : Option Error) → inside ≡ failed → inside ≡ true
     → option_or (failed_fault failed) other ≡ Some WriterFailed
-spent_told inside failed other same spent = rw (sym same ∙ spent) refl
+spent_result inside failed other same spent = rw (sym same ∙ spent) refl
 
 pub spent_first : (inside failed : Bool) (e : Error) → inside ≡ failed → inside ≡ true
     → failed_fault failed ≡ Some e → Some e ≡ Some WriterFailed
@@ -643,13 +643,13 @@ section_fits : (n : ℕ) → n < 2 ^ 32 → section_fault n ≡ None
 section_fits n lt = ap (λ (b : Bool). if b then Some SectionTooLarge else None)
     (lt-leb (2 ^ 32) n lt)
 
-pub finish_told : (v : CutParts) (size : ℕ) (policy : BloomConstructionPolicy) (cs : List CutPart)
+pub finish_result : (v : CutParts) (size : ℕ) (policy : BloomConstructionPolicy) (cs : List CutPart)
     (given : GivenKeys) (failed : Bool) →
     failed ≡ false → keys_fault policy given.pending ≡ None → HoldsAll v given → v.policy ≡ policy
     → v.size ≡ size → cs ≡ v.parts → size_fault (Partitioned size) policy given ≡ None →
     option_or (failed_fault failed) (given_fault (Partitioned size) policy given)
     ≡ top_fault (end_keys cs)
-finish_told v size policy cs given failed works rest h same same' parts fine =
+finish_result v size policy cs given failed works rest h same same' parts fine =
     let ps = key_parts_of policy given in
     let ends : end_keys cs ≡ map last_of_keys (keys_in ps) =
     ap (λ (x : List CutPart). end_keys x) parts ∙ rw same at h.ends in

@@ -8,7 +8,7 @@ use Rattle.std.specs.Io.KnownBytes.{Keeps}
 use Rattle.std.specs.List.{AllByRecursion}
 use Rattle.std.proofs.KnownBytes.{Appends-trans}
 use Rattle.std.proofs.lemmas.List.{drop_more, take_more}
-use Rattle.lsm_tables.specs.Words.{Error, Gives, OpenTable, is_memory, recovered_told}
+use Rattle.lsm_tables.specs.Words.{Error, Gives, OpenTable, is_memory, recovered_result}
 use Rattle.tool_show.specs.Faults.{unloaded_count, unopened_faults}
 use Rattle.tool_show.specs.Lines.{AreJoined, IsUnloadedLine, PrintsText}
 use Rattle.sst.specs.Verified.{AreNone, ChecksBytes, ChecksEach, ChecksName, DoesVerify}
@@ -42,7 +42,7 @@ no_table_text bytes name e a b c line further = (
 -- bytes that open as no table are looked at
 pub no_table : {E : Type 0} (bytes name : List ℕ) (e : Error) (r : Result ℕ E)
     (old new : Option (List ℕ))
-    → Gives (λ (t : OpenTable). t.parts) (Err e) (recovered_told bytes 0 false false)
+    → Gives (λ (t : OpenTable). t.parts) (Err e) (recovered_result bytes 0 false false)
     → IfOk r (λ n. n ≡ min (unloaded_count bytes + 1) (2 ^ 64 - 1))
     → IfOk r (λ n. is_memory e ≡ false) → OnOk r (PrintsText (IsNoTableText bytes name e) old new)
     → IfOk r (λ n. ChecksBytes bytes name n old new)

@@ -7,7 +7,7 @@ use Rattle.std.specs.List.{AllByRecursion}
 use Rattle.std.specs.Global.{Global}
 use Rattle.lsm_sorted.specs.version.Run.{IsInOrder}
 use Rattle.lsm_run_parts.specs.RunParts.{range_of}
-use Rattle.lsm_runs.specs.SeveralRuns.{runs_told}
+use Rattle.lsm_runs.specs.SeveralRuns.{runs_result}
 use Rattle.lsm_tables.specs.Words.{Entry, Error, OpenTable}
 use Rattle.tool_files.specs.Files.{path_text}
 use Rattle.tool_files.specs.Opened.{AreOpenedFrom, HasContent, IsToldByBytes, StopsOpening}
@@ -61,10 +61,10 @@ pub record DoesGet (task : GetTask) (content : List ℕ → Option (List ℕ)) (
   pub files : List (NamedTable Global)
   pub named : AreNamed content task.files.items files
   pub told : AllByRecursion (IsInOrder range_of) (runs_in files) → (found : Option Entry)
-      × (runs_told options.key.now (seen_below options) None (runs_in files) ≡ Ok found)
+      × (runs_result options.key.now (seen_below options) None (runs_in files) ≡ Ok found)
       × (there ≡ is_some found)
   pub printed : AllByRecursion (IsInOrder range_of) (runs_in files) → (found : Option Entry)
-      × (runs_told options.key.now (seen_below options) None (runs_in files) ≡ Ok found)
+      × (runs_result options.key.now (seen_below options) None (runs_in files) ≡ Ok found)
       × PrintsText (IsAnswer options files found) old new
 
 -- a key that may be left out is what a word means
@@ -161,10 +161,10 @@ pub record IsNamed (known : Option (List ℕ)) (name : Bor (List ℕ)) (f : Name
 abbrev pub RefusesShown : (OpenTable → Error → Type 0)
     → (OpenTable → (old new : Option (List ℕ)) → Type 0) → Option (List ℕ) → Bor (List ℕ)
     → Failure → (old new : Option (List ℕ)) → Type 0
-RefusesShown IsTold IsBefore known name e old new =
+RefusesShown IsReported IsBefore known name e old new =
     (RefusesFile known name.now e × (new ≡ old))
     ⊎ ((f : NamedTable Global) × IsNamed known name f × (error : ShowError)
-    × (e ≡ failure.Show error) × NamesOnly f (IsTold f.table) error
+    × (e ≡ failure.Show error) × NamesOnly f (IsReported f.table) error
     × IfNamed (IsBefore f.table old new) error)
 
 -- what a dump of a table refuses, where so many entries may be printed

@@ -5,7 +5,7 @@ use Rattle.std.specs.Prelude.{Bool, None, codes, false, min, true}
 use Rattle.std.specs.Fmt.{decimal}
 use Rattle.std.specs.Io.KnownBytes.{Keeps}
 use Rattle.std.specs.List.{AllByRecursion}
-use Rattle.lsm_tables.specs.Words.{Error, Gives, OpenTable, is_memory, number_of, recovered_told}
+use Rattle.lsm_tables.specs.Words.{Error, Gives, OpenTable, is_memory, number_of, recovered_result}
 use Rattle.tool_files.specs.Opened.{IsToldByBytes}
 use Rattle.tool_show.specs.Checked.{ChecksFile}
 use Rattle.tool_show.specs.Faults.{fault_count, unloaded_count, unopened_faults}
@@ -48,7 +48,7 @@ IsNoTableText bytes name e text = (line : List ℕ) × (further : List ℕ) × I
 pub record ChecksNoTable (bytes name : List ℕ) (found : ℕ) (old new : Option (List ℕ)) : Type 0 where
   pub error : Error
   pub other : is_memory error ≡ false
-  pub refused : Gives (λ (t : OpenTable). t.parts) (Err error) (recovered_told bytes 0 false false)
+  pub refused : Gives (λ (t : OpenTable). t.parts) (Err error) (recovered_result bytes 0 false false)
   pub count : found ≡ min (unloaded_count bytes + 1) (2 ^ 64 - 1)
   pub printed : PrintsText (IsNoTableText bytes name error) old new
 

@@ -22,7 +22,7 @@ use Rattle.sst_blocks.specs.Fnv.{fnv1a}
 use Rattle.sst_blocks.specs.Sections.{body_of}
 use Rattle.sst_blocks.specs.Version.{key_width}
 use Rattle.sst_blocks.specs.declared.block_type.BlockType.TheVariants.{Data, Index}
-use Rattle.sst_blocks.specs.Asked.{IsSure, place_for, point_of, told_map}
+use Rattle.sst_blocks.specs.Asked.{IsSure, place_for, point_of, result_map}
 use Rattle.sst_blocks.specs.Block.{Loaded, checked_payload, in_grammar, loaded}
 use Rattle.sst_blocks.specs.Handle.{Handle}
 use Rattle.sst_blocks.specs.Handles.{handles_in, reaches}
@@ -41,13 +41,13 @@ use Rattle.sst_blocks.proofs.SpanLemmas.{find_at_front, front_length-le}
 module _ {X : Type 0} (view : Loaded → X) (v : TableVersion) (checksum : ℕ) (kind : BlockType)
     (payload : List ℕ) where
   pub asked_right : fnv1a payload ≡ checksum → in_grammar v kind payload ≡ true
-      → told_map view (checked_payload v checksum kind payload) ≡ Ok (view (loaded v kind payload))
-  asked_right sum fine = ap (told_map view) (checksum_right v checksum kind payload sum)
+      → result_map view (checked_payload v checksum kind payload) ≡ Ok (view (loaded v kind payload))
+  asked_right sum fine = ap (result_map view) (checksum_right v checksum kind payload sum)
       ∙ rw fine refl
 
   pub asked_wrong : fnv1a payload ≡ checksum → in_grammar v kind payload ≡ false
-      → told_map view (checked_payload v checksum kind payload) ≡ Err InvalidBlock
-  asked_wrong sum wrong = ap (told_map view) (checksum_right v checksum kind payload sum)
+      → result_map view (checked_payload v checksum kind payload) ≡ Err InvalidBlock
+  asked_wrong sum wrong = ap (result_map view) (checksum_right v checksum kind payload sum)
       ∙ rw wrong refl
 
 -- ---- the first entry behind a read is the one that it finds, where it has the key
@@ -109,34 +109,34 @@ spelled_strict v bytes some = under (entries_in v bytes) refl some
 
 module _ (v : TableVersion) (checksum : ℕ) (payload part : List ℕ) (same : part ≡ payload)
     (sum : fnv1a payload ≡ checksum) where
-  pub entries_told : (key : List ℕ) (bound : ℕ) (answer : Option Entry)
+  pub entries_results : (key : List ℕ) (bound : ℕ) (answer : Option Entry)
       → is_some (entries_in v part) ≡ true → point (unwrap_or (entries_in v part) []) key bound
       ≡ answer
-      → told_map (point_of key bound) (checked_payload v checksum Data payload) ≡ Ok answer
-  entries_told key bound answer whole is =
+      → result_map (point_of key bound) (checked_payload v checksum Data payload) ≡ Ok answer
+  entries_results key bound answer whole is =
       asked_right (point_of key bound) v checksum Data payload sum
       (ap (λ (b : List ℕ). is_some (entries_in v b)) (sym same) ∙ whole)
       ∙ ap (λ x. Ok x) (ap (λ (b : List ℕ). point (unwrap_or (entries_in v b) []) key bound)
       (sym same) ∙ is)
 
   pub entries_wrong : (key : List ℕ) (bound : ℕ) → entries_in v part ≡ None
-      → told_map (point_of key bound) (checked_payload v checksum Data payload) ≡ Err InvalidBlock
+      → result_map (point_of key bound) (checked_payload v checksum Data payload) ≡ Err InvalidBlock
   entries_wrong key bound none = asked_wrong (point_of key bound) v checksum Data payload sum
       (ap (λ (b : List ℕ). is_some (entries_in v b)) (sym same) ∙ ap is_some none)
 
-  pub handles_told : (key : List ℕ) (bound : ℕ) (answer : Option Handle)
+  pub handles_result : (key : List ℕ) (bound : ℕ) (answer : Option Handle)
       → is_some (handles_in v part) ≡ true → answer
       ≡ find (reaches key bound) (unwrap_or (handles_in v part) [])
-      → Ok (option_map place_of answer) ≡ told_map (place_for key bound)
+      → Ok (option_map place_of answer) ≡ result_map (place_for key bound)
       (checked_payload v checksum Index payload)
-  handles_told key bound answer whole is =
+  handles_result key bound answer whole is =
       ap (λ (o : Option Handle). Ok (option_map place_of o))
       (is ∙ ap (λ (b : List ℕ). find (reaches key bound) (unwrap_or (handles_in v b) [])) same)
       ∙ sym (asked_right (place_for key bound) v checksum Index payload sum
       (ap (λ (b : List ℕ). is_some (handles_in v b)) (sym same) ∙ whole))
 
   pub handles_wrong : (key : List ℕ) (bound : ℕ) → handles_in v part ≡ None
-      → told_map (place_for key bound) (checked_payload v checksum Index payload) ≡ Err InvalidBlock
+      → result_map (place_for key bound) (checked_payload v checksum Index payload) ≡ Err InvalidBlock
   handles_wrong key bound none = asked_wrong (place_for key bound) v checksum Index payload sum
       (ap (λ (b : List ℕ). is_some (handles_in v b)) (sym same) ∙ ap is_some none)
 

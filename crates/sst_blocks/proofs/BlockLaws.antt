@@ -14,7 +14,7 @@ use Rattle.sst_blocks.specs.Fnv.{fnv1a, fnv_basis}
 use Rattle.sst_blocks.specs.Number.{le4, le8, num4, num8}
 use Rattle.sst_blocks.specs.Block.{header, block_bytes, header_fault, data_len, uncompressed_len}
 use Rattle.sst_blocks.specs.Block.{stored_checksum, version_in, in_grammar, checked_payload}
-use Rattle.sst_blocks.specs.Block.{load_told, load_at_told, entries_of, handles_of, loaded}
+use Rattle.sst_blocks.specs.Block.{load_result, load_at_result, entries_of, handles_of, loaded}
 use Rattle.sst_blocks.specs.Block.{LoadsBack, is_filter}
 use Rattle.sst_blocks.specs.Handle.{Handle}
 use Rattle.sst_blocks.specs.filter.Filter.{BloomFilter, filter_in, IsBuilt, payload_of}
@@ -232,7 +232,7 @@ met v kind payload head pre post body offset told ok at e =
 pub written_loads : (v : TableVersion) (kind : BlockType) (pre payload post body : List ℕ)
     (offset : ℕ) → length payload < 2 ^ 32 → in_grammar v kind payload ≡ true → offset ≡ length pre
     → body ≡ pre ++ block_bytes v kind payload ++ post
-    → load_told body offset (24 + length payload) kind
+    → load_result body offset (24 + length payload) kind
     ≡ Ok (record { version = v; kind = kind; payload = payload })
 written_loads v kind pre payload post body offset lt ok at e =
     let m = met v kind payload (header v kind payload) pre post body offset
@@ -244,7 +244,7 @@ written_loads v kind pre payload post body offset lt ok at e =
 pub written_loads_at : (v : TableVersion) (kind : BlockType) (pre payload post body : List ℕ)
     (offset : ℕ) → length payload < 2 ^ 32 → in_grammar v kind payload ≡ true → offset ≡ length pre
     → body ≡ pre ++ block_bytes v kind payload ++ post
-    → load_at_told body offset kind ≡ Ok (record
+    → load_at_result body offset kind ≡ Ok (record
     { version = v; kind = kind; payload = payload })
 written_loads_at v kind pre payload post body offset lt ok at e =
     let m = met v kind payload (header v kind payload) pre post body offset

@@ -17,7 +17,7 @@ use Rattle.std.specs.Option.{option_or}
 use Rattle.sst_blocks.specs.Fnv.{fnv1a}
 use Rattle.sst_blocks.specs.Block.{Loaded, grammar_fault, in_grammar, checksum_fault, loaded}
 use Rattle.sst_blocks.specs.Block.{header_fault, data_len, uncompressed_len, stored_checksum}
-use Rattle.sst_blocks.specs.Block.{version_in, checked_payload, load_told, load_at_told}
+use Rattle.sst_blocks.specs.Block.{version_in, checked_payload, load_result, load_at_result}
 use Rattle.sst_blocks.specs.Block.{place_fault, position_fault, room_fault}
 
 -- no fault yet
@@ -50,14 +50,14 @@ equal_within d u end past told same le = grind arith
 
 module _ (body : List ℕ) (offset size : ℕ) (kind : BlockType) where
   pub load_truncated : (24 ≤ size → offset + size ≤ length body → ⊥)
-      → load_told body offset size kind ≡ Err Truncated
-  unfolding load_told
+      → load_result body offset size kind ≡ Err Truncated
+  unfolding load_result
   load_truncated short = grind arith
 
   pub load_fault : (e : Error) → 24 ≤ size → offset + size ≤ length body
       → header_fault kind (slice_range body offset (offset + 24)) ≡ Some e
-      → load_told body offset size kind ≡ Err e
-  unfolding load_told
+      → load_result body offset size kind ≡ Err e
+  unfolding load_result
   load_fault e long within fault = grind arith
 
   fits : 24 ≤ size → offset + size ≤ length body
@@ -69,8 +69,8 @@ module _ (body : List ℕ) (offset size : ℕ) (kind : BlockType) where
       → (data_len (slice_range body offset (offset + 24))
       ≡ uncompressed_len (slice_range body offset (offset + 24))
       → 24 + data_len (slice_range body offset (offset + 24)) ≡ size → ⊥)
-      → load_told body offset size kind ≡ Err InvalidHeader
-  unfolding load_told
+      → load_result body offset size kind ≡ Err InvalidHeader
+  unfolding load_result
   load_lengths long within fault differ = after _ _ _ _ (fits long within) fault
       ∙ lengths_differ _ _ _ _ differ
 
@@ -79,24 +79,24 @@ module _ (body : List ℕ) (offset size : ℕ) (kind : BlockType) where
       → data_len (slice_range body offset (offset + 24))
       ≡ uncompressed_len (slice_range body offset (offset + 24))
       → 24 + data_len (slice_range body offset (offset + 24)) ≡ size
-      → load_told body offset size kind ≡ checked_payload
+      → load_result body offset size kind ≡ checked_payload
       (version_in (slice_range body offset (offset + 24)))
       (stored_checksum (slice_range body offset (offset + 24))) kind
       (slice_range body (offset + 24) (offset + size))
-  unfolding load_told
+  unfolding load_result
   load_checked long within fault same whole = after _ _ _ _ (fits long within) fault
       ∙ lengths_agree _ _ _ _ same whole
 
 module _ (body : List ℕ) (position : ℕ) (kind : BlockType) where
   pub load_at_truncated : (position + 24 ≤ length body → ⊥)
-      → load_at_told body position kind ≡ Err Truncated
-  unfolding load_at_told
+      → load_at_result body position kind ≡ Err Truncated
+  unfolding load_at_result
   load_at_truncated short = grind arith
 
   pub load_at_fault : (e : Error) → position + 24 ≤ length body
       → header_fault kind (slice_range body position (position + 24)) ≡ Some e
-      → load_at_told body position kind ≡ Err e
-  unfolding load_at_told
+      → load_at_result body position kind ≡ Err e
+  unfolding load_at_result
   load_at_fault e within fault = grind arith
 
   header_fits : position + 24 ≤ length body → nat_lt (length body) (position + 24) ≡ false
@@ -106,8 +106,8 @@ module _ (body : List ℕ) (position : ℕ) (kind : BlockType) where
       → header_fault kind (slice_range body position (position + 24)) ≡ None
       → (data_len (slice_range body position (position + 24))
       ≡ uncompressed_len (slice_range body position (position + 24)) → ⊥)
-      → load_at_told body position kind ≡ Err InvalidHeader
-  unfolding load_at_told
+      → load_at_result body position kind ≡ Err InvalidHeader
+  unfolding load_at_result
   load_at_lengths within fault differ = after _ _ _ _ (header_fits within) fault
       ∙ unequal _ _ _ differ
 
@@ -116,8 +116,8 @@ module _ (body : List ℕ) (position : ℕ) (kind : BlockType) where
       → data_len (slice_range body position (position + 24))
       ≡ uncompressed_len (slice_range body position (position + 24))
       → length body < position + 24 + data_len (slice_range body position (position + 24))
-      → load_at_told body position kind ≡ Err Truncated
-  unfolding load_at_told
+      → load_at_result body position kind ≡ Err Truncated
+  unfolding load_at_result
   load_at_passes within fault same past = after _ _ _ _ (header_fits within) fault
       ∙ equal_past _ _ _ _ _ same past
 
@@ -126,12 +126,12 @@ module _ (body : List ℕ) (position : ℕ) (kind : BlockType) where
       → data_len (slice_range body position (position + 24))
       ≡ uncompressed_len (slice_range body position (position + 24))
       → position + 24 + data_len (slice_range body position (position + 24)) ≤ length body
-      → load_at_told body position kind ≡ checked_payload
+      → load_at_result body position kind ≡ checked_payload
       (version_in (slice_range body position (position + 24)))
       (stored_checksum (slice_range body position (position + 24))) kind
       (slice_range body (position + 24) (position + 24
       + data_len (slice_range body position (position + 24))))
-  unfolding load_at_told
+  unfolding load_at_result
   load_at_checked within fault same whole = after _ _ _ _ (header_fits within) fault
       ∙ equal_within _ _ _ _ _ same whole
 
@@ -325,8 +325,8 @@ unfolding checked_payload
 checked_kind v checksum kind payload b given = grind arith
 
 pub load_kind : (body : List ℕ) (offset size : ℕ) (kind : BlockType) (b : Loaded)
-    → load_told body offset size kind ≡ Ok b → b.kind ≡ kind
-unfolding load_told
+    → load_result body offset size kind ≡ Ok b → b.kind ≡ kind
+unfolding load_result
 load_kind body offset size kind b told =
     let head = slice_range body offset (offset + 24) in
     let tail = checked_payload (version_in head) (stored_checksum head) kind

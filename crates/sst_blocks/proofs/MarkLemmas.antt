@@ -107,9 +107,9 @@ said_there bytes at checksum len within sum size =
     }
 
 -- a header without a fault is of the kind
-kind_told : (kind : BlockType) (head : List ℕ) → header_fault kind head ≡ None
+decode_kind : (kind : BlockType) (head : List ℕ) → header_fault kind head ≡ None
     → slice_index head 4 ≡ kind_tag kind
-kind_told kind head none = grind arith
+decode_kind kind head none = grind arith
 
 pub headed_there : (bytes : List ℕ) (at : ℕ) (v : TableVersion) (kind : BlockType)
     (checksum len : ℕ) → at + 24 + len ≤ length (body_of bytes)
@@ -124,7 +124,7 @@ headed_there bytes at v kind checksum len within none version sum size =
       said = said_there bytes at checksum len within sum size;
       version = ap version_in head ∙ sym version;
       kind_is = ap (λ (h : List ℕ). slice_index h 4) head
-          ∙ kind_told kind (slice_range (body_of bytes) at (at + 24)) none;
+          ∙ decode_kind kind (slice_range (body_of bytes) at (at + 24)) none;
     }
 
 -- a payload that has the checksum that its header says

@@ -15,10 +15,10 @@ use Rattle.sst_entries.specs.declared.stream.Direction.{Direction}
 use Rattle.sst_entries.specs.declared.stream.Direction.TheVariants.{Front, Back}
 use Rattle.sst_entries.specs.Span.{Span, rest_in, front_length, SpanHas, SpanGives}
 use Rattle.sst_entries.specs.Stream.{first, but_first, last, but_last, front_of, back_of}
-use Rattle.sst_entries.specs.Stream.{ok_results, answer_stops, Runs, Deals, CanDeal, EndAtError}
+use Rattle.sst_entries.specs.Stream.{ok_results, answer_stops, Runs, YieldsExactly, CanYield, EndAtError}
 use Rattle.sst_entries.specs.Stream.{EndsAtError}
-use Rattle.sst_blocks.specs.Seeking.{DealsLeft}
-use Rattle.sst_entries.proofs.StreamLemmas.{deals_by, can_by}
+use Rattle.sst_blocks.specs.Seeking.{YieldsLeft}
+use Rattle.sst_entries.proofs.StreamLemmas.{yields_by, can_by}
 
 -- ---- fronts that pass a test
 
@@ -203,14 +203,14 @@ module _ {X : Type 0} where
       absurd (no_error stops e has.0 step.answer.0 fine)
 
   -- want of memory aside, a span deals what is left
-  pub span_deals : (stops : Error → Bool) (s : Span X) → stops OutOfMemory ≡ true
-      → Deals (answer_stops stops) (SpanGives front_of) (SpanGives back_of) s
+  pub span_yields : (stops : Error → Bool) (s : Span X) → stops OutOfMemory ≡ true
+      → YieldsExactly (answer_stops stops) (SpanGives front_of) (SpanGives back_of) s
       (ok_results (rest_in s))
-  span_deals stops s memory = deals_by (answer_stops stops) (SpanGives front_of) (SpanGives back_of)
+  span_yields stops s memory = yields_by (answer_stops stops) (SpanGives front_of) (SpanGives back_of)
       (SpanHas stops) (front_step stops) (back_step stops) s (ok_results (rest_in s)) (memory, refl)
 
   -- it may be asked at either end, however often
-  pub span_can : (s : Span X) → CanDeal (SpanGives front_of) (SpanGives back_of) (λ _. Unit {0})
+  pub span_can : (s : Span X) → CanYield (SpanGives front_of) (SpanGives back_of) (λ _. Unit {0})
       (λ _. Unit {0}) s
   span_can s = can_by (SpanGives front_of) (SpanGives back_of) (λ _. Unit {0}) (λ _. Unit {0})
       (λ _. Unit {0}) (λ s may. (tt, tt)) (λ s r t may step. tt) (λ s r t may step. tt) s tt
@@ -218,17 +218,17 @@ module _ {X : Type 0} where
   -- ---- nothing comes after a refusal
 
   -- an end of a list deals nothing of an empty one
-  abbrev DealsNone : (List X → Option X × List X) → Type 0
-  DealsNone end = (end []).0 ≡ None
+  abbrev YieldsNone : (List X → Option X × List X) → Type 0
+  YieldsNone end = (end []).0 ≡ None
 
   none_step : (end : List X → Option X × List X) (s : Span X) (r : Option (Result X Error))
-      (t : Span X) → DealsNone end → rest_in s ≡ [] → SpanGives end s r t
+      (t : Span X) → YieldsNone end → rest_in s ≡ [] → SpanGives end s r t
       → (r ≡ None) × (rest_in t ≡ [])
-  none_step end s None t deals none step = (refl, step.answer.1)
-  none_step end s (Some (Ok x)) t deals none step =
+  none_step end s None t yields none step = (refl, step.answer.1)
+  none_step end s (Some (Ok x)) t yields none step =
       let wrong : Some x ≡ None = sym step.answer.0 ∙ ap (λ (ys : List X). (end ys).0) none
-      ∙ deals in absurd cc
-  none_step end s (Some (Err e)) t deals none step = absurd (step.answer.1 none)
+      ∙ yields in absurd cc
+  none_step end s (Some (Err e)) t yields none step = absurd (step.answer.1 none)
 
   none_along : (ends : List Direction) (rs : List (Option (Result X Error))) (s t : Span X)
       → rest_in s ≡ [] → Runs (SpanGives front_of) (SpanGives back_of) s ends rs t
@@ -259,5 +259,5 @@ module _ {X : Type 0} where
   pub span_ends : (s : Span X) → EndsAtError (SpanGives front_of) (SpanGives back_of) s
   span_ends s = record { answers = λ ends rs t runs. end_along ends rs s t runs }
 
-  pub span_left : (s : Span X) → DealsLeft (SpanGives front_of) (SpanGives back_of) s
-  span_left s = record { deals = λ stops memory. span_deals stops s memory; ends = span_ends s }
+  pub span_left : (s : Span X) → YieldsLeft (SpanGives front_of) (SpanGives back_of) s
+  span_left s = record { yields = λ stops memory. span_yields stops s memory; ends = span_ends s }

@@ -5,15 +5,15 @@ use Rattle.sst_blocks.specs.declared.block_type.BlockType.TheVariants.{Data, Ind
 use Rattle.sst_entries.specs.declared.error.Error.{Error}
 use Rattle.sst_entries.specs.Entry.{Entry}
 use Rattle.sst_entries.specs.Point.{point}
-use Rattle.sst_blocks.specs.Block.{Loaded, entries_of, handles_of, load_told}
+use Rattle.sst_blocks.specs.Block.{Loaded, entries_of, handles_of, load_result}
 use Rattle.sst_blocks.specs.Handles.{reaches}
 use Rattle.sst_blocks.specs.Place.{Place, place_of}
 use Rattle.sst_blocks.specs.filter.Filter.{admits, filter_in}
 
 -- a function applied to a result that is not an error
-abbrev pub told_map : {X Y : Type 0} → (X → Y) → Result X Error → Result Y Error
-told_map f (Ok x) = Ok (f x)
-told_map f (Err e) = Err e
+abbrev pub result_map : {X Y : Type 0} → (X → Y) → Result X Error → Result Y Error
+result_map f (Ok x) = Ok (f x)
+result_map f (Err e) = Err e
 
 -- in a block of entries: the newest version of a key visible at a bound
 abbrev pub point_of : List ℕ → ℕ → Loaded → Option Entry
@@ -29,19 +29,19 @@ maybe_in hash b = admits (filter_in b.payload) hash
 
 -- the newest version of a key visible at a bound in the data block at an offset, or the first fault
 -- of loading the block
-abbrev pub point_told : List ℕ → ℕ → ℕ → List ℕ → ℕ → Result (Option Entry) Error
-point_told body offset size key bound =
-    told_map (point_of key bound) (load_told body offset size Data)
+abbrev pub point_result : List ℕ → ℕ → ℕ → List ℕ → ℕ → Result (Option Entry) Error
+point_result body offset size key bound =
+    result_map (point_of key bound) (load_result body offset size Data)
 
 -- the result of `place_for` on the index block at an offset, or the first fault of loading the
 -- block
-abbrev pub find_told : List ℕ → ℕ → ℕ → List ℕ → ℕ → Result (Option Place) Error
-find_told body offset size key bound =
-    told_map (place_for key bound) (load_told body offset size Index)
+abbrev pub find_result : List ℕ → ℕ → ℕ → List ℕ → ℕ → Result (Option Place) Error
+find_result body offset size key bound =
+    result_map (place_for key bound) (load_result body offset size Index)
 
 -- whether the filter block at an offset admits a hash, or the first fault of loading it
-abbrev pub maybe_told : List ℕ → ℕ → ℕ → ℕ → Result Bool Error
-maybe_told body offset size hash = told_map (maybe_in hash) (load_told body offset size Filter)
+abbrev pub maybe_result : List ℕ → ℕ → ℕ → ℕ → Result Bool Error
+maybe_result body offset size hash = result_map (maybe_in hash) (load_result body offset size Filter)
 
 -- out of memory can only replace a value: the call returns an expected error or `None` exactly
 abbrev pub IsSure : {X : Type 0} → Result (Option X) Error → Result (Option X) Error → Type 0

@@ -119,8 +119,8 @@ checked_payload v checksum kind payload =
     (Ok (record { version = v; kind = kind; payload = payload }))
 
 -- the block of a type at an offset in the bytes before the trailer, or the first fault
-unfoldable pub load_told : List ℕ → ℕ → ℕ → BlockType → Result Loaded Error
-load_told body offset size kind =
+unfoldable pub load_result : List ℕ → ℕ → ℕ → BlockType → Result Loaded Error
+load_result body offset size kind =
     let head = slice_range body offset (offset + header_len) in
     if nat_lt size header_len || nat_lt (length body) (offset + size) then Err Truncated
     else unless (header_fault kind head)
@@ -130,8 +130,8 @@ load_told body offset size kind =
     (slice_range body (offset + header_len) (offset + size)))
 
 -- the same with the size from the header
-unfoldable pub load_at_told : List ℕ → ℕ → BlockType → Result Loaded Error
-load_at_told body position kind =
+unfoldable pub load_at_result : List ℕ → ℕ → BlockType → Result Loaded Error
+load_at_result body position kind =
     let head = slice_range body position (position + header_len) in
     if nat_lt (length body) (position + header_len) then Err Truncated
     else unless (header_fault kind head)
@@ -174,8 +174,8 @@ loaded v kind payload = record { version = v; kind = kind; payload = payload }
 abbrev pub LoadsBack : TableVersion → BlockType → List ℕ → Type 0
 LoadsBack v kind payload =
     (front behind : List ℕ) → let body = front ++ block_bytes v kind payload ++ behind in
-    (load_told body (length front) (header_len + length payload) kind ≡ Ok (loaded v kind payload))
-    × (load_at_told body (length front) kind ≡ Ok (loaded v kind payload))
+    (load_result body (length front) (header_len + length payload) kind ≡ Ok (loaded v kind payload))
+    × (load_at_result body (length front) kind ≡ Ok (loaded v kind payload))
 
 -- the entries and the handles of a loaded block
 abbrev pub entries_of : Loaded → List Entry

@@ -4,8 +4,8 @@ use Rattle.std.specs.Prelude.{None}
 use Rattle.std.specs.Option.{option_or}
 use Rattle.sst_blocks.specs.declared.block_type.BlockType.{BlockType}
 use Rattle.sst_blocks.specs.declared.source.Placed.{Placed}
-use Rattle.sst_blocks.specs.declared.source.reads.Sound.{Sound}
-use Rattle.sst_blocks.specs.Block.{checked_payload, checksum_fault, has_room, in_grammar, load_told}
+use Rattle.sst_blocks.specs.declared.source.reads.Valid.{Valid}
+use Rattle.sst_blocks.specs.Block.{checked_payload, checksum_fault, has_room, in_grammar, load_result}
 use Rattle.sst_blocks.specs.Block.{place_fault, room_fault}
 use Rattle.sst_blocks.specs.Marks.{IsHeaded}
 use Rattle.sst_blocks.specs.Fnv.{fnv1a}
@@ -16,7 +16,7 @@ pub record IsPlaced (body : List ℕ) (offset size : ℕ) (kind : BlockType) (p 
   pub ordered : p.start ≤ p.end
   pub within : p.end ≤ length body
   pub short : p.end < p.start + 2 ^ 32
-  pub told : load_told body offset size kind ≡
+  pub told : load_result body offset size kind ≡
       checked_payload p.header.version p.header.checksum kind (slice_range body p.start p.end)
   pub first : place_fault body offset size kind ≡
       option_or (checksum_fault p.header.checksum (slice_range body p.start p.end))
@@ -24,7 +24,7 @@ pub record IsPlaced (body : List ℕ) (offset size : ℕ) (kind : BlockType) (p 
 
 -- the payload matches its checksum and has room for the items it counts; once tested, it follows
 -- its grammar
-pub record IsSound (body : List ℕ) (kind : BlockType) (s : Sound) : Type 0 where
+pub record IsValid (body : List ℕ) (kind : BlockType) (s : Valid) : Type 0 where
   pub ordered : s.start ≤ s.end
   pub within : s.end ≤ length body
   pub short : s.end < s.start + 2 ^ 32
@@ -34,12 +34,12 @@ pub record IsSound (body : List ℕ) (kind : BlockType) (s : Sound) : Type 0 whe
       in_grammar s.header.version kind (slice_range body s.start s.end) ≡ true
 
 -- the header before the payload has its version, type, checksum and length
-abbrev pub IsSoundHeaded : List ℕ → BlockType → Sound → Type 0
-IsSoundHeaded bytes kind s = IsHeaded bytes s.start s.end s.header.version kind s.header.checksum
+abbrev pub IsValidHeaded : List ℕ → BlockType → Valid → Type 0
+IsValidHeaded bytes kind s = IsHeaded bytes s.start s.end s.header.version kind s.header.checksum
 
 -- loading the block checks exactly this payload, and no fault is found before allocating
-pub record IsSoundAt (body : List ℕ) (offset size : ℕ) (kind : BlockType) (s : Sound) : Type 0 where
-  pub sound : IsSound body kind s
-  pub told : load_told body offset size kind ≡
+pub record IsValidAt (body : List ℕ) (offset size : ℕ) (kind : BlockType) (s : Valid) : Type 0 where
+  pub sound : IsValid body kind s
+  pub told : load_result body offset size kind ≡
       checked_payload s.header.version s.header.checksum kind (slice_range body s.start s.end)
   pub first : place_fault body offset size kind ≡ None

@@ -3,7 +3,7 @@ use Rattle.std.specs.Prelude.{◌≡◌, ℕ, Bool, true, List, length, min, max
 use Rattle.std.specs.Prelude.{Result}
 use Rattle.std.specs.declared.ops.Bound.{Bound}
 use Rattle.std.specs.declared.ops.Bound.TheVariants.{Unbounded}
-use Rattle.sst_entries.specs.Stream.{EndsAtError, Deals, ok_results, answer_stops}
+use Rattle.sst_entries.specs.Stream.{EndsAtError, YieldsExactly, ok_results, answer_stops}
 use Rattle.sst_blocks.specs.Handle.{Handle}
 use Rattle.sst_blocks.specs.Handles.{reaches, is_above, window}
 use Rattle.sst_entries.specs.declared.error.Error.{Error}
@@ -23,10 +23,10 @@ abbrev pub span_to : {X : Type 0} → ℕ → Span X → Span X
 span_to n s = record s { to = min s.to n }
 
 -- a span yields its remaining items, except for `OutOfMemory`, and is exhausted after an error
-pub record DealsLeft {X : Type 0} (front back : Span X → Option (Result X Error) → Span X → Type 0)
+pub record YieldsLeft {X : Type 0} (front back : Span X → Option (Result X Error) → Span X → Type 0)
     (s : Span X) : Type 0 where
-  pub deals : (stops : Error → Bool) → stops OutOfMemory ≡ true
-      → Deals (answer_stops stops) front back s (ok_results (rest_in s))
+  pub yields : (stops : Error → Bool) → stops OutOfMemory ≡ true
+      → YieldsExactly (answer_stops stops) front back s (ok_results (rest_in s))
   pub ends : EndsAtError front back s
 
 -- of the entries within an upper bound, those within both bounds remain; and the same for a lower

@@ -6,7 +6,7 @@ pub use Rattle.sst_entries.specs.Key.{key_lt}
 pub use Rattle.sst_entries.specs.Lending.{entry_of_ref}
 pub use Rattle.sst_entries.specs.Point.{read_place, lower_place, point, upper_place, within}
 pub use Rattle.sst_entries.specs.Span.{SpanGives, front_length, rest_in}
-pub use Rattle.sst_entries.specs.Stream.{CanDeal, Deals, ok_results, back_of, front_of}
+pub use Rattle.sst_entries.specs.Stream.{CanYield, YieldsExactly, ok_results, back_of, front_of}
 pub use Rattle.sst_entries.specs.Stream.{answer_stops, EndsAtError}
 pub use Rattle.sst_entries.specs.Strict.{IsStrict, is_before, is_strict_after, may_follow}
 pub use Rattle.sst_blocks.specs.Block.{Loaded, LoadsBack, block_bytes, entries_of, grammar_fault}

@@ -5,7 +5,7 @@ ghost use Rattle.std.specs.Prelude.{IfErr, OnOk, OnErr, slice_range};
 ghost use Rattle.std.specs.List.{slice_get};
 ghost use Rattle.std.specs.List.Sorted.{IsPartitionedBy};
 ghost use Rattle.std.specs.Option.{option_map};
-ghost use Rattle.sst_blocks.specs.Words.{AreSpellable, CanDeal, Deals, EndsAtError, EntriesAt};
+ghost use Rattle.sst_blocks.specs.Words.{AreSpellable, CanYield, YieldsExactly, EndsAtError, EntriesAt};
 ghost use Rattle.sst_blocks.specs.Words.{Entry, Faults, FaultsFirst, HoldsEntries, IsStrict};
 ghost use Rattle.sst_blocks.specs.Words.{answer_stops, cursor_of, data_block_bound_of};
 ghost use Rattle.sst_blocks.specs.Words.{entries_fault};
@@ -251,10 +251,10 @@ impl<A: Allocator> DataBlock<A> {
     /// Returns an iterator over the entries, from both ends.
     pub fn iter<'a>(&'a self) -> Iter<'a, A>
         ensures span { result ≡ whole_span self.now }
-        ensures deals { (stops : Error → Bool) → stops OutOfMemory ≡ true →
-            Deals (answer_stops stops) ⟦<Iter<'a, A> as Iterator>⟧.next_gives
+        ensures yields { (stops : Error → Bool) → stops OutOfMemory ≡ true →
+            YieldsExactly (answer_stops stops) ⟦<Iter<'a, A> as Iterator>⟧.next_gives
             ⟦<Iter<'a, A> as DoubleEndedIterator>⟧.next_back_gives result (ok_results self.now) }
-        ensures can { CanDeal ⟦<Iter<'a, A> as Iterator>⟧.next_gives
+        ensures can { CanYield ⟦<Iter<'a, A> as Iterator>⟧.next_gives
             ⟦<Iter<'a, A> as DoubleEndedIterator>⟧.next_back_gives
             ⟦<Iter<'a, A> as Iterator>⟧.can_next
             ⟦<Iter<'a, A> as DoubleEndedIterator>⟧.can_next_back result }

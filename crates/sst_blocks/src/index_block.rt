@@ -3,7 +3,7 @@ ghost use Rattle.std.specs.Prelude.{◌≡◌, ◌+◌, ◌++◌, ◌<◌, ◌^�
 ghost use Rattle.std.specs.Prelude.{not, length, find, IsTrue, IfOk, IfErr, OnOk, OnErr};
 ghost use Rattle.std.specs.List.{slice_get};
 ghost use Rattle.std.specs.Option.{option_map};
-ghost use Rattle.sst_blocks.specs.Words.{AreStrictHandles, CanDeal, Deals, EndsAtError, Faults};
+ghost use Rattle.sst_blocks.specs.Words.{AreStrictHandles, CanYield, YieldsExactly, EndsAtError, Faults};
 ghost use Rattle.sst_blocks.specs.Words.{FaultsFirst, AreSpellableHandles, ok_results, end_of};
 ghost use Rattle.sst_blocks.specs.Words.{front_length};
 ghost use Rattle.sst_blocks.specs.Words.{handles_fault, handles_in, handles_of, handles_payload};
@@ -202,10 +202,10 @@ impl<A: Allocator> IndexBlock<A> {
     /// Returns an iterator over the handles, from both ends.
     pub fn iter<'a>(&'a self) -> Iter<'a, A>
         ensures span { result ≡ whole_span self.now }
-        ensures deals { (stops : Error → Bool) → stops OutOfMemory ≡ true →
-            Deals (answer_stops stops) ⟦<Iter<'a, A> as Iterator>⟧.next_gives
+        ensures yields { (stops : Error → Bool) → stops OutOfMemory ≡ true →
+            YieldsExactly (answer_stops stops) ⟦<Iter<'a, A> as Iterator>⟧.next_gives
             ⟦<Iter<'a, A> as DoubleEndedIterator>⟧.next_back_gives result (ok_results self.now) }
-        ensures can { CanDeal ⟦<Iter<'a, A> as Iterator>⟧.next_gives
+        ensures can { CanYield ⟦<Iter<'a, A> as Iterator>⟧.next_gives
             ⟦<Iter<'a, A> as DoubleEndedIterator>⟧.next_back_gives
             ⟦<Iter<'a, A> as Iterator>⟧.can_next
             ⟦<Iter<'a, A> as DoubleEndedIterator>⟧.can_next_back result }

@@ -16,8 +16,8 @@ use std::marker::Model;
 /// overrides them with calls that need no memory for the offsets of items.
 pub trait LoadBlocks {
     ghost use Rattle.std.specs.Prelude.{◌≡◌, Bool, List, ℕ, Option};
-    ghost use Rattle.sst_blocks.specs.Asked.{find_told, maybe_told, point_told};
-    ghost use Rattle.sst_blocks.specs.Block.{load_told, place_fault, Loaded};
+    ghost use Rattle.sst_blocks.specs.Asked.{find_result, maybe_result, point_result};
+    ghost use Rattle.sst_blocks.specs.Block.{load_result, place_fault, Loaded};
     ghost use Rattle.sst_blocks.specs.declared.block_type.BlockType.TheVariants.{Data, Filter};
     ghost use Rattle.sst_blocks.specs.declared.block_type.BlockType.TheVariants.{Index};
     ghost use Rattle.sst_blocks.specs.Place.{Place};
@@ -45,7 +45,7 @@ pub trait LoadBlocks {
     fn load(&mut self, handle: &BlockHandle, kind: BlockType) -> Result<Block<Self::Alloc>, Error>
         ensures told { let bytes = body self.old in
             Gives (λ (b : Loaded). b) result
-            (load_told bytes handle.now.offset handle.now.size kind) }
+            (load_result bytes handle.now.offset handle.now.size kind) }
         ensures first { let bytes = body self.old in
             FaultsFirst result (place_fault bytes handle.now.offset handle.now.size kind) }
         ensures body { body self.new ≡ body self.old }
@@ -68,7 +68,7 @@ pub trait LoadBlocks {
     ) -> Result<Option<InternalValue<Self::Alloc>>, Error>
         ensures told { let bytes = body self.old in
             Gives (λ (found : Option Entry). found) result
-            (point_told bytes handle.now.offset handle.now.size key.now seqno) }
+            (point_result bytes handle.now.offset handle.now.size key.now seqno) }
         ensures first { let bytes = body self.old in
             FaultsFirst result (place_fault bytes handle.now.offset handle.now.size Data) }
         ensures body { body self.new ≡ body self.old }
@@ -97,7 +97,7 @@ pub trait LoadBlocks {
     ) -> Result<Option<BlockHandle>, Error>
         ensures told { let bytes = body self.old in
             Gives (λ (found : Option Place). found) result
-            (find_told bytes handle.now.offset handle.now.size key.now seqno) }
+            (find_result bytes handle.now.offset handle.now.size key.now seqno) }
         ensures first { let bytes = body self.old in
             FaultsFirst result (place_fault bytes handle.now.offset handle.now.size Index) }
         ensures body { body self.new ≡ body self.old }
@@ -121,7 +121,7 @@ pub trait LoadBlocks {
     fn maybe_contains_hash(&mut self, handle: &BlockHandle, hash: u64) -> Result<bool, Error>
         ensures told { let bytes = body self.old in
             Gives (λ (maybe : Bool). maybe) result
-            (maybe_told bytes handle.now.offset handle.now.size hash) }
+            (maybe_result bytes handle.now.offset handle.now.size hash) }
         ensures first { let bytes = body self.old in
             FaultsFirst result (place_fault bytes handle.now.offset handle.now.size Filter) }
         ensures body { body self.new ≡ body self.old }

@@ -26,15 +26,15 @@ pub(crate) trait ItemRef<'a>: Copy {
     ghost use Rattle.sst_blocks.specs.declared.version.TableVersion.{TableVersion};
 
     // The value that it denotes.
-    ghost Told: { Type 0 };
+    ghost Reported: { Type 0 };
 
-    ghost told: { Self → Told };
+    ghost told: { Self → Reported };
 
     // The encoding of that value.
-    ghost format: { TableVersion → Format Told };
+    ghost format: { TableVersion → Format Reported };
 
     // The value has an encoding.
-    ghost Fits: { TableVersion → Told → Type 0 };
+    ghost Fits: { TableVersion → Reported → Type 0 };
 
     /// Reads the item at the front of some bytes, and returns the bytes after it.
     fn read(version: TableVersion, bytes: &'a [u8]) -> Option<(Self, &'a [u8])>
@@ -44,7 +44,7 @@ pub(crate) trait ItemRef<'a>: Copy {
     /// Reads the key and the sequence number of the item at the front of some bytes.
     fn read_key(version: TableVersion, bytes: &'a [u8]) -> (&'a [u8], SeqNo)
         requires { (format version).read bytes.now ≡ None → ⊥ }
-        ensures { let key = λ (x : Told). key_and_number ((format version).key x) in
+        ensures { let key = λ (x : Reported). key_and_number ((format version).key x) in
             option_map (λ x. key x.0) ((format version).read bytes.now)
             ≡ Some (result.0.now, result.1) };
 

@@ -6,7 +6,7 @@ ghost use Rattle.std.specs.Prelude.{IfErr, IfOk, IfSome, IsTrue, OnOk, MatchOpti
 ghost use Rattle.std.specs.Prelude.{Some, true};
 ghost use Rattle.sst_blocks.specs.Block.{Loaded, checked_payload, checksum_fault, has_room};
 ghost use Rattle.sst_blocks.specs.Block.{header_len, in_grammar, room_fault, version_in};
-ghost use Rattle.sst_blocks.specs.Block.{load_told, load_at_told, place_fault, position_fault};
+ghost use Rattle.sst_blocks.specs.Block.{load_result, load_at_result, place_fault, position_fault};
 ghost use Rattle.sst_blocks.specs.Marks.{HasItems, HasSum, IsHeaded, IsSaid};
 ghost use Rattle.sst_blocks.specs.Fnv.{fnv1a};
 ghost use Rattle.std.specs.Arc.{arc_value};
@@ -199,7 +199,7 @@ impl<A: Allocator + Clone> BlockSource<A> {
     ) -> Result<Block<A>, Error>
         ensures told { let body = body_of self.now in
             Gives (λ (b : Loaded). b) result
-            (load_told body handle.now.offset handle.now.size kind) }
+            (load_result body handle.now.offset handle.now.size kind) }
         // Faults in the position, header, checksum or count come before any `OutOfMemory`.
         ensures first { let body = body_of self.now in
             FaultsFirst result (place_fault body handle.now.offset handle.now.size kind) }
@@ -224,7 +224,7 @@ impl<A: Allocator + Clone> BlockSource<A> {
         kind: BlockType,
         opened: &mut Opened,
     ) -> Result<Block<A>, Error>
-        ensures told { let told = load_at_told (body_of self.now) position kind in
+        ensures told { let told = load_at_result (body_of self.now) position kind in
             Gives (λ (b : Loaded). b) result told }
         ensures first { FaultsFirst result (position_fault (body_of self.now) position kind) }
         // The block ends below 2^63.
@@ -263,7 +263,7 @@ impl<A: Allocator + Clone> BlockSource<A> {
         ensures headed { IfOk result (λ p.
             IsHeaded self.now p.start p.end p.header.version kind p.header.checksum) }
         ensures told { let body = body_of self.now in
-            IfErr result (λ e. load_told body handle.now.offset handle.now.size kind ≡ Err e) }
+            IfErr result (λ e. load_result body handle.now.offset handle.now.size kind ≡ Err e) }
         ensures first { let body = body_of self.now in
             IfErr result (λ e. place_fault body handle.now.offset handle.now.size kind ≡ Some e) }
     {

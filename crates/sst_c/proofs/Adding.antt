@@ -6,7 +6,7 @@ use Rattle.std.proofs.Math.Seq.{drop-length, take-length}
 use Rattle.std.proofs.lemmas.List.{drop_more, drop-drop}
 use Rattle.std.proofs.lemmas.List.Sums.{sum_by-cons}
 use Rattle.sst_c.specs.Adds.{Adds, AddsAll, AddsMany, Row, row, rows_in, size_of}
-use Rattle.sst_c.specs.declared.entries.EntryTold.{EntryTold}
+use Rattle.sst_c.specs.declared.entries.EntryReport.{EntryReport}
 use Rattle.lsm_writers.specs.Writing.{Writing}
 
 take_next : {X : Type 0} (i : ℕ) (xs rest : List X) (x : X) → drop i xs ≡ x ∷ rest
@@ -16,16 +16,16 @@ take_next zero (y ∷ ys) rest x same = let one : y ≡ x = cc in ap (λ z. z �
 take_next (suc i) [] rest x same = absurd (let no : ⊥ = cc in no)
 take_next (suc i) (y ∷ ys) rest x same = ap (λ l. y ∷ l) (take_next i ys rest x same)
 
-pub rows_length : (ts : List EntryTold) (bytes : List ℕ) → length (rows_in ts bytes) ≡ length ts
+pub rows_length : (ts : List EntryReport) (bytes : List ℕ) → length (rows_in ts bytes) ≡ length ts
 rows_length [] bytes = refl
 rows_length (t ∷ ts) bytes = ap suc (rows_length ts (drop (size_of t) bytes))
 
 -- the row at a place, as a loop cuts it
-abbrev pub cut_row : EntryTold → List ℕ → ℕ → Row
+abbrev pub cut_row : EntryReport → List ℕ → ℕ → Row
 cut_row t bytes at = row t (take (at + t.key_len - at) (drop at bytes))
     (take (at + t.key_len + t.value_len - (at + t.key_len)) (drop (at + t.key_len) bytes))
 
-cut : (t : EntryTold) (bytes : List ℕ) (at : ℕ) → cut_row t bytes at
+cut : (t : EntryReport) (bytes : List ℕ) (at : ℕ) → cut_row t bytes at
     ≡ row t (take t.key_len (drop at bytes)) (take t.value_len (drop t.key_len (drop at bytes)))
 cut t bytes at =
     let key : at + t.key_len - at ≡ t.key_len = omega arith in
@@ -34,7 +34,7 @@ cut t bytes at =
     ∙ ap (λ n. row t (take t.key_len (drop at bytes)) (take n (drop (at + t.key_len) bytes))) value
     ∙ ap (λ l. row t (take t.key_len (drop at bytes)) (take t.value_len l)) (sym (drop-drop t.key_len at bytes))
 
-pub next_row : (ts : List EntryTold) (bytes : List ℕ) (i at : ℕ) (d : EntryTold)
+pub next_row : (ts : List EntryReport) (bytes : List ℕ) (i at : ℕ) (d : EntryReport)
     → drop i (rows_in ts bytes) ≡ rows_in (drop i ts) (drop at bytes) → i < length ts
     → let t = slice_index_or ts i d in
     drop i (rows_in ts bytes) ≡ cut_row t bytes at
@@ -76,12 +76,12 @@ pub adds_all : (w v : Writing) (rows : List Row) (i : ℕ) → AddsAll w (take i
     → AddsMany w rows i 0 v
 adds_all w v rows i added full = record { last = v; added = added; ends = inl (full, refl, refl) }
 
-pub bytes_next : (ts : List EntryTold) (i at len : ℕ) (d : EntryTold) → at + sum (map size_of (drop i ts)) ≡ len
+pub bytes_next : (ts : List EntryReport) (i at len : ℕ) (d : EntryReport) → at + sum (map size_of (drop i ts)) ≡ len
     → i < length ts
     → at + (slice_index_or ts i d).key_len + (slice_index_or ts i d).value_len + sum (map size_of (drop (i + 1) ts)) ≡ len
 bytes_next ts i at len d same within =
     let t = slice_index_or ts i d in
     let more : sum (map size_of (drop i ts)) ≡ t.key_len + t.value_len + sum (map size_of (drop (i + 1) ts)) =
-    ap (λ (l : List EntryTold). sum (map size_of l)) (drop_more ts i d within)
+    ap (λ (l : List EntryReport). sum (map size_of l)) (drop_more ts i d within)
     ∙ sum_by-cons (λ (x : ℕ). x) (size_of t) (map size_of (drop (i + 1) ts)) in
     omega arith

@@ -31,9 +31,9 @@ use Rattle.sst_entries.specs.Error.{FaultsFirst, Refuses}
 use Rattle.std.specs.Prelude.{IsOk}
 use Rattle.sst_blocks.specs.table.Failed.{failed_fault}
 use Rattle.lsm_writers.specs.Writing.{Writing, finish_fault, written}
-use Rattle.sst_c.specs.Codes.{TellsCode, TellsFirst, result_code, fault_code}
-use Rattle.sst_c.specs.Writing.{FaultAnswered, FaultTold, FinishTold}
-use Rattle.sst_c.specs.Told.{AnswersRead, found_of}
+use Rattle.sst_c.specs.Codes.{ReportsCode, ReportsFirst, result_code, fault_code}
+use Rattle.sst_c.specs.Writing.{FaultAnswered, FaultReported, FinishReported}
+use Rattle.sst_c.specs.Reported.{AnswersRead, found_of}
 
 -- a refusal wants memory, whose number is 1, or does not
 pub is_one_or_not : (e : Error) → (number_of e ≡ 1) ⊎ (is_memory e ≡ false)
@@ -63,13 +63,13 @@ is_one_or_not WriterFailed = inr refl
 is_one_or_not (Source n) = inr refl
 
 -- the number of a refusal is the code of what is told
-pub tells : {X : Type 0} (e : Error) (told : Result X Error) → Fails e told → TellsCode (number_of e) told
+pub tells : {X : Type 0} (e : Error) (told : Result X Error) → Fails e told → ReportsCode (number_of e) told
 tells e told fails = elim (is_one_or_not e) [ inl one ↦ inl one | inr other ↦ inr (sym (ap result_code (fails other))) ]
 
 -- so it is where what is told is no refusal
-pub tells_begun : {X : Type 0} (code : ℕ) (x : X) (told : Result X Error) → (code ≡ 0) ⊎ (code ≡ 1)
-    → told ≡ Ok x → TellsCode code told
-tells_begun code x told codes same = elim codes [
+pub reports_begun : {X : Type 0} (code : ℕ) (x : X) (told : Result X Error) → (code ≡ 0) ⊎ (code ≡ 1)
+    → told ≡ Ok x → ReportsCode code told
+reports_begun code x told codes same = elim codes [
   | inl zero ↦ inr (zero ∙ sym (ap result_code same))
   | inr one ↦ inl one
 ]
@@ -99,16 +99,16 @@ refuses_first (Ok x) e none = absurd (some_is_not_none e none)
 refuses_first (Err f) e same = ap fault_code (sym same)
 
 -- so a fault that comes first is what a call answers
-pub first_tells : {X : Type 0} (r : Result X Error) (f : Option Error) → FaultsFirst r f
-    → TellsFirst (result_code r) f
-first_tells r f first e is = refuses_first r e (first e is)
+pub first_reports : {X : Type 0} (r : Result X Error) (f : Option Error) → FaultsFirst r f
+    → ReportsFirst (result_code r) f
+first_reports r f first e is = refuses_first r e (first e is)
 
 -- what is not refused is answered 0
-pub ok_tells : {X : Type 0} (r : Result X Error) → IsOk r → result_code r ≡ 0
-ok_tells (Ok x) fine = refl
-ok_tells (Err e) fine = absurd (let no : ⊥ = cc in no)
+pub ok_reports : {X : Type 0} (r : Result X Error) → IsOk r → result_code r ≡ 0
+ok_reports (Ok x) fine = refl
+ok_reports (Err e) fine = absurd (let no : ⊥ = cc in no)
 
-pub ruleset reads = (answers, first_tells, ok_tells)
+pub ruleset reads = (answers, first_reports, ok_reports)
 
 -- no refusal has the number 0
 pub not_zero : (e : Error) → number_of e ≡ 0 → ⊥
@@ -138,17 +138,17 @@ not_zero WriterFailed zero = cc
 not_zero (Source n) zero = cc
 
 -- the number of a refusal is the code of the fault that is told
-pub fault_tells : (e : Error) (told : Option Error) → (is_memory e ≡ false → told ≡ Some e) → FaultTold (number_of e) told
-unfolding FaultTold
-fault_tells e told fails = elim (is_one_or_not e) [ inl one ↦ inl one | inr other ↦ inr (sym (ap fault_code (fails other))) ]
+pub fault_reports : (e : Error) (told : Option Error) → (is_memory e ≡ false → told ≡ Some e) → FaultReported (number_of e) told
+unfolding FaultReported
+fault_reports e told fails = elim (is_one_or_not e) [ inl one ↦ inl one | inr other ↦ inr (sym (ap fault_code (fails other))) ]
 
-pub no_fault_tells : (told : Option Error) → told ≡ None → FaultTold 0 told
-unfolding FaultTold
-no_fault_tells told none = inr (sym (ap fault_code none))
+pub no_fault_reports : (told : Option Error) → told ≡ None → FaultReported 0 told
+unfolding FaultReported
+no_fault_reports told none = inr (sym (ap fault_code none))
 
-pub memory_tells : (told : Option Error) → FaultTold 1 told
-unfolding FaultTold
-memory_tells told = inl refl
+pub memory_reports : (told : Option Error) → FaultReported 1 told
+unfolding FaultReported
+memory_reports told = inl refl
 
 -- a fault that comes first is what is answered, and where there is none, 0 or want of memory
 pub refused_answered : (e : Error) (told : Option Error) → (is_memory e ≡ false → told ≡ Some e)
@@ -167,7 +167,7 @@ taken_answered (Some e) none = absurd (let no : ⊥ = cc in no)
 
 -- no fault comes first where a call did not refuse
 passes_first : (code : ℕ) (told : Option Error) → ((f : Error) → told ≡ Some f → Some f ≡ None)
-    → TellsFirst code told
+    → ReportsFirst code told
 passes_first code told first f is = absurd (no_fault f (first f is))
   where
     no_fault : (f : Error) → Some f ≡ None → ⊥
@@ -176,33 +176,33 @@ passes_first code told first f is = absurd (no_fault f (first f is))
 -- what finishing a writer answers that is refused
 pub finish_refused : (e : Error) (w : Writing) → (is_memory e ≡ false → finish_fault w ≡ Some e)
     → ((f : Error) → failed_fault w.failed ≡ Some f → Some f ≡ Some e) → (written w ≡ [] → w.failed ≡ true)
-    → FinishTold (number_of e) w
-unfolding FinishTold
+    → FinishReported (number_of e) w
+unfolding FinishReported
 finish_refused e w fails first idle =
-    (fault_tells e (finish_fault w) fails, (λ f is. ap fault_code (sym (first f is))), λ none works. absurd (no_both w.failed (idle none) works))
+    (fault_reports e (finish_fault w) fails, (λ f is. ap fault_code (sym (first f is))), λ none works. absurd (no_both w.failed (idle none) works))
   where
     no_both : (b : Bool) → b ≡ true → b ≡ false → ⊥
     no_both b is other = cc
 
 -- of one that is not
 pub finish_done : (w : Writing) → finish_fault w ≡ None → ((f : Error) → failed_fault w.failed ≡ Some f → Some f ≡ None)
-    → FinishTold 0 w
-unfolding FinishTold
-finish_done w fine first = (no_fault_tells (finish_fault w) fine, passes_first 0 (failed_fault w.failed) first, λ none works. refl)
+    → FinishReported 0 w
+unfolding FinishReported
+finish_done w fine first = (no_fault_reports (finish_fault w) fine, passes_first 0 (failed_fault w.failed) first, λ none works. refl)
 
 -- of one whose table has no place
 pub finish_unplaced : (w : Writing) → ((f : Error) → failed_fault w.failed ≡ Some f → Some f ≡ None) → (written w ≡ [] → ⊥)
-    → FinishTold 1 w
-unfolding FinishTold
-finish_unplaced w first some = (memory_tells (finish_fault w), passes_first 1 (failed_fault w.failed) first, λ none works. absurd (some none))
+    → FinishReported 1 w
+unfolding FinishReported
+finish_unplaced w first some = (memory_reports (finish_fault w), passes_first 1 (failed_fault w.failed) first, λ none works. absurd (some none))
 
 -- what is begun where no fault is told answers 0, or 1 for want of memory
-pub begun_tells : (code : ℕ) (told : Option Error) → (code ≡ 0) ⊎ (code ≡ 1) → told ≡ None
-    → FaultTold code told
-unfolding FaultTold
-begun_tells code told codes none = elim codes [
+pub begun_reports : (code : ℕ) (told : Option Error) → (code ≡ 0) ⊎ (code ≡ 1) → told ≡ None
+    → FaultReported code told
+unfolding FaultReported
+begun_reports code told codes none = elim codes [
   | inl zero ↦ inr (zero ∙ sym (ap fault_code none))
   | inr one ↦ inl one
 ]
 
-pub ruleset tell = (fault_tells, no_fault_tells, begun_tells, not_zero, refused_answered, taken_answered, finish_refused, finish_done)
+pub ruleset tell = (fault_reports, no_fault_reports, begun_reports, not_zero, refused_answered, taken_answered, finish_refused, finish_done)

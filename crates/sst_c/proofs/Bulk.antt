@@ -13,7 +13,7 @@ use Rattle.sst_c.specs.Reads.{IsMergedAs, MergedReads, ReadsOn, gives_at}
 use Rattle.sst_c.specs.Steps.{StepsAs, StepsBy}
 use Rattle.sst_c.specs.Takes.{EndsWith, ReadsMany, Yields}
 use Rattle.sst_c.specs.What.{IsRangeWhere, IsRunsScanAs, IsScanWhere, MergedStepsBy, is_scan}
-use Rattle.sst_c.specs.declared.entries.EntryTold.{EntryTold}
+use Rattle.sst_c.specs.declared.entries.EntryReport.{EntryReport}
 use Rattle.sst_c.specs.declared.held.What.{What}
 use Rattle.sst_c.specs.declared.held.What.TheVariants.{Answers, Files, Merged, Packing, Range as RangeOf}
 use Rattle.sst_c.specs.declared.held.What.TheVariants.{Runs, RunsScan as RunsScanOf, Scan as ScanOf, Table, Verification}
@@ -39,7 +39,7 @@ module _ {S T : Type 0} (A : S → ℕ → Option Entry → S → Type 0) (B : T
         (step.0, step.1, inr (more.0, step.2, more.2)))
   ]
 
-  pub many_so : (s v : S) (t : T) (places told : List EntryTold) (room copied : List ℕ)
+  pub many_so : (s v : S) (t : T) (places told : List EntryReport) (room copied : List ℕ)
       (count code : ℕ) (found : Option Entry) → Is s t
       → ReadsMany A s places told room copied count code found v
       → (u : T) × Is v u × ReadsMany B t places told room copied count code found u
@@ -61,7 +61,7 @@ module _ {S T : Type 0} (A : S → ℕ → Option Entry → S → Type 0) (B : T
 
 -- a bulk read whose reads are of a part of what is read is one of that part
 pub part_many : {S T : Type 0} (part : S → T) (B : T → ℕ → Option Entry → T → Type 0) (s v : S)
-    (places told : List EntryTold) (room copied : List ℕ) (count code : ℕ) (found : Option Entry)
+    (places told : List EntryReport) (room copied : List ℕ) (count code : ℕ) (found : Option Entry)
     → ReadsMany (λ (x : S) (c : ℕ) (f : Option Entry) (y : S). B (part x) c f (part y)) s places told
     room copied count code found v
     → ReadsMany B (part s) places told room copied count code found (part v)
@@ -125,7 +125,7 @@ runs_scan_where (Packing x) P is = absurd is
 module _ (front back : NewestAt → Option (Result Entry Error) → NewestAt → Type 0)
     (advances : LentNewestAt → Option (Result Entry Error) → LentNewestAt → Type 0) (at_back : Bool) where
   -- what a bulk read of a handle is, by what the handle holds
-  pub scan_many : (w v : What) (s : Scan) (places told : List EntryTold) (room copied : List ℕ)
+  pub scan_many : (w v : What) (s : Scan) (places told : List EntryReport) (room copied : List ℕ)
       (count code : ℕ) (found : Option Entry) → w ≡ ScanOf s
       → ReadsMany (ReadsOn front back advances at_back) w places told room copied count code found v
       → IsScanWhere (ReadsMany (StepsBy ScansLent) s places told room copied count code found) v
@@ -136,7 +136,7 @@ module _ (front back : NewestAt → Option (Result Entry Error) → NewestAt →
       w v s places told room copied count code found is many in
       subst (IsScanWhere P) (sym so.1) so.2
 
-  pub range_many : (w v : What) (s : Range Global) (places told : List EntryTold) (room copied : List ℕ)
+  pub range_many : (w v : What) (s : Range Global) (places told : List EntryReport) (room copied : List ℕ)
       (count code : ℕ) (found : Option Entry) → w ≡ RangeOf s
       → ReadsMany (ReadsOn front back advances at_back) w places told room copied count code found v
       → IsRangeWhere (ReadsMany (StepsBy (gives_at (RangeGives front_of front_next)
@@ -150,7 +150,7 @@ module _ (front back : NewestAt → Option (Result Entry Error) → NewestAt →
       w v s places told room copied count code found is many in
       subst (IsRangeWhere P) (sym so.1) so.2
 
-  pub merged_many : (w v : What) (m : Option NewestAt) (places told : List EntryTold)
+  pub merged_many : (w v : What) (m : Option NewestAt) (places told : List EntryReport)
       (room copied : List ℕ) (count code : ℕ) (found : Option Entry) → w ≡ Merged m
       → ReadsMany (ReadsOn front back advances at_back) w places told room copied count code found v
       → IsMergedAs (ReadsMany (MergedReads (gives_at front back at_back)) m places told room copied
@@ -163,7 +163,7 @@ module _ (front back : NewestAt → Option (Result Entry Error) → NewestAt →
       w v m places told room copied count code found is many in
       subst (IsMergedAs P) (sym so.1) so.2
 
-  pub runs_scan_many : (w v : What) (m : Option LentNewestAt) (places told : List EntryTold)
+  pub runs_scan_many : (w v : What) (m : Option LentNewestAt) (places told : List EntryReport)
       (room copied : List ℕ) (count code : ℕ) (found : Option Entry) → w ≡ RunsScanOf m
       → ReadsMany (ReadsOn front back advances at_back) w places told room copied count code found v
       → IsRunsScanAs (ReadsMany (MergedReads advances) m places told room copied count code found) v
@@ -260,7 +260,7 @@ module _ (front back : NewestAt → Option (Result Entry Error) → NewestAt →
   }
 
 -- a bulk read of a scan that found nothing, with places left, is at the end
-pub ended_many : (v : What) (s : Scan) (places told : List EntryTold) (room copied : List ℕ) (count code : ℕ)
+pub ended_many : (v : What) (s : Scan) (places told : List EntryReport) (room copied : List ℕ) (count code : ℕ)
     (found : Option Entry)
     → IsScanWhere (ReadsMany (StepsBy ScansLent) s places told room copied count code found) v
     → found ≡ None → count < length places → IsScanWhere IsEndedScan v

@@ -9,18 +9,18 @@ use Rattle.lsm_runs.specs.declared.compaction.any_runs.CompactionOutcome.TheVari
 use Rattle.lsm_runs.specs.declared.compaction.any_runs.CompactionOutcome.TheVariants.{Stopped}
 use Rattle.lsm_runs.specs.declared.compaction.any_runs.CompactionOutcome.TheVariants.{Tables}
 use Rattle.lsm_writers.specs.declared.writer.FinishedTable.{FinishedTable}
-use Rattle.sst_c.specs.Compact.{TellsOutcome}
-use Rattle.sst_c.specs.Told.{found_by}
+use Rattle.sst_c.specs.Compact.{ReportsOutcome}
+use Rattle.sst_c.specs.Reported.{found_by}
 use Rattle.sst_c.specs.What.{HoldsFiles}
 use Rattle.sst_c.specs.declared.held.Held.{Held}
 
 pub outcome_err : (e : Error) (held : Option Held) (next : ℕ)
-    → TellsOutcome (number_of e) held next (Err e)
-unfolding TellsOutcome
+    → ReportsOutcome (number_of e) held next (Err e)
+unfolding ReportsOutcome
 outcome_err e held next = refl
 
-pub outcome_order : (held : Option Held) (next : ℕ) → TellsOutcome 104 held next (Ok OutOfOrder)
-unfolding TellsOutcome
+pub outcome_order : (held : Option Held) (next : ℕ) → ReportsOutcome 104 held next (Ok OutOfOrder)
+unfolding ReportsOutcome
 outcome_order held next = refl
 
 pub both_some : {X : Type 0} (o : Option X) (P Q : X → Type 0) → IsSomeAnd o P → IsSomeAnd o Q
@@ -49,8 +49,8 @@ pub outcome_tables : (o : CompactionOutcome Global) → has_tables o → (code n
     → (code ≡ 0 → IsSomeAnd held (λ h. found_by h ≡ None))
     → (code ≡ 0 → IsSomeAnd held (λ h. HoldsFiles (finished_in o) h.what))
     → (code ≡ 0 → next ≡ unwrap_or (left_in o) 0)
-    → TellsOutcome code held next (Ok o)
-unfolding TellsOutcome
+    → ReportsOutcome code held next (Ok o)
+unfolding ReportsOutcome
 outcome_tables (Tables tables left) has code next held codes new files ids = elim codes [
   | inl zero ↦ inr (zero, both_some held (λ h. found_by h ≡ None) (λ h. HoldsFiles tables.items h.what) (new zero) (files zero), ids zero)
   | inr one ↦ inl one
@@ -58,4 +58,4 @@ outcome_tables (Tables tables left) has code next held codes new files ids = eli
 outcome_tables OutOfOrder has code next held codes new files ids = absurd has
 outcome_tables Stopped has code next held codes new files ids = absurd has
 
-pub ruleset told_outcomes = (outcome_err, outcome_order)
+pub ruleset reported_outcomes = (outcome_err, outcome_order)

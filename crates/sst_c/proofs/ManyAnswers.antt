@@ -12,16 +12,16 @@ use Rattle.sst_c.specs.Many.{AnswersMany, many_kept, queries_for}
 use Rattle.std.specs.Prelude.{IsSomeAnd}
 use Rattle.sst_c.specs.What.{many_in}
 use Rattle.sst_c.specs.declared.held.Held.{Held}
-use Rattle.sst_c.specs.Told.{entry_facts}
-use Rattle.sst_c.specs.declared.entries.EntryTold.{EntryTold}
+use Rattle.sst_c.specs.Reported.{entry_facts}
+use Rattle.sst_c.specs.declared.entries.EntryReport.{EntryReport}
 use Rattle.sst_c.proofs.Answering.{is_one_or_not}
 
 -- one more stands in the front of a room
-pub one_more_told : {X Y : Type 0} (f : X → Y) (i : ℕ) (xs : List X) (ys zs : List Y) (x : X)
+pub one_more_result : {X Y : Type 0} (f : X → Y) (i : ℕ) (xs : List X) (ys zs : List Y) (x : X)
     → zs ≡ map f (take i xs) ++ drop i ys → i < length xs → length xs ≤ length ys
     → x ≡ slice_index_or xs i x
     → slice_set zs i (f x) ≡ map f (take (i + 1) xs) ++ drop (i + 1) ys
-one_more_told f i xs ys zs x same within room at =
+one_more_result f i xs ys zs x same within room at =
     let front = map f (take i xs) in
     let len : length front ≡ i = length-map (take i xs) f ∙ length-take-le i xs (omega arith) in
     ap (λ l. slice_set l i (f x)) same
@@ -55,30 +55,30 @@ cut_length [] bytes seqno = refl
 cut_length (n ∷ ns) bytes seqno = ap suc (cut_length ns (drop n bytes) seqno)
 
 -- want of memory may be answered whatever is told
-pub many_one : (kept : Option (List (Option Entry))) (old new : List EntryTold)
+pub many_one : (kept : Option (List (Option Entry))) (old new : List EntryReport)
     (told : Result (List (Option Entry)) Error) → AnswersMany 1 kept old new told
 unfolding AnswersMany
 many_one kept old new (Ok found) = inl refl
 many_one kept old new (Err e) = inl refl
 
-many_told_err : (e : Error) (kept : Option (List (Option Entry))) (old new : List EntryTold)
+many_reported_err : (e : Error) (kept : Option (List (Option Entry))) (old new : List EntryReport)
     (told : Result (List (Option Entry)) Error) → told ≡ Err e
     → AnswersMany (number_of e) kept old new told
 unfolding AnswersMany
-many_told_err e kept old new told same =
+many_reported_err e kept old new told same =
     subst (λ (r : Result (List (Option Entry)) Error). AnswersMany (number_of e) kept old new r) (sym same) (inr refl)
 
 -- a refusal is the one that is told
-pub many_err : (e : Error) (kept : Option (List (Option Entry))) (old new : List EntryTold)
+pub many_err : (e : Error) (kept : Option (List (Option Entry))) (old new : List EntryReport)
     (told : Result (List (Option Entry)) Error) → Fails e told
     → AnswersMany (number_of e) kept old new told
 many_err e kept old new told fails = elim (is_one_or_not e) [
   | inl one ↦ subst (λ (n : ℕ). AnswersMany n kept old new told) (sym one) (many_one kept old new told)
-  | inr other ↦ many_told_err e kept old new told (fails other)
+  | inr other ↦ many_reported_err e kept old new told (fails other)
 ]
 
 -- what was found is kept and told
-pub many_ok : (code : ℕ) (kept : Option (List (Option Entry))) (old new : List EntryTold)
+pub many_ok : (code : ℕ) (kept : Option (List (Option Entry))) (old new : List EntryReport)
     (found : List (Option Entry)) (told : Result (List (Option Entry)) Error) → told ≡ Ok found
     → (code ≡ 0) ⊎ (code ≡ 1) → (code ≡ 0 → kept ≡ Some found)
     → (code ≡ 0 → new ≡ laid_over (map entry_facts found) old)

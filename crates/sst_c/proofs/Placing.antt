@@ -14,7 +14,7 @@ use Rattle.lsm_runs.specs.declared.lent_gets.RunPlace.{RunPlace}
 use Rattle.sst_c.proofs.Answering.{answers}
 use Rattle.sst_c.proofs.Verifying.{same_table}
 use Rattle.sst_c.specs.Codes.{result_code}
-use Rattle.sst_c.specs.Told.{AnswersRead, found_at, is_settled, kept_in_runs, kept_in_table}
+use Rattle.sst_c.specs.Reported.{AnswersRead, found_at, is_settled, kept_in_runs, kept_in_table}
 use Rattle.sst_c.specs.What.{runs_held}
 use Rattle.sst_c.specs.declared.held.FoundEntry.{FoundEntry}
 use Rattle.sst_c.specs.declared.held.FoundEntry.TheVariants.{InRuns, InTable, Kept, Lent}

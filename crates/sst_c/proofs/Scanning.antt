@@ -3,37 +3,37 @@ use Rattle.std.proofs.Common.{◌≡◌, ℕ, ◌<◌, Bool, true, false, List, 
 use Rattle.std.proofs.Common.{ap, inl}
 use Rattle.std.specs.Prelude.{IfErr, IfOk, Option, Some, None, Result, Ok, Err}
 use Rattle.sst_entries.specs.Entry.{Entry}
-use Rattle.sst_entries.specs.Stream.{Deals, answer_stops, nowhere, ok_results}
+use Rattle.sst_entries.specs.Stream.{YieldsExactly, answer_stops, nowhere, ok_results}
 use Rattle.sst_entries.specs.declared.error.Error.{Error}
 use Rattle.sst_entries.specs.declared.error.Error.TheVariants.{OutOfMemory}
 use Rattle.lsm_readers.specs.point.Answer.{lift}
 use Rattle.lsm_readers.specs.Scan.{IsEndedScan, LendsList, Scan, ScansLent, ScansList, ScansNext}
 use Rattle.lsm_readers.proofs.Scans.{ended_left}
 use Rattle.sst_c.specs.Codes.{result_code}
-use Rattle.sst_c.specs.Scans.{DealsScan}
+use Rattle.sst_c.specs.Scans.{YieldsScan}
 use Rattle.sst_c.specs.Steps.{StepsBy}
 use Rattle.sst_entries.specs.Error.{number_of}
 use Rattle.sst_entries.specs.Lending.{came}
-use Rattle.sst_c.specs.Told.{found_of, outcome_of}
+use Rattle.sst_c.specs.Reported.{found_of, outcome_of}
 use Rattle.sst_c.specs.declared.held.What.{What}
 use Rattle.sst_c.specs.declared.held.What.TheVariants.{Scan as ScanOf}
 
 -- a scan of a table deals what its blocks have
-pub all_dealt : (r : Result Scan Error) (rs : List (Result Entry Error))
+pub all_yielded : (r : Result Scan Error) (rs : List (Result Entry Error))
     → ((stops : Error → Bool) → stops OutOfMemory ≡ true →
-    IfOk r (λ s. Deals (answer_stops stops) ScansNext nowhere s rs))
+    IfOk r (λ s. YieldsExactly (answer_stops stops) ScansNext nowhere s rs))
     → ((stops : Error → Bool) → stops OutOfMemory ≡ true →
-    IfOk r (λ s. Deals (answer_stops stops) ScansLent nowhere s rs)) → IfOk r (DealsScan rs)
-unfolding DealsScan
-all_dealt (Ok s) rs deals lends = λ stops memory. (deals stops memory, lends stops memory)
-all_dealt (Err e) rs deals lends = tt
+    IfOk r (λ s. YieldsExactly (answer_stops stops) ScansLent nowhere s rs)) → IfOk r (YieldsScan rs)
+unfolding YieldsScan
+all_yielded (Ok s) rs yields lends = λ stops memory. (yields stops memory, lends stops memory)
+all_yielded (Err e) rs yields lends = tt
 
 -- of a list it deals the list
-pub list_dealt : (r : Result Scan Error) (es : List Entry) (g : ℕ) → ScansList r es g
-    → LendsList r es g → IfOk r (DealsScan (ok_results (lift es g)))
-unfolding DealsScan
-list_dealt (Ok s) es g deals lends = λ stops memory. (deals stops memory, lends stops memory)
-list_dealt (Err e) es g deals lends = tt
+pub list_yielded : (r : Result Scan Error) (es : List Entry) (g : ℕ) → ScansList r es g
+    → LendsList r es g → IfOk r (YieldsScan (ok_results (lift es g)))
+unfolding YieldsScan
+list_yielded (Ok s) es g yields lends = λ stops memory. (yields stops memory, lends stops memory)
+list_yielded (Err e) es g yields lends = tt
 
 -- and is refused for want of memory alone, where it has an entry
 pub list_refused : (r : Result Scan Error) (es : List Entry) (g : ℕ) → ScansList r es g

@@ -7,13 +7,13 @@ use Rattle.std.proofs.lemmas.Grind.{flat_map-append, common_steps}
 use Rattle.std.proofs.lemmas.List.{drop_more, set-append_right, length-map, drop-drop, length-drop, length-append, map-append}
 use Rattle.sst_entries.specs.Entry.{Entry}
 use Rattle.sst_c.specs.Copies.{laid_over}
-use Rattle.sst_c.specs.Told.{entry_facts}
+use Rattle.sst_c.specs.Reported.{entry_facts}
 use Rattle.sst_c.specs.Takes.{EndsWith, ReadsMany, Yields, bytes_in, bytes_of, facts_of}
-use Rattle.sst_c.specs.declared.entries.EntryTold.{EntryTold}
+use Rattle.sst_c.specs.declared.entries.EntryReport.{EntryReport}
 
 -- reads from s on yielded entries that fill the first places and bytes, and led to t
 pub record IsTaking {S : Type 0} (read : S → ℕ → Option Entry → S → Type 0) (s : S)
-    (places told : List EntryTold) (room copied : List ℕ) (place at : ℕ) (t : S) : Type 0 where
+    (places told : List EntryReport) (room copied : List ℕ) (place at : ℕ) (t : S) : Type 0 where
   pub entries : List Entry
   pub yields : Yields read s entries t
   pub counts : place ≡ length entries
@@ -33,9 +33,9 @@ laid_on xs ys room n same =
     ∙ ap (λ m. xs ++ (ys ++ drop m room)) (sym (length-append xs ys))
     ∙ sym (append_assoc xs ys (drop (length (xs ++ ys)) room))
 
-one_told : {X : Type 0} (xs room : List X) (n : ℕ) (x : X) → n ≡ length xs → n < length room
+one_result : {X : Type 0} (xs room : List X) (n : ℕ) (x : X) → n ≡ length xs → n < length room
     → slice_set (laid_over xs room) n x ≡ laid_over (xs ++ x ∷ []) room
-one_told xs room n x same within =
+one_result xs room n x same within =
     set-append_right xs (drop (length xs) room) n n x (sym same) (omega arith)
     ∙ ap (λ m. xs ++ slice_set (drop (length xs) room) m x) (let e : n - n ≡ 0 = omega arith in e)
     ∙ ap (λ m. xs ++ slice_set (drop m room) 0 x) (sym same)
@@ -53,7 +53,7 @@ module _ {S : Type 0} (read : S → ℕ → Option Entry → S → Type 0) where
   yields_one s t u [] e same step = (u, subst (λ (x : S). read x 0 (Some e) u) (sym same) step, refl)
   yields_one s t u (f ∷ fs) e more step = (more.0, more.1, yields_one more.0 t u fs e more.2 step)
 
-  pub taking_none : (s : S) (places : List EntryTold) (room : List ℕ)
+  pub taking_none : (s : S) (places : List EntryReport) (room : List ℕ)
       → IsTaking read s places places room room 0 0 s
   taking_none s places room = record {
     entries = [];
@@ -71,8 +71,8 @@ module _ {S : Type 0} (read : S → ℕ → Option Entry → S → Type 0) where
       subst (λ (n : ℕ). read s n (Some e) t) (fine (ap is_some (sym is)))
       (subst (λ (x : Option Entry). read s code x t) (sym is) step)
 
-  pub taking_more : (s t u : S) (places told : List EntryTold) (room copied laid : List ℕ)
-      (place at end : ℕ) (e : Entry) (x : EntryTold)
+  pub taking_more : (s t u : S) (places told : List EntryReport) (room copied laid : List ℕ)
+      (place at end : ℕ) (e : Entry) (x : EntryReport)
       → IsTaking read s places told room copied place at t → read t 0 (Some e) u
       → place < length places → x ≡ entry_facts (Some e)
       → laid ≡ take at copied ++ laid_over (bytes_of e) (drop at copied)
@@ -87,7 +87,7 @@ module _ {S : Type 0} (read : S → ℕ → Option Entry → S → Type 0) where
         tells =
             ap (λ y. slice_set told place y) fact
             ∙ ap (λ l. slice_set l place (entry_facts (Some e))) before.tells
-            ∙ one_told (facts_of es) places place (entry_facts (Some e))
+            ∙ one_result (facts_of es) places place (entry_facts (Some e))
             (before.counts ∙ sym (length-map es (λ x. entry_facts (Some x)))) within
             ∙ ap (λ l. laid_over l places) (sym (map-append (λ x. entry_facts (Some x)) es (e ∷ [])));
         copies =
@@ -102,7 +102,7 @@ module _ {S : Type 0} (read : S → ℕ → Option Entry → S → Type 0) where
             ∙ ap length (sym (one_more es e));
       }
 
-  pub taking_full : (s t : S) (places told : List EntryTold) (room copied : List ℕ) (place at : ℕ)
+  pub taking_full : (s t : S) (places told : List EntryReport) (room copied : List ℕ) (place at : ℕ)
       → IsTaking read s places told room copied place at t → place ≡ length places
       → ReadsMany read s places told room copied place 0 None t
   taking_full s t places told room copied place at before full = record {
@@ -115,7 +115,7 @@ module _ {S : Type 0} (read : S → ℕ → Option Entry → S → Type 0) where
     copies = before.copies;
   }
 
-  pub taking_stopped : (s t u : S) (places told : List EntryTold) (room copied : List ℕ) (place at code : ℕ)
+  pub taking_stopped : (s t u : S) (places told : List EntryReport) (room copied : List ℕ) (place at code : ℕ)
       (found : Option Entry) → IsTaking read s places told room copied place at t → read t code found u
       → place < length places
       → ((e : Entry) → found ≡ Some e → length room < at + length (bytes_of e))

@@ -7,28 +7,28 @@ use Rattle.std.specs.Result.{IsErrAnd}
 use Rattle.lsm_readers.specs.Verify.{Finds, FindsFirst}
 use Rattle.lsm_readers.specs.Words.{Entry, StoresList}
 use Rattle.lsm_readers.specs.declared.verify.VerifyError.{VerifyError}
-use Rattle.sst_c.specs.Verify.{TellsCounts, TellsFinding, TellsWrong, VerifyAnswers}
-use Rattle.sst_c.specs.Verify.{finding_told, no_finding, verified_told, verify_code, verify_told}
+use Rattle.sst_c.specs.Verify.{ReportsCounts, ReportsFinding, ReportsWrong, VerifyAnswers}
+use Rattle.sst_c.specs.Verify.{finding_result, no_finding, verified_result, verify_code, verify_result}
 use Rattle.lsm_readers.specs.point.Table.{OpenTable}
 use Rattle.lsm_readers.specs.declared.verify.VerifyError.TheVariants.{Found, OutOfMemory}
 use Rattle.sst_c.specs.declared.held.Held.{Held}
 use Rattle.sst_c.specs.declared.held.What.{What}
 use Rattle.sst_c.specs.declared.held.What.TheVariants.{Table}
-use Rattle.sst_c.specs.declared.verify.VerifyTold.{VerifyTold}
+use Rattle.sst_c.specs.declared.verify.VerifyReport.{VerifyReport}
 
 pub answers_ok : (v : Verified) (told : Result Verified Finding) → told ≡ Ok v
-    → VerifyAnswers 0 (verified_told v) told
+    → VerifyAnswers 0 (verified_result v) told
 unfolding VerifyAnswers
-answers_ok v told same = let P : Result Verified Finding → Type 0 = λ t. VerifyAnswers 0 (verified_told v) t in
+answers_ok v told same = let P : Result Verified Finding → Type 0 = λ t. VerifyAnswers 0 (verified_result v) t in
     subst P (sym same) (inl (refl, refl))
 
 pub answers_err : (f : Finding) (told : Result Verified Finding) → told ≡ Err f
-    → VerifyAnswers 107 (finding_told f) told
+    → VerifyAnswers 107 (finding_result f) told
 unfolding VerifyAnswers
-answers_err f told same = let P : Result Verified Finding → Type 0 = λ t. VerifyAnswers 107 (finding_told f) t in
+answers_err f told same = let P : Result Verified Finding → Type 0 = λ t. VerifyAnswers 107 (finding_result f) t in
     subst P (sym same) (inl (refl, refl))
 
-pub answers_memory : (told : Result Verified Finding) (v : VerifyTold) → v ≡ no_finding
+pub answers_memory : (told : Result Verified Finding) (v : VerifyReport) → v ≡ no_finding
     → VerifyAnswers 1 v told
 unfolding VerifyAnswers
 answers_memory (Ok x) v none = inr (refl, none)
@@ -54,29 +54,29 @@ pub same_held : (o : Option Held) (k h : Held) → o ≡ Some k → o ≡ Some h
 same_held o k h is same = ap (held_or h) (sym is) ∙ ap (held_or h) same
 
 -- what holds of a code and of what is told holds of what equals them
-pub at_both : (P : ℕ → VerifyTold → Type 0) (code other : ℕ) (v w : VerifyTold) → code ≡ other → v ≡ w → P other w → P code v
-at_both P code other v w one two holds = subst (λ (n : ℕ). P n v) (sym one) (subst (λ (x : VerifyTold). P other x) (sym two) holds)
+pub at_both : (P : ℕ → VerifyReport → Type 0) (code other : ℕ) (v w : VerifyReport) → code ≡ other → v ≡ w → P other w → P code v
+at_both P code other v w one two holds = subst (λ (n : ℕ). P n v) (sym one) (subst (λ (x : VerifyReport). P other x) (sym two) holds)
 
 -- what a verification came to is told, memory aside
 pub came_answers : (r : Result Verified VerifyError) (told : Result Verified Finding) → Finds (λ (v : Verified). v) r told
-    → VerifyAnswers (verify_code r) (verify_told r) told
+    → VerifyAnswers (verify_code r) (verify_result r) told
 came_answers (Ok v) told same = answers_ok v told same
 came_answers (Err OutOfMemory) told misses = answers_memory told no_finding refl
 came_answers (Err (Found f)) told misses = answers_err f told (misses f refl)
 
 -- and what takes no memory to be found, whatever memory there is;
 pub came_early : (r : Result Verified VerifyError) (early : Option Finding) → FindsFirst r early
-    → TellsFinding (verify_code r) (verify_told r) early
-came_early r early first f is = found_told r f (first f is)
+    → ReportsFinding (verify_code r) (verify_result r) early
+came_early r early first f is = found_result r f (first f is)
   where
-    found_told : (r : Result Verified VerifyError) (f : Finding) → IsErrAnd r (λ e. e ≡ Found f)
-        → (verify_code r ≡ 107) × (verify_told r ≡ finding_told f)
-    found_told (Ok v) f same = elim same [ ]
-    found_told (Err e) f same = (ap (λ (x : VerifyError). verify_code (Err x)) same, ap (λ (x : VerifyError). verify_told (Err x)) same)
+    found_result : (r : Result Verified VerifyError) (f : Finding) → IsErrAnd r (λ e. e ≡ Found f)
+        → (verify_code r ≡ 107) × (verify_result r ≡ finding_result f)
+    found_result (Ok v) f same = elim same [ ]
+    found_result (Err e) f same = (ap (λ (x : VerifyError). verify_code (Err x)) same, ap (λ (x : VerifyError). verify_result (Err x)) same)
 
 -- what is told is the first that is wrong;
 pub came_wrong : (r : Result Verified VerifyError) (IsFirst : Finding → Type 0)
-    → IfErr r (λ e. (f : Finding) → e ≡ Found f → IsFirst f) → TellsWrong IsFirst (verify_code r) (verify_told r)
+    → IfErr r (λ e. (f : Finding) → e ≡ Found f → IsFirst f) → ReportsWrong IsFirst (verify_code r) (verify_result r)
 came_wrong (Ok v) IsFirst firsts code = absurd (let no : ⊥ = cc in no)
 came_wrong (Err OutOfMemory) IsFirst firsts code = absurd (let no : ⊥ = cc in no)
 came_wrong (Err (Found f)) IsFirst firsts code = (f, refl, firsts f refl)
@@ -85,7 +85,7 @@ came_wrong (Err (Found f)) IsFirst firsts code = (f, refl, firsts f refl)
 pub came_counts : (r : Result Verified VerifyError) (bytes : List ℕ)
     → IfOk r (λ v. (es : List Entry) × (t : StoresList bytes es) × (v.item_count ≡ length es)
     × (v.data_block_count ≡ length t.handles))
-    → verify_code r ≡ 0 → TellsCounts bytes (verify_told r)
+    → verify_code r ≡ 0 → ReportsCounts bytes (verify_result r)
 came_counts (Ok v) bytes stores code = stores
 came_counts (Err OutOfMemory) bytes stores code = absurd (let no : ⊥ = cc in no)
 came_counts (Err (Found f)) bytes stores code = absurd (let no : ⊥ = cc in no)

@@ -4,8 +4,8 @@ use Rattle.std.specs.Prelude.{None, Some, is_some}
 use Rattle.sst_entries.specs.Entry.{entry}
 use Rattle.sst_entries.specs.declared.value_type.ValueType.{ValueType}
 use Rattle.lsm_writers.specs.Writing.{Writing, may_be_written, written}
-use Rattle.sst_c.specs.Writing.{TookEntry, kind_told}
-use Rattle.sst_c.specs.declared.entries.EntryTold.{EntryTold}
+use Rattle.sst_c.specs.Writing.{TookEntry, decode_kind}
+use Rattle.sst_c.specs.declared.entries.EntryReport.{EntryReport}
 
 -- an entry that is to be written, with its kind as C names it
 pub record Row : Type 0 where
@@ -14,15 +14,15 @@ pub record Row : Type 0 where
   pub user_key : List ℕ
   pub value : List ℕ
 
-abbrev pub row : EntryTold → List ℕ → List ℕ → Row
+abbrev pub row : EntryReport → List ℕ → List ℕ → Row
 row t k v = record { kind = t.kind; seqno = t.seqno; user_key = k; value = v }
 
 -- how many bytes the key and the value of an entry have together
-abbrev pub size_of : EntryTold → ℕ
+abbrev pub size_of : EntryReport → ℕ
 size_of t = t.key_len + t.value_len
 
 -- entries of these lengths, whose keys and values are one after another in some bytes
-abbrev pub rows_in : List EntryTold → List ℕ → List Row
+abbrev pub rows_in : List EntryReport → List ℕ → List Row
 rows_in [] bytes = []
 rows_in (t ∷ ts) bytes =
     row t (take t.key_len bytes) (take t.value_len (drop t.key_len bytes))
@@ -30,10 +30,10 @@ rows_in (t ∷ ts) bytes =
 
 -- what `sst_writer_add` does with an entry: it leads a writer from w to v with a code
 pub record Adds (w : Writing) (r : Row) (code : ℕ) (v : Writing) : Type 0 where
-  pub kind : kind_told r.kind ≡ None → (code ≡ 105) × (v ≡ w)
-  pub order : is_some (kind_told r.kind) ≡ true
+  pub kind : decode_kind r.kind ≡ None → (code ≡ 105) × (v ≡ w)
+  pub order : is_some (decode_kind r.kind) ≡ true
       → may_be_written (written w) r.user_key r.seqno ≡ false → (code ≡ 104) × (v ≡ w)
-  pub took : (k : ValueType) → kind_told r.kind ≡ Some k
+  pub took : (k : ValueType) → decode_kind r.kind ≡ Some k
       → may_be_written (written w) r.user_key r.seqno ≡ true
       → TookEntry w (entry r.user_key r.value r.seqno k) code v
 

@@ -14,10 +14,10 @@ fault_code None = 0
 fault_code (Some e) = number_of e
 
 -- want of memory aside, whose number is 1, a call answers the code of what is told
-abbrev pub TellsCode : {X : Type 0} → ℕ → Result X Error → Type 0
-TellsCode code told = (code ≡ 1) ⊎ (code ≡ result_code told)
+abbrev pub ReportsCode : {X : Type 0} → ℕ → Result X Error → Type 0
+ReportsCode code told = (code ≡ 1) ⊎ (code ≡ result_code told)
 
 -- a fault that takes no memory to be found comes before any want of memory: where there is one, it
 -- is what the call answers
-abbrev pub TellsFirst : ℕ → Option Error → Type 0
-TellsFirst code fault = (e : Error) → fault ≡ Some e → code ≡ number_of e
+abbrev pub ReportsFirst : ℕ → Option Error → Type 0
+ReportsFirst code fault = (e : Error) → fault ≡ Some e → code ≡ number_of e

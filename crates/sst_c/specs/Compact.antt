@@ -24,16 +24,16 @@ use Rattle.lsm_runs.specs.declared.compaction.any_runs.CompactionOutcome.{Compac
 use Rattle.lsm_runs.specs.declared.compaction.any_runs.CompactionOutcome.TheVariants.{Tables}
 use Rattle.lsm_runs.specs.declared.compaction.any_runs.CompactionOutcome.TheVariants.{OutOfOrder}
 use Rattle.lsm_runs.specs.declared.compaction.any_runs.CompactionOutcome.TheVariants.{Stopped}
-use Rattle.sst_c.specs.Options.{options_told}
-use Rattle.sst_c.specs.Told.{found_by}
+use Rattle.sst_c.specs.Options.{decode_options}
+use Rattle.sst_c.specs.Reported.{found_by}
 use Rattle.sst_c.specs.What.{HoldsFiles}
 use Rattle.sst_c.specs.declared.held.Held.{Held}
 use Rattle.sst_c.specs.declared.options.TableOptions.{TableOptions}
 
 -- a writer of tables that has written nothing, whose ids run on from that of the options
-abbrev pub compactor_told : TableOptions → ℕ → TablesWriting
-compactor_told o target =
-    with_options (new_tables (Some o.id) target o.level o.created_at) (options_told o)
+abbrev pub decode_compactor : TableOptions → ℕ → TablesWriting
+decode_compactor o target =
+    with_options (new_tables (Some o.id) target o.level o.created_at) (decode_options o)
 
 -- what a compaction of these runs by a writer comes to
 pub record IsCompactionOf (runs : List (List OpenTable)) (rules : Rules) (w : TablesWriting)
@@ -65,16 +65,16 @@ pub record IsCompactionOf (runs : List (List OpenTable)) (rules : Rules) (w : Ta
 
 -- what is told of what a compaction came to: the tables, which are held from then on, and the first
 -- id that is left, 0 where none is; 104 for what is out of order; else the refusal
-unfoldable pub TellsOutcome : ℕ → Option Held → ℕ → Result (CompactionOutcome Global) Error → Type 0
-TellsOutcome code held next (Ok (Tables tables left)) = (code ≡ 1) ⊎ ((code ≡ 0)
+unfoldable pub ReportsOutcome : ℕ → Option Held → ℕ → Result (CompactionOutcome Global) Error → Type 0
+ReportsOutcome code held next (Ok (Tables tables left)) = (code ≡ 1) ⊎ ((code ≡ 0)
     × IsSomeAnd held (λ h. (found_by h ≡ None) × HoldsFiles tables.items h.what)
     × (next ≡ unwrap_or left 0))
-TellsOutcome code held next (Ok OutOfOrder) = code ≡ 104
-TellsOutcome code held next (Ok Stopped) = ⊥
-TellsOutcome code held next (Err e) = code ≡ number_of e
+ReportsOutcome code held next (Ok OutOfOrder) = code ≡ 104
+ReportsOutcome code held next (Ok Stopped) = ⊥
+ReportsOutcome code held next (Err e) = code ≡ number_of e
 
 -- something of which this holds is told so
-abbrev pub IsToldOf : (Result (CompactionOutcome Global) Error → Type 0) → ℕ → Option Held → ℕ
+abbrev pub IsReportedOf : (Result (CompactionOutcome Global) Error → Type 0) → ℕ → Option Held → ℕ
     → Type 0
-IsToldOf holds code held next = (came : Result (CompactionOutcome Global) Error) × holds came
-    × TellsOutcome code held next came
+IsReportedOf holds code held next = (came : Result (CompactionOutcome Global) Error) × holds came
+    × ReportsOutcome code held next came

@@ -3,7 +3,7 @@ use Rattle.std.specs.Prelude.{ℕ, ◌^◌, nat_lt, length, Option, slice_get}
 use Rattle.std.specs.Prelude.{if◌then◌else◌}
 use Rattle.std.specs.Global.{Global}
 use Rattle.lsm_writers.specs.declared.writer.FinishedTable.{FinishedTable}
-use Rattle.sst_c.specs.declared.files.FileTold.{FileTold}
+use Rattle.sst_c.specs.declared.files.FileReport.{FileReport}
 use Rattle.sst_c.specs.declared.held.What.{What}
 use Rattle.sst_c.specs.What.{files_held}
 
@@ -12,8 +12,8 @@ abbrev pub file_at : What → ℕ → Option (FinishedTable Global)
 file_at what index = slice_get (files_held what) index
 
 -- a checksum of 64 bits; no table that is written here has a longer one
-abbrev pub checksum_told : ℕ → ℕ
-checksum_told c = if nat_lt c (2 ^ 64) then c else 0
+abbrev pub checksum_written : ℕ → ℕ
+checksum_written c = if nat_lt c (2 ^ 64) then c else 0
 
-unfoldable pub file_facts : FinishedTable Global → FileTold
-file_facts f = record { id = f.id; checksum = checksum_told f.checksum.0; len = length f.bytes }
+unfoldable pub file_facts : FinishedTable Global → FileReport
+file_facts f = record { id = f.id; checksum = checksum_written f.checksum.0; len = length f.bytes }

@@ -1,7 +1,7 @@
 pub mod Owned
 pub mod Codes
 pub mod Copies
-pub mod Told
+pub mod Reported
 pub mod Newest
 pub mod What
 pub mod Options

@@ -8,9 +8,9 @@ use Rattle.sst_entries.specs.Error.{number_of}
 use Rattle.sst_entries.specs.declared.error.Error.{Error}
 use Rattle.lsm_readers.specs.declared.many.Query.{Query}
 use Rattle.sst_c.specs.Copies.{copy_code, laid_over, lend_code}
-use Rattle.sst_c.specs.Told.{entry_facts}
+use Rattle.sst_c.specs.Reported.{entry_facts}
 use Rattle.sst_c.specs.What.{many_in}
-use Rattle.sst_c.specs.declared.entries.EntryTold.{EntryTold}
+use Rattle.sst_c.specs.declared.entries.EntryReport.{EntryReport}
 use Rattle.sst_c.specs.declared.held.Held.{Held}
 
 -- the keys of these lengths that stand one behind another in some bytes
@@ -28,7 +28,7 @@ queries_for bytes lens seqno = map (query_at seqno) (keys_cut lens bytes)
 
 -- want of memory aside, whose number is 1, reads of some keys answered what is told: what was found
 -- of each, kept and told to the entries, or the first refusal
-unfoldable pub AnswersMany : ℕ → Option (List (Option Entry)) → List EntryTold → List EntryTold
+unfoldable pub AnswersMany : ℕ → Option (List (Option Entry)) → List EntryReport → List EntryReport
     → Result (List (Option Entry)) Error → Type 0
 AnswersMany code kept old new (Ok found) = (code ≡ 1)
     ⊎ ((code ≡ 0) × (kept ≡ Some found) × (new ≡ laid_over (map entry_facts found) old))

@@ -7,8 +7,8 @@ use Rattle.sst_c.specs.declared.memory.TableMemory.{TableMemory}
 
 -- the length of the table's file, and of the index and the filter that stay loaded; and the marks
 -- of compared blocks: 8 bytes for each 2,048 of the file and 8 more, or none
-abbrev pub TellsMemory : OpenTable → TableMemory → Type 0
-TellsMemory t m = (m.file_len ≡ length t.bytes)
+abbrev pub ReportsMemory : OpenTable → TableMemory → Type 0
+ReportsMemory t m = (m.file_len ≡ length t.bytes)
     × (m.pinned_index_size ≡ index_len t.parts.pinned.index t.parts.regions.tli)
     × (m.pinned_filter_size ≡ filter_len t.parts.pinned.filter)
     × ((m.marks_size ≡ 0) ⊎ (m.marks_size ≡ 8 * (length t.bytes / 2048 + 1)))

@@ -16,8 +16,8 @@ use Rattle.sst_blocks.specs.declared.table.options.Options.{Options}
 use Rattle.lsm_writers.specs.Writing.{Writing, fresh_writing}
 use Rattle.sst_c.specs.declared.options.TableOptions.{TableOptions}
 
-abbrev pub default_told : TableOptions
-default_told = record {
+abbrev pub decode_default : TableOptions
+decode_default = record {
   id = 0;
   created_at = 0;
   level = 0;
@@ -37,24 +37,24 @@ are_usable o = nat_lt o.level 256 && nat_le o.data_block_size 4194304
     && nat_le o.index_partition_size 4194304 && nat_le o.filter_partition_size 4194304
 
 -- partitions of a size; one block where it is 0
-abbrev pub index_kind_told : ℕ → IndexKind
-index_kind_told size = if size == 0 then FullIndex else PartitionedIndex size
+abbrev pub decode_index_kind : ℕ → IndexKind
+decode_index_kind size = if size == 0 then FullIndex else PartitionedIndex size
 
-abbrev pub filter_kind_told : ℕ → FilterKind
-filter_kind_told size = if size == 0 then FullFilter else PartitionedFilter size
+abbrev pub decode_filter_kind : ℕ → FilterKind
+decode_filter_kind size = if size == 0 then FullFilter else PartitionedFilter size
 
-abbrev pub options_told : TableOptions → Options
-options_told o = record {
+abbrev pub decode_options : TableOptions → Options
+decode_options o = record {
   data_block_restart_interval = o.data_block_restart_interval;
   index_block_restart_interval = 1;
   data_block_hash_ratio = o.data_block_hash_ratio;
   data_block_size = o.data_block_size;
-  index_kind = index_kind_told o.index_partition_size;
-  filter_kind = filter_kind_told o.filter_partition_size;
+  index_kind = decode_index_kind o.index_partition_size;
+  filter_kind = decode_filter_kind o.filter_partition_size;
   bloom_policy = BitsPerKey o.filter_bits_per_key;
 }
 
 -- a writer that has no entry yet
-abbrev pub writing_told : TableOptions → Writing
-writing_told o =
-    fresh_writing (label_of o.id o.level o.created_at) (options_told o)
+abbrev pub decode_writing : TableOptions → Writing
+decode_writing o =
+    fresh_writing (label_of o.id o.level o.created_at) (decode_options o)

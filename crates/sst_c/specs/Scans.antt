@@ -3,7 +3,7 @@ use Rattle.std.specs.Prelude.{◌≡◌, Bool, true, List, Result}
 use Rattle.sst_blocks.specs.Opened.{none_opened, with_load}
 use Rattle.sst_blocks.specs.declared.block_type.BlockType.TheVariants.{Data}
 use Rattle.sst_entries.specs.Entry.{Entry}
-use Rattle.sst_entries.specs.Stream.{Deals, answer_stops, nowhere}
+use Rattle.sst_entries.specs.Stream.{YieldsExactly, answer_stops, nowhere}
 use Rattle.sst_entries.specs.declared.error.Error.{Error}
 use Rattle.sst_entries.specs.declared.error.Error.TheVariants.{OutOfMemory}
 use Rattle.sst_blocks.specs.Sections.{body_of}
@@ -18,7 +18,7 @@ IsBegunScan t s = IsNewScan (body_of t.bytes) t.parts.facts.data_block_count t.g
 
 -- the steps of a scan yield these one after the other, for a reader that stops when out of memory:
 -- those that hand out shares, and those that lend
-unfoldable pub DealsScan : List (Result Entry Error) → Scan → Type 0
-DealsScan rs s = (stops : Error → Bool) → stops OutOfMemory ≡ true →
-    Deals (answer_stops stops) ScansNext nowhere s rs
-    × Deals (answer_stops stops) ScansLent nowhere s rs
+unfoldable pub YieldsScan : List (Result Entry Error) → Scan → Type 0
+YieldsScan rs s = (stops : Error → Bool) → stops OutOfMemory ≡ true →
+    YieldsExactly (answer_stops stops) ScansNext nowhere s rs
+    × YieldsExactly (answer_stops stops) ScansLent nowhere s rs

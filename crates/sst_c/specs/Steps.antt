@@ -3,7 +3,7 @@ use Rattle.std.specs.Prelude.{◌≡◌, ℕ, Option, Some, None, Result, Ok, Er
 use Rattle.sst_entries.specs.Entry.{Entry}
 use Rattle.sst_entries.specs.declared.error.Error.{Error}
 use Rattle.sst_c.specs.Codes.{result_code}
-use Rattle.sst_c.specs.Told.{found_of, outcome_of}
+use Rattle.sst_c.specs.Reported.{found_of, outcome_of}
 
 -- a step leads from a range to another with an answer, whose code and entry these are
 abbrev pub StepsBy : {S : Type 0} → (S → Option (Result Entry Error) → S → Type 0)

@@ -12,9 +12,9 @@ use Rattle.lsm_readers.specs.declared.verify.Finding.{Finding}
 use Rattle.lsm_readers.specs.declared.verify.Verified.{Verified}
 use Rattle.lsm_readers.specs.declared.verify.VerifyError.{VerifyError}
 use Rattle.lsm_readers.specs.declared.verify.VerifyError.TheVariants.{Found, OutOfMemory}
-use Rattle.sst_c.specs.Verify.{finding_told, no_finding, verified_told}
-use Rattle.sst_c.specs.declared.verifier.ProgressTold.{ProgressTold}
-use Rattle.sst_c.specs.declared.verify.VerifyTold.{VerifyTold}
+use Rattle.sst_c.specs.Verify.{finding_result, no_finding, verified_result}
+use Rattle.sst_c.specs.declared.verifier.ProgressReport.{ProgressReport}
+use Rattle.sst_c.specs.declared.verify.VerifyReport.{VerifyReport}
 
 -- what a step answers: that more is to be read, what a sound table has, or a refusal
 abbrev pub StepAnswer : Type 0
@@ -67,26 +67,26 @@ step_end (Ok (Some u)) = 1
 step_end (Err e) = 0
 
 -- what is there, or what is wrong
-abbrev pub step_told : StepAnswer → VerifyTold
-step_told (Ok None) = no_finding
-step_told (Ok (Some u)) = verified_told u
-step_told (Err OutOfMemory) = no_finding
-step_told (Err (Found f)) = finding_told f
+abbrev pub step_result : StepAnswer → VerifyReport
+step_result (Ok None) = no_finding
+step_result (Ok (Some u)) = verified_result u
+step_result (Err OutOfMemory) = no_finding
+step_result (Err (Found f)) = finding_result f
 
 -- nothing is told of how far it is
-abbrev pub no_progress : ProgressTold
+abbrev pub no_progress : ProgressReport
 no_progress = record { bytes_read = 0; data_size = 0; at_end = 0 }
 
 -- how far a verification is
-abbrev pub progress_told : Verifying → ℕ → ProgressTold
-progress_told v end = record {
+abbrev pub progress_result : Verifying → ℕ → ProgressReport
+progress_result v end = record {
   bytes_read = bytes_read v;
   data_size = v.table.parts.facts.file_size;
   at_end = end;
 }
 
 -- a step led from v to w, and what it answered is told
-abbrev pub TellsStep : Verifying → ℕ → ProgressTold → VerifyTold → Verifying → Type 0
-TellsStep v code progress told w = (answer : StepAnswer) × IsStepOf v answer w
-    × (code ≡ step_code answer) × (told ≡ step_told answer)
-    × (progress ≡ progress_told w (step_end answer))
+abbrev pub ReportsStep : Verifying → ℕ → ProgressReport → VerifyReport → Verifying → Type 0
+ReportsStep v code progress told w = (answer : StepAnswer) × IsStepOf v answer w
+    × (code ≡ step_code answer) × (told ≡ step_result answer)
+    × (progress ≡ progress_result w (step_end answer))

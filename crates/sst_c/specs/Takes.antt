@@ -4,8 +4,8 @@ use Rattle.std.specs.Prelude.{Option, Some, None, take, drop}
 use Rattle.std.specs.List.{flat_map}
 use Rattle.sst_entries.specs.Entry.{Entry}
 use Rattle.sst_c.specs.Copies.{laid_over}
-use Rattle.sst_c.specs.Told.{entry_facts}
-use Rattle.sst_c.specs.declared.entries.EntryTold.{EntryTold}
+use Rattle.sst_c.specs.Reported.{entry_facts}
+use Rattle.sst_c.specs.declared.entries.EntryReport.{EntryReport}
 
 -- the bytes of an entry: its key, and its value after it
 abbrev pub bytes_of : Entry → List ℕ
@@ -16,7 +16,7 @@ abbrev pub bytes_in : List Entry → List ℕ
 bytes_in es = flat_map bytes_of es
 
 -- what a read reports of each entry
-abbrev pub facts_of : List Entry → List EntryTold
+abbrev pub facts_of : List Entry → List EntryReport
 facts_of es = map (λ e. entry_facts (Some e)) es
 
 -- reads that succeed with these entries, one after another, lead from s to t
@@ -37,7 +37,7 @@ EndsWith read places room es s code found t =
 -- a bulk read led from s to t, with a code and an entry that was found and not copied: each entry
 -- that reads from s on yield is reported in its place and copied, until it ends
 pub record ReadsMany {S : Type 0} (read : S → ℕ → Option Entry → S → Type 0) (s : S)
-    (places told : List EntryTold) (room copied : List ℕ) (count code : ℕ) (found : Option Entry)
+    (places told : List EntryReport) (room copied : List ℕ) (count code : ℕ) (found : Option Entry)
     (t : S) : Type 0 where
   pub entries : List Entry
   pub last : S

@@ -12,9 +12,9 @@ use Rattle.lsm_readers.specs.declared.verify.Finding.{Finding}
 use Rattle.lsm_readers.specs.declared.verify.Verified.{Verified}
 use Rattle.lsm_readers.specs.declared.verify.VerifyError.{VerifyError}
 use Rattle.lsm_readers.specs.declared.verify.VerifyError.TheVariants.{Found, OutOfMemory}
-use Rattle.sst_c.specs.declared.verify.VerifyTold.{VerifyTold}
+use Rattle.sst_c.specs.declared.verify.VerifyReport.{VerifyReport}
 
-abbrev pub no_finding : VerifyTold
+abbrev pub no_finding : VerifyReport
 no_finding = record {
   item_count = 0;
   data_block_count = 0;
@@ -45,8 +45,8 @@ detail_of (Unloaded e) = number_of e
 detail_of (Unfiltered e) = number_of e
 detail_of _ = 0
 
-abbrev pub finding_told : Finding → VerifyTold
-finding_told f = record {
+abbrev pub finding_result : Finding → VerifyReport
+finding_result f = record {
   item_count = 0;
   data_block_count = 0;
   offset = f.offset;
@@ -56,8 +56,8 @@ finding_told f = record {
   unused = 0;
 }
 
-abbrev pub verified_told : Verified → VerifyTold
-verified_told v = record {
+abbrev pub verified_result : Verified → VerifyReport
+verified_result v = record {
   item_count = v.item_count;
   data_block_count = v.data_block_count;
   offset = 0;
@@ -74,31 +74,31 @@ verify_code (Err OutOfMemory) = 1
 verify_code (Err (Found f)) = 107
 
 -- what there is, or what is found; of want of memory nothing
-abbrev pub verify_told : Result Verified VerifyError → VerifyTold
-verify_told (Ok v) = verified_told v
-verify_told (Err OutOfMemory) = no_finding
-verify_told (Err (Found f)) = finding_told f
+abbrev pub verify_result : Result Verified VerifyError → VerifyReport
+verify_result (Ok v) = verified_result v
+verify_result (Err OutOfMemory) = no_finding
+verify_result (Err (Found f)) = finding_result f
 
 -- want of memory aside, whose number is 1, what is found is told with 107, else what there is; of
 -- want of memory nothing
-unfoldable pub VerifyAnswers : ℕ → VerifyTold → Result Verified Finding → Type 0
+unfoldable pub VerifyAnswers : ℕ → VerifyReport → Result Verified Finding → Type 0
 VerifyAnswers code told (Ok v) =
-    ((code ≡ 0) × (told ≡ verified_told v)) ⊎ ((code ≡ 1) × (told ≡ no_finding))
+    ((code ≡ 0) × (told ≡ verified_result v)) ⊎ ((code ≡ 1) × (told ≡ no_finding))
 VerifyAnswers code told (Err f) =
-    ((code ≡ 107) × (told ≡ finding_told f)) ⊎ ((code ≡ 1) × (told ≡ no_finding))
+    ((code ≡ 107) × (told ≡ finding_result f)) ⊎ ((code ≡ 1) × (told ≡ no_finding))
 
 -- what takes no memory to be found is told, whatever memory there is
-abbrev pub TellsFinding : ℕ → VerifyTold → Option Finding → Type 0
-TellsFinding code told early =
-    (f : Finding) → early ≡ Some f → (code ≡ 107) × (told ≡ finding_told f)
+abbrev pub ReportsFinding : ℕ → VerifyReport → Option Finding → Type 0
+ReportsFinding code told early =
+    (f : Finding) → early ≡ Some f → (code ≡ 107) × (told ≡ finding_result f)
 
 -- what is told is wrong there, and all that is read before it is sound
-abbrev pub TellsWrong : (Finding → Type 0) → ℕ → VerifyTold → Type 0
-TellsWrong is_first code told =
-    code ≡ 107 → (f : Finding) × (told ≡ finding_told f) × is_first f
+abbrev pub ReportsWrong : (Finding → Type 0) → ℕ → VerifyReport → Type 0
+ReportsWrong is_first code told =
+    code ≡ 107 → (f : Finding) × (told ≡ finding_result f) × is_first f
 
 -- the bytes of a table that is verified store a list, and how many entries and data blocks it has
 -- is told
-abbrev pub TellsCounts : List ℕ → VerifyTold → Type 0
-TellsCounts bytes told = (es : List Entry) × (t : StoresList bytes es)
+abbrev pub ReportsCounts : List ℕ → VerifyReport → Type 0
+ReportsCounts bytes told = (es : List Entry) × (t : StoresList bytes es)
     × (told.item_count ≡ length es) × (told.data_block_count ≡ length t.handles)

@@ -8,8 +8,8 @@ use Rattle.sst_entries.specs.Entry.{Entry}
 use Rattle.sst_entries.specs.declared.error.Error.{Error}
 use Rattle.lsm_iters.specs.Range.{Range, RangeGives, back_next, front_next}
 use Rattle.lsm_iters.specs.Words.{back_of, front_of}
-use Rattle.lsm_readers.specs.point.Parts.{recovered_told}
-use Rattle.lsm_readers.specs.Ranges.{DealsWithin}
+use Rattle.lsm_readers.specs.point.Parts.{recovered_result}
+use Rattle.lsm_readers.specs.Ranges.{YieldsWithin}
 use Rattle.lsm_readers.specs.Scan.{Scan}
 use Rattle.lsm_readers.specs.point.Table.{OpenTable}
 use Rattle.lsm_readers.specs.Verification.{Verifying}
@@ -28,7 +28,7 @@ use Rattle.lsm_sorted.specs.declared.version.packed.Packed.{Packed}
 use Rattle.lsm_sorted.specs.declared.version.packed.Placed.{Placed}
 use Rattle.sst_c.specs.Newest.{LentNewestAt, NewestAt}
 use Rattle.sst_c.specs.Steps.{StepsAs}
-use Rattle.sst_c.specs.Told.{found_by}
+use Rattle.sst_c.specs.Reported.{found_by}
 
 -- what a handle holds that was begun: nothing was found yet
 abbrev pub begun : What → Held
@@ -151,14 +151,14 @@ packed_chain _ = []
 abbrev pub IsOpenedAs : List ℕ → ℕ → Bool → Bool → Held → Type 0
 IsOpenedAs bytes g pin_filter pin_index h =
     (found_by h ≡ None) × IsTableWhere (λ t. (t.bytes ≡ bytes) × (t.global_seqno ≡ g)
-    × (recovered_told bytes g pin_filter pin_index ≡ Ok t.parts)) h.what
+    × (recovered_result bytes g pin_filter pin_index ≡ Ok t.parts)) h.what
 
 -- a bound of a kind: 0 for none, 1 with the key, 2 without it
-abbrev pub bound_told : ℕ → List ℕ → Bound (List ℕ)
-bound_told kind key =
+abbrev pub decode_bound : ℕ → List ℕ → Bound (List ℕ)
+decode_bound kind key =
     if kind == 0 then Unbounded else (if kind == 1 then Included key else Excluded key)
 
 -- both ends of a range deal the entries of a list within the bounds, their numbers lifted
-unfoldable pub DealsTable : Bound (List ℕ) → Bound (List ℕ) → List Entry → ℕ → Range Global → Type 0
-DealsTable low high es g s =
-    DealsWithin (RangeGives front_of front_next) (RangeGives back_of back_next) low high es g s
+unfoldable pub YieldsTable : Bound (List ℕ) → Bound (List ℕ) → List Entry → ℕ → Range Global → Type 0
+YieldsTable low high es g s =
+    YieldsWithin (RangeGives front_of front_next) (RangeGives back_of back_next) low high es g s

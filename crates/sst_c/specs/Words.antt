@@ -9,7 +9,7 @@ pub use Rattle.sst_entries.specs.Error.{Faults, FaultsFirst, Gives, number_of}
 pub use Rattle.sst_entries.specs.Lending.{came, entry_of_ref}
 pub use Rattle.sst_entries.specs.Point.{within}
 unfoldable pub use Rattle.sst_entries.specs.Point.{point}
-pub use Rattle.sst_entries.specs.Stream.{CanDeal, nowhere, ok_results}
+pub use Rattle.sst_entries.specs.Stream.{CanYield, nowhere, ok_results}
 pub use Rattle.sst_entries.specs.declared.error.Error.{Error as ErrorValue}
 pub use Rattle.sst_entries.specs.declared.error.Error.TheVariants.{OutOfMemory}
 pub use Rattle.sst_entries.specs.declared.value_type.ValueType.{ValueType as Kind}
@@ -20,7 +20,7 @@ pub use Rattle.lsm_sorted.specs.version.Packing.{AreInOrder, tables_in}
 pub use Rattle.lsm_sorted.specs.declared.version.packed.Placed.{Placed as PlacedTable}
 pub use Rattle.lsm_sorted.specs.merge.InPlace.{merge_of}
 pub use Rattle.lsm_sorted.specs.merge.Union.{Ascends, entries_among, newest}
-pub use Rattle.lsm_sorted.specs.Below.{below_told, numbered_below}
+pub use Rattle.lsm_sorted.specs.Below.{below_results, numbered_below}
 pub use Rattle.lsm_sorted.specs.lending.LentNewest.{newest_results}
 pub use Rattle.lsm_writers.specs.Filtering.{IsSmallFilter}
 pub use Rattle.lsm_writers.specs.Tables.{IsFreshRun}
@@ -30,29 +30,29 @@ pub use Rattle.lsm_writers.specs.declared.writer.FinishedTable.{FinishedTable as
 pub use Rattle.lsm_iters.specs.Lift.{lift}
 pub use Rattle.lsm_iters.specs.Range.{Range as RangeValue}
 pub use Rattle.lsm_readers.specs.point.Answer.{table_answer}
-pub use Rattle.lsm_readers.specs.point.Many.{many_told}
-pub use Rattle.lsm_readers.specs.point.Parts.{early_fault, recovered_told}
+pub use Rattle.lsm_readers.specs.point.Many.{many_results}
+pub use Rattle.lsm_readers.specs.point.Parts.{early_fault, recovered_result}
 pub use Rattle.lsm_readers.specs.point.Table.{OpenTable}
 pub use Rattle.lsm_readers.specs.Findings.{IsFirstFinding}
 pub use Rattle.lsm_readers.specs.Ranges.{IsRangeOf}
 pub use Rattle.lsm_readers.specs.Scan.{IsEndedScan, Scan, ScansLent}
-pub use Rattle.lsm_readers.specs.Stored.{StoresList, fits_told}
+pub use Rattle.lsm_readers.specs.Stored.{StoresList, fits_result}
 pub use Rattle.lsm_readers.specs.Verification.{Verifying, verifying}
 pub use Rattle.lsm_readers.specs.Verify.{table_early}
 unfoldable pub use Rattle.lsm_readers.specs.Verify.{table_found}
-pub use Rattle.lsm_runs.specs.LentNewestRuns.{LendsResults, runs_told_within}
-pub use Rattle.lsm_runs.specs.RunLists.{DealsList, RunsHoldLists}
+pub use Rattle.lsm_runs.specs.LentNewestRuns.{LendsResults, runs_results_within}
+pub use Rattle.lsm_runs.specs.RunLists.{YieldsList, RunsHoldLists}
 pub use Rattle.lsm_runs.specs.RunPlaces.{placed_in_runs}
 pub use Rattle.lsm_runs.specs.RunScan.{early_scan_fault, scan_fault, table_scan}
-pub use Rattle.lsm_runs.specs.SeveralRuns.{runs_read, runs_told, union_in}
+pub use Rattle.lsm_runs.specs.SeveralRuns.{runs_read, runs_result, union_in}
 pub use Rattle.lsm_runs.specs.SpansRead.{IsOverSpansBelow}
 pub use Rattle.lsm_runs.specs.Words.{range_of}
 pub use Rattle.lsm_runs.specs.compaction.AnyRuns.{GoesThrough}
 pub use Rattle.lsm_runs.specs.compaction.Compacted.{rules_by}
 pub use Rattle.sst_c.specs.Adds.{Adds, AddsMany, row, rows_in, size_of}
-pub use Rattle.sst_c.specs.Codes.{TellsCode, TellsFirst, result_code}
-pub use Rattle.sst_c.specs.Compact.{IsCompactionOf, IsToldOf, compactor_told}
-unfoldable pub use Rattle.sst_c.specs.Compact.{TellsOutcome}
+pub use Rattle.sst_c.specs.Codes.{ReportsCode, ReportsFirst, result_code}
+pub use Rattle.sst_c.specs.Compact.{IsCompactionOf, IsReportedOf, decode_compactor}
+unfoldable pub use Rattle.sst_c.specs.Compact.{ReportsOutcome}
 pub use Rattle.sst_c.specs.Copies.{copy_code, laid_over, lend_code}
 pub use Rattle.sst_c.specs.Facts.{table_facts}
 pub use Rattle.sst_c.specs.Files.{file_at}
@@ -60,35 +60,35 @@ unfoldable pub use Rattle.sst_c.specs.Files.{file_facts}
 pub use Rattle.sst_c.specs.Many.{answer_at, copy_at_code, keys_cut, lend_at_code, many_kept}
 pub use Rattle.sst_c.specs.Many.{queries_for}
 unfoldable pub use Rattle.sst_c.specs.Many.{AnswersMany}
-pub use Rattle.sst_c.specs.Memory.{TellsMemory}
+pub use Rattle.sst_c.specs.Memory.{ReportsMemory}
 pub use Rattle.sst_c.specs.Newest.{LentNewestAt, NewestAt, newest_lent}
-pub use Rattle.sst_c.specs.Options.{are_usable, default_told, filter_kind_told, index_kind_told}
-pub use Rattle.sst_c.specs.Options.{options_told, writing_told}
+pub use Rattle.sst_c.specs.Options.{are_usable, decode_default, decode_filter_kind, decode_index_kind}
+pub use Rattle.sst_c.specs.Options.{decode_options, decode_writing}
 pub use Rattle.sst_c.specs.Packed.{ArePackedOf}
 pub use Rattle.sst_c.specs.Reads.{IsMergedAs, MergedReads, ReadsOn, gives_at}
 pub use Rattle.sst_c.specs.Scans.{IsBegunScan}
-unfoldable pub use Rattle.sst_c.specs.Scans.{DealsScan}
+unfoldable pub use Rattle.sst_c.specs.Scans.{YieldsScan}
 pub use Rattle.sst_c.specs.Sentences.{sentence_of}
 pub use Rattle.sst_c.specs.Steps.{StepsAs, StepsBy, StepsUntil}
-pub use Rattle.sst_c.specs.Stepwise.{TellsStep, no_progress, progress_told, step_code, step_end}
-pub use Rattle.sst_c.specs.Stepwise.{step_told}
+pub use Rattle.sst_c.specs.Stepwise.{ReportsStep, no_progress, progress_result, step_code, step_end}
+pub use Rattle.sst_c.specs.Stepwise.{step_result}
 pub use Rattle.sst_c.specs.Takes.{CopiesMany, ReadsMany, bytes_found, bytes_of}
-pub use Rattle.sst_c.specs.Told.{AnswersRead, entry_facts, found_at, found_by, found_in, found_of}
-pub use Rattle.sst_c.specs.Told.{in_runs, in_table, is_settled, kept_in_runs, kept_in_table}
-pub use Rattle.sst_c.specs.Told.{lent_in, outcome_of}
-pub use Rattle.sst_c.specs.Verify.{TellsCounts, TellsFinding, TellsWrong, detail_of, fault_number}
-pub use Rattle.sst_c.specs.Verify.{finding_told, no_finding, verified_told, verify_code}
-pub use Rattle.sst_c.specs.Verify.{verify_told}
+pub use Rattle.sst_c.specs.Reported.{AnswersRead, entry_facts, found_at, found_by, found_in, found_of}
+pub use Rattle.sst_c.specs.Reported.{in_runs, in_table, is_settled, kept_in_runs, kept_in_table}
+pub use Rattle.sst_c.specs.Reported.{lent_in, outcome_of}
+pub use Rattle.sst_c.specs.Verify.{ReportsCounts, ReportsFinding, ReportsWrong, detail_of, fault_number}
+pub use Rattle.sst_c.specs.Verify.{finding_result, no_finding, verified_result, verify_code}
+pub use Rattle.sst_c.specs.Verify.{verify_result}
 unfoldable pub use Rattle.sst_c.specs.Verify.{VerifyAnswers}
 pub use Rattle.sst_c.specs.What.{HoldsFiles, IsMergedWhere, IsOpenedAs, IsPackingWhere}
 pub use Rattle.sst_c.specs.What.{IsRangeWhere, IsRunsScanAs, IsRunsScanWhere, IsScanWhere}
 pub use Rattle.sst_c.specs.What.{IsVerificationWhere, MergedStepsBy, are_files, are_runs, begun}
-pub use Rattle.sst_c.specs.What.{bound_told, files_held, is_packing, is_range, is_scan, is_table}
+pub use Rattle.sst_c.specs.What.{decode_bound, files_held, is_packing, is_range, is_scan, is_table}
 pub use Rattle.sst_c.specs.What.{is_verification, many_in, packed_chain, packed_runs, runs_held}
 pub use Rattle.sst_c.specs.What.{writer_in}
-unfoldable pub use Rattle.sst_c.specs.What.{DealsTable}
-pub use Rattle.sst_c.specs.Writing.{kind_told}
-unfoldable pub use Rattle.sst_c.specs.Writing.{AddsFileOf, FaultTold, FinishTold, TookEntry}
+unfoldable pub use Rattle.sst_c.specs.What.{YieldsTable}
+pub use Rattle.sst_c.specs.Writing.{decode_kind}
+unfoldable pub use Rattle.sst_c.specs.Writing.{AddsFileOf, FaultReported, FinishReported, TookEntry}
 pub use Rattle.sst_c.specs.declared.held.FoundEntry.TheVariants.{Lent as IsLent, Kept}
 pub use Rattle.sst_c.specs.declared.held.Held.{Held as HeldValue}
 pub use Rattle.sst_c.specs.declared.held.What.TheVariants.{Merged as MergedOf, Range as RangeOf}

@@ -11,15 +11,15 @@ use Rattle.lsm_writers.specs.declared.writer.FinishedTable.{FinishedTable}
 use Rattle.sst_blocks.specs.table.Failed.{failed_fault}
 use Rattle.lsm_writers.specs.Writing.{IsFinished, Writing, finish_fault, gained, write_fault}
 use Rattle.lsm_writers.specs.Writing.{written}
-use Rattle.sst_c.specs.Codes.{TellsFirst, fault_code}
+use Rattle.sst_c.specs.Codes.{ReportsFirst, fault_code}
 
 -- a kind of entry that C names by one more than its tag
-abbrev pub kind_told : ℕ → Option ValueType
-kind_told kind = if kind == 0 then None else kind_of (kind - 1)
+abbrev pub decode_kind : ℕ → Option ValueType
+decode_kind kind = if kind == 0 then None else kind_of (kind - 1)
 
 -- want of memory aside, whose number is 1, the code is the first fault's, or 0
-unfoldable pub FaultTold : ℕ → Option Error → Type 0
-FaultTold code fault = (code ≡ 1) ⊎ (code ≡ fault_code fault)
+unfoldable pub FaultReported : ℕ → Option Error → Type 0
+FaultReported code fault = (code ≡ 1) ⊎ (code ≡ fault_code fault)
 
 -- a fault is what is answered, whatever memory there is; where there is none, 0 or want of memory
 unfoldable pub FaultAnswered : ℕ → Option Error → Type 0
@@ -34,9 +34,9 @@ TookEntry w e code v =
 
 -- finishing answers the first fault, or 0. Want of memory may stand in the place of these, but not
 -- of that of a writer which had failed, nor of 0 where nothing was written
-unfoldable pub FinishTold : ℕ → Writing → Type 0
-FinishTold code w =
-    FaultTold code (finish_fault w) × TellsFirst code (failed_fault w.failed)
+unfoldable pub FinishReported : ℕ → Writing → Type 0
+FinishReported code w =
+    FaultReported code (finish_fault w) × ReportsFirst code (failed_fault w.failed)
     × (written w ≡ [] → w.failed ≡ false → code ≡ 0)
 
 -- the one finished table of what was written stands behind others, or none where nothing was

@@ -3,7 +3,7 @@ ghost use Rattle.std.specs.Prelude.{◌≡◌, ◌≢◌, ◌==◌, IsSomeAnd, N
 ghost use Rattle.sst_c.specs.Words as spec;
 
 use crate::codes::{CLOSED, NO_SUCH, OTHER_KIND};
-use crate::entries::EntryTold;
+use crate::entries::EntryReport;
 use crate::handle::Handle;
 use crate::held::{Held, What};
 use crate::writers::add_kind;
@@ -11,7 +11,7 @@ use lsm_writers::Writer;
 use std::alloc::Global;
 
 // Whether the keys and values of entries have so many bytes together.
-fn have_bytes(entries: &[EntryTold], count: u64) -> bool
+fn have_bytes(entries: &[EntryReport], count: u64) -> bool
     ensures { result ≡ (spec.sum (map spec.size_of entries.now) == count) }
 {
     let mut left = count;
@@ -25,14 +25,14 @@ fn have_bytes(entries: &[EntryTold], count: u64) -> bool
 }
 
 // Writes an entry of this kind and number.
-fn add_told(writer: &mut Writer, told: &EntryTold, key: &[u8], value: &[u8]) -> u32
+fn add_told(writer: &mut Writer, told: &EntryReport, key: &[u8], value: &[u8]) -> u32
     ensures { spec.Adds writer.old (spec.row told.now key.now value.now) result writer.new }
 {
     add_kind(writer, key, told.seqno, told.kind, value)
 }
 
 // Writes entries one after another, up to the first that fails.
-fn add_each(writer: &mut Writer, entries: &[EntryTold], bytes: &[u8], count: &mut u64) -> u32
+fn add_each(writer: &mut Writer, entries: &[EntryReport], bytes: &[u8], count: &mut u64) -> u32
     requires { spec.sum (map spec.size_of entries.now) ≡ length bytes.now }
     ensures { spec.AddsMany writer.old (spec.rows_in entries.now bytes.now) count.new result
         writer.new }
@@ -54,7 +54,7 @@ fn add_each(writer: &mut Writer, entries: &[EntryTold], bytes: &[u8], count: &mu
 }
 
 // Writes entries, if their lengths are those of the bytes.
-fn add_fitting(writer: &mut Writer, entries: &[EntryTold], bytes: &[u8], count: &mut u64) -> u32
+fn add_fitting(writer: &mut Writer, entries: &[EntryReport], bytes: &[u8], count: &mut u64) -> u32
     ensures lengths { spec.sum (map spec.size_of entries.now) ≢ length bytes.now →
         (result ≡ 105) × (writer.new ≡ writer.old) × (count.new ≡ count.old) }
     ensures added { spec.sum (map spec.size_of entries.now) ≡ length bytes.now →
@@ -66,7 +66,7 @@ fn add_fitting(writer: &mut Writer, entries: &[EntryTold], bytes: &[u8], count: 
     add_each(writer, entries, bytes, count)
 }
 
-fn add_many(held: &mut Held, entries: &[EntryTold], bytes: &[u8], count: &mut u64) -> u32
+fn add_many(held: &mut Held, entries: &[EntryReport], bytes: &[u8], count: &mut u64) -> u32
     ensures other { spec.writer_in held.old.what ≡ None →
         (result ≡ 102) × (held.new.what ≡ held.old.what) × (count.new ≡ count.old) }
     ensures lengths { (w : spec.WritingValue) → spec.writer_in held.old.what ≡ Some w →
@@ -99,7 +99,7 @@ fn add_many(held: &mut Held, entries: &[EntryTold], bytes: &[u8], count: &mut u6
 pub extern "C" fn sst_writer_add_many(
     alloc: Global,
     writer: &mut Handle,
-    entries: &[EntryTold],
+    entries: &[EntryReport],
     bytes: &[u8],
     count: &mut u64,
 ) -> u32

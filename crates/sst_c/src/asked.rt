@@ -16,14 +16,14 @@ pub struct Asked {
 }
 
 impl Model for Asked {
-    ghost use Rattle.sst_entries.specs.Stream.{CanDeal};
+    ghost use Rattle.sst_entries.specs.Stream.{CanYield};
     ghost use Rattle.sst_c.specs.Newest.{NewestAt};
 
     ghost Value = { NewestAt };
 
     ghost view = { λ a. a.newest };
 
-    ghost invariant = { λ a. CanDeal ⟦<NewestOfRunsAt<Global> as Iterator>⟧.next_gives
+    ghost invariant = { λ a. CanYield ⟦<NewestOfRunsAt<Global> as Iterator>⟧.next_gives
         ⟦<NewestOfRunsAt<Global> as DoubleEndedIterator>⟧.next_back_gives
         ⟦<NewestOfRunsAt<Global> as Iterator>⟧.can_next
         ⟦<NewestOfRunsAt<Global> as DoubleEndedIterator>⟧.can_next_back a.newest };
@@ -32,7 +32,7 @@ impl Model for Asked {
 impl Asked {
     /// Versions that may be asked so.
     pub(crate) fn new(newest: NewestOfRunsAt<Global>) -> Asked
-        requires { spec.CanDeal ⟦<NewestOfRunsAt<Global> as Iterator>⟧.next_gives
+        requires { spec.CanYield ⟦<NewestOfRunsAt<Global> as Iterator>⟧.next_gives
             ⟦<NewestOfRunsAt<Global> as DoubleEndedIterator>⟧.next_back_gives
             ⟦<NewestOfRunsAt<Global> as Iterator>⟧.can_next
             ⟦<NewestOfRunsAt<Global> as DoubleEndedIterator>⟧.can_next_back newest }
@@ -60,11 +60,11 @@ fn step_of<S: DoubleEndedIterator<Item = IterItem<Global>>>(
     newest: &mut NewestOf<S, Global>,
     back: bool,
 ) -> Option<IterItem<Global>>
-    requires { spec.CanDeal ⟦<NewestOf<S, Global> as Iterator>⟧.next_gives
+    requires { spec.CanYield ⟦<NewestOf<S, Global> as Iterator>⟧.next_gives
         ⟦<NewestOf<S, Global> as DoubleEndedIterator>⟧.next_back_gives
         ⟦<NewestOf<S, Global> as Iterator>⟧.can_next
         ⟦<NewestOf<S, Global> as DoubleEndedIterator>⟧.can_next_back newest.old }
-    ensures can { spec.CanDeal ⟦<NewestOf<S, Global> as Iterator>⟧.next_gives
+    ensures can { spec.CanYield ⟦<NewestOf<S, Global> as Iterator>⟧.next_gives
         ⟦<NewestOf<S, Global> as DoubleEndedIterator>⟧.next_back_gives
         ⟦<NewestOf<S, Global> as Iterator>⟧.can_next
         ⟦<NewestOf<S, Global> as DoubleEndedIterator>⟧.can_next_back newest.new }

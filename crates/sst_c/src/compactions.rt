@@ -22,7 +22,7 @@ fn compactor_of(
     target_size: u64,
 ) -> Result<MultiWriter, Error>
     requires { spec.are_usable options.now ≡ true }
-    ensures ok { IfOk result (λ w. w ≡ spec.compactor_told options.now target_size) }
+    ensures ok { IfOk result (λ w. w ≡ spec.decode_compactor options.now target_size) }
     ensures fresh { IfOk result spec.IsFreshRun }
     ensures err { IfErr result (λ e. e ≡ spec.OutOfMemory) }
 {
@@ -54,7 +54,7 @@ fn compacted(
     target_size: u64,
 ) -> Result<CompactionOutcome, Error>
     requires { spec.are_usable options.now ≡ true }
-    ensures { spec.IsCompactionOf runs.now rules (spec.compactor_told options.now target_size)
+    ensures { spec.IsCompactionOf runs.now rules (spec.decode_compactor options.now target_size)
         result }
 {
     let writer = compactor_of(alloc, options, target_size)?;
@@ -91,7 +91,7 @@ fn tell_tables(
 }
 
 // Keeps what a compaction came to, and tells it.
-#[tactic(auto, using(crate::proofs::Compacting::told_outcomes))]
+#[tactic(auto, using(crate::proofs::Compacting::reported_outcomes))]
 fn tell_outcome(
     alloc: Global,
     came: Result<CompactionOutcome, Error>,
@@ -100,7 +100,7 @@ fn tell_outcome(
 ) -> u32
     requires empty { files.old.boxed.value ≡ None }
     requires through { IfOk came spec.GoesThrough }
-    ensures told { spec.TellsOutcome result files.new.boxed.value next_id.new came }
+    ensures told { spec.ReportsOutcome result files.new.boxed.value next_id.new came }
     ensures left { result ≢ 0 →
         (next_id.new ≡ next_id.old) × (files.new.boxed.value ≡ None) }
 {
@@ -127,8 +127,8 @@ fn compact_into(
 ) -> u32
     requires empty { files.old.boxed.value ≡ None }
     requires usable { spec.are_usable options.now ≡ true }
-    ensures told { spec.IsToldOf
-        (spec.IsCompactionOf runs.now rules (spec.compactor_told options.now target_size))
+    ensures told { spec.IsReportedOf
+        (spec.IsCompactionOf runs.now rules (spec.decode_compactor options.now target_size))
         result files.new.boxed.value next_id.new }
     ensures left { result ≢ 0 →
         (next_id.new ≡ next_id.old) × (files.new.boxed.value ≡ None) }
@@ -151,8 +151,8 @@ fn compact_held(
     ensures unusable { spec.are_runs held.now.what ≡ true → spec.are_usable options.now ≡ false →
         result ≡ 105 }
     ensures told { spec.are_runs held.now.what ≡ true → spec.are_usable options.now ≡ true →
-        let writer = spec.compactor_told options.now target_size in
-        spec.IsToldOf (spec.IsCompactionOf (spec.runs_held held.now.what) rules writer)
+        let writer = spec.decode_compactor options.now target_size in
+        spec.IsReportedOf (spec.IsCompactionOf (spec.runs_held held.now.what) rules writer)
         result files.new.boxed.value next_id.new }
     ensures left { result ≢ 0 →
         (next_id.new ≡ next_id.old) × (files.new.boxed.value ≡ None) }
@@ -201,8 +201,8 @@ pub extern "C" fn sst_compact(
         runs.old.boxed.value ≡ Some h →
         spec.are_runs h.what ≡ true → spec.are_usable options.now ≡ true →
         let rules = spec.rules_by watermark evict_tombstones zero_seqnos in
-        let writer = spec.compactor_told options.now target_size in
-        spec.IsToldOf (spec.IsCompactionOf (spec.runs_held h.what) rules writer)
+        let writer = spec.decode_compactor options.now target_size in
+        spec.IsReportedOf (spec.IsCompactionOf (spec.runs_held h.what) rules writer)
         result files.new.boxed.value next_id.new }
     ensures left { result ≢ 0 →
         (next_id.new ≡ next_id.old) × (files.new.boxed.value ≡ files.old.boxed.value) }

@@ -7,7 +7,7 @@ use sst_blocks::{EntryRef, InternalValue};
 /// What C is told of an entry: its kind and number, and how long its key and its value are.
 #[repr(C)]
 #[derive(Clone, Copy)]
-pub struct EntryTold {
+pub struct EntryReport {
     /// 0 where there is no entry; else one more than the tag of its kind.
     pub kind: u64,
     /// The entry's number.
@@ -19,17 +19,17 @@ pub struct EntryTold {
 }
 
 /// What is told of an entry, or that there is none.
-pub(crate) fn tell(found: Option<EntryRef<'_>>) -> EntryTold
+pub(crate) fn tell(found: Option<EntryRef<'_>>) -> EntryReport
     ensures { result ≡ spec.entry_facts (spec.option_map spec.entry_of_ref found.entry) }
 {
     match found {
-        None => EntryTold {
+        None => EntryReport {
             kind: 0,
             seqno: 0,
             key_len: 0,
             value_len: 0,
         },
-        Some(entry) => EntryTold {
+        Some(entry) => EntryReport {
             kind: 1 + u64::from(entry.value_type.tag()),
             seqno: entry.seqno,
             key_len: entry.user_key.len() as u64,

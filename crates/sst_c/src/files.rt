@@ -13,7 +13,7 @@ use std::alloc::Global;
 /// What a finished table is called, and how long it is.
 #[repr(C)]
 #[derive(Clone, Copy)]
-pub struct FileTold {
+pub struct FileReport {
     /// The table's id.
     pub id: u64,
     /// The checksum of all its bytes, their FNV-1a sum.
@@ -24,17 +24,17 @@ pub struct FileTold {
 
 // What is told of a finished table.
 #[tactic(auto, unfolding(crate::specs::Files::file_facts))]
-fn describe(file: &FinishedTable) -> FileTold
+fn describe(file: &FinishedTable) -> FileReport
     ensures { result ≡ spec.file_facts file.now }
 {
-    FileTold {
+    FileReport {
         id: file.id,
         checksum: u64::try_from(file.checksum.0).unwrap_or(0),
         len: file.bytes.len() as u64,
     }
 }
 
-fn tell_file(held: &Held, index: u64, told: &mut FileTold) -> u32
+fn tell_file(held: &Held, index: u64, told: &mut FileReport) -> u32
     ensures some { (f : spec.Finished spec.Heap) → spec.file_at held.now.what index ≡ Some f →
         result ≡ 0 }
     ensures told { (f : spec.Finished spec.Heap) → spec.file_at held.now.what index ≡ Some f →
@@ -64,7 +64,7 @@ pub extern "C" fn sst_files_tell(
     alloc: Global,
     files: &mut Handle,
     index: u64,
-    told: &mut FileTold,
+    told: &mut FileReport,
 ) -> u32
     ensures kept { files.new.boxed.value ≡ files.old.boxed.value }
     ensures shut { files.old.boxed.value ≡ None → result ≡ 100 }

@@ -25,13 +25,13 @@ pub extern "C" fn sst_table_open_kept(
     ensures opened { result ≡ 0 → IsSomeAnd table.new.boxed.value
         (spec.IsOpenedAs file.now global_seqno pin_filter pin_index) }
     ensures told { table.old.boxed.value ≡ None →
-        spec.TellsCode result (spec.recovered_told file.now global_seqno pin_filter pin_index) }
+        spec.ReportsCode result (spec.recovered_result file.now global_seqno pin_filter pin_index) }
     // What is found before memory is taken is the refusal, whatever memory there is.
     ensures early { table.old.boxed.value ≡ None →
-        spec.TellsFirst result (spec.early_fault file.now) }
+        spec.ReportsFirst result (spec.early_fault file.now) }
     // Bytes that store a list are opened where the highest number fits.
     ensures list { table.old.boxed.value ≡ None → (es : List spec.Entry) →
-        spec.StoresList file.now es → spec.TellsCode result (spec.fits_told es global_seqno) }
+        spec.StoresList file.now es → spec.ReportsCode result (spec.fits_result es global_seqno) }
     ensures left { result ≢ 0 → table.new.boxed.value ≡ table.old.boxed.value }
 {
     if table.is_open() {

@@ -5,7 +5,7 @@ ghost use Rattle.std.specs.Prelude.{map};
 ghost use Rattle.sst_c.specs.Words as spec;
 
 use crate::codes::{CLOSED, NO_ROOM, NO_SUCH, NOTHING, OPEN, OTHER_KIND};
-use crate::entries::{EntryTold, entry_of, tell};
+use crate::entries::{EntryReport, entry_of, tell};
 use crate::found::{Lent, copy_item, lend_item};
 use crate::handle::Handle;
 use crate::held::{Held, What, box_of};
@@ -54,7 +54,7 @@ fn found_of(
     seqno: SeqNo,
 ) -> Result<Vec<Option<InternalValue>>, Error>
     requires { spec.sum lens.now ≡ length keys.now }
-    ensures told { let told = spec.many_told table.now (spec.queries_for keys.now lens.now seqno) in
+    ensures told { let told = spec.many_results table.now (spec.queries_for keys.now lens.now seqno) in
         spec.Gives (λ found. found.items) result told }
     ensures list { (es : List spec.Entry) → spec.StoresList table.now.bytes es →
         let all = spec.lift es table.now.global_seqno in
@@ -67,7 +67,7 @@ fn found_of(
 }
 
 // Tells of each entry, or that there is none.
-fn tell_each(found: &[Option<InternalValue>], entries: &mut [EntryTold])
+fn tell_each(found: &[Option<InternalValue>], entries: &mut [EntryReport])
     requires { length found.now ≤ length entries.old }
     ensures { entries.new ≡ spec.laid_over (map spec.entry_facts found.now) entries.old }
 {
@@ -77,7 +77,7 @@ fn tell_each(found: &[Option<InternalValue>], entries: &mut [EntryTold])
 }
 
 // Tells of what is held.
-fn tell_held(held: &Held, entries: &mut [EntryTold])
+fn tell_held(held: &Held, entries: &mut [EntryReport])
     requires { IsSomeAnd (spec.many_in held.now.what) (λ found. length found ≤ length entries.old) }
     ensures { IsSomeAnd (spec.many_in held.now.what) (λ found.
         entries.new ≡ spec.laid_over (map spec.entry_facts found) entries.old) }
@@ -91,7 +91,7 @@ fn tell_held(held: &Held, entries: &mut [EntryTold])
 fn keep_each(
     alloc: Global,
     found: Vec<Option<InternalValue>>,
-    entries: &mut [EntryTold],
+    entries: &mut [EntryReport],
     answers: &mut Handle,
 ) -> u32
     requires empty { answers.old.boxed.value ≡ None }
@@ -119,7 +119,7 @@ fn keep_each(
 fn keep_found(
     alloc: Global,
     found: Result<Vec<Option<InternalValue>>, Error>,
-    entries: &mut [EntryTold],
+    entries: &mut [EntryReport],
     answers: &mut Handle,
 ) -> u32
     requires empty { answers.old.boxed.value ≡ None }
@@ -146,13 +146,13 @@ fn read_each(
     keys: &[u8],
     lens: &[u64],
     seqno: SeqNo,
-    entries: &mut [EntryTold],
+    entries: &mut [EntryReport],
     answers: &mut Handle,
 ) -> u32
     requires empty { answers.old.boxed.value ≡ None }
     requires sum { spec.sum lens.now ≡ length keys.now }
     requires room { length lens.now ≤ length entries.old }
-    ensures told { let told = spec.many_told table.now (spec.queries_for keys.now lens.now seqno) in
+    ensures told { let told = spec.many_results table.now (spec.queries_for keys.now lens.now seqno) in
         let kept = spec.many_kept answers.new.boxed.value in
         spec.AnswersMany result kept entries.old entries.new told }
     ensures list { (es : List spec.Entry) → spec.StoresList table.now.bytes es →
@@ -174,7 +174,7 @@ fn get_each(
     keys: &[u8],
     lens: &[u64],
     seqno: SeqNo,
-    entries: &mut [EntryTold],
+    entries: &mut [EntryReport],
     answers: &mut Handle,
 ) -> u32
     requires { answers.old.boxed.value ≡ None }
@@ -185,7 +185,7 @@ fn get_each(
         length entries.old < length lens.now → result ≡ 103 }
     ensures told { (t : spec.OpenTable) → held.now.what ≡ spec.TableOf t →
         spec.sum lens.now ≡ length keys.now → length lens.now ≤ length entries.old →
-        let told = spec.many_told t (spec.queries_for keys.now lens.now seqno) in
+        let told = spec.many_results t (spec.queries_for keys.now lens.now seqno) in
         let kept = spec.many_kept answers.new.boxed.value in
         spec.AnswersMany result kept entries.old entries.new told }
     ensures list { (t : spec.OpenTable) (es : List spec.Entry) → held.now.what ≡ spec.TableOf t →
@@ -223,7 +223,7 @@ pub extern "C" fn sst_table_get_many(
     keys: &[u8],
     key_lens: &[u64],
     seqno: u64,
-    entries: &mut [EntryTold],
+    entries: &mut [EntryReport],
     answers: &mut Handle,
 ) -> u32
     ensures kept { table.new.boxed.value ≡ table.old.boxed.value }
@@ -242,7 +242,7 @@ pub extern "C" fn sst_table_get_many(
     ensures told { (h : spec.HeldValue) (t : spec.OpenTable) → answers.old.boxed.value ≡ None →
         table.old.boxed.value ≡ Some h → h.what ≡ spec.TableOf t →
         spec.sum key_lens.now ≡ length keys.now → length key_lens.now ≤ length entries.old →
-        let told = spec.many_told t (spec.queries_for keys.now key_lens.now seqno) in
+        let told = spec.many_results t (spec.queries_for keys.now key_lens.now seqno) in
         let kept = spec.many_kept answers.new.boxed.value in
         spec.AnswersMany result kept entries.old entries.new told }
     // and on bytes that store a list each key's first match in the list, its numbers lifted.

@@ -26,7 +26,7 @@ pub struct TableMemory {
 }
 
 fn memory_of(table: &Table) -> TableMemory
-    ensures { spec.TellsMemory table.now result }
+    ensures { spec.ReportsMemory table.now result }
 {
     TableMemory {
         file_len: table.file_len() as u64,
@@ -39,7 +39,7 @@ fn memory_of(table: &Table) -> TableMemory
 fn tell_memory(held: &Held, memory: &mut TableMemory) -> u32
     ensures other { spec.is_table held.now.what ≡ false → result ≡ 102 }
     ensures told { (t : spec.OpenTable) → held.now.what ≡ spec.TableOf t →
-        (result ≡ 0) × spec.TellsMemory t memory.new }
+        (result ≡ 0) × spec.ReportsMemory t memory.new }
     ensures left { result ≢ 0 → memory.new ≡ memory.old }
 {
     match &held.what {
@@ -65,7 +65,7 @@ pub extern "C" fn sst_table_memory(
         spec.is_table h.what ≡ false → result ≡ 102 }
     // It is what the library tells of the table.
     ensures told { (h : spec.HeldValue) (t : spec.OpenTable) → table.old.boxed.value ≡ Some h →
-        h.what ≡ spec.TableOf t → (result ≡ 0) × spec.TellsMemory t memory.new }
+        h.what ≡ spec.TableOf t → (result ≡ 0) × spec.ReportsMemory t memory.new }
     ensures left { result ≢ 0 → memory.new ≡ memory.old }
 {
     let Some(held) = table.take(alloc) else {

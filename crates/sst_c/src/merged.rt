@@ -34,7 +34,7 @@ fn newest_within(
         spec.RunsHoldLists runs.now lists →
         let found = spec.newest
         (spec.numbered_below seqno (spec.within range.0 range.1 (spec.union_in lists))) in
-        IfOk result (λ s. spec.DealsList gives back_gives found s) }
+        IfOk result (λ s. spec.YieldsList gives back_gives found s) }
     ensures err { IfErr result (λ e. e ≡ spec.OutOfMemory) }
 {
     Ok(Asked::new(range_runs_at(alloc, runs.as_slice(), range, seqno)?))
@@ -52,8 +52,8 @@ fn merged_within(
 ) -> Result<Asked, Error>
     requires lower { lower_kind < 3 }
     requires upper { upper_kind < 3 }
-    ensures steps { let low = spec.bound_told lower_kind lower.now in
-        let high = spec.bound_told upper_kind upper.now in IfOk result
+    ensures steps { let low = spec.decode_bound lower_kind lower.now in
+        let high = spec.decode_bound upper_kind upper.now in IfOk result
         (spec.IsOverSpansBelow ⟦<Below<RunReader<Global>> as Iterator>⟧.next_gives
         ⟦<Below<RunReader<Global>> as DoubleEndedIterator>⟧.next_back_gives
         ⟦<NewestOfRunsAt<Global> as Iterator>⟧.next_gives
@@ -61,12 +61,12 @@ fn merged_within(
         low high seqno runs.now) }
     ensures list { let gives = ⟦<NewestOfRunsAt<Global> as Iterator>⟧.next_gives in
         let back_gives = ⟦<NewestOfRunsAt<Global> as DoubleEndedIterator>⟧.next_back_gives in
-        let low = spec.bound_told lower_kind lower.now in
-        let high = spec.bound_told upper_kind upper.now in (lists : List (List (List spec.Entry))) →
+        let low = spec.decode_bound lower_kind lower.now in
+        let high = spec.decode_bound upper_kind upper.now in (lists : List (List (List spec.Entry))) →
         spec.RunsHoldLists runs.now lists →
         let found = spec.newest
         (spec.numbered_below seqno (spec.within low high (spec.union_in lists))) in
-        IfOk result (spec.DealsList gives back_gives found) }
+        IfOk result (spec.YieldsList gives back_gives found) }
     ensures err { IfErr result (λ e. e ≡ spec.OutOfMemory) }
 {
     let range = bounds(alloc, lower_kind, lower, upper_kind, upper)?;
@@ -92,8 +92,8 @@ fn begin_merged(
         nat_lt 2 lower_kind || nat_lt 2 upper_kind ≡ false → (result ≡ 0) ⊎ (result ≡ 1) }
     ensures new { result ≡ 0 → IsSomeAnd range.new.boxed.value (λ r. spec.found_by r ≡ None) }
     ensures steps { result ≡ 0 →
-        let low = spec.bound_told lower_kind lower.now in
-        let high = spec.bound_told upper_kind upper.now in
+        let low = spec.decode_bound lower_kind lower.now in
+        let high = spec.decode_bound upper_kind upper.now in
         IsSomeAnd range.new.boxed.value (λ r. spec.IsMergedWhere
         (spec.IsOverSpansBelow ⟦<Below<RunReader<Global>> as Iterator>⟧.next_gives
         ⟦<Below<RunReader<Global>> as DoubleEndedIterator>⟧.next_back_gives
@@ -102,14 +102,14 @@ fn begin_merged(
         low high seqno (spec.runs_held held.now.what)) r.what) }
     ensures list { let gives = ⟦<NewestOfRunsAt<Global> as Iterator>⟧.next_gives in
         let back_gives = ⟦<NewestOfRunsAt<Global> as DoubleEndedIterator>⟧.next_back_gives in
-        let low = spec.bound_told lower_kind lower.now in
-        let high = spec.bound_told upper_kind upper.now in
+        let low = spec.decode_bound lower_kind lower.now in
+        let high = spec.decode_bound upper_kind upper.now in
         (lists : List (List (List spec.Entry))) → result ≡ 0 →
         spec.RunsHoldLists (spec.runs_held held.now.what) lists →
         let found = spec.newest
         (spec.numbered_below seqno (spec.within low high (spec.union_in lists))) in
         IsSomeAnd range.new.boxed.value (λ r.
-        spec.IsMergedWhere (spec.DealsList gives back_gives found) r.what) }
+        spec.IsMergedWhere (spec.YieldsList gives back_gives found) r.what) }
     ensures left { result ≢ 0 → range.new.boxed.value ≡ None }
 {
     let What::Runs(runs) = &held.what else {
@@ -159,8 +159,8 @@ pub extern "C" fn sst_runs_range_open(
     // Whatever the bytes, it is over the readers of those tables whose ranges reach past the
     // bounds, each below the number: an error of one stands in its place;
     ensures steps { (h : spec.HeldValue) → runs.old.boxed.value ≡ Some h → result ≡ 0 →
-        let low = spec.bound_told lower_kind lower.now in
-        let high = spec.bound_told upper_kind upper.now in
+        let low = spec.decode_bound lower_kind lower.now in
+        let high = spec.decode_bound upper_kind upper.now in
         IsSomeAnd range.new.boxed.value (λ r. spec.IsMergedWhere
         (spec.IsOverSpansBelow ⟦<Below<RunReader<Global>> as Iterator>⟧.next_gives
         ⟦<Below<RunReader<Global>> as DoubleEndedIterator>⟧.next_back_gives
@@ -171,15 +171,15 @@ pub extern "C" fn sst_runs_range_open(
     // numbers lifted, that lie within the bounds and are numbered below `seqno`.
     ensures list { let gives = ⟦<NewestOfRunsAt<Global> as Iterator>⟧.next_gives in
         let back_gives = ⟦<NewestOfRunsAt<Global> as DoubleEndedIterator>⟧.next_back_gives in
-        let low = spec.bound_told lower_kind lower.now in
-        let high = spec.bound_told upper_kind upper.now in
+        let low = spec.decode_bound lower_kind lower.now in
+        let high = spec.decode_bound upper_kind upper.now in
         (h : spec.HeldValue) (lists : List (List (List spec.Entry))) →
         runs.old.boxed.value ≡ Some h →
         result ≡ 0 → spec.RunsHoldLists (spec.runs_held h.what) lists →
         let found = spec.newest
         (spec.numbered_below seqno (spec.within low high (spec.union_in lists))) in
         IsSomeAnd range.new.boxed.value (λ r.
-        spec.IsMergedWhere (spec.DealsList gives back_gives found) r.what) }
+        spec.IsMergedWhere (spec.YieldsList gives back_gives found) r.what) }
 {
     if range.is_open() {
         return OPEN;

@@ -37,7 +37,7 @@ const LARGEST: u32 = 4_194_304;
 /// Tells what a table is written with where nothing else is asked for.
 #[unsafe(no_mangle)]
 pub extern "C" fn sst_options_default(options: &mut TableOptions)
-    ensures { options.new ≡ spec.default_told }
+    ensures { options.new ≡ spec.decode_default }
 {
     *options = TableOptions {
         id: 0,
@@ -67,7 +67,7 @@ pub(crate) fn are_usable(options: &TableOptions) -> bool
 
 fn index_kind(size: u32) -> IndexKind
     requires { size ≤ 4194304 }
-    ensures is { result ≡ spec.index_kind_told size }
+    ensures is { result ≡ spec.decode_index_kind size }
     ensures small { spec.IsSmallIndex result }
 {
     if size == 0 {
@@ -79,7 +79,7 @@ fn index_kind(size: u32) -> IndexKind
 
 fn filter_kind(size: u32) -> FilterKind
     requires { size ≤ 4194304 }
-    ensures is { result ≡ spec.filter_kind_told size }
+    ensures is { result ≡ spec.decode_filter_kind size }
     ensures small { spec.IsSmallFilter result }
 {
     if size == 0 {
@@ -94,7 +94,7 @@ pub(crate) fn writer_options(options: &TableOptions) -> Options
     requires index { options.now.index_partition_size ≤ 4194304 }
     requires filter { options.now.filter_partition_size ≤ 4194304 }
     requires interval { options.now.data_block_restart_interval < 256 }
-    ensures is { result ≡ spec.options_told options.now }
+    ensures is { result ≡ spec.decode_options options.now }
     ensures small_index { spec.IsSmallIndex result.index_kind }
     ensures small_filter { spec.IsSmallFilter result.filter_kind }
 {

@@ -4,7 +4,7 @@ ghost use Rattle.std.specs.Prelude.{None, Option, Result, Some, is_some, nat_lt,
 ghost use Rattle.sst_c.specs.Words as spec;
 
 use crate::codes::{CLOSED, NO_SUCH, OPEN, OTHER_KIND};
-use crate::entries::{EntryTold, tell};
+use crate::entries::{EntryReport, tell};
 use crate::handle::Handle;
 use crate::held::{FoundEntry, Held, What};
 use crate::merged::step_merged;
@@ -20,7 +20,7 @@ use std::ops::Bound;
 // A bound of a kind: 0 for none, 1 with the key, 2 without it.
 pub(crate) fn bound(alloc: Global, kind: u32, key: &[u8]) -> Result<Bound<Slice>, Error>
     requires { kind < 3 }
-    ensures ok { IfOk result (λ b. b ≡ spec.bound_told kind key.now) }
+    ensures ok { IfOk result (λ b. b ≡ spec.decode_bound kind key.now) }
     ensures err { IfErr result (λ e. e ≡ spec.OutOfMemory) }
 {
     match kind {
@@ -40,8 +40,8 @@ pub(crate) fn bounds(
 ) -> Result<(Bound<Slice>, Bound<Slice>), Error>
     requires lower { lower_kind < 3 }
     requires upper { upper_kind < 3 }
-    ensures lower { IfOk result (λ b. b.0 ≡ spec.bound_told lower_kind lower.now) }
-    ensures upper { IfOk result (λ b. b.1 ≡ spec.bound_told upper_kind upper.now) }
+    ensures lower { IfOk result (λ b. b.0 ≡ spec.decode_bound lower_kind lower.now) }
+    ensures upper { IfOk result (λ b. b.1 ≡ spec.decode_bound upper_kind upper.now) }
     ensures err { IfErr result (λ e. e ≡ spec.OutOfMemory) }
 {
     let low = bound(alloc, lower_kind, lower)?;
@@ -50,7 +50,7 @@ pub(crate) fn bounds(
 }
 
 // A range of a table within bounds of these kinds.
-#[tactic(auto, unfolding(crate::specs::What::DealsTable))]
+#[tactic(auto, unfolding(crate::specs::What::YieldsTable))]
 fn range_within(
     alloc: Global,
     table: &Table,
@@ -61,13 +61,13 @@ fn range_within(
 ) -> Result<Iter, Error>
     requires lower { lower_kind < 3 }
     requires upper { upper_kind < 3 }
-    ensures range { let low = spec.bound_told lower_kind lower.now in
-        let high = spec.bound_told upper_kind upper.now in
+    ensures range { let low = spec.decode_bound lower_kind lower.now in
+        let high = spec.decode_bound upper_kind upper.now in
         IfOk result (spec.IsRangeOf table.now low high) }
-    ensures list { let low = spec.bound_told lower_kind lower.now in
-        let high = spec.bound_told upper_kind upper.now in
+    ensures list { let low = spec.decode_bound lower_kind lower.now in
+        let high = spec.decode_bound upper_kind upper.now in
         (es : List spec.Entry) → spec.StoresList table.now.bytes es →
-        let g = table.now.global_seqno in IfOk result (spec.DealsTable low high es g) }
+        let g = table.now.global_seqno in IfOk result (spec.YieldsTable low high es g) }
     ensures err { IfErr result (λ e. e ≡ spec.OutOfMemory) }
 {
     let (lower, upper) = bounds(alloc, lower_kind, lower, upper_kind, upper)?;
@@ -90,15 +90,15 @@ fn begin_within(
     ensures memory { (result ≡ 0) ⊎ (result ≡ 1) }
     ensures new { result ≡ 0 → IsSomeAnd range.new.boxed.value (λ r. spec.found_by r ≡ None) }
     ensures range { result ≡ 0 →
-        let low = spec.bound_told lower_kind lower.now in
-        let high = spec.bound_told upper_kind upper.now in
+        let low = spec.decode_bound lower_kind lower.now in
+        let high = spec.decode_bound upper_kind upper.now in
         IsSomeAnd range.new.boxed.value
         (λ r. spec.IsRangeWhere (spec.IsRangeOf table.now low high) r.what) }
     ensures list { (es : List spec.Entry) → spec.StoresList table.now.bytes es → result ≡ 0 →
-        let low = spec.bound_told lower_kind lower.now in
-        let high = spec.bound_told upper_kind upper.now in let g = table.now.global_seqno in
+        let low = spec.decode_bound lower_kind lower.now in
+        let high = spec.decode_bound upper_kind upper.now in let g = table.now.global_seqno in
         IsSomeAnd range.new.boxed.value
-        (λ r. spec.IsRangeWhere (spec.DealsTable low high es g) r.what) }
+        (λ r. spec.IsRangeWhere (spec.YieldsTable low high es g) r.what) }
     ensures left { result ≢ 0 → range.new.boxed.value ≡ None }
 {
     match range_within(alloc, table, lower_kind, lower, upper_kind, upper) {
@@ -124,15 +124,15 @@ fn begin(
         nat_lt 2 lower_kind || nat_lt 2 upper_kind ≡ false → (result ≡ 0) ⊎ (result ≡ 1) }
     ensures new { result ≡ 0 → IsSomeAnd range.new.boxed.value (λ r. spec.found_by r ≡ None) }
     ensures range { (t : spec.OpenTable) → held.now.what ≡ spec.TableOf t → result ≡ 0 →
-        let low = spec.bound_told lower_kind lower.now in
-        let high = spec.bound_told upper_kind upper.now in
+        let low = spec.decode_bound lower_kind lower.now in
+        let high = spec.decode_bound upper_kind upper.now in
         IsSomeAnd range.new.boxed.value
         (λ r. spec.IsRangeWhere (spec.IsRangeOf t low high) r.what) }
     ensures list { (t : spec.OpenTable) (es : List spec.Entry) → held.now.what ≡ spec.TableOf t →
         result ≡ 0 → spec.StoresList t.bytes es →
-        let low = spec.bound_told lower_kind lower.now in
-        let high = spec.bound_told upper_kind upper.now in IsSomeAnd range.new.boxed.value (λ r.
-        spec.IsRangeWhere (spec.DealsTable low high es t.global_seqno) r.what) }
+        let low = spec.decode_bound lower_kind lower.now in
+        let high = spec.decode_bound upper_kind upper.now in IsSomeAnd range.new.boxed.value (λ r.
+        spec.IsRangeWhere (spec.YieldsTable low high es t.global_seqno) r.what) }
     ensures left { result ≢ 0 → range.new.boxed.value ≡ None }
 {
     let What::Table(table) = &held.what else {
@@ -175,17 +175,17 @@ pub extern "C" fn sst_range_open(
     // It reads the table within the bounds, and has made no step;
     ensures range { (h : spec.HeldValue) (t : spec.OpenTable) → table.old.boxed.value ≡ Some h →
         h.what ≡ spec.TableOf t → result ≡ 0 →
-        let low = spec.bound_told lower_kind lower.now in
-        let high = spec.bound_told upper_kind upper.now in
+        let low = spec.decode_bound lower_kind lower.now in
+        let high = spec.decode_bound upper_kind upper.now in
         IsSomeAnd range.new.boxed.value
         (λ r. spec.IsRangeWhere (spec.IsRangeOf t low high) r.what) }
     // on bytes that store a list it deals the list's entries within them, their numbers lifted.
     ensures list { (h : spec.HeldValue) (t : spec.OpenTable) (es : List spec.Entry) →
         table.old.boxed.value ≡ Some h → h.what ≡ spec.TableOf t → result ≡ 0 →
         spec.StoresList t.bytes es →
-        let low = spec.bound_told lower_kind lower.now in
-        let high = spec.bound_told upper_kind upper.now in IsSomeAnd range.new.boxed.value (λ r.
-        spec.IsRangeWhere (spec.DealsTable low high es t.global_seqno) r.what) }
+        let low = spec.decode_bound lower_kind lower.now in
+        let high = spec.decode_bound upper_kind upper.now in IsSomeAnd range.new.boxed.value (λ r.
+        spec.IsRangeWhere (spec.YieldsTable low high es t.global_seqno) r.what) }
 {
     if range.is_open() {
         return OPEN;
@@ -294,7 +294,7 @@ pub extern "C" fn sst_range_next(
     alloc: Global,
     range: &mut Handle,
     back: bool,
-    entry: &mut EntryTold,
+    entry: &mut EntryReport,
 ) -> u32
     ensures shut { range.old.boxed.value ≡ None →
         (result ≡ 100) × (range.new.boxed.value ≡ None) }
@@ -343,7 +343,7 @@ pub extern "C" fn sst_range_next(
 fn take(
     held: &mut Held,
     back: bool,
-    entries: &mut [EntryTold],
+    entries: &mut [EntryReport],
     bytes: &mut [u8],
     count: &mut u64,
 ) -> u32
@@ -385,10 +385,10 @@ pub extern "C" fn sst_range_take(
     alloc: Global,
     range: &mut Handle,
     back: bool,
-    entries: &mut [EntryTold],
+    entries: &mut [EntryReport],
     bytes: &mut [u8],
     count: &mut u64,
-    found: &mut EntryTold,
+    found: &mut EntryReport,
 ) -> u32
     ensures shut { range.old.boxed.value ≡ None →
         (result ≡ 100) × (range.new.boxed.value ≡ None) }

@@ -2,7 +2,7 @@
 ghost use Rattle.std.specs.Prelude.{◌≡◌, true};
 ghost use Rattle.sst_c.specs.Words as spec;
 
-use crate::entries::EntryTold;
+use crate::entries::EntryReport;
 use crate::held::{Held, What};
 use crate::takes::{Reads, take_from};
 use crate::{ranges, scans};
@@ -53,7 +53,7 @@ impl Reads for Held {
 pub(crate) fn take_held(
     held: &mut Held,
     back: bool,
-    entries: &mut [EntryTold],
+    entries: &mut [EntryReport],
     bytes: &mut [u8],
     count: &mut u64,
 ) -> u32

@@ -4,7 +4,7 @@ ghost use Rattle.std.specs.Prelude.{List, None, Ok, Some, is_some, true};
 ghost use Rattle.sst_c.specs.Words as spec;
 
 use crate::codes::{CLOSED, OPEN, OTHER_KIND, OUT_OF_ORDER};
-use crate::entries::{EntryTold, tell};
+use crate::entries::{EntryReport, tell};
 use crate::handle::Handle;
 use crate::held::{FoundEntry, Held, What};
 use crate::run_list::RunList;
@@ -193,8 +193,8 @@ fn keep_place(found: &mut FoundEntry, outcome: Result<Option<RunPlace>, Error>) 
 #[tactic(auto, using(crate::proofs::Answering::reads))]
 fn get_in(runs: &RunList, key: &[u8], seqno: SeqNo, found: &mut FoundEntry) -> u32
     ensures told { let entry = spec.found_at found.new (spec.RunsOf runs.now) in
-        spec.AnswersRead result entry (spec.runs_told key.now seqno None runs.now) }
-    ensures early { spec.TellsFirst result (spec.runs_read key.now seqno None runs.now).early }
+        spec.AnswersRead result entry (spec.runs_result key.now seqno None runs.now) }
+    ensures early { spec.ReportsFirst result (spec.runs_read key.now seqno None runs.now).early }
     ensures calm { (spec.runs_read key.now seqno None runs.now).loads ≡ [] → result ≡ 0 }
     ensures list { (lists : List (List (List spec.Entry))) →
         spec.RunsHoldLists runs.now lists →
@@ -210,9 +210,9 @@ fn get(held: &mut Held, key: &[u8], seqno: SeqNo) -> u32
         (result ≡ 102) × (spec.found_by held.new ≡ None) }
     ensures told { spec.are_runs held.old.what ≡ true →
         spec.AnswersRead result (spec.found_by held.new)
-        (spec.runs_told key.now seqno None (spec.runs_held held.old.what)) }
+        (spec.runs_result key.now seqno None (spec.runs_held held.old.what)) }
     ensures early { spec.are_runs held.old.what ≡ true →
-        spec.TellsFirst result
+        spec.ReportsFirst result
         (spec.runs_read key.now seqno None (spec.runs_held held.old.what)).early }
     ensures calm { spec.are_runs held.old.what ≡ true →
         (spec.runs_read key.now seqno None (spec.runs_held held.old.what)).loads ≡ [] → result ≡ 0 }
@@ -240,7 +240,7 @@ pub extern "C" fn sst_runs_get(
     runs: &mut Handle,
     key: &[u8],
     seqno: u64,
-    entry: &mut EntryTold,
+    entry: &mut EntryReport,
 ) -> u32
     ensures shut { runs.old.boxed.value ≡ None →
         (result ≡ 100) × (runs.new.boxed.value ≡ None) }
@@ -253,11 +253,11 @@ pub extern "C" fn sst_runs_get(
     // It is what the tables tell, whatever the bytes,
     ensures told { (h : spec.HeldValue) → runs.old.boxed.value ≡ Some h →
         spec.are_runs h.what ≡ true → let found = spec.found_in runs.new.boxed.value in
-        spec.AnswersRead result found (spec.runs_told key.now seqno None (spec.runs_held h.what)) }
+        spec.AnswersRead result found (spec.runs_result key.now seqno None (spec.runs_held h.what)) }
     // a fault of the first block that is loaded which takes no memory to be found first,
     ensures early { (h : spec.HeldValue) → runs.old.boxed.value ≡ Some h →
         spec.are_runs h.what ≡ true →
-        spec.TellsFirst result (spec.runs_read key.now seqno None (spec.runs_held h.what)).early }
+        spec.ReportsFirst result (spec.runs_read key.now seqno None (spec.runs_held h.what)).early }
     // and where no block is loaded nothing is refused;
     ensures calm { (h : spec.HeldValue) → runs.old.boxed.value ≡ Some h →
         spec.are_runs h.what ≡ true →

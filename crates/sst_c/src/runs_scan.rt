@@ -16,14 +16,14 @@ pub struct RunsScan {
 }
 
 impl Model for RunsScan {
-    ghost use Rattle.sst_entries.specs.Stream.{CanDeal, nowhere};
+    ghost use Rattle.sst_entries.specs.Stream.{CanYield, nowhere};
     ghost use Rattle.sst_c.specs.Newest.{LentNewestAt};
 
     ghost Value = { LentNewestAt };
 
     ghost view = { λ s. s.newest };
 
-    ghost invariant = { λ s. CanDeal ⟦<LentNewestOfRunsAt<Global> as Lending>⟧.advances nowhere
+    ghost invariant = { λ s. CanYield ⟦<LentNewestOfRunsAt<Global> as Lending>⟧.advances nowhere
         ⟦<LentNewestOfRunsAt<Global> as Lending>⟧.can_advance
         ⟦<LentNewestOfRunsAt<Global> as Lending>⟧.can_advance s.newest };
 }
@@ -31,7 +31,7 @@ impl Model for RunsScan {
 impl RunsScan {
     /// Versions that may be advanced so.
     pub(crate) fn new(newest: LentNewestOfRunsAt<Global>) -> RunsScan
-        requires { spec.CanDeal ⟦<LentNewestOfRunsAt<Global> as Lending>⟧.advances spec.nowhere
+        requires { spec.CanYield ⟦<LentNewestOfRunsAt<Global> as Lending>⟧.advances spec.nowhere
             ⟦<LentNewestOfRunsAt<Global> as Lending>⟧.can_advance
             ⟦<LentNewestOfRunsAt<Global> as Lending>⟧.can_advance newest }
         ensures { result ≡ newest }
@@ -60,8 +60,8 @@ impl RunsScan {
 // costs a proof much.
 #[tactic(auto, using(crate::proofs::Asking::asking))]
 fn advance<L: Lending>(source: &mut L) -> Result<bool, Error>
-    requires { spec.CanDeal L.advances spec.nowhere L.can_advance L.can_advance source.old }
-    ensures can { spec.CanDeal L.advances spec.nowhere L.can_advance L.can_advance source.new }
+    requires { spec.CanYield L.advances spec.nowhere L.can_advance L.can_advance source.old }
+    ensures can { spec.CanYield L.advances spec.nowhere L.can_advance L.can_advance source.new }
     ensures goes { L.advances source.old (spec.came result (L.lent source.new)) source.new }
     ensures err { OnErr result (L.lent source.new ≡ None) }
 {

@@ -22,15 +22,15 @@ fn newest_within(
     seqno: SeqNo,
 ) -> Result<RunsScan, Error>
     ensures places { let advances = ⟦<LentNewestOfRunsAt<Global> as Lending>⟧.advances in
-        let told = spec.runs_told_within range.0 range.1 runs.now in
+        let told = spec.runs_results_within range.0 range.1 runs.now in
         spec.AllByRecursion (λ rs. spec.Ascends (spec.entries_among rs)) told →
-        let found = spec.newest_results (spec.merge_of (map (spec.below_told seqno) told)) in
+        let found = spec.newest_results (spec.merge_of (map (spec.below_results seqno) told)) in
         IfOk result (λ s. spec.LendsResults advances found s) }
     ensures list { let advances = ⟦<LentNewestOfRunsAt<Global> as Lending>⟧.advances in
         (lists : List (List (List spec.Entry))) → spec.RunsHoldLists runs.now lists →
         let found = spec.newest
         (spec.numbered_below seqno (spec.within range.0 range.1 (spec.union_in lists))) in
-        IfOk result (λ s. spec.DealsList advances spec.nowhere found s) }
+        IfOk result (λ s. spec.YieldsList advances spec.nowhere found s) }
     ensures err { IfErr result (λ e. e ≡ spec.OutOfMemory) }
 {
     Ok(RunsScan::new(lend_runs_at(alloc, runs.as_slice(), range, seqno)?))
@@ -49,19 +49,19 @@ fn scan_within(
     requires lower { lower_kind < 3 }
     requires upper { upper_kind < 3 }
     ensures places { let advances = ⟦<LentNewestOfRunsAt<Global> as Lending>⟧.advances in
-        let low = spec.bound_told lower_kind lower.now in
-        let high = spec.bound_told upper_kind upper.now in
-        let told = spec.runs_told_within low high runs.now in
+        let low = spec.decode_bound lower_kind lower.now in
+        let high = spec.decode_bound upper_kind upper.now in
+        let told = spec.runs_results_within low high runs.now in
         spec.AllByRecursion (λ rs. spec.Ascends (spec.entries_among rs)) told →
-        let found = spec.newest_results (spec.merge_of (map (spec.below_told seqno) told)) in
+        let found = spec.newest_results (spec.merge_of (map (spec.below_results seqno) told)) in
         IfOk result (spec.LendsResults advances found) }
     ensures list { let advances = ⟦<LentNewestOfRunsAt<Global> as Lending>⟧.advances in
-        let low = spec.bound_told lower_kind lower.now in
-        let high = spec.bound_told upper_kind upper.now in
+        let low = spec.decode_bound lower_kind lower.now in
+        let high = spec.decode_bound upper_kind upper.now in
         (lists : List (List (List spec.Entry))) → spec.RunsHoldLists runs.now lists →
         let found = spec.newest
         (spec.numbered_below seqno (spec.within low high (spec.union_in lists))) in
-        IfOk result (spec.DealsList advances spec.nowhere found) }
+        IfOk result (spec.YieldsList advances spec.nowhere found) }
     ensures err { IfErr result (λ e. e ≡ spec.OutOfMemory) }
 {
     let range = bounds(alloc, lower_kind, lower, upper_kind, upper)?;
@@ -87,22 +87,22 @@ fn begin_scan(
         nat_lt 2 lower_kind || nat_lt 2 upper_kind ≡ false → (result ≡ 0) ⊎ (result ≡ 1) }
     ensures new { result ≡ 0 → IsSomeAnd scan.new.boxed.value (λ k. spec.found_by k ≡ None) }
     ensures places { let advances = ⟦<LentNewestOfRunsAt<Global> as Lending>⟧.advances in
-        let low = spec.bound_told lower_kind lower.now in
-        let high = spec.bound_told upper_kind upper.now in
-        let told = spec.runs_told_within low high (spec.runs_held held.now.what) in result ≡ 0 →
+        let low = spec.decode_bound lower_kind lower.now in
+        let high = spec.decode_bound upper_kind upper.now in
+        let told = spec.runs_results_within low high (spec.runs_held held.now.what) in result ≡ 0 →
         spec.AllByRecursion (λ rs. spec.Ascends (spec.entries_among rs)) told →
-        let found = spec.newest_results (spec.merge_of (map (spec.below_told seqno) told)) in
+        let found = spec.newest_results (spec.merge_of (map (spec.below_results seqno) told)) in
         IsSomeAnd scan.new.boxed.value (λ k.
         spec.IsRunsScanWhere (spec.LendsResults advances found) k.what) }
     ensures list { let advances = ⟦<LentNewestOfRunsAt<Global> as Lending>⟧.advances in
-        let low = spec.bound_told lower_kind lower.now in
-        let high = spec.bound_told upper_kind upper.now in
+        let low = spec.decode_bound lower_kind lower.now in
+        let high = spec.decode_bound upper_kind upper.now in
         (lists : List (List (List spec.Entry))) → result ≡ 0 →
         spec.RunsHoldLists (spec.runs_held held.now.what) lists →
         let found = spec.newest
         (spec.numbered_below seqno (spec.within low high (spec.union_in lists))) in
         IsSomeAnd scan.new.boxed.value (λ k.
-        spec.IsRunsScanWhere (spec.DealsList advances spec.nowhere found) k.what) }
+        spec.IsRunsScanWhere (spec.YieldsList advances spec.nowhere found) k.what) }
     ensures left { result ≢ 0 → scan.new.boxed.value ≡ None }
 {
     let What::Runs(runs) = &held.what else {
@@ -153,26 +153,26 @@ pub extern "C" fn sst_runs_scan_open(
     // error, it yields what is newest of these results below `seqno`, merged up to the first error,
     // which comes in its place;
     ensures places { let advances = ⟦<LentNewestOfRunsAt<Global> as Lending>⟧.advances in
-        let low = spec.bound_told lower_kind lower.now in
-        let high = spec.bound_told upper_kind upper.now in
+        let low = spec.decode_bound lower_kind lower.now in
+        let high = spec.decode_bound upper_kind upper.now in
         (h : spec.HeldValue) → runs.old.boxed.value ≡ Some h → result ≡ 0 →
-        let told = spec.runs_told_within low high (spec.runs_held h.what) in
+        let told = spec.runs_results_within low high (spec.runs_held h.what) in
         spec.AllByRecursion (λ rs. spec.Ascends (spec.entries_among rs)) told →
-        let found = spec.newest_results (spec.merge_of (map (spec.below_told seqno) told)) in
+        let found = spec.newest_results (spec.merge_of (map (spec.below_results seqno) told)) in
         IsSomeAnd scan.new.boxed.value (λ k.
         spec.IsRunsScanWhere (spec.LendsResults advances found) k.what) }
     // of tables of lists it yields what is newest of all entries together, their numbers lifted,
     // that are within the bounds and numbered below `seqno`.
     ensures list { let advances = ⟦<LentNewestOfRunsAt<Global> as Lending>⟧.advances in
-        let low = spec.bound_told lower_kind lower.now in
-        let high = spec.bound_told upper_kind upper.now in
+        let low = spec.decode_bound lower_kind lower.now in
+        let high = spec.decode_bound upper_kind upper.now in
         (h : spec.HeldValue) (lists : List (List (List spec.Entry))) →
         runs.old.boxed.value ≡ Some h →
         result ≡ 0 → spec.RunsHoldLists (spec.runs_held h.what) lists →
         let found = spec.newest
         (spec.numbered_below seqno (spec.within low high (spec.union_in lists))) in
         IsSomeAnd scan.new.boxed.value (λ k.
-        spec.IsRunsScanWhere (spec.DealsList advances spec.nowhere found) k.what) }
+        spec.IsRunsScanWhere (spec.YieldsList advances spec.nowhere found) k.what) }
 {
     if scan.is_open() {
         return OPEN;

@@ -4,7 +4,7 @@ ghost use Rattle.std.specs.Prelude.{None, Option, Some, is_some, length, true};
 ghost use Rattle.sst_c.specs.Words as spec;
 
 use crate::codes::{CLOSED, OPEN, OTHER_KIND};
-use crate::entries::{EntryTold, tell};
+use crate::entries::{EntryReport, tell};
 use crate::handle::Handle;
 use crate::held::{Held, What};
 use crate::reads::take_held;
@@ -17,9 +17,9 @@ use std::alloc::Global;
 // A scan of a table.
 fn scan_of(table: &Table) -> Result<Scanner, Error>
     ensures begun { IfOk result (spec.IsBegunScan table.now) }
-    ensures deals { IfOk result (spec.DealsScan (spec.table_scan table.now)) }
+    ensures yields { IfOk result (spec.YieldsScan (spec.table_scan table.now)) }
     ensures list { (es : List spec.Entry) → spec.StoresList table.now.bytes es →
-        IfOk result (spec.DealsScan (spec.ok_results (spec.lift es table.now.global_seqno))) }
+        IfOk result (spec.YieldsScan (spec.ok_results (spec.lift es table.now.global_seqno))) }
     ensures refused { spec.Faults result (spec.scan_fault table.now) }
     ensures early { spec.FaultsFirst result (spec.early_scan_fault table.now) }
     ensures fine { (es : List spec.Entry) → spec.StoresList table.now.bytes es → 0 < length es →
@@ -32,18 +32,18 @@ fn scan_of(table: &Table) -> Result<Scanner, Error>
 #[tactic(auto, using(crate::proofs::Answering::tell))]
 fn begin_scan(alloc: Global, table: &Table, scan: &mut Handle) -> u32
     requires { scan.old.boxed.value ≡ None }
-    ensures told { spec.FaultTold result (spec.scan_fault table.now) }
-    ensures early { spec.TellsFirst result (spec.early_scan_fault table.now) }
+    ensures told { spec.FaultReported result (spec.scan_fault table.now) }
+    ensures early { spec.ReportsFirst result (spec.early_scan_fault table.now) }
     ensures fine { (es : List spec.Entry) → spec.StoresList table.now.bytes es → 0 < length es →
         (result ≡ 0) ⊎ (result ≡ 1) }
     ensures new { result ≡ 0 → IsSomeAnd scan.new.boxed.value (λ k. spec.found_by k ≡ None) }
     ensures begun { result ≡ 0 → IsSomeAnd scan.new.boxed.value (λ k.
         spec.IsScanWhere (spec.IsBegunScan table.now) k.what) }
-    ensures deals { result ≡ 0 → IsSomeAnd scan.new.boxed.value (λ k.
-        spec.IsScanWhere (spec.DealsScan (spec.table_scan table.now)) k.what) }
+    ensures yields { result ≡ 0 → IsSomeAnd scan.new.boxed.value (λ k.
+        spec.IsScanWhere (spec.YieldsScan (spec.table_scan table.now)) k.what) }
     ensures list { (es : List spec.Entry) → spec.StoresList table.now.bytes es → result ≡ 0 →
         let g = table.now.global_seqno in IsSomeAnd scan.new.boxed.value (λ k.
-        spec.IsScanWhere (spec.DealsScan (spec.ok_results (spec.lift es g))) k.what) }
+        spec.IsScanWhere (spec.YieldsScan (spec.ok_results (spec.lift es g))) k.what) }
     ensures left { result ≢ 0 → scan.new.boxed.value ≡ None }
 {
     match scan_of(table) {
@@ -56,20 +56,20 @@ fn begin(alloc: Global, held: &Held, scan: &mut Handle) -> u32
     requires { scan.old.boxed.value ≡ None }
     ensures other { spec.is_table held.now.what ≡ false → result ≡ 102 }
     ensures told { (t : spec.OpenTable) → held.now.what ≡ spec.TableOf t →
-        spec.FaultTold result (spec.scan_fault t) }
+        spec.FaultReported result (spec.scan_fault t) }
     ensures early { (t : spec.OpenTable) → held.now.what ≡ spec.TableOf t →
-        spec.TellsFirst result (spec.early_scan_fault t) }
+        spec.ReportsFirst result (spec.early_scan_fault t) }
     ensures fine { (t : spec.OpenTable) (es : List spec.Entry) → held.now.what ≡ spec.TableOf t →
         spec.StoresList t.bytes es → 0 < length es → (result ≡ 0) ⊎ (result ≡ 1) }
     ensures new { result ≡ 0 → IsSomeAnd scan.new.boxed.value (λ k. spec.found_by k ≡ None) }
     ensures begun { (t : spec.OpenTable) → held.now.what ≡ spec.TableOf t → result ≡ 0 →
         IsSomeAnd scan.new.boxed.value (λ k. spec.IsScanWhere (spec.IsBegunScan t) k.what) }
-    ensures deals { (t : spec.OpenTable) → held.now.what ≡ spec.TableOf t → result ≡ 0 →
-        IsSomeAnd scan.new.boxed.value (λ k. spec.IsScanWhere (spec.DealsScan (spec.table_scan t))
+    ensures yields { (t : spec.OpenTable) → held.now.what ≡ spec.TableOf t → result ≡ 0 →
+        IsSomeAnd scan.new.boxed.value (λ k. spec.IsScanWhere (spec.YieldsScan (spec.table_scan t))
         k.what) }
     ensures list { (t : spec.OpenTable) (es : List spec.Entry) → held.now.what ≡ spec.TableOf t →
         result ≡ 0 → spec.StoresList t.bytes es → IsSomeAnd scan.new.boxed.value (λ k.
-        spec.IsScanWhere (spec.DealsScan (spec.ok_results (spec.lift es t.global_seqno))) k.what) }
+        spec.IsScanWhere (spec.YieldsScan (spec.ok_results (spec.lift es t.global_seqno))) k.what) }
     ensures left { result ≢ 0 → scan.new.boxed.value ≡ None }
 {
     let What::Table(table) = &held.what else {
@@ -95,11 +95,11 @@ pub extern "C" fn sst_scan_open(alloc: Global, table: &mut Handle, scan: &mut Ha
     // Want of memory aside, it is refused with the fault of the first block, and else begun;
     ensures told { (h : spec.HeldValue) (t : spec.OpenTable) → scan.old.boxed.value ≡ None →
         table.old.boxed.value ≡ Some h → h.what ≡ spec.TableOf t →
-        spec.FaultTold result (spec.scan_fault t) }
+        spec.FaultReported result (spec.scan_fault t) }
     // what the block's header says, its checksum and its count come before any want of memory;
     ensures early { (h : spec.HeldValue) (t : spec.OpenTable) → scan.old.boxed.value ≡ None →
         table.old.boxed.value ≡ Some h → h.what ≡ spec.TableOf t →
-        spec.TellsFirst result (spec.early_scan_fault t) }
+        spec.ReportsFirst result (spec.early_scan_fault t) }
     // of bytes that store a list with an entry nothing else refuses it.
     ensures fine { (h : spec.HeldValue) (t : spec.OpenTable) (es : List spec.Entry) →
         scan.old.boxed.value ≡ None → table.old.boxed.value ≡ Some h → h.what ≡ spec.TableOf t →
@@ -110,14 +110,14 @@ pub extern "C" fn sst_scan_open(alloc: Global, table: &mut Handle, scan: &mut Ha
     ensures begun { (h : spec.HeldValue) (t : spec.OpenTable) → table.old.boxed.value ≡ Some h →
         h.what ≡ spec.TableOf t → result ≡ 0 → IsSomeAnd scan.new.boxed.value (λ k.
         spec.IsScanWhere (spec.IsBegunScan t) k.what) }
-    ensures deals { (h : spec.HeldValue) (t : spec.OpenTable) → table.old.boxed.value ≡ Some h →
+    ensures yields { (h : spec.HeldValue) (t : spec.OpenTable) → table.old.boxed.value ≡ Some h →
         h.what ≡ spec.TableOf t → result ≡ 0 → IsSomeAnd scan.new.boxed.value (λ k.
-        spec.IsScanWhere (spec.DealsScan (spec.table_scan t)) k.what) }
+        spec.IsScanWhere (spec.YieldsScan (spec.table_scan t)) k.what) }
     // and of bytes that store a list its entries in order, each once, their numbers lifted.
     ensures list { (h : spec.HeldValue) (t : spec.OpenTable) (es : List spec.Entry) →
         table.old.boxed.value ≡ Some h → h.what ≡ spec.TableOf t → result ≡ 0 →
         spec.StoresList t.bytes es → IsSomeAnd scan.new.boxed.value (λ k.
-        spec.IsScanWhere (spec.DealsScan (spec.ok_results (spec.lift es t.global_seqno))) k.what) }
+        spec.IsScanWhere (spec.YieldsScan (spec.ok_results (spec.lift es t.global_seqno))) k.what) }
 {
     if scan.is_open() {
         return OPEN;
@@ -181,7 +181,7 @@ pub(crate) fn step(held: &mut Held) -> u32
 /// handle is closed, with 102 if it holds no scan, and as `Scanner::advance`, or of several runs as
 /// a step of `lend_runs_at`; the scan is at its end then, nothing is found, and zeros are written.
 #[unsafe(no_mangle)]
-pub extern "C" fn sst_scan_next(alloc: Global, scan: &mut Handle, entry: &mut EntryTold) -> u32
+pub extern "C" fn sst_scan_next(alloc: Global, scan: &mut Handle, entry: &mut EntryReport) -> u32
     ensures shut { scan.old.boxed.value ≡ None →
         (result ≡ 100) × (scan.new.boxed.value ≡ None) }
     ensures other { (h : spec.HeldValue) → scan.old.boxed.value ≡ Some h →
@@ -222,7 +222,7 @@ pub extern "C" fn sst_scan_next(alloc: Global, scan: &mut Handle, entry: &mut En
 }
 
 // Reads a scan on in bulk.
-fn take(held: &mut Held, entries: &mut [EntryTold], bytes: &mut [u8], count: &mut u64) -> u32
+fn take(held: &mut Held, entries: &mut [EntryReport], bytes: &mut [u8], count: &mut u64) -> u32
     ensures other { spec.is_scan held.old.what ≡ false →
         (result ≡ 102) × (spec.found_by held.new ≡ None) × (held.new.what ≡ held.old.what) }
     ensures none { spec.is_scan held.old.what ≡ false → (count.new ≡ count.old)
@@ -257,10 +257,10 @@ fn take(held: &mut Held, entries: &mut [EntryTold], bytes: &mut [u8], count: &mu
 pub extern "C" fn sst_scan_take(
     alloc: Global,
     scan: &mut Handle,
-    entries: &mut [EntryTold],
+    entries: &mut [EntryReport],
     bytes: &mut [u8],
     count: &mut u64,
-    found: &mut EntryTold,
+    found: &mut EntryReport,
 ) -> u32
     ensures shut { scan.old.boxed.value ≡ None →
         (result ≡ 100) × (scan.new.boxed.value ≡ None) }

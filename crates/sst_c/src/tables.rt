@@ -4,7 +4,7 @@ ghost use Rattle.std.specs.Prelude.{None, Ok, Result, Some, is_some, true};
 ghost use Rattle.sst_c.specs.Words as spec;
 
 use crate::codes::{CLOSED, NO_MEMORY, OPEN, OTHER_KIND};
-use crate::entries::{EntryTold, tell};
+use crate::entries::{EntryReport, tell};
 use crate::handle::Handle;
 use crate::held::{FoundEntry, Held, What};
 use lsm_readers::Table;
@@ -12,7 +12,7 @@ use sst_blocks::{Checksum, EntryPlace, Error, InternalValue, SeqNo, Slice};
 use std::alloc::Global;
 
 /// Opens a table from its bytes, into a handle that holds nothing.
-#[tactic(auto, using(crate::proofs::Answering::tells, crate::proofs::Answering::tells_begun))]
+#[tactic(auto, using(crate::proofs::Answering::tells, crate::proofs::Answering::reports_begun))]
 pub(crate) fn open_from(
     alloc: Global,
     bytes: Slice,
@@ -24,11 +24,11 @@ pub(crate) fn open_from(
     requires { table.old.boxed.value ≡ None }
     ensures opened { result ≡ 0 → IsSomeAnd table.new.boxed.value
         (spec.IsOpenedAs bytes global_seqno pin_filter pin_index) }
-    ensures told { spec.TellsCode result
-        (spec.recovered_told bytes global_seqno pin_filter pin_index) }
-    ensures early { spec.TellsFirst result (spec.early_fault bytes) }
+    ensures told { spec.ReportsCode result
+        (spec.recovered_result bytes global_seqno pin_filter pin_index) }
+    ensures early { spec.ReportsFirst result (spec.early_fault bytes) }
     ensures list { (es : List spec.Entry) → spec.StoresList bytes es →
-        spec.TellsCode result (spec.fits_told es global_seqno) }
+        spec.ReportsCode result (spec.fits_result es global_seqno) }
     ensures left { result ≢ 0 → table.new.boxed.value ≡ None }
 {
     let opened = Table::recover(
@@ -61,10 +61,10 @@ pub extern "C" fn sst_table_open(
     ensures opened { result ≡ 0 → IsSomeAnd table.new.boxed.value
         (spec.IsOpenedAs file.now global_seqno pin_filter pin_index) }
     ensures told { table.old.boxed.value ≡ None →
-        spec.TellsCode result (spec.recovered_told file.now global_seqno pin_filter pin_index) }
+        spec.ReportsCode result (spec.recovered_result file.now global_seqno pin_filter pin_index) }
     // Bytes that store a list are opened where the highest number fits.
     ensures list { table.old.boxed.value ≡ None → (es : List spec.Entry) →
-        spec.StoresList file.now es → spec.TellsCode result (spec.fits_told es global_seqno) }
+        spec.StoresList file.now es → spec.ReportsCode result (spec.fits_result es global_seqno) }
     ensures left { result ≢ 0 → table.new.boxed.value ≡ table.old.boxed.value }
 {
     if table.is_open() {
@@ -121,7 +121,7 @@ fn keep_place(found: &mut FoundEntry, outcome: Result<Option<EntryPlace>, Error>
 fn get_in(table: &Table, key: &[u8], seqno: SeqNo, found: &mut FoundEntry) -> u32
     ensures told { let entry = spec.found_at found.new (spec.TableOf table.now) in
         spec.AnswersRead result entry (spec.table_answer table.now key.now seqno).told }
-    ensures early { spec.TellsFirst result (spec.table_answer table.now key.now seqno).early }
+    ensures early { spec.ReportsFirst result (spec.table_answer table.now key.now seqno).early }
     ensures calm { (spec.table_answer table.now key.now seqno).loads ≡ [] → result ≡ 0 }
     ensures list { (es : List spec.Entry) → spec.StoresList table.now.bytes es →
         let entry = spec.found_at found.new (spec.TableOf table.now) in
@@ -139,7 +139,7 @@ fn get(held: &mut Held, key: &[u8], seqno: SeqNo) -> u32
     ensures told { (t : spec.OpenTable) → held.old.what ≡ spec.TableOf t →
         spec.AnswersRead result (spec.found_by held.new) (spec.table_answer t key.now seqno).told }
     ensures early { (t : spec.OpenTable) → held.old.what ≡ spec.TableOf t →
-        spec.TellsFirst result (spec.table_answer t key.now seqno).early }
+        spec.ReportsFirst result (spec.table_answer t key.now seqno).early }
     ensures calm { (t : spec.OpenTable) → held.old.what ≡ spec.TableOf t →
         (spec.table_answer t key.now seqno).loads ≡ [] → result ≡ 0 }
     ensures list { (t : spec.OpenTable) (es : List spec.Entry) → held.old.what ≡ spec.TableOf t →
@@ -165,7 +165,7 @@ pub extern "C" fn sst_table_get(
     table: &mut Handle,
     key: &[u8],
     seqno: u64,
-    entry: &mut EntryTold,
+    entry: &mut EntryReport,
 ) -> u32
     ensures shut { table.old.boxed.value ≡ None →
         (result ≡ 100) × (table.new.boxed.value ≡ None) }
@@ -181,7 +181,7 @@ pub extern "C" fn sst_table_get(
         spec.AnswersRead result found (spec.table_answer t key.now seqno).told }
     // a fault of the first block that is loaded which takes no memory to be found first,
     ensures early { (h : spec.HeldValue) (t : spec.OpenTable) → table.old.boxed.value ≡ Some h →
-        h.what ≡ spec.TableOf t → spec.TellsFirst result (spec.table_answer t key.now seqno).early }
+        h.what ≡ spec.TableOf t → spec.ReportsFirst result (spec.table_answer t key.now seqno).early }
     // and where no block is loaded nothing is refused;
     ensures calm { (h : spec.HeldValue) (t : spec.OpenTable) → table.old.boxed.value ≡ Some h →
         h.what ≡ spec.TableOf t → (spec.table_answer t key.now seqno).loads ≡ [] → result ≡ 0 }

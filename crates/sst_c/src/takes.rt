@@ -2,7 +2,7 @@
 ghost use Rattle.std.specs.Prelude.{◌≡◌, ℕ, None, Some};
 ghost use Rattle.sst_c.specs.Words as spec;
 
-use crate::entries::{EntryTold, tell};
+use crate::entries::{EntryReport, tell};
 use crate::laying::lay_next;
 use sst_blocks::EntryRef;
 
@@ -35,7 +35,7 @@ pub(crate) trait Reads {
 pub(crate) fn take_from<R: Reads>(
     source: &mut R,
     back: bool,
-    entries: &mut [EntryTold],
+    entries: &mut [EntryReport],
     bytes: &mut [u8],
     count: &mut u64,
 ) -> Option<u32>

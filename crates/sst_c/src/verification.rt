@@ -6,8 +6,8 @@ ghost use Rattle.sst_c.specs.Words as spec;
 use crate::codes::{CLOSED, OPEN, OTHER_KIND};
 use crate::handle::Handle;
 use crate::held::{Held, What};
-use crate::verifier::{ProgressTold, Verifier, no_progress};
-use crate::verify::{VerifyTold, nothing};
+use crate::verifier::{ProgressReport, Verifier, no_progress};
+use crate::verify::{VerifyReport, nothing};
 use lsm_readers::Table;
 use std::alloc::Global;
 
@@ -70,14 +70,14 @@ pub extern "C" fn sst_verification_open(
 }
 
 // Makes a step of what is held.
-fn step(held: &mut Held, progress: &mut ProgressTold, told: &mut VerifyTold) -> u32
+fn step(held: &mut Held, progress: &mut ProgressReport, told: &mut VerifyReport) -> u32
     requires progress { progress.old ≡ spec.no_progress }
     requires told { told.old ≡ spec.no_finding }
     ensures other { spec.is_verification held.old.what ≡ false → (result ≡ 102) ×
         (progress.new ≡ spec.no_progress) × (told.new ≡ spec.no_finding) ×
         (held.new.what ≡ held.old.what) }
     ensures steps { (v : spec.Verifying) → held.old.what ≡ spec.VerificationOf v →
-        spec.IsVerificationWhere (spec.TellsStep v result progress.new told.new) held.new.what }
+        spec.IsVerificationWhere (spec.ReportsStep v result progress.new told.new) held.new.what }
     ensures found { spec.found_by held.new ≡ spec.found_by held.old }
 {
     match &mut held.what {
@@ -95,8 +95,8 @@ fn step(held: &mut Held, progress: &mut ProgressTold, told: &mut VerifyTold) -> 
 pub extern "C" fn sst_verification_step(
     alloc: Global,
     verification: &mut Handle,
-    progress: &mut ProgressTold,
-    told: &mut VerifyTold,
+    progress: &mut ProgressReport,
+    told: &mut VerifyReport,
 ) -> u32
     ensures shut { verification.old.boxed.value ≡ None → (result ≡ 100) ×
         (progress.new ≡ spec.no_progress) × (told.new ≡ spec.no_finding) ×
@@ -109,7 +109,7 @@ pub extern "C" fn sst_verification_step(
     ensures steps { (h : spec.HeldValue) (v : spec.Verifying) →
         verification.old.boxed.value ≡ Some h →
         h.what ≡ spec.VerificationOf v → IsSomeAnd verification.new.boxed.value (λ k.
-        spec.IsVerificationWhere (spec.TellsStep v result progress.new told.new) k.what) }
+        spec.IsVerificationWhere (spec.ReportsStep v result progress.new told.new) k.what) }
     // What a read found stays.
     ensures found { (h : spec.HeldValue) → verification.old.boxed.value ≡ Some h →
         IsSomeAnd verification.new.boxed.value (λ k. spec.found_by k ≡ spec.found_by h) }

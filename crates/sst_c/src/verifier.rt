@@ -3,7 +3,7 @@ ghost use Rattle.std.specs.Prelude.{◌≡◌, IfErr, IfOk};
 ghost use Rattle.sst_c.specs.Words as spec;
 
 use crate::codes::{FAULTY, NO_MEMORY};
-use crate::verify::{VerifyTold, tell_finding, tell_verified};
+use crate::verify::{VerifyReport, tell_finding, tell_verified};
 use lsm_readers::{Table, Verification, Verified, VerifyError};
 use sst_blocks::Error;
 use std::marker::Model;
@@ -11,7 +11,7 @@ use std::marker::Model;
 /// How far a verification is.
 #[repr(C)]
 #[derive(Clone, Copy)]
-pub struct ProgressTold {
+pub struct ProgressReport {
     /// How many bytes of data blocks were read.
     pub bytes_read: u64,
     /// How many the table says that there are.
@@ -40,10 +40,10 @@ impl Model for Verifier {
 }
 
 /// What is told of no verification.
-pub(crate) fn no_progress() -> ProgressTold
+pub(crate) fn no_progress() -> ProgressReport
     ensures { result ≡ spec.no_progress }
 {
-    ProgressTold {
+    ProgressReport {
         bytes_read: 0,
         data_size: 0,
         at_end: 0,
@@ -61,10 +61,10 @@ fn end_of(answer: &Result<Option<Verified>, VerifyError>) -> u64
 }
 
 // Tells what a step answered.
-fn tell_answer(answer: &Result<Option<Verified>, VerifyError>, told: &mut VerifyTold) -> u32
+fn tell_answer(answer: &Result<Option<Verified>, VerifyError>, told: &mut VerifyReport) -> u32
     requires { told.old ≡ spec.no_finding }
     ensures code { result ≡ spec.step_code answer.now }
-    ensures told { told.new ≡ spec.step_told answer.now }
+    ensures told { told.new ≡ spec.step_result answer.now }
 {
     match answer {
         Ok(None) => 0,
@@ -93,10 +93,10 @@ impl Verifier {
     }
 
     // How far it is, and whether it is at its end.
-    fn progress(&self, at_end: u64) -> ProgressTold
-        ensures { result ≡ spec.progress_told self.now at_end }
+    fn progress(&self, at_end: u64) -> ProgressReport
+        ensures { result ≡ spec.progress_result self.now at_end }
     {
-        ProgressTold {
+        ProgressReport {
             bytes_read: self.verification.bytes_read(),
             data_size: self.data_size,
             at_end,
@@ -104,9 +104,9 @@ impl Verifier {
     }
 
     /// Makes a step, and tells what it answered.
-    pub(crate) fn step(&mut self, progress: &mut ProgressTold, told: &mut VerifyTold) -> u32
+    pub(crate) fn step(&mut self, progress: &mut ProgressReport, told: &mut VerifyReport) -> u32
         requires { told.old ≡ spec.no_finding }
-        ensures { spec.TellsStep self.old result progress.new told.new self.new }
+        ensures { spec.ReportsStep self.old result progress.new told.new self.new }
     {
         let answer = self.verification.step();
         *progress = self.progress(end_of(&answer));

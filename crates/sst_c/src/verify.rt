@@ -11,7 +11,7 @@ use std::alloc::Global;
 /// What a verification found: what the table has where it is sound, else what is wrong, and where.
 #[repr(C)]
 #[derive(Clone, Copy)]
-pub struct VerifyTold {
+pub struct VerifyReport {
     /// How many entries there are.
     pub item_count: u64,
     /// How many data blocks there are.
@@ -34,10 +34,10 @@ pub struct VerifyTold {
 }
 
 /// What is told where nothing is found.
-pub(crate) fn nothing() -> VerifyTold
+pub(crate) fn nothing() -> VerifyReport
     ensures { result ≡ spec.no_finding }
 {
-    VerifyTold {
+    VerifyReport {
         item_count: 0,
         data_block_count: 0,
         offset: 0,
@@ -78,10 +78,10 @@ fn detail_of(fault: &Fault) -> u32
 }
 
 /// What is told of what is wrong.
-pub(crate) fn tell_finding(finding: &Finding) -> VerifyTold
-    ensures { result ≡ spec.finding_told finding.now }
+pub(crate) fn tell_finding(finding: &Finding) -> VerifyReport
+    ensures { result ≡ spec.finding_result finding.now }
 {
-    VerifyTold {
+    VerifyReport {
         item_count: 0,
         data_block_count: 0,
         offset: finding.offset,
@@ -93,10 +93,10 @@ pub(crate) fn tell_finding(finding: &Finding) -> VerifyTold
 }
 
 /// What is told of a sound table.
-pub(crate) fn tell_verified(verified: Verified) -> VerifyTold
-    ensures { result ≡ spec.verified_told verified }
+pub(crate) fn tell_verified(verified: Verified) -> VerifyReport
+    ensures { result ≡ spec.verified_result verified }
 {
-    VerifyTold {
+    VerifyReport {
         item_count: verified.item_count,
         data_block_count: verified.data_block_count,
         offset: 0,
@@ -107,25 +107,25 @@ pub(crate) fn tell_verified(verified: Verified) -> VerifyTold
     }
 }
 
-fn verify(table: &Table, told: &mut VerifyTold) -> u32
+fn verify(table: &Table, told: &mut VerifyReport) -> u32
     requires { told.old ≡ spec.no_finding }
     ensures told { spec.VerifyAnswers result told.new
         (spec.table_found (spec.body_of table.now.bytes) table.now.parts) }
     ensures early { let body = spec.body_of table.now.bytes in
-        spec.TellsFinding result told.new (spec.table_early body table.now.parts) }
+        spec.ReportsFinding result told.new (spec.table_early body table.now.parts) }
     ensures first { let body = spec.body_of table.now.bytes in
-        spec.TellsWrong (spec.IsFirstFinding body table.now.parts) result told.new }
-    ensures sound { result ≡ 0 → spec.TellsCounts table.now.bytes told.new }
+        spec.ReportsWrong (spec.IsFirstFinding body table.now.parts) result told.new }
+    ensures sound { result ≡ 0 → spec.ReportsCounts table.now.bytes told.new }
     ensures complete { (es : List spec.Entry) → spec.StoresList table.now.bytes es → result ≢ 107 }
 {
     tell(&table.verify(), told)
 }
 
 // Tells what a verification came to.
-fn tell(came: &Result<Verified, VerifyError>, told: &mut VerifyTold) -> u32
+fn tell(came: &Result<Verified, VerifyError>, told: &mut VerifyReport) -> u32
     requires { told.old ≡ spec.no_finding }
     ensures code { result ≡ spec.verify_code came.now }
-    ensures told { told.new ≡ spec.verify_told came.now }
+    ensures told { told.new ≡ spec.verify_result came.now }
 {
     match came {
         Ok(verified) => {
@@ -140,18 +140,18 @@ fn tell(came: &Result<Verified, VerifyError>, told: &mut VerifyTold) -> u32
     }
 }
 
-fn verify_held(held: &Held, told: &mut VerifyTold) -> u32
+fn verify_held(held: &Held, told: &mut VerifyReport) -> u32
     requires { told.old ≡ spec.no_finding }
     ensures other { spec.is_table held.now.what ≡ false →
         (result ≡ 102) × (told.new ≡ spec.no_finding) }
     ensures told { (t : spec.OpenTable) → held.now.what ≡ spec.TableOf t →
         spec.VerifyAnswers result told.new (spec.table_found (spec.body_of t.bytes) t.parts) }
     ensures early { (t : spec.OpenTable) → held.now.what ≡ spec.TableOf t →
-        spec.TellsFinding result told.new (spec.table_early (spec.body_of t.bytes) t.parts) }
+        spec.ReportsFinding result told.new (spec.table_early (spec.body_of t.bytes) t.parts) }
     ensures first { (t : spec.OpenTable) → held.now.what ≡ spec.TableOf t →
-        spec.TellsWrong (spec.IsFirstFinding (spec.body_of t.bytes) t.parts) result told.new }
+        spec.ReportsWrong (spec.IsFirstFinding (spec.body_of t.bytes) t.parts) result told.new }
     ensures sound { (t : spec.OpenTable) → held.now.what ≡ spec.TableOf t → result ≡ 0 →
-        spec.TellsCounts t.bytes told.new }
+        spec.ReportsCounts t.bytes told.new }
     ensures complete { (t : spec.OpenTable) (es : List spec.Entry) →
         held.now.what ≡ spec.TableOf t → spec.StoresList t.bytes es → result ≢ 107 }
 {
@@ -166,7 +166,11 @@ fn verify_held(held: &Held, told: &mut VerifyTold) -> u32
 /// 102 where it holds no table, and for want of memory, which says nothing of the table; zeros are
 /// told then.
 #[unsafe(no_mangle)]
-pub extern "C" fn sst_table_verify(alloc: Global, table: &mut Handle, told: &mut VerifyTold) -> u32
+pub extern "C" fn sst_table_verify(
+    alloc: Global,
+    table: &mut Handle,
+    told: &mut VerifyReport,
+) -> u32
     ensures kept { table.new.boxed.value ≡ table.old.boxed.value }
     ensures shut { table.old.boxed.value ≡ None → (result ≡ 100) × (told.new ≡ spec.no_finding) }
     ensures other { (h : spec.HeldValue) → table.old.boxed.value ≡ Some h →
@@ -179,14 +183,14 @@ pub extern "C" fn sst_table_verify(alloc: Global, table: &mut Handle, told: &mut
     // memory there is,
     ensures early { (h : spec.HeldValue) (t : spec.OpenTable) → table.old.boxed.value ≡ Some h →
         h.what ≡ spec.TableOf t →
-        spec.TellsFinding result told.new (spec.table_early (spec.body_of t.bytes) t.parts) }
+        spec.ReportsFinding result told.new (spec.table_early (spec.body_of t.bytes) t.parts) }
     // and what is told is wrong there, and all that is read before it is sound.
     ensures first { (h : spec.HeldValue) (t : spec.OpenTable) → table.old.boxed.value ≡ Some h →
         h.what ≡ spec.TableOf t →
-        spec.TellsWrong (spec.IsFirstFinding (spec.body_of t.bytes) t.parts) result told.new }
+        spec.ReportsWrong (spec.IsFirstFinding (spec.body_of t.bytes) t.parts) result told.new }
     // A table that is verified stores a list, which has as many entries and data blocks;
     ensures sound { (h : spec.HeldValue) (t : spec.OpenTable) → table.old.boxed.value ≡ Some h →
-        h.what ≡ spec.TableOf t → result ≡ 0 → spec.TellsCounts t.bytes told.new }
+        h.what ≡ spec.TableOf t → result ≡ 0 → spec.ReportsCounts t.bytes told.new }
     // in one that stores a list nothing wrong is found.
     ensures complete { (h : spec.HeldValue) (t : spec.OpenTable) (es : List spec.Entry) →
         table.old.boxed.value ≡ Some h → h.what ≡ spec.TableOf t → spec.StoresList t.bytes es →

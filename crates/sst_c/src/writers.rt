@@ -13,7 +13,7 @@ use std::alloc::Global;
 
 fn new_writer(alloc: Global, options: &TableOptions) -> Result<Writer, Error>
     requires { spec.are_usable options.now ≡ true }
-    ensures ok { IfOk result (λ w. w ≡ spec.writing_told options.now) }
+    ensures ok { IfOk result (λ w. w ≡ spec.decode_writing options.now) }
     ensures err { IfErr result (λ e. e ≡ spec.OutOfMemory) }
 {
     let created_at = Timestamp::from(u128::from(options.created_at));
@@ -27,7 +27,7 @@ fn begin(alloc: Global, options: &TableOptions, writer: &mut Handle) -> u32
     requires usable { spec.are_usable options.now ≡ true }
     ensures memory { (result ≡ 0) ⊎ (result ≡ 1) }
     ensures opened { result ≡ 0 → IsSomeAnd writer.new.boxed.value (λ h. (spec.found_by h ≡ None)
-        × (spec.writer_in h.what ≡ Some (spec.writing_told options.now))
+        × (spec.writer_in h.what ≡ Some (spec.decode_writing options.now))
         × (spec.files_held h.what ≡ [])) }
     ensures left { result ≢ 0 → writer.new.boxed.value ≡ None }
 {
@@ -54,7 +54,7 @@ pub extern "C" fn sst_writer_open(alloc: Global, options: &TableOptions, writer:
     ensures memory { writer.old.boxed.value ≡ None → spec.are_usable options.now ≡ true →
         (result ≡ 0) ⊎ (result ≡ 1) }
     ensures opened { result ≡ 0 → IsSomeAnd writer.new.boxed.value (λ h. (spec.found_by h ≡ None)
-        × (spec.writer_in h.what ≡ Some (spec.writing_told options.now))
+        × (spec.writer_in h.what ≡ Some (spec.decode_writing options.now))
         × (spec.files_held h.what ≡ [])) }
     ensures left { result ≢ 0 → writer.new.boxed.value ≡ writer.old.boxed.value }
 {
@@ -69,7 +69,7 @@ pub extern "C" fn sst_writer_open(alloc: Global, options: &TableOptions, writer:
 
 // The kind that C names.
 fn kind_of(kind: u64) -> Option<ValueType>
-    ensures { result ≡ spec.kind_told kind }
+    ensures { result ≡ spec.decode_kind kind }
 {
     match kind {
         1 => Some(ValueType::Value),
@@ -126,11 +126,11 @@ pub(crate) fn add_kind(
     kind: u64,
     value: &[u8],
 ) -> u32
-    ensures kind { spec.kind_told kind ≡ None → (result ≡ 105) × (writer.new ≡ writer.old) }
-    ensures order { is_some (spec.kind_told kind) ≡ true →
+    ensures kind { spec.decode_kind kind ≡ None → (result ≡ 105) × (writer.new ≡ writer.old) }
+    ensures order { is_some (spec.decode_kind kind) ≡ true →
         spec.may_be_written (spec.written writer.old) key.now seqno ≡ false →
         (result ≡ 104) × (writer.new ≡ writer.old) }
-    ensures took { (k : spec.Kind) → spec.kind_told kind ≡ Some k →
+    ensures took { (k : spec.Kind) → spec.decode_kind kind ≡ Some k →
         spec.may_be_written (spec.written writer.old) key.now seqno ≡ true →
         spec.TookEntry writer.old (spec.entry key.now value.now seqno k) result writer.new }
 {
@@ -144,13 +144,13 @@ fn add(held: &mut Held, key: &[u8], seqno: SeqNo, kind: u64, value: &[u8]) -> u3
     ensures other { spec.writer_in held.old.what ≡ None →
         (result ≡ 102) × (held.new.what ≡ held.old.what) }
     ensures kind { (w : spec.WritingValue) → spec.writer_in held.old.what ≡ Some w →
-        spec.kind_told kind ≡ None → (result ≡ 105) × (held.new.what ≡ held.old.what) }
+        spec.decode_kind kind ≡ None → (result ≡ 105) × (held.new.what ≡ held.old.what) }
     ensures order { (w : spec.WritingValue) → spec.writer_in held.old.what ≡ Some w →
-        is_some (spec.kind_told kind) ≡ true →
+        is_some (spec.decode_kind kind) ≡ true →
         spec.may_be_written (spec.written w) key.now seqno ≡ false →
         (result ≡ 104) × (held.new.what ≡ held.old.what) }
     ensures took { (w : spec.WritingValue) (k : spec.Kind) → spec.writer_in held.old.what ≡ Some w →
-        spec.kind_told kind ≡ Some k → spec.may_be_written (spec.written w) key.now seqno ≡ true →
+        spec.decode_kind kind ≡ Some k → spec.may_be_written (spec.written w) key.now seqno ≡ true →
         let e = spec.entry key.now value.now seqno k in
         IsSomeAnd (spec.writer_in held.new.what) (spec.TookEntry w e result) }
     ensures tables { spec.files_held held.new.what ≡ spec.files_held held.old.what }
@@ -185,17 +185,17 @@ pub extern "C" fn sst_writer_add(
         spec.writer_in h.what ≡ None →
         (result ≡ 102) × IsSomeAnd writer.new.boxed.value (λ k. k.what ≡ h.what) }
     ensures kind { (h : spec.HeldValue) (w : spec.WritingValue) → writer.old.boxed.value ≡ Some h →
-        spec.writer_in h.what ≡ Some w → spec.kind_told kind ≡ None →
+        spec.writer_in h.what ≡ Some w → spec.decode_kind kind ≡ None →
         (result ≡ 105) × IsSomeAnd writer.new.boxed.value (λ k. k.what ≡ h.what) }
     ensures order { (h : spec.HeldValue) (w : spec.WritingValue) → writer.old.boxed.value ≡ Some h →
-        spec.writer_in h.what ≡ Some w → is_some (spec.kind_told kind) ≡ true →
+        spec.writer_in h.what ≡ Some w → is_some (spec.decode_kind kind) ≡ true →
         spec.may_be_written (spec.written w) key.now seqno ≡ false →
         (result ≡ 104) × IsSomeAnd writer.new.boxed.value (λ k. k.what ≡ h.what) }
     // An entry that may follow is taken, or refused with the first fault: the writer has failed.
     // Where there is a fault, no want of memory is told.
     ensures took { (h : spec.HeldValue) (w : spec.WritingValue) (k : spec.Kind) →
         writer.old.boxed.value ≡ Some h →
-        spec.writer_in h.what ≡ Some w → spec.kind_told kind ≡ Some k →
+        spec.writer_in h.what ≡ Some w → spec.decode_kind kind ≡ Some k →
         spec.may_be_written (spec.written w) key.now seqno ≡ true →
         let e = spec.entry key.now value.now seqno k in
         IsSomeAnd writer.new.boxed.value (λ k.
@@ -217,7 +217,7 @@ pub extern "C" fn sst_writer_add(
 // Finishes a writer, and puts its table behind others, where something was written.
 #[tactic(auto, using(crate::proofs::Answering::tell), unfolding(crate::specs::Writing::AddsFileOf))]
 fn finish_behind(tables: &mut Vec<FinishedTable>, writer: Writer) -> u32
-    ensures told { spec.FinishTold result writer }
+    ensures told { spec.FinishReported result writer }
     ensures finished { result ≡ 0 → spec.AddsFileOf writer tables.old.items tables.new.items }
     ensures refused { result ≢ 0 → tables.new.items ≡ tables.old.items }
 {
@@ -238,7 +238,7 @@ fn finish_behind(tables: &mut Vec<FinishedTable>, writer: Writer) -> u32
 fn finish_files(files: &mut Files) -> u32
     ensures none { files.old.writer ≡ None → (result ≡ 102) × (files.new ≡ files.old) }
     ensures told { (w : spec.WritingValue) → files.old.writer ≡ Some w →
-        spec.FinishTold result w }
+        spec.FinishReported result w }
     ensures given { (w : spec.WritingValue) → files.old.writer ≡ Some w → files.new.writer ≡ None }
     ensures finished { (w : spec.WritingValue) → files.old.writer ≡ Some w → result ≡ 0 →
         spec.AddsFileOf w files.old.tables.items files.new.tables.items }
@@ -255,7 +255,7 @@ fn finish(held: &mut Held) -> u32
     ensures other { spec.writer_in held.old.what ≡ None →
         (result ≡ 102) × (held.new.what ≡ held.old.what) }
     ensures told { (w : spec.WritingValue) → spec.writer_in held.old.what ≡ Some w →
-        spec.FinishTold result w }
+        spec.FinishReported result w }
     ensures given { (w : spec.WritingValue) → spec.writer_in held.old.what ≡ Some w →
         spec.writer_in held.new.what ≡ None }
     ensures kind { spec.are_files held.new.what ≡ spec.are_files held.old.what }
@@ -284,7 +284,7 @@ pub extern "C" fn sst_writer_finish(alloc: Global, writer: &mut Handle) -> u32
         (result ≡ 102) × IsSomeAnd writer.new.boxed.value (λ k. k.what ≡ h.what) }
     // Of a writer that had failed, and where nothing was written, no want of memory is told.
     ensures told { (h : spec.HeldValue) (w : spec.WritingValue) → writer.old.boxed.value ≡ Some h →
-        spec.writer_in h.what ≡ Some w → spec.FinishTold result w }
+        spec.writer_in h.what ≡ Some w → spec.FinishReported result w }
     ensures given { (h : spec.HeldValue) (w : spec.WritingValue) → writer.old.boxed.value ≡ Some h →
         spec.writer_in h.what ≡ Some w →
         IsSomeAnd writer.new.boxed.value (λ k. spec.writer_in k.what ≡ None) }

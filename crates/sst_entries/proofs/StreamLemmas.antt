@@ -1,4 +1,4 @@
--- What `Deals` and `CanDeal` give for one call, and how they are proved from an invariant.
+-- What `YieldsExactly` and `CanYield` give for one call, and how they are proved from an invariant.
 use Rattle.std.proofs.Common.{◌≡◌, refl, sym, ◌∙◌, ap, subst, Bool, false, List, [], ◌∷◌, ◌++◌}
 use Rattle.std.proofs.Common.{reverse}
 use Rattle.std.proofs.lemmas.List.{reverse-append}
@@ -7,8 +7,8 @@ use Rattle.sst_entries.specs.declared.stream.Direction.{Direction}
 use Rattle.sst_entries.specs.declared.stream.Direction.TheVariants.{Front, Back}
 use Rattle.sst_entries.specs.declared.error.Error.{Error}
 use Rattle.sst_entries.specs.Entry.{Entry}
-use Rattle.sst_entries.specs.Stream.{ok_results, first, but_first, last, but_last, deal, NoneStops}
-use Rattle.sst_entries.specs.Stream.{Steps, Runs, Deals, CanDeal}
+use Rattle.sst_entries.specs.Stream.{ok_results, first, but_first, last, but_last, yield_each, NoneStops}
+use Rattle.sst_entries.specs.Stream.{Steps, Runs, YieldsExactly, CanYield}
 
 -- the head and the tail of an equation of lists
 pub head_eq : {A : Type 0} {x y : A} {xs ys : List A} → x ∷ xs ≡ y ∷ ys → x ≡ y
@@ -19,9 +19,9 @@ tail_eq e = cc
 
 module _ {S A : Type 0} (stops : Option A → Bool) (front back : S → Option A → S → Type 0) where
   -- a call at the front gives the first, and leaves the others
-  pub deals_front : (s : S) (xs : List A) (r : Option A) (t : S) → Deals stops front back s xs
-      → front s r t → stops r ≡ false → (r ≡ first xs) × Deals stops front back t (but_first xs)
-  deals_front s xs r t d step goes = (
+  pub yields_front : (s : S) (xs : List A) (r : Option A) (t : S) → YieldsExactly stops front back s xs
+      → front s r t → stops r ≡ false → (r ≡ first xs) × YieldsExactly stops front back t (but_first xs)
+  yields_front s xs r t d step goes = (
     head_eq (d.answers (Front ∷ []) (r ∷ []) t (t, step, refl) (goes, tt)),
     record {
       answers = λ ends rs u runs fine. tail_eq
@@ -30,9 +30,9 @@ module _ {S A : Type 0} (stops : Option A → Bool) (front back : S → Option A
   )
 
   -- a call at the back gives the last
-  pub deals_back : (s : S) (xs : List A) (r : Option A) (t : S) → Deals stops front back s xs
-      → back s r t → stops r ≡ false → (r ≡ last xs) × Deals stops front back t (but_last xs)
-  deals_back s xs r t d step goes = (
+  pub yields_back : (s : S) (xs : List A) (r : Option A) (t : S) → YieldsExactly stops front back s xs
+      → back s r t → stops r ≡ false → (r ≡ last xs) × YieldsExactly stops front back t (but_last xs)
+  yields_back s xs r t d step goes = (
     head_eq (d.answers (Back ∷ []) (r ∷ []) t (t, step, refl) (goes, tt)),
     record {
       answers = λ ends rs u runs fine. tail_eq
@@ -41,17 +41,17 @@ module _ {S A : Type 0} (stops : Option A → Bool) (front back : S → Option A
   )
 
   -- what every call keeps is enough
-  pub deals_by : (Has : S → List A → Type 0)
+  pub yields_by : (Has : S → List A → Type 0)
       → ((s : S) (xs : List A) (r : Option A) (t : S) → Has s xs → front s r t → stops r ≡ false
       → (r ≡ first xs) × Has t (but_first xs))
       → ((s : S) (xs : List A) (r : Option A) (t : S) → Has s xs → back s r t → stops r ≡ false
       → (r ≡ last xs) × Has t (but_last xs))
-      → (s : S) (xs : List A) → Has s xs → Deals stops front back s xs
-  deals_by Has at_front at_back s xs has = record
+      → (s : S) (xs : List A) → Has s xs → YieldsExactly stops front back s xs
+  yields_by Has at_front at_back s xs has = record
       { answers = λ ends rs t. along ends rs s xs t has }
     where
       along : (ends : List Direction) (rs : List (Option A)) (s : S) (xs : List A) (t : S)
-          → Has s xs → Runs front back s ends rs t → NoneStops stops rs → rs ≡ deal xs ends
+          → Has s xs → Runs front back s ends rs t → NoneStops stops rs → rs ≡ yield_each xs ends
       along [] [] s xs t has runs fine = refl
       along [] (r ∷ rs) s xs t has runs fine = absurd runs
       along (e ∷ ends) [] s xs t has runs fine = absurd runs
@@ -65,31 +65,31 @@ module _ {S A : Type 0} (stops : Option A → Bool) (front back : S → Option A
           cc (one.0, more)
 
 module _ {S A : Type 0} (front back : S → Option A → S → Type 0) (can can_back : S → Type 0) where
-  pub can_front : (s : S) (r : Option A) (t : S) → CanDeal front back can can_back s → front s r t
-      → CanDeal front back can can_back t
+  pub can_front : (s : S) (r : Option A) (t : S) → CanYield front back can can_back s → front s r t
+      → CanYield front back can can_back t
   can_front s r t d step = record {
     at = λ ends rs u runs. d.at (Front ∷ ends) (r ∷ rs) u
         (t, step, runs);
   }
 
-  pub can_after_back : (s : S) (r : Option A) (t : S) → CanDeal front back can can_back s
-      → back s r t → CanDeal front back can can_back t
+  pub can_after_back : (s : S) (r : Option A) (t : S) → CanYield front back can can_back s
+      → back s r t → CanYield front back can can_back t
   can_after_back s r t d step = record {
     at = λ ends rs u runs. d.at (Back ∷ ends) (r ∷ rs) u
         (t, step, runs);
   }
 
-  pub can_now : (s : S) → CanDeal front back can can_back s → can s
+  pub can_now : (s : S) → CanYield front back can can_back s → can s
   can_now s d = (d.at [] [] s refl).0
 
-  pub can_now_back : (s : S) → CanDeal front back can can_back s → can_back s
+  pub can_now_back : (s : S) → CanYield front back can can_back s → can_back s
   can_now_back s d = (d.at [] [] s refl).1
 
   pub can_by : (May : S → Type 0)
       → ((s : S) → May s → can s × can_back s)
       → ((s : S) (r : Option A) (t : S) → May s → front s r t → May t)
       → ((s : S) (r : Option A) (t : S) → May s → back s r t → May t)
-      → (s : S) → May s → CanDeal front back can can_back s
+      → (s : S) → May s → CanYield front back can can_back s
   can_by May ready at_front at_back s may = record { at = λ ends rs t. along ends rs s t may }
     where
       along : (ends : List Direction) (rs : List (Option A)) (s t : S) → May s

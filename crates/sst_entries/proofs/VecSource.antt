@@ -5,8 +5,8 @@ use Rattle.std.specs.Vec.Iter.{into_iter_items, into_iter_len, into_iter_steps}
 use Rattle.std.specs.Vec.Iter.{into_iter_steps_back}
 use Rattle.std.specs.declared.vec.IntoIter.{IntoIter}
 use Rattle.std.proofs.lemmas.List.{reverse-append, reverse-reverse}
-use Rattle.sst_entries.specs.Stream.{Deals, first, but_first, last, but_last}
-use Rattle.sst_entries.proofs.StreamLemmas.{deals_by}
+use Rattle.sst_entries.specs.Stream.{YieldsExactly, first, but_first, last, but_last}
+use Rattle.sst_entries.proofs.StreamLemmas.{yields_by}
 
 empty : {X : Type 0} (xs : List X) → length xs ≡ 0 → xs ≡ []
 empty [] e = refl
@@ -38,9 +38,9 @@ vec_back {X} s xs (Some x) t h k =
     )
 
 -- whatever stops a source, a vector's iterator deals its items
-pub vec_deals : {X Z : Type 0} (stops : Option X → Bool) (s : IntoIter X Z)
-    → Deals stops into_iter_steps into_iter_steps_back s (into_iter_items s)
-vec_deals {X} {Z} stops s = deals_by stops into_iter_steps into_iter_steps_back
+pub vec_yields : {X Z : Type 0} (stops : Option X → Bool) (s : IntoIter X Z)
+    → YieldsExactly stops into_iter_steps into_iter_steps_back s (into_iter_items s)
+vec_yields {X} {Z} stops s = yields_by stops into_iter_steps into_iter_steps_back
     (λ (s : IntoIter X Z) (xs : List X). into_iter_items s ≡ xs)
     (λ s xs r t h k fine. vec_front s xs r t h k) (λ s xs r t h k fine. vec_back s xs r t h k) s
     (into_iter_items s) refl

@@ -33,10 +33,10 @@ up_to_error (Err e ∷ rs) = Err e ∷ []
 
 -- The items of calls at a list of ends: the first or the last that remains, `None` once none
 -- remains.
-abbrev pub deal : {A : Type 0} → List A → List Direction → List (Option A)
-deal xs [] = []
-deal xs (Front ∷ ends) = first xs ∷ deal (but_first xs) ends
-deal xs (Back ∷ ends) = last xs ∷ deal (but_last xs) ends
+abbrev pub yield_each : {A : Type 0} → List A → List Direction → List (Option A)
+yield_each xs [] = []
+yield_each xs (Front ∷ ends) = first xs ∷ yield_each (but_first xs) ends
+yield_each xs (Back ∷ ends) = last xs ∷ yield_each (but_last xs) ends
 
 -- No item of the list stops the source.
 abbrev pub NoneStops : {A : Type 0} → (Option A → Bool) → List (Option A) → Type 0
@@ -82,13 +82,13 @@ pub record LedBy {S A : Type 0} (front back : S → Option A → S → Type 0) (
   pub ran : Runs front back s (take asked ends) answers t
 
 -- For every list of ends, the calls yield the items of `deal`, up to one that stops the source.
-pub record Deals {S A : Type 0} (stops : Option A → Bool) (front back : S → Option A → S → Type 0)
+pub record YieldsExactly {S A : Type 0} (stops : Option A → Bool) (front back : S → Option A → S → Type 0)
     (s : S) (xs : List A) : Type 0 where
   pub answers : (ends : List Direction) (rs : List (Option A)) (t : S) → Runs front back s ends rs t
-      → NoneStops stops rs → rs ≡ deal xs ends
+      → NoneStops stops rs → rs ≡ yield_each xs ends
 
 -- After any calls, both ends may be called.
-pub record CanDeal {S A : Type 0} (front back : S → Option A → S → Type 0)
+pub record CanYield {S A : Type 0} (front back : S → Option A → S → Type 0)
     (can can_back : S → Type 0) (s : S) : Type 0 where
   pub at : (ends : List Direction) (rs : List (Option A)) (t : S) → Runs front back s ends rs t
       → can t × can_back t
@@ -98,16 +98,16 @@ abbrev pub nowhere : {S A : Type 0} → S → Option A → S → Type 0
 nowhere s r t = ⊥
 
 -- A call yields the first of the remaining items.
-abbrev pub DealsFirst : (Error → Bool) → {T X : Type 0} → (T → List (Result X Error) → Type 0) → T
+abbrev pub YieldsFirst : (Error → Bool) → {T X : Type 0} → (T → List (Result X Error) → Type 0) → T
     → Option (Result X Error) → T → Type 0
-DealsFirst stops {X = X} Has s r t =
+YieldsFirst stops {X = X} Has s r t =
     (xs : List (Result X Error)) → Has s xs → answer_stops stops r ≡ false
     → (r ≡ first xs) × Has t (but_first xs)
 
 -- A call yields the last of the remaining items.
-abbrev pub DealsLast : (Error → Bool) → {T X : Type 0} → (T → List (Result X Error) → Type 0) → T
+abbrev pub YieldsLast : (Error → Bool) → {T X : Type 0} → (T → List (Result X Error) → Type 0) → T
     → Option (Result X Error) → T → Type 0
-DealsLast stops {X = X} Has s r t =
+YieldsLast stops {X = X} Has s r t =
     (xs : List (Result X Error)) → Has s xs → answer_stops stops r ≡ false
     → (r ≡ last xs) × Has t (but_last xs)
 
@@ -137,15 +137,15 @@ pub record Answers {T X : Type 0} (May : T → Type 0)
 abbrev pub AnswersOf : {S X : Type 0} (front back : S → Option (Result X Error) → S → Type 0) → S
     → List Direction → List (Option (Result X Error)) → Type 0
 AnswersOf {X = X} front back s ends rs =
-    (stops : Error → Bool) (xs : List (Result X Error)) → Deals (answer_stops stops) front back s xs
-    → NoneStops (answer_stops stops) rs → rs ≡ deal xs ends
+    (stops : Error → Bool) (xs : List (Result X Error)) → YieldsExactly (answer_stops stops) front back s xs
+    → NoneStops (answer_stops stops) rs → rs ≡ yield_each xs ends
 
 -- A source that yields a list from both ends yields it from the front alone.
-abbrev pub DealsInFront : {S X : Type 0} (front back : S → Option (Result X Error) → S → Type 0) → S
+abbrev pub YieldsInFront : {S X : Type 0} (front back : S → Option (Result X Error) → S → Type 0) → S
     → Type 0
-DealsInFront {X = X} front back s =
-    (stops : Error → Bool) (xs : List (Result X Error)) → Deals (answer_stops stops) front back s xs
-    → Deals (answer_stops stops) front nowhere s xs
+YieldsInFront {X = X} front back s =
+    (stops : Error → Bool) (xs : List (Result X Error)) → YieldsExactly (answer_stops stops) front back s xs
+    → YieldsExactly (answer_stops stops) front nowhere s xs
 
 -- After the first error there is only `None`.
 abbrev pub EndAtError : {X : Type 0} → List (Option (Result X Error)) → Type 0

@@ -2,7 +2,7 @@ pub mod CommandLemmas
 pub mod PrintLemmas
 pub mod ShownLemmas
 pub mod CompactLemmas
-pub mod DealtLemmas
+pub mod YieldedLemmas
 pub mod EntryLemmas
 pub mod PackLemmas
 pub mod PendingLemmas

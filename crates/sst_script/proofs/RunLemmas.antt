@@ -9,12 +9,12 @@ use Rattle.sst_entries.specs.Entry.{Entry}
 use Rattle.sst_entries.specs.Error.{Fails, Gives}
 use Rattle.sst_entries.specs.Point.{point, within}
 use Rattle.sst_entries.specs.Stream.{nowhere, ok_results}
-use Rattle.sst_entries.proofs.FrontLemmas.{deals_in_front}
+use Rattle.sst_entries.proofs.FrontLemmas.{yields_in_front}
 use Rattle.sst_blocks.specs.table.Chunks.{joined}
 use Rattle.lsm_sorted.specs.merge.Union.{all_entries, newest, union_of}
 use Rattle.lsm_sorted.proofs.UnionLemmas.{ascends_in_order}
 use Rattle.lsm_readers.specs.point.Table.{OpenTable}
-use Rattle.lsm_runs.specs.RunLists.{DealsList, RunsHoldLists}
+use Rattle.lsm_runs.specs.RunLists.{YieldsList, RunsHoldLists}
 use Rattle.lsm_runs.specs.SeveralRuns.{union_in}
 use Rattle.lsm_runs.proofs.CompactedBack.{lift_zero}
 use Rattle.sst_script.specs.Runs.{Run, has_entry, repeats, run_tables, union}
@@ -56,20 +56,20 @@ module _ (rs : List Run) (ts : List (List OpenTable)) (same : run_tables rs ≡ 
       (union_same rs) (reads (lists_of rs) held)
 
   -- a range of them deals the newest of what lies within the bounds
-  pub range_deals : {S : Type 0} (front back : S → Option (Result Entry Error) → S → Type 0) (s : S)
+  pub range_yields : {S : Type 0} (front back : S → Option (Result Entry Error) → S → Type 0) (s : S)
       (low high from to : Bound (List ℕ)) → low ≡ from → high ≡ to
       → ((lists : List (List (List Entry))) → RunsHoldLists ts lists
-      → DealsList front back (newest (within low high (union_in lists))) s)
-      → DealsList front nowhere (newest (within from to (union rs))) s
-  range_deals {S} front back s low high from to low_is high_is deals =
-      let Deal : List Entry → Bound (List ℕ) → Bound (List ℕ) → Type 0 =
-      λ es l h. DealsList front back (newest (within l h es)) s in
-      let all : Deal (union rs) low high = subst (λ (es : List Entry). Deal es low high)
-      (union_same rs) (deals (lists_of rs) held) in
-      let there : Deal (union rs) from to = subst
-      (λ (l : Bound (List ℕ)). Deal (union rs) l to) low_is
-      (subst (λ (h : Bound (List ℕ)). Deal (union rs) low h) high_is all) in
-      λ stops memory. deals_in_front _ front back s _ (there stops memory)
+      → YieldsList front back (newest (within low high (union_in lists))) s)
+      → YieldsList front nowhere (newest (within from to (union rs))) s
+  range_yields {S} front back s low high from to low_is high_is yields =
+      let Yield : List Entry → Bound (List ℕ) → Bound (List ℕ) → Type 0 =
+      λ es l h. YieldsList front back (newest (within l h es)) s in
+      let all : Yield (union rs) low high = subst (λ (es : List Entry). Yield es low high)
+      (union_same rs) (yields (lists_of rs) held) in
+      let there : Yield (union rs) from to = subst
+      (λ (l : Bound (List ℕ)). Yield (union rs) l to) low_is
+      (subst (λ (h : Bound (List ℕ)). Yield (union rs) low h) high_is all) in
+      λ stops memory. yields_in_front _ front back s _ (there stops memory)
 
 -- ---- what is told, memory aside
 

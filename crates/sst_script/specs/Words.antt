@@ -6,7 +6,7 @@ pub use Rattle.sst_entries.specs.Stream.{nowhere}
 pub use Rattle.lsm_sorted.specs.merge.Union.{newest}
 pub use Rattle.lsm_sorted.specs.version.KeyRange.{key_bound}
 pub use Rattle.lsm_writers.specs.Writing.{IsWritable, may_be_written}
-pub use Rattle.lsm_runs.specs.RunLists.{DealsList}
+pub use Rattle.lsm_runs.specs.RunLists.{YieldsList}
 pub use Rattle.std.specs.Arc.{arc_value}
 pub use Rattle.std.specs.Char.{is_ascii_graphic}
 pub use Rattle.std.specs.Fmt.{decimal}

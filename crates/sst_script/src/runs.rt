@@ -49,7 +49,7 @@ fn collect_newest<A: Allocator, S: Iterator<Item = IterItem<A>>>(
     requires can { ⟦<NewestOf<S, A> as Iterator>⟧.can_next stream }
     requires ends { spec.IsFinite (⟦<NewestOf<S, A> as Iterator>⟧.remaining stream) }
     ensures { let gives = ⟦<NewestOf<S, A> as Iterator>⟧.next_gives in
-        (es : List spec.Entry) → spec.DealsList gives spec.nowhere es stream →
+        (es : List spec.Entry) → spec.YieldsList gives spec.nowhere es stream →
         spec.Gives spec.vec_items result (Ok es) }
 {
     collect(alloc, stream)
@@ -74,7 +74,7 @@ fn collect<A: Allocator, I: Iterator<Item = IterItem<A>>>(
 ) -> Result<Vec<InternalValue<A>, A>, Error>
     requires can { I.can_next stream }
     requires ends { spec.IsFinite (I.remaining stream) }
-    ensures { (es : List spec.Entry) → spec.DealsList I.next_gives spec.nowhere es stream →
+    ensures { (es : List spec.Entry) → spec.YieldsList I.next_gives spec.nowhere es stream →
         spec.Gives spec.vec_items result (Ok es) }
 {
     let mut items = Vec::new(alloc);

@@ -98,9 +98,9 @@ fn end_at(tops: &IndexBlock, place: usize) -> u8 {
 }
 
 // The end keys of the first partitions, and whether "a", "b" and "c" are admitted.
-type Told = ([u8; 3], bool);
+type Reported = ([u8; 3], bool);
 
-fn told(tops: &IndexBlock, source: &BlockSource) -> Result<Told, Error> {
+fn told(tops: &IndexBlock, source: &BlockSource) -> Result<Reported, Error> {
     let mut admits = true;
     for key in [b"a", b"b", b"c"] {
         admits &= says(source, tops, key)?;
@@ -110,7 +110,7 @@ fn told(tops: &IndexBlock, source: &BlockSource) -> Result<Told, Error> {
 
 // The number of partitions, the end keys of the first ones, and whether "a", "b" and "c" are
 // admitted.
-fn told_of(alloc: Global, settings: Settings) -> Result<(usize, Told), Error> {
+fn told_of(alloc: Global, settings: Settings) -> Result<(usize, Reported), Error> {
     let (count, bytes) = written(alloc, settings)?;
     let source = BlockSource::new(alloc, bytes)?;
     let told = asked_with(tops_of(&source), &source, told);

@@ -35,7 +35,7 @@ pub(crate) type Refusals = [u8; 5];
 type Ended = (u8, Option<TableId>, bool, Tables);
 
 /// The result of a writer: its error codes, and the result of `finish`.
-pub(crate) type Told = (Refusals, Option<TableId>, bool, Tables);
+pub(crate) type Reported = (Refusals, Option<TableId>, bool, Tables);
 
 /// A writer of rows.
 pub(crate) trait Takes {
@@ -181,7 +181,7 @@ pub(crate) fn told_by<T: Takes>(
     made: Result<T, Error>,
     rows: &[Row<'static>],
     given: Given,
-) -> Told {
+) -> Reported {
     let mut taking = match made {
         Ok(taking) => taking,
         Err(error) => return ([error.number(), 0, 0, 0, 0], None, true, NO_TABLES),
@@ -234,7 +234,7 @@ pub(crate) fn told<A: Allocator + Copy>(
     by: By,
     rows: &[Row<'static>],
     given: Given,
-) -> Told {
+) -> Reported {
     match by {
         By::Table(is_partitioned, size, tenths) => {
             told_by(table(alloc, is_partitioned, size, tenths), rows, given)

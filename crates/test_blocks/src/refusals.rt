@@ -1,6 +1,6 @@
 //! Writers after an allocation failure, for each request in turn; later requests succeed. They fail
 //! from then on. One function tests them all, so that its call is proved once.
-use crate::given::{By, Given, NO_TABLES, Refusals, Told, told};
+use crate::given::{By, Given, NO_TABLES, Refusals, Reported, told};
 use crate::part_refusals::{Part, filter, index, section, section_of_28};
 use sst_blocks::{Error, ValueType};
 use std::alloc::{Allocator, Global};
@@ -42,7 +42,7 @@ enum Work {
 
 // The result of writing a part, in the form of a writer of tables. An error before the part counts
 // as that of a new writer.
-fn as_told(part: Result<Part, Error>) -> Told {
+fn as_told(part: Result<Part, Error>) -> Reported {
     match part {
         Ok(part) => {
             let refusals = part.0;
@@ -55,7 +55,7 @@ fn as_told(part: Result<Part, Error>) -> Told {
 }
 
 // The error codes, and the checksums of the tables.
-fn outcome<A: Allocator + Copy>(alloc: A, work: Work) -> Told {
+fn outcome<A: Allocator + Copy>(alloc: A, work: Work) -> Reported {
     match work {
         Work::Short(by) => told(alloc, by, &SHORT_ROWS, Given::ByValue),
         Work::Long(by) => told(alloc, by, &LONG_ROWS, Given::ByValue),
@@ -70,7 +70,7 @@ fn outcome<A: Allocator + Copy>(alloc: A, work: Work) -> Told {
 
 // Whether a run writes the same bytes as with ample memory, or returns `OutOfMemory` after a
 // failing request. Long values are never written when a request fails.
-fn is_right<A: Allocator + Copy>(alloc: A, work: Work, ample: &Told, is_refused: bool) -> bool {
+fn is_right<A: Allocator + Copy>(alloc: A, work: Work, ample: &Reported, is_refused: bool) -> bool {
     let outcome = outcome(alloc, work);
     if outcome.0 == [0; 5] {
         return outcome == *ample && !(is_refused && matches!(work, Work::Long(_)));

@@ -2,7 +2,7 @@
 ghost use Rattle.std.specs.Prelude.{IfOk};
 ghost use Rattle.test_blocks.specs.Words as spec;
 
-use crate::given::{By, Given, NO_TABLES, Seen, Told, seen_of, told, told_by};
+use crate::given::{By, Given, NO_TABLES, Reported, Seen, seen_of, told, told_by};
 use lsm_writers::{
     BloomConstructionPolicy, FilterKind, IndexKind, MultiWriter, Options, TableId, TableIds,
     Timestamp, Writer, is_writable, write_list,
@@ -183,7 +183,7 @@ static TWO_KEYS: [Row<'static>; 2] = [
 ];
 
 // The results of a writer of several tables with options set at once, and one by one.
-fn by_tables(alloc: Global) -> [Told; 2] {
+fn by_tables(alloc: Global) -> [Reported; 2] {
     [
         told_by(at_once(alloc), &TWO_KEYS, Given::ByValue),
         told_by(one_by_one(alloc), &TWO_KEYS, Given::ByValue),
@@ -191,7 +191,7 @@ fn by_tables(alloc: Global) -> [Told; 2] {
 }
 
 // The result of a writer of one table.
-fn by_table(alloc: Global) -> Told {
+fn by_table(alloc: Global) -> Reported {
     told_by(table_at_once(alloc), &TWO_KEYS, Given::ByValue)
 }
 

@@ -2,7 +2,7 @@
 pub use Rattle.std.specs.Arc.{arc_value}
 pub use Rattle.std.specs.Iterator.{IsFinite}
 pub use Rattle.sst_entries.specs.Entry.{Entry}
-pub use Rattle.sst_entries.specs.Stream.{CanDeal, nowhere}
+pub use Rattle.sst_entries.specs.Stream.{CanYield, nowhere}
 pub use Rattle.lsm_sorted.specs.version.Run.{ArePlacesOf}
 pub use Rattle.sst_blocks.specs.table.Table.{IsTable}
 pub use Rattle.lsm_writers.specs.Filtering.{IsSmallFilter}

@@ -5,7 +5,7 @@ use Rattle.std.proofs.Common.{Bool, true, false, true≢false, get_or, length, r
 use Rattle.std.specs.Prelude.{IfErr, IfOk, IfSome, Option, Some, None, Result, Ok, Err}
 use Rattle.std.specs.Result.{IsErrAnd}
 use Rattle.std.proofs.lemmas.List.{get_or_default, take_more}
-use Rattle.lsm_tables.specs.Words.{Error, Gives, OpenTable, is_memory, recovered_told}
+use Rattle.lsm_tables.specs.Words.{Error, Gives, OpenTable, is_memory, recovered_result}
 use Rattle.tool_files.specs.declared.file_error.FileError.{FileError}
 use Rattle.tool_files.specs.declared.file_error.FileFault.{FileFault}
 use Rattle.tool_files.specs.declared.file_error.FileFault.TheVariants.{AfterOthers, CutShort, Folder}
@@ -18,12 +18,12 @@ use Rattle.tool_files.proofs.Steps.{list_at}
 
 -- what is told of some bytes is told of the table's
 pub recovered_so : (pinned : Bool) (told : Result OpenTable Error) (bytes : List ℕ)
-    → Gives (λ (t : OpenTable). t.parts) told (recovered_told bytes 0 pinned pinned)
+    → Gives (λ (t : OpenTable). t.parts) told (recovered_result bytes 0 pinned pinned)
     → IfOk told (λ t. t.bytes ≡ bytes) → IfOk told (λ t. t.global_seqno ≡ 0)
     → IfOk told (IsToldByBytes pinned)
 recovered_so pinned (Ok t) bytes gives same number = (
   subst (λ (bs : List ℕ).
-      Gives (λ (u : OpenTable). u.parts) (Ok t) (recovered_told bs 0 pinned pinned)) (sym same) gives,
+      Gives (λ (u : OpenTable). u.parts) (Ok t) (recovered_result bs 0 pinned pinned)) (sym same) gives,
   number,
 )
 recovered_so pinned (Err e) bytes gives same number = tt
@@ -67,12 +67,12 @@ told_read pinned known (Io error) h none = (h, none refl)
 -- what the bytes that were read tell, the file's bytes tell
 pub refused_told : (pinned : Bool) (known : Option (List ℕ)) (bytes : List ℕ) (e : Error)
     → IfSome known (λ k. bytes ≡ k)
-    → Gives (λ (t : OpenTable). t.parts) (Err e) (recovered_told bytes 0 pinned pinned)
+    → Gives (λ (t : OpenTable). t.parts) (Err e) (recovered_result bytes 0 pinned pinned)
     → TellsRefused pinned known (Refused e)
 refused_told pinned None bytes e same told = tt
 refused_told pinned (Some k) bytes e same told =
     subst (λ (bs : List ℕ). Gives (λ (t : OpenTable). t.parts) (Err e)
-    (recovered_told bs 0 pinned pinned)) same told
+    (recovered_result bs 0 pinned pinned)) same told
 
 -- ---- several files
 

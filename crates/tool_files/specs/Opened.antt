@@ -1,7 +1,7 @@
 -- Tables that are opened.
 use denote.Ref.{Bor}
 use Rattle.std.specs.Prelude.{◌≡◌, ℕ, Bool, List, [], ◌∷◌, ◌++◌, Option, None, IfSome, Ok, Err}
-use Rattle.lsm_tables.specs.Words.{Gives, OpenTable, recovered_told}
+use Rattle.lsm_tables.specs.Words.{Gives, OpenTable, recovered_result}
 use Rattle.tool_files.specs.declared.file_error.FileError.{FileError}
 use Rattle.tool_files.specs.declared.file_error.FileFault.{FileFault}
 use Rattle.tool_files.specs.declared.file_error.FileFault.TheVariants.{Refused}
@@ -11,7 +11,7 @@ use Rattle.tool_files.specs.Files.{IsReadFault, path_text}
 -- loaded or not
 abbrev pub IsToldByBytes : Bool → OpenTable → Type 0
 IsToldByBytes pinned t =
-    Gives (λ (u : OpenTable). u.parts) (Ok t) (recovered_told t.bytes 0 pinned pinned)
+    Gives (λ (u : OpenTable). u.parts) (Ok t) (recovered_result t.bytes 0 pinned pinned)
     × (t.global_seqno ≡ 0)
 
 -- its bytes are those of a file, where these are known
@@ -33,7 +33,7 @@ AreOpenedFrom pinned content (path ∷ paths) (t ∷ ts) =
 abbrev pub TellsRefused : Bool → Option (List ℕ) → FileFault → Type 0
 TellsRefused pinned known (Refused e) =
     IfSome known (λ bytes. Gives (λ (u : OpenTable). u.parts) (Err e)
-    (recovered_told bytes 0 pinned pinned))
+    (recovered_result bytes 0 pinned pinned))
 TellsRefused pinned known fault = IsReadFault fault × (known ≡ None)
 
 -- files were opened up to one that was refused, which is named

@@ -1,7 +1,7 @@
 //! Opening files as tables.
 ghost use Rattle.std.specs.Prelude.{◌≡◌, ◌++◌, ◌∷◌, [], Any, IfErr, IfOk, OnOk, length, true};
 ghost use Rattle.std.specs.List.{AllByRecursion};
-ghost use Rattle.lsm_tables.specs.Words.{Gives, OpenTable, recovered_told};
+ghost use Rattle.lsm_tables.specs.Words.{Gives, OpenTable, recovered_result};
 ghost use Rattle.tool_files.specs.Files.{is_memory_fault, path_text};
 ghost use Rattle.tool_files.specs.Opened.{AreOpenedFrom, HasContent, IsToldByBytes, StopsOpening};
 ghost use Rattle.tool_files.specs.Opened.{TellsRefused};
@@ -20,7 +20,7 @@ pub fn open_bytes<A: Allocator + Copy>(
     pinned: bool,
 ) -> Result<Table<A>, Error>
     ensures told { Gives (λ (t : OpenTable). t.parts) result
-        (recovered_told bytes 0 pinned pinned) }
+        (recovered_result bytes 0 pinned pinned) }
     ensures bytes { IfOk result (λ t. t.bytes ≡ bytes) }
     ensures recovered { IfOk result (IsToldByBytes pinned) }
 {

@@ -16,7 +16,7 @@ use Rattle.sst_entries.specs.declared.error.Error.TheVariants.{OutOfMemory}
 use Rattle.sst_entries.specs.Stream.{answer_stops, first, nowhere, ok_results, up_to_error}
 use Rattle.sst_entries.specs.Strict.{IsStrict, is_strict_after, may_follow}
 use Rattle.sst_entries.proofs.Refusals.{memory_is}
-use Rattle.sst_entries.proofs.StreamLemmas.{deals_front}
+use Rattle.sst_entries.proofs.StreamLemmas.{yields_front}
 use Rattle.sst_entries.proofs.Strictness.{test_from_strict}
 use Rattle.lsm_sorted.specs.merge.Ends.{R}
 use Rattle.lsm_sorted.specs.merge.Union.{entries_among, errors_among}
@@ -27,7 +27,7 @@ use Rattle.lsm_readers.specs.point.Table.{OpenTable}
 use Rattle.lsm_readers.proofs.Scans.{fault_left}
 use Rattle.lsm_readers.proofs.VerifyEarly.{position_want}
 use Rattle.lsm_runs.specs.RunScan.{early_scan_fault, scan_fault, table_scan}
-use Rattle.lsm_runs.specs.compaction.AnyRuns.{DealsResults}
+use Rattle.lsm_runs.specs.compaction.AnyRuns.{YieldsResults}
 use Rattle.tool_make.specs.Scanned.{IsFirstRefusal, StoresNoEntries, StoresNone, come_in_order}
 
 -- ---- what a source gives
@@ -49,35 +49,35 @@ pub record IsNext {S : Type 0} (gives : S → Option R → S → Type 0) (x : En
     (t : S) : Type 0 where
   pub others : List R
   pub are : rest ≡ Ok x ∷ others
-  pub deals : DealsResults gives others t
+  pub yields : YieldsResults gives others t
 
 module _ {S : Type 0} (gives : S → Option R → S → Type 0) where
-  pub came_ok : (s t : S) (x : Entry) (rest : List R) → DealsResults gives rest s
+  pub came_ok : (s t : S) (x : Entry) (rest : List R) → YieldsResults gives rest s
       → gives s (Some (Ok x)) t → IsNext gives x rest t
   came_ok s t x [] d step =
-      absurd (none_some (deals_front (answer_stops (λ e. true)) gives nowhere s [] (Some (Ok x)) t
+      absurd (none_some (yields_front (answer_stops (λ e. true)) gives nowhere s [] (Some (Ok x)) t
       (d (λ e. true) refl) step refl).0)
   came_ok s t x (r ∷ rs) d step =
-      let one = deals_front (answer_stops (λ e. true)) gives nowhere s (r ∷ rs) (Some (Ok x)) t
+      let one = yields_front (answer_stops (λ e. true)) gives nowhere s (r ∷ rs) (Some (Ok x)) t
       (d (λ e. true) refl) step refl in
       record {
         others = rs;
         are = ap (λ (z : R). z ∷ rs) (sym (same_some (Ok x) r one.0));
-        deals = λ stops wants. (deals_front (answer_stops stops) gives nowhere s (r ∷ rs)
+        yields = λ stops wants. (yields_front (answer_stops stops) gives nowhere s (r ∷ rs)
             (Some (Ok x)) t (d stops wants) step refl).1;
       }
 
-  pub came_err : (s t : S) (e : Error) (rest : List R) → DealsResults gives rest s
+  pub came_err : (s t : S) (e : Error) (rest : List R) → YieldsResults gives rest s
       → gives s (Some (Err e)) t → is_memory e ≡ false → first rest ≡ Some (Err e)
   came_err s t e rest d step other =
-      sym (deals_front (answer_stops is_memory) gives nowhere s rest (Some (Err e)) t
+      sym (yields_front (answer_stops is_memory) gives nowhere s rest (Some (Err e)) t
       (d is_memory refl) step other).0
 
-  pub came_none : (s t : S) (rest : List R) → DealsResults gives rest s → gives s None t
+  pub came_none : (s t : S) (rest : List R) → YieldsResults gives rest s → gives s None t
       → rest ≡ []
   came_none s t [] d step = refl
   came_none s t (r ∷ rs) d step =
-      absurd (none_some (sym (deals_front (answer_stops (λ e. true)) gives nowhere s (r ∷ rs) None t
+      absurd (none_some (sym (yields_front (answer_stops (λ e. true)) gives nowhere s (r ∷ rs) None t
       (d (λ e. true) refl) step refl).0))
 
 -- ---- what is lent

@@ -2,7 +2,7 @@
 ghost use Rattle.std.specs.Prelude.{◌≡◌, ◌<◌, IfErr, IfOk, IfSome, IsOk, List, OnOk, Some, false};
 ghost use Rattle.std.specs.Prelude.{length, true};
 ghost use Rattle.std.specs.Option.{option_map};
-ghost use Rattle.lsm_runs.specs.compaction.AnyRuns.{DealsResults};
+ghost use Rattle.lsm_runs.specs.compaction.AnyRuns.{YieldsResults};
 ghost use Rattle.lsm_sorted.specs.merge.Ends.{R};
 ghost use Rattle.lsm_readers.specs.Scan.{ScansLent};
 ghost use Rattle.lsm_runs.specs.RunScan.{early_scan_fault, table_scan};
@@ -20,7 +20,7 @@ use std::alloc::Allocator;
 // The first refusal among entries.
 fn first_refusal<A: Allocator + Clone>(items: &mut Scanner<A>) -> Option<Error>
     // Memory aside, it is the first of those that come, and none where none comes.
-    ensures first { (rs : List R) → DealsResults ScansLent rs items.old →
+    ensures first { (rs : List R) → YieldsResults ScansLent rs items.old →
         IsFirstRefusal rs result }
 {
     loop {
@@ -70,7 +70,7 @@ fn put_bytes<A: Allocator>(buffer: &mut Vec<u8, A>, bytes: &[u8]) -> Result<(), 
 // Whether entries come in order, up to the first that cannot be read. Refused for want of memory
 // alone.
 fn is_in_order<A: Allocator + Copy>(alloc: A, items: &mut Scanner<A>) -> Result<bool, Error>
-    ensures order { (rs : List R) → DealsResults ScansLent rs items.old →
+    ensures order { (rs : List R) → YieldsResults ScansLent rs items.old →
         IfOk result (λ b. b ≡ come_in_order rs) }
     ensures memory { IfErr result (λ e. e ≡ OutOfMemory) }
 {

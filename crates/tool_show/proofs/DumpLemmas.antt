@@ -10,11 +10,11 @@ use Rattle.std.proofs.KnownBytes.{Appends-nil, Appends-trans}
 use Rattle.sst_entries.specs.declared.error.Error.{Error}
 use Rattle.sst_entries.specs.Entry.{Entry}
 use Rattle.sst_entries.specs.Error.{is_memory}
-use Rattle.sst_entries.specs.Stream.{CanDeal, Deals, NoneStops, answer_stops, but_first, deal}
+use Rattle.sst_entries.specs.Stream.{CanYield, YieldsExactly, NoneStops, answer_stops, but_first, yield_each}
 use Rattle.sst_entries.specs.Stream.{first, ok_results}
-use Rattle.sst_entries.proofs.StreamLemmas.{can_after_back, can_front, deals_back, deals_front}
+use Rattle.sst_entries.proofs.StreamLemmas.{can_after_back, can_front, yields_back, yields_front}
 use Rattle.sst_entries.proofs.StreamLemmas.{map_reverse}
-use Rattle.lsm_iters.specs.block_index.Dealt.{DealsEnding, ended_at_error}
+use Rattle.lsm_iters.specs.block_index.Yielded.{YieldsEnding, ended_at_error}
 use Rattle.tool_lines.specs.declared.entry_line.Format.{Format}
 use Rattle.tool_show.specs.Failures.{BlamesNoFile, FailsAs, IfRefusal}
 use Rattle.tool_show.specs.declared.error.Failure.{Failure}
@@ -149,11 +149,11 @@ no_memory (Some (Ok x) ∷ rs) fine = (refl, no_memory rs fine.1)
 no_memory (Some (Err e) ∷ rs) fine = absurd (let not : true ≡ false = fine.0 in cc)
 
 pub deals_to_error : {S : Type 0} (front back : S → Option Outcome → S → Type 0) (may may_back : S → Type 0)
-    (s : S) (rs : List Outcome) → DealsEnding front back may may_back s rs → DealsTo front back rs s
+    (s : S) (rs : List Outcome) → YieldsEnding front back may may_back s rs → DealsTo front back rs s
 deals_to_error front back may may_back s rs d = record {
   answers = λ ends answers t runs fine.
       let is = d.answers ends answers t runs (no_memory answers fine) in
-      is ∙ whole_answers (deal rs ends)
+      is ∙ whole_answers (yield_each rs ends)
       (subst (λ (zs : List (Option Outcome)). NoneStops (answer_stops (λ _. true)) zs) is fine);
 }
 
@@ -163,7 +163,7 @@ module _ {S : Type 0} (front back : S → Option Outcome → S → Type 0) (stop
       (old new : Option (List ℕ)) : Type 0 where
     pub printed : List Entry
     pub rest : List Outcome
-    pub deals : Deals (answer_stops stops) front back s rest
+    pub yields : YieldsExactly (answer_stops stops) front back s rest
     pub lines : PrintsLines format printed old new
     pub counted : length printed + n ≡ m
     pub whole : ok_results printed ++ dumped from_end n rest ≡ all
@@ -171,27 +171,27 @@ module _ {S : Type 0} (front back : S → Option Outcome → S → Type 0) (stop
   -- what one answer leaves
   pub record Leaves (t : S) (from_end : Bool) (n : ℕ) (e : Entry) (rest : List Outcome) : Type 0 where
     pub left : List Outcome
-    pub deals : Deals (answer_stops stops) front back t left
+    pub yields : YieldsExactly (answer_stops stops) front back t left
     pub taken : dumped from_end (suc n) rest ≡ Ok e ∷ dumped from_end n left
 
   front_by : (t : S) (n : ℕ) (e : Entry) (rest : List Outcome) → Some (Ok e) ≡ first rest
-      → Deals (answer_stops stops) front back t (but_first rest) → Leaves t false n e rest
-  front_by t n e [] gave deals = absurd cc
-  front_by t n e (x ∷ xs) gave deals = record {
+      → YieldsExactly (answer_stops stops) front back t (but_first rest) → Leaves t false n e rest
+  front_by t n e [] gave yields = absurd cc
+  front_by t n e (x ∷ xs) gave yields = record {
     left = xs;
-    deals = deals;
+    yields = yields;
     taken = let same : x ≡ Ok e = cc in ap (λ (y : Outcome). y ∷ take n xs) same;
   }
 
   -- the last of what is left is the first of it in the other order
   back_by : (t : S) (n : ℕ) (e : Entry) (rest turned : List Outcome) → reverse rest ≡ turned
       → Some (Ok e) ≡ first turned
-      → Deals (answer_stops stops) front back t (reverse (but_first turned))
+      → YieldsExactly (answer_stops stops) front back t (reverse (but_first turned))
       → Leaves t true n e rest
-  back_by t n e rest [] is gave deals = absurd cc
-  back_by t n e rest (x ∷ xs) is gave deals = record {
+  back_by t n e rest [] is gave yields = absurd cc
+  back_by t n e rest (x ∷ xs) is gave yields = record {
     left = reverse xs;
-    deals = deals;
+    yields = yields;
     taken = let same : x ≡ Ok e = cc in
         ap (λ (rs : List Outcome). take (suc n) rs) is
         ∙ ap (λ (y : Outcome). y ∷ take n xs) same
@@ -199,15 +199,15 @@ module _ {S : Type 0} (front back : S → Option Outcome → S → Type 0) (stop
   }
 
   one_by : (s t : S) (from_end : Bool) (n : ℕ) (e : Entry) (rest : List Outcome)
-      → Deals (answer_stops stops) front back s rest
+      → YieldsExactly (answer_stops stops) front back s rest
       → (from_end ≡ false → front s (Some (Ok e)) t)
       → (from_end ≡ true → back s (Some (Ok e)) t) → Leaves t from_end n e rest
-  one_by s t false n e rest deals front_step back_step =
-      let one = deals_front (answer_stops stops) front back s rest (Some (Ok e)) t deals
+  one_by s t false n e rest yields front_step back_step =
+      let one = yields_front (answer_stops stops) front back s rest (Some (Ok e)) t yields
       (front_step refl) refl in
       front_by t n e rest one.0 one.1
-  one_by s t true n e rest deals front_step back_step =
-      let one = deals_back (answer_stops stops) front back s rest (Some (Ok e)) t deals
+  one_by s t true n e rest yields front_step back_step =
+      let one = yields_back (answer_stops stops) front back s rest (Some (Ok e)) t yields
       (back_step refl) refl in
       back_by t n e rest (reverse rest) refl one.0 one.1
 
@@ -218,11 +218,11 @@ module _ {S : Type 0} (front back : S → Option Outcome → S → Type 0) (stop
       → (from_end ≡ false → front s (Some (Ok e)) t) → (from_end ≡ true → back s (Some (Ok e)) t)
       → PrintsLine format e mid new → Prints t from_end n m format all old new
   prints_more s t from_end n m format e all old mid new before front_step back_step more =
-      let one = one_by s t from_end n e before.rest before.deals front_step back_step in
+      let one = one_by s t from_end n e before.rest before.yields front_step back_step in
       record {
         printed = before.printed ++ e ∷ [];
         rest = one.left;
-        deals = one.deals;
+        yields = one.yields;
         lines = (
           before.lines.0 ++ more.0,
           lines_more format before.printed e before.lines.0 more.0 before.lines.1 more.1,
@@ -254,12 +254,12 @@ module _ {S : Type 0} (front back : S → Option Outcome → S → Type 0) (stop
 
   -- nothing was printed yet
   pub prints_none : (s : S) (from_end : Bool) (n : ℕ) (format : Format) (rs : List Outcome)
-      (known : Option (List ℕ)) → Deals (answer_stops stops) front back s rs
+      (known : Option (List ℕ)) → YieldsExactly (answer_stops stops) front back s rs
       → Prints s from_end n n format (dumped from_end n rs) known known
-  prints_none s from_end n format rs known deals = record {
+  prints_none s from_end n format rs known yields = record {
     printed = [];
     rest = rs;
-    deals = deals;
+    yields = yields;
     lines = ([], refl, Appends-nil known);
     counted = omega arith;
     whole = refl;
@@ -295,14 +295,14 @@ module _ {S : Type 0} (front back : S → Option Outcome → S → Type 0) (stop
   nothing_left (x ∷ xs) none = absurd cc
 
   none_dumped : (s t : S) (from_end : Bool) (n : ℕ) (rest : List Outcome)
-      → Deals (answer_stops stops) front back s rest → (from_end ≡ false → front s None t)
+      → YieldsExactly (answer_stops stops) front back s rest → (from_end ≡ false → front s None t)
       → (from_end ≡ true → back s None t) → dumped from_end n rest ≡ []
-  none_dumped s t false n rest deals front_step back_step =
+  none_dumped s t false n rest yields front_step back_step =
       taken_none n rest (nothing_left rest (sym
-      (deals_front (answer_stops stops) front back s rest None t deals (front_step refl) refl).0))
-  none_dumped s t true n rest deals front_step back_step =
+      (yields_front (answer_stops stops) front back s rest None t yields (front_step refl) refl).0))
+  none_dumped s t true n rest yields front_step back_step =
       taken_none n (reverse rest) (nothing_left (reverse rest) (sym
-      (deals_back (answer_stops stops) front back s rest None t deals (back_step refl) refl).0))
+      (yields_back (answer_stops stops) front back s rest None t yields (back_step refl) refl).0))
 
   -- all is printed that there is
   pub prints_all : (s t : S) (from_end : Bool) (n m : ℕ) (format : Format) (all : List Outcome)
@@ -311,7 +311,7 @@ module _ {S : Type 0} (front back : S → Option Outcome → S → Type 0) (stop
       → PrintsResults format all old new × (n ≡ m - length all)
   prints_all s t from_end n m format all old new before front_step back_step =
       ends s from_end n m format all old new before
-      (none_dumped s t from_end n before.rest before.deals front_step back_step)
+      (none_dumped s t from_end n before.rest before.yields front_step back_step)
 
 module _ {S : Type 0} (front back : S → Option Outcome → S → Type 0) where
   -- the next of what is left is an error, which is none of a list's
@@ -338,11 +338,11 @@ module _ {S : Type 0} (front back : S → Option Outcome → S → Type 0) where
   memory_by s t from_end k m format es e old new true is before front_step back_step = refl
   memory_by s t false k m format es e old new false is before front_step back_step =
       absurd (error_by s false k m format es e old new before before.rest refl
-      (deals_front (answer_stops is_memory) front back s before.rest (Some (Err e)) t before.deals
+      (yields_front (answer_stops is_memory) front back s before.rest (Some (Err e)) t before.yields
       (front_step refl) is).0)
   memory_by s t true k m format es e old new false is before front_step back_step =
       absurd (error_by s true k m format es e old new before (reverse before.rest) refl
-      (deals_back (answer_stops is_memory) front back s before.rest (Some (Err e)) t before.deals
+      (yields_back (answer_stops is_memory) front back s before.rest (Some (Err e)) t before.yields
       (back_step refl) is).0)
 
   -- of a list an error is one of memory
@@ -360,9 +360,9 @@ module _ {S : Type 0} (front back : S → Option Outcome → S → Type 0) where
 
 -- a source may be asked on
 pub may_go_on : {S A : Type 0} (front back : S → Option A → S → Type 0) (can can_back : S → Type 0)
-    (s t : S) (from_end : Bool) (r : Option A) → CanDeal front back can can_back s
+    (s t : S) (from_end : Bool) (r : Option A) → CanYield front back can can_back s
     → (from_end ≡ false → front s r t) → (from_end ≡ true → back s r t)
-    → CanDeal front back can can_back t
+    → CanYield front back can can_back t
 may_go_on front back can can_back s t false r may front_step back_step =
     can_front front back can can_back s r t may (front_step refl)
 may_go_on front back can can_back s t true r may front_step back_step =
@@ -380,9 +380,9 @@ same_failure : (f g : Failure) (r : Result Bool Failure) → r ≡ Err f → r �
 same_failure f g r is same = cc
 
 -- what blames no file fails as anything is told
-pub none_fails : (f : Failure) (IsTold : Error → Type 0) → BlamesNoFile f → FailsAs IsTold f
-none_fails (failure.Output error) IsTold none = tt
-none_fails (failure.Refused error) IsTold none =
+pub none_fails : (f : Failure) (IsReported : Error → Type 0) → BlamesNoFile f → FailsAs IsReported f
+none_fails (failure.Output error) IsReported none = tt
+none_fails (failure.Refused error) IsReported none =
     λ other. absurd (true≢false (sym none ∙ other))
 
 -- and is no refusal of a file

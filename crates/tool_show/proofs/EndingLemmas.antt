@@ -7,9 +7,9 @@ use Rattle.sst_entries.specs.declared.error.Error.{Error}
 use Rattle.sst_entries.specs.declared.stream.Direction.{Direction}
 use Rattle.sst_entries.specs.declared.stream.Direction.TheVariants.{Front, Back}
 use Rattle.sst_entries.specs.Error.{is_memory}
-use Rattle.sst_entries.specs.Stream.{NoneStops, Runs, answer_stops, but_first, but_last, deal}
+use Rattle.sst_entries.specs.Stream.{NoneStops, Runs, answer_stops, but_first, but_last, yield_each}
 use Rattle.sst_entries.specs.Stream.{first, last, ok_results, result_stops}
-use Rattle.lsm_iters.specs.block_index.Dealt.{DealsEnding, ended_at_error}
+use Rattle.lsm_iters.specs.block_index.Yielded.{YieldsEnding, ended_at_error}
 use Rattle.tool_show.specs.Printed.{before_error, dumped, first_error, in_turn}
 
 module _ {S X : Type 0} (front back : S → Option (Result X Error) → S → Type 0) where
@@ -17,10 +17,10 @@ module _ {S X : Type 0} (front back : S → Option (Result X Error) → S → Ty
   pub record EndsUp (s : S) (xs : List (Result X Error)) : Type 0 where
     pub answers : (ends : List Direction) (rs : List (Option (Result X Error))) (t : S)
         → Runs front back s ends rs t → NoneStops (answer_stops is_memory) rs
-        → rs ≡ ended_at_error (deal xs ends)
+        → rs ≡ ended_at_error (yield_each xs ends)
 
   pub ends_up : (may may_back : S → Type 0) (s : S) (xs : List (Result X Error))
-      → DealsEnding front back may may_back s xs → EndsUp s xs
+      → YieldsEnding front back may may_back s xs → EndsUp s xs
   ends_up may may_back s xs d = record { answers = d.answers }
 
   -- the first of some answers, and those behind an entry
@@ -46,7 +46,7 @@ module _ {S X : Type 0} (front back : S → Option (Result X Error) → S → Ty
     (heads r (first xs) [] [] (d.answers (Front ∷ []) (r ∷ []) t (t, step, refl) (fine, tt))).0,
     λ x entry. record {
       answers = λ ends rs u runs calm.
-          (heads r (first xs) rs (deal (but_first xs) ends)
+          (heads r (first xs) rs (yield_each (but_first xs) ends)
           (d.answers (Front ∷ ends) (r ∷ rs) u (t, step, runs) (fine, calm))).1 x entry;
     },
   )
@@ -59,7 +59,7 @@ module _ {S X : Type 0} (front back : S → Option (Result X Error) → S → Ty
     (heads r (last xs) [] [] (d.answers (Back ∷ []) (r ∷ []) t (t, step, refl) (fine, tt))).0,
     λ x entry. record {
       answers = λ ends rs u runs calm.
-          (heads r (last xs) rs (deal (but_last xs) ends)
+          (heads r (last xs) rs (yield_each (but_last xs) ends)
           (d.answers (Back ∷ ends) (r ∷ rs) u (t, step, runs) (fine, calm))).1 x entry;
     },
   )
@@ -68,7 +68,7 @@ module _ {S X : Type 0} (front back : S → Option (Result X Error) → S → Ty
   record Takes (t : S) (from_end : Bool) (r : Result X Error) (xs : List (Result X Error)) : Type 0 where
     others : List (Result X Error)
     taken : in_turn from_end xs ≡ r ∷ in_turn from_end others
-    deals : (x : X) → r ≡ Ok x → EndsUp t others
+    yields : (x : X) → r ≡ Ok x → EndsUp t others
 
   takes_front : (t : S) (r : Result X Error) (xs : List (Result X Error)) → Some r ≡ first xs
       → ((x : X) → Some r ≡ Some (Ok x) → EndsUp t (but_first xs)) → Takes t false r xs
@@ -76,7 +76,7 @@ module _ {S X : Type 0} (front back : S → Option (Result X Error) → S → Ty
   takes_front t r (y ∷ ys) is rest = record {
     others = ys;
     taken = let same : y ≡ r = cc in ap (λ (z : Result X Error). z ∷ ys) same;
-    deals = λ x entry. rest x (ap Some entry);
+    yields = λ x entry. rest x (ap Some entry);
   }
 
   takes_back : (t : S) (r : Result X Error) (xs turned : List (Result X Error))
@@ -88,7 +88,7 @@ module _ {S X : Type 0} (front back : S → Option (Result X Error) → S → Ty
     taken = let same : y ≡ r = cc in
         turns ∙ ap (λ (z : Result X Error). z ∷ ys) same
         ∙ ap (λ (zs : List (Result X Error)). r ∷ zs) (sym (reverse-reverse ys));
-    deals = λ x entry. rest x (ap Some entry);
+    yields = λ x entry. rest x (ap Some entry);
   }
 
   takes : (s t : S) (from_end : Bool) (r : Result X Error) (xs : List (Result X Error))
@@ -106,12 +106,12 @@ module _ {S X : Type 0} (front back : S → Option (Result X Error) → S → Ty
   pub record Comes (s : S) (from_end : Bool) (n : ℕ) (all : List (Result X Error)) : Type 0 where
     pub came : List X
     pub rest : List (Result X Error)
-    pub deals : EndsUp s rest
+    pub yields : EndsUp s rest
     pub whole : ok_results came ++ dumped from_end n rest ≡ all
 
   pub comes_none : (s : S) (from_end : Bool) (n : ℕ) (xs : List (Result X Error)) → EndsUp s xs
       → (before : Comes s from_end n (dumped from_end n xs)) × (before.came ≡ [])
-  comes_none s from_end n xs d = (record { came = []; rest = xs; deals = d; whole = refl }, refl)
+  comes_none s from_end n xs d = (record { came = []; rest = xs; yields = d; whole = refl }, refl)
 
   pub comes_one : (s t : S) (from_end : Bool) (k : ℕ) (r : Result X Error) (x : X)
       (all : List (Result X Error)) → 0 < k → r ≡ Ok x → (before : Comes s from_end k all)
@@ -120,13 +120,13 @@ module _ {S X : Type 0} (front back : S → Option (Result X Error) → S → Ty
   comes_one s t from_end zero r x all some is before front_step back_step = absurd (omega (arith, some))
   comes_one s t from_end (suc n) r x all some is before front_step back_step =
       let fine : result_stops is_memory r ≡ false = ap (result_stops is_memory) is in
-      let one = takes s t from_end r before.rest before.deals fine front_step back_step in
+      let one = takes s t from_end r before.rest before.yields fine front_step back_step in
       let left : n ≡ suc n - 1 = omega arith in
       subst (λ (k : ℕ). (now : Comes t from_end k all) × (now.came ≡ before.came ++ x ∷ [])) left (
         record {
           came = before.came ++ x ∷ [];
           rest = one.others;
-          deals = one.deals x is;
+          yields = one.yields x is;
           whole = ap (λ (rs : List (Result X Error)). rs ++ dumped from_end n one.others)
               (map-append (λ (y : X). Ok y) before.came (x ∷ []))
               ∙ append_assoc (ok_results before.came) (Ok x ∷ []) (dumped from_end n one.others)
@@ -158,7 +158,7 @@ module _ {S X : Type 0} (front back : S → Option (Result X Error) → S → Ty
       absurd (omega (arith, some))
   comes_error s t from_end (suc n) r e all some is other before front_step back_step =
       let fine : result_stops is_memory r ≡ false = ap (result_stops is_memory) is ∙ other in
-      let one = takes s t from_end r before.rest before.deals fine front_step back_step in
+      let one = takes s t from_end r before.rest before.yields fine front_step back_step in
       let next : dumped from_end (suc n) before.rest ≡ Err e ∷ dumped from_end n one.others
       = ap (λ (rs : List (Result X Error)). take (suc n) rs) one.taken
       ∙ ap (λ (y : Result X Error). y ∷ dumped from_end n one.others) is in
@@ -172,23 +172,23 @@ module _ {S X : Type 0} (front back : S → Option (Result X Error) → S → Ty
   pub record Came (s : S) (all : List (Result X Error)) : Type 0 where
     pub came : List X
     pub rest : List (Result X Error)
-    pub deals : EndsUp s rest
+    pub yields : EndsUp s rest
     pub whole : ok_results came ++ rest ≡ all
 
   pub came_none : (s : S) (xs : List (Result X Error)) → EndsUp s xs
       → (before : Came s xs) × (before.came ≡ [])
-  came_none s xs d = (record { came = []; rest = xs; deals = d; whole = refl }, refl)
+  came_none s xs d = (record { came = []; rest = xs; yields = d; whole = refl }, refl)
 
   pub came_one : (s t : S) (x : X) (all : List (Result X Error)) (before : Came s all)
       → front s (Some (Ok x)) t
       → (now : Came t all) × (now.came ≡ before.came ++ x ∷ [])
   came_one s t x all before step =
-      let one = takes s t false (Ok x) before.rest before.deals refl (λ _. step)
+      let one = takes s t false (Ok x) before.rest before.yields refl (λ _. step)
       (λ not. absurd (let both : false ≡ true = not in cc)) in (
         record {
           came = before.came ++ x ∷ [];
           rest = one.others;
-          deals = one.deals x refl;
+          yields = one.yields x refl;
           whole = ap (λ (rs : List (Result X Error)). rs ++ one.others)
               (map-append (λ (y : X). Ok y) before.came (x ∷ []))
               ∙ append_assoc (ok_results before.came) (Ok x ∷ []) one.others
@@ -207,7 +207,7 @@ module _ {S X : Type 0} (front back : S → Option (Result X Error) → S → Ty
       → all ≡ ok_results before.came
   came_all s t all before step =
       let none = nothing_behind before.rest
-      (ending_front s t before.rest None before.deals step refl).0 in
+      (ending_front s t before.rest None before.yields step refl).0 in
       sym before.whole
       ∙ ap (λ (rs : List (Result X Error)). ok_results before.came ++ rs) none
       ∙ append-nil (ok_results before.came)
@@ -216,7 +216,7 @@ module _ {S X : Type 0} (front back : S → Option (Result X Error) → S → Ty
   pub came_error : (s t : S) (e : Error) (all : List (Result X Error)) → is_memory e ≡ false
       → Came s all → front s (Some (Err e)) t → first_error all ≡ Some e
   came_error s t e all other before step =
-      let one = takes s t false (Err e) before.rest before.deals other (λ _. step)
+      let one = takes s t false (Err e) before.rest before.yields other (λ _. step)
       (λ not. absurd (let both : false ≡ true = not in cc)) in
       sym (ap first_error (ap (λ (rs : List (Result X Error)). ok_results before.came ++ rs)
       (sym one.taken) ∙ before.whole))

@@ -101,36 +101,36 @@ one_named {A} key n fs i f h is before (show.Refused name place error) told = (
 one_named key n fs i f h is before (show.Output error) told = tt
 one_named key n fs i f h is before show.OutOfMemory told = tt
 
-refusal_only : {A : Type 0} (f : NamedTable A) (IsTold : Error → Type 0) (r : Error) (e : ShowError)
-    → IsTold r → TellsRefusal f r e → NamesOnly f IsTold e
-refusal_only f IsTold r (show.Refused name place error) is told = (
+refusal_only : {A : Type 0} (f : NamedTable A) (IsReported : Error → Type 0) (r : Error) (e : ShowError)
+    → IsReported r → TellsRefusal f r e → NamesOnly f IsReported e
+refusal_only f IsReported r (show.Refused name place error) is told = (
   told.0,
-  subst IsTold (sym told.1) is,
+  subst IsReported (sym told.1) is,
   subst (λ (x : Error). IsRefusedAt f.table x place) (sym told.1) told.2,
 )
-refusal_only f IsTold r (show.Output error) is told = tt
-refusal_only f IsTold r show.OutOfMemory is told = tt
+refusal_only f IsReported r (show.Output error) is told = tt
+refusal_only f IsReported r show.OutOfMemory is told = tt
 
-memory_only : {A : Type 0} (f : NamedTable A) (IsTold : Error → Type 0) (e : ShowError)
-    → e ≡ show.OutOfMemory → NamesOnly f IsTold e
-memory_only f IsTold (show.Refused name place error) is = absurd cc
-memory_only f IsTold (show.Output error) is = tt
-memory_only f IsTold show.OutOfMemory is = tt
+memory_only : {A : Type 0} (f : NamedTable A) (IsReported : Error → Type 0) (e : ShowError)
+    → e ≡ show.OutOfMemory → NamesOnly f IsReported e
+memory_only f IsReported (show.Refused name place error) is = absurd cc
+memory_only f IsReported (show.Output error) is = tt
+memory_only f IsReported show.OutOfMemory is = tt
 
-by_memory : {A : Type 0} (f : NamedTable A) (IsTold : Error → Type 0) (r : Error) (e : ShowError)
-    (b : Bool) → is_memory r ≡ b → FailsAs IsTold (failure.Refused r)
-    → TellsFailure (failure.Refused r) f e → NamesOnly f IsTold e
-by_memory f IsTold r e true so fails told = memory_only f IsTold e (told.0 so)
-by_memory f IsTold r e false so fails told = refusal_only f IsTold r e (fails so) (told.1 so)
+by_memory : {A : Type 0} (f : NamedTable A) (IsReported : Error → Type 0) (r : Error) (e : ShowError)
+    (b : Bool) → is_memory r ≡ b → FailsAs IsReported (failure.Refused r)
+    → TellsFailure (failure.Refused r) f e → NamesOnly f IsReported e
+by_memory f IsReported r e true so fails told = memory_only f IsReported e (told.0 so)
+by_memory f IsReported r e false so fails told = refusal_only f IsReported r e (fails so) (told.1 so)
 
 -- a failure of a file names it, if any
-pub failure_only : {A : Type 0} (f : NamedTable A) (IsTold : Error → Type 0) (x : Failure)
-    (e : ShowError) → FailsAs IsTold x → TellsFailure x f e → NamesOnly f IsTold e
-failure_only f IsTold (failure.Output error) (show.Refused name place r) fails told = absurd cc
-failure_only f IsTold (failure.Output error) (show.Output r) fails told = tt
-failure_only f IsTold (failure.Output error) show.OutOfMemory fails told = tt
-failure_only f IsTold (failure.Refused error) e fails told =
-    by_memory f IsTold error e (is_memory error) refl fails told
+pub failure_only : {A : Type 0} (f : NamedTable A) (IsReported : Error → Type 0) (x : Failure)
+    (e : ShowError) → FailsAs IsReported x → TellsFailure x f e → NamesOnly f IsReported e
+failure_only f IsReported (failure.Output error) (show.Refused name place r) fails told = absurd cc
+failure_only f IsReported (failure.Output error) (show.Output r) fails told = tt
+failure_only f IsReported (failure.Output error) show.OutOfMemory fails told = tt
+failure_only f IsReported (failure.Refused error) e fails told =
+    by_memory f IsReported error e (is_memory error) refl fails told
 
 -- a failure that is no file's fault names none
 pub failure_none : {A : Type 0} (f : NamedTable A) (x : Failure) (e : ShowError)
@@ -158,11 +158,11 @@ memory_blames_none (Ok x) e is memory = tt
 memory_blames_none (Err x) e is memory = subst BlamesNoFile (sym is) memory
 
 -- what is refused is what a read tells
-pub fails_as : {X : Type 0} (r : Result X Failure) (e : Error) (IsTold : Error → Type 0)
-    → IsErrAnd r (λ x. x ≡ failure.Refused e) → (is_memory e ≡ false → IsTold e)
-    → IfErr r (FailsAs IsTold)
-fails_as (Ok x) e IsTold is told = tt
-fails_as (Err x) e IsTold is told = subst (FailsAs IsTold) (sym is) told
+pub fails_as : {X : Type 0} (r : Result X Failure) (e : Error) (IsReported : Error → Type 0)
+    → IsErrAnd r (λ x. x ≡ failure.Refused e) → (is_memory e ≡ false → IsReported e)
+    → IfErr r (FailsAs IsReported)
+fails_as (Ok x) e IsReported is told = tt
+fails_as (Err x) e IsReported is told = subst (FailsAs IsReported) (sym is) told
 
 -- what holds where a file is refused
 pub if_refused : {X : Type 0} (r : Result X Failure) (e : Error) (Holds : Type 0)

@@ -19,7 +19,7 @@ use Rattle.tool_show.specs.declared.facts.Shown.{Shown}
 use Rattle.tool_show.specs.declared.stats.Parts.{Parts}
 use Rattle.std.specs.Prelude.{Option, None, Some, Result, Ok, Err, IfErr, IfOk, false, map, nat_lt}
 use Rattle.std.specs.Prelude.{if◌then◌else◌}
-use Rattle.lsm_iters.specs.block_index.Dealt.{DealsEnding}
+use Rattle.lsm_iters.specs.block_index.Yielded.{YieldsEnding}
 use Rattle.lsm_iters.specs.block_index.Index.{Index}
 use Rattle.lsm_iters.specs.block_index.Kinds.{BackGives, FrontGives, IsReader, left_of}
 use Rattle.lsm_iters.specs.declared.block_index.kinds.BlockIndexIterImpl.{BlockIndexIterImpl}
@@ -29,7 +29,7 @@ use Rattle.sst_entries.specs.Entry.{Entry}
 use Rattle.sst_entries.specs.declared.error.Error.{Error}
 use Rattle.sst_entries.specs.declared.error.Error.TheVariants.{MetaKeyMissing}
 use Rattle.sst_blocks.specs.declared.table.item_name.ItemName.{ItemName}
-use Rattle.lsm_readers.specs.point.Meta.{item_told, value_told}
+use Rattle.lsm_readers.specs.point.Meta.{item_result, value_result}
 use Rattle.lsm_readers.specs.point.Read.{◌>>=◌}
 use Rattle.lsm_readers.specs.Scan.{fault_of}
 use Rattle.sst_blocks.specs.Handle.{Handle}
@@ -37,18 +37,18 @@ use Rattle.tool_show.specs.Stats.{data_handles, is_missing, lies_at, low_first, 
 use Rattle.tool_show.specs.Stats.{stored_number}
 use Rattle.tool_show.specs.declared.facts.Place.{Place}
 
-missing_by : (o : Option Entry) (e : Error) → value_told o ≡ Err e → e ≡ MetaKeyMissing
+missing_by : (o : Option Entry) (e : Error) → value_result o ≡ Err e → e ≡ MetaKeyMissing
 missing_by None e is = let same : MetaKeyMissing ≡ e = cc in sym same
 missing_by (Some x) e is = absurd cc
 
-missing : (es : List Entry) (item : ItemName) (e : Error) → item_told es item ≡ Err e
+missing : (es : List Entry) (item : ItemName) (e : Error) → item_result es item ≡ Err e
     → e ≡ MetaKeyMissing
-unfolding item_told
+unfolding item_result
 missing es item e is = missing_by _ e is
 
 -- an item that is refused, and not missing, is one of a meta block that does not load
 pub meta_refused : (r : Result Loaded Error) (item : ItemName) (e : Error)
-    → (r >>= λ block. item_told (entries_of block) item) ≡ Err e → is_missing e ≡ false
+    → (r >>= λ block. item_result (entries_of block) item) ≡ Err e → is_missing e ≡ false
     → fault_of r ≡ Some e
 meta_refused (Ok b) item e is other =
     let both : true ≡ false = sym (ap is_missing (missing (entries_of b) item e is)) ∙ other in
@@ -56,16 +56,16 @@ meta_refused (Ok b) item e is other =
 meta_refused (Err x) item e is other = let same : x ≡ e = cc in ap (λ (y : Error). Some y) same
 
 -- the handles that an index gives are those of the data blocks
-pub handles_told : {A : Type 0} (t : OpenTable) (r : Result (BlockIndexIterImpl A) Error)
+pub handles_result : {A : Type 0} (t : OpenTable) (r : Result (BlockIndexIterImpl A) Error)
     (index : Index) → index ≡ table_index t → IfOk r (λ i. IsReader i index None None)
-    → IfOk r (λ i. DealsEnding FrontGives BackGives (λ _. Unit {0}) (λ _. Unit {0}) i
+    → IfOk r (λ i. YieldsEnding FrontGives BackGives (λ _. Unit {0}) (λ _. Unit {0}) i
     (data_handles t))
-handles_told t (Err e) index is reader = tt
-handles_told t (Ok i) index is reader =
+handles_result t (Err e) index is reader = tt
+handles_result t (Ok i) index is reader =
     let told : (left_of i).results ≡ data_handles t = reader.between.results
     ∙ ap (λ (x : Index). x.told None None) (reader.index_is ∙ is) in
-    subst (λ (rs : List (Result Handle Error)). DealsEnding FrontGives BackGives (λ _. Unit {0})
-    (λ _. Unit {0}) i rs) told reader.deals
+    subst (λ (rs : List (Result Handle Error)). YieldsEnding FrontGives BackGives (λ _. Unit {0})
+    (λ _. Unit {0}) i rs) told reader.yields
 
 -- one place more
 pub places_one : (ps : List Place) (came : List Handle) (x : Handle) (p : Place) (new : List Place)

@@ -13,12 +13,12 @@ told_none None = tt
 told_none (Some xs) = sym (append-nil xs)
 
 -- more is told, and then more
-pub told_more : {X : Type 0} (a b c : Option (List X)) (xs ys : List X) → AreTold a b xs
+pub reported_more : {X : Type 0} (a b c : Option (List X)) (xs ys : List X) → AreTold a b xs
     → AreTold b c ys → AreTold a c (xs ++ ys)
-told_more None b c xs ys p q = tt
-told_more (Some x) None c xs ys p q = absurd p
-told_more (Some x) (Some y) None xs ys p q = absurd q
-told_more {X} (Some x) (Some y) (Some z) xs ys p q =
+reported_more None b c xs ys p q = tt
+reported_more (Some x) None c xs ys p q = absurd p
+reported_more (Some x) (Some y) None xs ys p q = absurd q
+reported_more {X} (Some x) (Some y) (Some z) xs ys p q =
     q ∙ ap (λ (l : List X). l ++ ys) p ∙ append_assoc x xs ys
 
 -- one step more
@@ -61,7 +61,7 @@ went_more v w x old left new blocks more went next told counts falls = record {
   steps = went.steps ++ x ∷ [];
   reached = reaches_more v went.steps w x went.reached next;
   told = subst (AreTold old new) (sym (map-append progress_of went.steps (x ∷ [])))
-      (told_more old left new (map progress_of went.steps) (progress_of x ∷ []) went.told told);
+      (reported_more old left new (map progress_of went.steps) (progress_of x ∷ []) went.told told);
   count = omega (arith, counts, went.count, length-append went.steps (x ∷ []));
   left = omega (arith, went.left, falls, length-append went.steps (x ∷ []));
 }
@@ -92,11 +92,11 @@ reads_so v old new blocks One Other follows reads = record {
 }
 
 -- what is told of a step is its progress
-pub told_at : (v w x : Verifying) (us : List Verifying) (old new : Option (List (ℕ × ℕ)))
+pub reported_at : (v w x : Verifying) (us : List Verifying) (old new : Option (List (ℕ × ℕ)))
     (done all : ℕ) → Reaches v us w → x.table ≡ w.table → done ≡ bytes_read x
     → all ≡ v.table.parts.facts.file_size → AreTold old new ((done, all) ∷ [])
     → AreTold old new (progress_of x ∷ [])
-told_at v w x us old new done all reached same is size told =
+reported_at v w x us old new done all reached same is size told =
     let table : v.table ≡ x.table = sym (same ∙ same_table v us w reached) in
     let whole : all ≡ x.table.parts.facts.file_size =
     size ∙ ap (λ (t : OpenTable). t.parts.facts.file_size) table in

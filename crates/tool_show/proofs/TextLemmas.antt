@@ -8,7 +8,7 @@ use Rattle.sst_entries.specs.Entry.{Entry}
 use Rattle.sst_blocks.specs.Sections.{body_of, trailer_fault}
 use Rattle.sst_blocks.specs.table.MetaBlock.{name_of}
 use Rattle.sst_blocks.specs.declared.table.item_name.ItemName.{ItemName}
-use Rattle.lsm_readers.specs.point.Parts.{places_told}
+use Rattle.lsm_readers.specs.point.Parts.{places_result}
 use Rattle.lsm_readers.specs.point.Table.{OpenTable}
 use Rattle.lsm_readers.specs.declared.verify.Fault.TheVariants as fault
 use Rattle.lsm_readers.specs.declared.verify.Finding.{Finding}
@@ -171,15 +171,15 @@ further_one body told b e not is =
 
 -- the faults of bytes whose trailer can be read, and of those whose cannot
 pub faults_read : (bytes : List ℕ) → trailer_fault bytes ≡ None
-    → faults_in (body_of bytes) (places_told bytes) ≡ unopened_faults bytes
+    → faults_in (body_of bytes) (places_result bytes) ≡ unopened_faults bytes
 faults_read bytes none =
-    sym (ap (λ (o : Option Error). if is_some o then [] else faults_in (body_of bytes) (places_told bytes))
+    sym (ap (λ (o : Option Error). if is_some o then [] else faults_in (body_of bytes) (places_result bytes))
     none)
 
 pub faults_unread : (bytes : List ℕ) (e : Error) → trailer_fault bytes ≡ Some e
     → [] ≡ unopened_faults bytes
 faults_unread bytes e some =
-    sym (ap (λ (o : Option Error). if is_some o then [] else faults_in (body_of bytes) (places_told bytes))
+    sym (ap (λ (o : Option Error). if is_some o then [] else faults_in (body_of bytes) (places_result bytes))
     some)
 
 counts_by : {X : Type 0} (p : X → Bool) (xs : List X) (i : ℕ) (x : X) (b : Bool) → i < length xs

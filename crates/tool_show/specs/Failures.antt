@@ -69,15 +69,15 @@ IfNamed Holds e = Unit {0}
 
 -- memory aside, what is refused is what a read tells
 abbrev pub FailsAs : (Error → Type 0) → Failure → Type 0
-FailsAs IsTold (failure.Output error) = Unit {0}
-FailsAs IsTold (failure.Refused error) = is_memory error ≡ false → IsTold error
+FailsAs IsReported (failure.Output error) = Unit {0}
+FailsAs IsReported (failure.Refused error) = is_memory error ≡ false → IsReported error
 
 -- where an error names a file, it is this one, its refusal is what a read tells, and the block is
 -- named that begins first of those that are refused so, as far as it was sought
 abbrev pub NamesOnly : {A : Type 0} → NamedTable A → (Error → Type 0) → ShowError → Type 0
-NamesOnly f IsTold (show.Refused name place error) =
-    (name ≡ f.name) × IsTold error × IsRefusedAt f.table error place
-NamesOnly f IsTold e = Unit {0}
+NamesOnly f IsReported (show.Refused name place error) =
+    (name ≡ f.name) × IsReported error × IsRefusedAt f.table error place
+NamesOnly f IsReported e = Unit {0}
 
 -- why a read of a key below a number is refused by a table, if its range has the key and it is
 abbrev pub read_refusal : List ℕ → ℕ → OpenTable → Option Error

@@ -4,7 +4,7 @@ use Rattle.std.specs.Prelude.{◌+◌, ◌-◌, ◌^◌, ◌==◌, ◌&&◌, ◌
 use Rattle.std.specs.Prelude.{List, Option, None, Some, Result, Ok, Err, count_by, is_some, map}
 use Rattle.std.specs.Prelude.{if◌then◌else◌, min, option_to_list}
 use Rattle.std.specs.List.{flat_map}
-use Rattle.sst_blocks.specs.Block.{load_told}
+use Rattle.sst_blocks.specs.Block.{load_result}
 use Rattle.sst_blocks.specs.Handle.{Handle}
 use Rattle.sst_blocks.specs.Place.{Place, place_of}
 use Rattle.sst_blocks.specs.declared.block_type.BlockType.{BlockType}
@@ -17,8 +17,8 @@ use Rattle.lsm_readers.specs.declared.verify.Fault.{Fault}
 use Rattle.lsm_readers.specs.declared.verify.Fault.TheVariants.{Unloaded}
 use Rattle.lsm_readers.specs.declared.verify.Finding.{Finding}
 use Rattle.lsm_readers.specs.declared.verify.Verified.{Verified}
-use Rattle.lsm_readers.specs.point.IndexKinds.{handles_told}
-use Rattle.lsm_readers.specs.point.Parts.{Parts, places_told}
+use Rattle.lsm_readers.specs.point.IndexKinds.{handles_result}
+use Rattle.lsm_readers.specs.point.Parts.{Parts, places_result}
 use Rattle.lsm_readers.specs.declared.regions.ParsedRegions.{ParsedRegions}
 use Rattle.lsm_readers.specs.Scan.{fault_of}
 use Rattle.lsm_readers.specs.point.Table.{OpenTable}
@@ -41,13 +41,13 @@ abbrev pub handles_if_told : Result (List Handle) Error → List Handle
 handles_if_told (Ok handles) = handles
 handles_if_told (Err e) = []
 
-abbrev pub told_handles : List ℕ → Place → List Handle
-told_handles body place = handles_if_told (handles_told body place)
+abbrev pub handles_of_result : List ℕ → Place → List Handle
+handles_of_result body place = handles_if_told (handles_result body place)
 
 -- a partition of the index at a place, and the data blocks that it names
 abbrev pub partition : List ℕ → Place → List NamedBlock
 partition body place =
-    named_at section.Index block.Index place ∷ map data_at (map place_of (told_handles body place))
+    named_at section.Index block.Index place ∷ map data_at (map place_of (handles_of_result body place))
 
 -- what the handles of the index lead to: partitions, or the data blocks themselves
 abbrev pub blocks_below : List ℕ → Bool → List Place → List NamedBlock
@@ -59,7 +59,7 @@ blocks_below body false places = map data_at places
 abbrev pub blocks_at : List ℕ → List Place → ParsedRegions → List NamedBlock
 blocks_at body filters regions =
     map filter_at filters ++ named_at section.Tli block.Index regions.tli
-    ∷ blocks_below body (is_some regions.index) (map place_of (told_handles body regions.tli))
+    ∷ blocks_below body (is_some regions.index) (map place_of (handles_of_result body regions.tli))
 
 -- the blocks of a table
 abbrev pub named_blocks : List ℕ → Parts → List NamedBlock
@@ -74,7 +74,7 @@ top_blocks (Some place) = named_at section.FilterTli block.Index place ∷ []
 -- the handles that it tells
 abbrev pub told_tops : List ℕ → Option Place → Option (List Handle)
 told_tops body None = None
-told_tops body (Some place) = Some (told_handles body place)
+told_tops body (Some place) = Some (handles_of_result body place)
 
 -- the blocks of bytes whose trailer names these regions: the meta block, the top level of the
 -- filter, and the others
@@ -85,7 +85,7 @@ region_blocks body regions =
 
 -- why a block does not load, if it does not
 abbrev pub block_fault : List ℕ → NamedBlock → Option Error
-block_fault body b = fault_of (load_told body b.place.offset b.place.size b.kind)
+block_fault body b = fault_of (load_result body b.place.offset b.place.size b.kind)
 
 abbrev pub is_unloaded : Fault → Bool
 is_unloaded (Unloaded e) = true
@@ -132,7 +132,7 @@ unloaded_in body (Err e) = 0
 
 abbrev pub unloaded_count : List ℕ → ℕ
 unloaded_count bytes = if is_some (trailer_fault bytes) then 0
-    else unloaded_in (body_of bytes) (places_told bytes)
+    else unloaded_in (body_of bytes) (places_result bytes)
 
 -- the blocks that do not load of a file's bytes, as far as these tell where blocks lie
 abbrev pub faults_in : List ℕ → Result ParsedRegions Error → List (BlockPlace × Error)
@@ -142,7 +142,7 @@ faults_in body (Err e) = []
 -- those of a file that does not open as a table
 abbrev pub unopened_faults : List ℕ → List (BlockPlace × Error)
 unopened_faults bytes = if is_some (trailer_fault bytes) then []
-    else faults_in (body_of bytes) (places_told bytes)
+    else faults_in (body_of bytes) (places_result bytes)
 
 -- how many faults a table has, as far as that can be counted: what is found first, and each further
 -- block that does not load

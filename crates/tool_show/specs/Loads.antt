@@ -21,13 +21,13 @@ use Rattle.lsm_readers.specs.declared.regions.ParsedRegions.{ParsedRegions}
 use Rattle.lsm_run_parts.specs.RunParts.{range_of}
 use Rattle.tool_lines.specs.declared.entry_line.Format.{Format}
 use Rattle.tool_lines.specs.declared.entry_line.Format.TheVariants.{Json, Lines}
-use Rattle.tool_show.specs.Faults.{told_handles}
+use Rattle.tool_show.specs.Faults.{handles_of_result}
 use Rattle.tool_show.specs.Lines.{number_member, place_text, section_text, text_member}
 use Rattle.tool_show.specs.declared.places.BlockPlace.{BlockPlace}
 
 -- where the first block lies whose handle in a block reaches a key and a number
 abbrev pub reached : List ℕ → Place → List ℕ → ℕ → Option Place
-reached body place key n = option_map place_of (find (reaches key n) (told_handles body place))
+reached body place key n = option_map place_of (find (reaches key n) (handles_of_result body place))
 
 -- the partition of a filter that is asked for a key, or its one block
 abbrev pub filter_by : List ℕ → Option Place → Option Place → List ℕ → Option Place

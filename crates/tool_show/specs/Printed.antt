@@ -12,10 +12,10 @@ use Rattle.json.specs.Print.{print}
 use Rattle.json.specs.Token.{Token}
 use Rattle.sst_entries.specs.Entry.{Entry}
 use Rattle.sst_entries.specs.Point.{within}
-use Rattle.sst_entries.specs.Stream.{Deals, answer_stops, ok_results}
+use Rattle.sst_entries.specs.Stream.{YieldsExactly, answer_stops, ok_results}
 use Rattle.sst_entries.specs.declared.error.Error.{Error}
 use Rattle.lsm_readers.specs.point.Table.{OpenTable}
-use Rattle.lsm_readers.specs.Words.{lift, range_told}
+use Rattle.lsm_readers.specs.Words.{lift, range_results}
 use Rattle.tool_lines.specs.ObjectLine.{WritesEntry}
 use Rattle.tool_lines.specs.WordLine.{word_line}
 use Rattle.tool_lines.specs.declared.entry_line.Format.{Format}
@@ -121,7 +121,7 @@ ShowsItem format (Some (Err e)) r old new = (r ≡ Err (Refused e)) × (new ≡ 
 -- up to its first error a source deals these results
 abbrev pub DealsTo : {S : Type 0} (front back : S → Option Outcome → S → Type 0) → List Outcome → S
     → Type 0
-DealsTo front back rs s = Deals (answer_stops (λ _. true)) front back s rs
+DealsTo front back rs s = YieldsExactly (answer_stops (λ _. true)) front back s rs
 
 -- from a first key on, and up to a key that is left out
 abbrev pub from_key : Option (Bor (List ℕ)) → Bound (List ℕ)
@@ -138,4 +138,4 @@ chosen o t es = within (from_key o.from) (up_to_key o.to) (lift es t.global_seqn
 
 -- what can be read of a table's bytes between the keys that are asked for, and why not
 abbrev pub readable : DumpOptions → OpenTable → List Outcome
-readable o t = range_told t (from_key o.from) (up_to_key o.to)
+readable o t = range_results t (from_key o.from) (up_to_key o.to)

@@ -11,7 +11,7 @@ use Rattle.std.specs.Option.{option_map}
 use Rattle.std.specs.Result.{result_ok}
 use Rattle.json.specs.Print.{print}
 use Rattle.json.specs.Token.{Token}
-use Rattle.sst_blocks.specs.Block.{header_len, load_told}
+use Rattle.sst_blocks.specs.Block.{header_len, load_result}
 use Rattle.sst_blocks.specs.Handle.{Handle}
 use Rattle.sst_blocks.specs.declared.block_type.BlockType.TheVariants.{Meta}
 use Rattle.sst_entries.specs.declared.error.Error.{Error}
@@ -22,7 +22,7 @@ use Rattle.sst_blocks.specs.table.MetaBlock.{name_of}
 use Rattle.sst_blocks.specs.declared.table.item_name.ItemName.{ItemName}
 use Rattle.sst_blocks.specs.declared.table.item_name.ItemName.TheVariants as item
 use Rattle.lsm_readers.specs.BlockIndexes.{table_index}
-use Rattle.lsm_readers.specs.point.Meta.{meta_item_told}
+use Rattle.lsm_readers.specs.point.Meta.{meta_item_result}
 use Rattle.lsm_readers.specs.point.Parts.{place_size}
 use Rattle.lsm_readers.specs.Scan.{fault_of}
 use Rattle.lsm_readers.specs.point.Table.{OpenTable}
@@ -44,7 +44,7 @@ use Rattle.tool_show.specs.declared.facts.Shown.TheVariants.{Number, Bytes}
 -- why a table's meta block does not load, if it does not
 abbrev pub meta_fault : OpenTable → Option Error
 meta_fault t = let place = t.parts.regions.metadata in
-    fault_of (load_told (body_of t.bytes) place.offset place.size Meta)
+    fault_of (load_result (body_of t.bytes) place.offset place.size Meta)
 
 -- an item is not there
 abbrev pub is_missing : Error → Bool
@@ -53,7 +53,7 @@ is_missing e = false
 
 -- the value of an item of the meta block, where there is one
 abbrev pub meta_value : OpenTable → ItemName → Option (List ℕ)
-meta_value t item = result_ok (meta_item_told (body_of t.bytes) t.parts.regions.metadata item)
+meta_value t item = result_ok (meta_item_result (body_of t.bytes) t.parts.regions.metadata item)
 
 -- the handles of the data blocks by the index, or why they cannot be read
 abbrev pub data_handles : OpenTable → List (Result Handle Error)

@@ -3,7 +3,7 @@ ghost use Rattle.std.specs.Prelude.{◌≡◌, ◌++◌, ◌∷◌, [], IfErr, I
 ghost use Rattle.std.specs.Prelude.{None, OnOk, Some, map, unwrap_or};
 ghost use Rattle.std.specs.List.{flat_map};
 ghost use Rattle.std.specs.Option.{option_map};
-ghost use Rattle.sst_blocks.specs.Block.{load_told};
+ghost use Rattle.sst_blocks.specs.Block.{load_result};
 ghost use Rattle.sst_blocks.specs.Handle.{Handle};
 ghost use Rattle.sst_blocks.specs.Place.{place_of};
 ghost use Rattle.sst_blocks.specs.declared.block_type.BlockType.TheVariants as block;
@@ -15,7 +15,7 @@ ghost use Rattle.lsm_readers.specs.point.Table.{parts_of};
 ghost use Rattle.lsm_readers.specs.Verify.{filter_places};
 ghost use Rattle.tool_show.specs.Faults.{block_fault, blocks_below, data_at, filter_at};
 ghost use Rattle.tool_show.specs.Faults.{blocks_at, is_first, is_told, named_at, named_blocks};
-ghost use Rattle.tool_show.specs.Faults.{partition, region_blocks, told_handles, told_tops};
+ghost use Rattle.tool_show.specs.Faults.{partition, region_blocks, handles_of_result, told_tops};
 ghost use Rattle.tool_show.specs.Faults.{top_blocks};
 ghost use Rattle.lsm_readers.specs.declared.verify.Finding.{Finding as FindingValue};
 ghost use denote.Ref.{Bor};
@@ -153,8 +153,8 @@ pub(crate) fn handles_in<A: Allocator + Clone>(
     place: &BlockHandle,
 ) -> Result<Option<IndexBlock<A>>, Error>
     ensures ok { IfOk result (λ block. MatchOption block
-        (told_handles (body_of source.now) place.now ≡ [])
-        (λ handles. told_handles (body_of source.now) place.now ≡ handles)) }
+        (handles_of_result (body_of source.now) place.now ≡ [])
+        (λ handles. handles_of_result (body_of source.now) place.now ≡ handles)) }
     ensures err { IfErr result (λ e. e ≡ OutOfMemory) }
 {
     let mut opened = Opened::none();
@@ -172,7 +172,7 @@ fn places_in<A: Allocator + Copy>(
     place: &BlockHandle,
 ) -> Result<Vec<BlockHandle, A>, Error>
     ensures ok { IfOk result (λ places.
-        places.items ≡ map place_of (told_handles (body_of source.now) place.now)) }
+        places.items ≡ map place_of (handles_of_result (body_of source.now) place.now)) }
     ensures err { IfErr result (λ e. e ≡ OutOfMemory) }
 {
     match handles_in(source, place)? {

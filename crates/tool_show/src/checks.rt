@@ -5,7 +5,7 @@ ghost use Rattle.std.specs.Prelude.{Err, None, Option, Some, if◌then◌else◌
 ghost use Rattle.std.specs.Option.{option_map};
 ghost use Rattle.sst_entries.specs.Entry.{Entry};
 ghost use Rattle.sst_blocks.specs.Sections.{body_of};
-ghost use Rattle.lsm_readers.specs.point.Parts.{places_told};
+ghost use Rattle.lsm_readers.specs.point.Parts.{places_result};
 ghost use Rattle.lsm_readers.specs.Stored.{StoresList};
 ghost use Rattle.lsm_readers.specs.Verification.{steps_of, verifying};
 ghost use Rattle.lsm_readers.specs.Verify.{Finds, Misses, table_found};
@@ -260,10 +260,10 @@ fn print_regions<'a, A: Allocator + Copy, W: Write>(
     source: &BlockSource<A>,
 ) -> Result<u64, ShowError<'a>>
     ensures printed { OnOk result (PrintsText (AreJoined (IsUnloadedLine name.now)
-        (faults_in (body_of source.now) (places_told source.now)))
+        (faults_in (body_of source.now) (places_result source.now)))
         (W.contents output.old) (W.contents output.new)) }
     ensures count { IfOk result (λ count. count ≡
-        unloaded_in (body_of source.now) (places_told source.now)) }
+        unloaded_in (body_of source.now) (places_result source.now)) }
     ensures unnamed { IfErr result NamesNone }
 {
     let Ok(regions) = ParsedRegions::parse_from_toc(&source.toc()) else {

@@ -3,10 +3,10 @@ ghost use Rattle.std.specs.Prelude.{◌≡◌, ◌-◌, IfErr, IfOk, List, OnOk,
 ghost use Rattle.std.specs.Prelude.{false, length, true};
 ghost use Rattle.sst_entries.specs.Entry.{Entry};
 ghost use Rattle.sst_entries.specs.Lending.{entry_of_ref};
-ghost use Rattle.sst_entries.specs.Stream.{CanDeal};
-ghost use Rattle.lsm_iters.specs.block_index.Dealt.{DealsEnding};
+ghost use Rattle.sst_entries.specs.Stream.{CanYield};
+ghost use Rattle.lsm_iters.specs.block_index.Yielded.{YieldsEnding};
 ghost use Rattle.lsm_readers.specs.Stored.{StoresList};
-ghost use Rattle.lsm_runs.specs.RunLists.{DealsList};
+ghost use Rattle.lsm_runs.specs.RunLists.{YieldsList};
 ghost use Rattle.tool_show.specs.Failures.{BlamesNoFile, FailsAs, IfNamed, IfRefusal, NamesNone};
 ghost use Rattle.tool_show.specs.Failures.{NamesOnly};
 ghost use Rattle.tool_show.specs.Printed.{DealsTo, PrintsLine, PrintsLines, PrintsResults, Outcome};
@@ -142,7 +142,7 @@ fn dump_items<
     options: &DumpOptions<'_>,
     most: u64,
 ) -> Result<u64, Failure>
-    requires can { CanDeal I.advances I.next_back_gives I.can_advance I.can_next_back items }
+    requires can { CanYield I.advances I.next_back_gives I.can_advance I.can_next_back items }
     // It prints the first items, all of which are entries, or in reverse the last ones.
     ensures printed { (rs : List Outcome) → DealsTo I.advances I.next_back_gives rs items →
         OnOk result (PrintsResults options.now.format (dumped options.now.reverse most rs)
@@ -150,12 +150,12 @@ fn dump_items<
     ensures left { (rs : List Outcome) → DealsTo I.advances I.next_back_gives rs items →
         IfOk result (λ rest. rest ≡ most - length (dumped options.now.reverse most rs)) }
     // It fails with the first error among these items.
-    ensures refused { (rs : List Outcome) → DealsEnding I.advances I.next_back_gives
+    ensures refused { (rs : List Outcome) → YieldsEnding I.advances I.next_back_gives
         (λ _. Unit {0}) (λ _. Unit {0}) items rs →
         IfErr result (FailsAs (λ e. first_error (dumped options.now.reverse most rs) ≡ Some e)) }
-    ensures sound { (es : List Entry) → DealsList I.advances I.next_back_gives es items →
+    ensures sound { (es : List Entry) → YieldsList I.advances I.next_back_gives es items →
         IfErr result BlamesNoFile }
-    ensures before { (rs : List Outcome) → DealsEnding I.advances I.next_back_gives
+    ensures before { (rs : List Outcome) → YieldsEnding I.advances I.next_back_gives
         (λ _. Unit {0}) (λ _. Unit {0}) items rs →
         IfErr result (IfRefusal (PrintsLines options.now.format
         (before_error (dumped options.now.reverse most rs))

@@ -7,7 +7,7 @@ ghost use Rattle.sst_blocks.specs.Handle.{Handle};
 ghost use Rattle.sst_entries.specs.Error.{is_memory};
 ghost use Rattle.sst_entries.specs.declared.error.Error.{Error as Refusal};
 ghost use Rattle.sst_entries.specs.declared.error.Error.TheVariants.{OutOfMemory};
-ghost use Rattle.lsm_iters.specs.block_index.Dealt.{DealsEnding};
+ghost use Rattle.lsm_iters.specs.block_index.Yielded.{YieldsEnding};
 ghost use Rattle.lsm_iters.specs.block_index.Kinds.{BackGives, FrontGives};
 ghost use Rattle.tool_show.specs.Printed.{first_error};
 ghost use Rattle.tool_show.specs.Stats.{AreDataPlaces, data_handles, let_through, lies_at};
@@ -193,7 +193,7 @@ pub(crate) fn blocks_of<A: Allocator + Copy>(
 
 // The handles of the data blocks. Refused for want of memory alone.
 fn handles_of<A: Allocator + Clone>(table: &Table<A>) -> Result<BlockIndexIterImpl<A>, Error>
-    ensures deals { IfOk result (λ handles. DealsEnding FrontGives BackGives
+    ensures yields { IfOk result (λ handles. YieldsEnding FrontGives BackGives
         (λ _. Unit {0}) (λ _. Unit {0}) handles (data_handles table.now)) }
     ensures err { IfErr result (λ e. e ≡ OutOfMemory) }
 {
@@ -209,10 +209,10 @@ fn collect_places<A: Allocator + Copy>(
     alloc: A,
     handles: &mut BlockIndexIterImpl<A>,
 ) -> Result<Vec<Place, A>, Error>
-    ensures all { (rs : List (Result Handle Refusal)) → DealsEnding FrontGives BackGives
+    ensures all { (rs : List (Result Handle Refusal)) → YieldsEnding FrontGives BackGives
         (λ _. Unit {0}) (λ _. Unit {0}) handles.old rs → IfOk result (λ places.
         (hs : List Handle) × (rs ≡ map (λ h. Ok h) hs) × (places.items ≡ map lies_at hs)) }
-    ensures refused { (rs : List (Result Handle Refusal)) → DealsEnding FrontGives BackGives
+    ensures refused { (rs : List (Result Handle Refusal)) → YieldsEnding FrontGives BackGives
         (λ _. Unit {0}) (λ _. Unit {0}) handles.old rs →
         IfErr result (λ e. is_memory e ≡ false → first_error rs ≡ Some e) }
 {

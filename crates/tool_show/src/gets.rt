@@ -8,7 +8,7 @@ ghost use Rattle.std.specs.Option.{option_map};
 ghost use Rattle.lsm_sorted.specs.version.Run.{IsInOrder};
 ghost use Rattle.lsm_runs.specs.RunLists.{RunsHoldLists};
 ghost use Rattle.lsm_run_parts.specs.RunParts.{range_of};
-ghost use Rattle.lsm_runs.specs.SeveralRuns.{runs_told, union_in};
+ghost use Rattle.lsm_runs.specs.SeveralRuns.{runs_result, union_in};
 ghost use Rattle.sst_entries.specs.Entry.{Entry};
 ghost use Rattle.sst_entries.specs.Error.{is_memory};
 ghost use Rattle.sst_entries.specs.Lending.{entry_of_ref};
@@ -65,12 +65,12 @@ pub fn get<'a, A: Allocator + Copy, W: Write>(
     // refusal is passed over.
     ensures told { AllByRecursion (IsInOrder range_of) (runs_in files.now) →
         IfOk result (λ there. (found : Option Entry)
-        × (runs_told options.now.key.now (seen_below options.now) None (runs_in files.now)
+        × (runs_result options.now.key.now (seen_below options.now) None (runs_in files.now)
         ≡ Ok found) × (there ≡ is_some found)) }
     // It prints that, and then the loads of each file, where these are asked for.
     ensures shown { AllByRecursion (IsInOrder range_of) (runs_in files.now) →
         OnOk result ((found : Option Entry)
-        × (runs_told options.now.key.now (seen_below options.now) None (runs_in files.now)
+        × (runs_result options.now.key.now (seen_below options.now) None (runs_in files.now)
         ≡ Ok found) × PrintsText (IsAnswer options.now files.now found)
         (W.contents output.old) (W.contents output.new)) }
     // Of files of lists there is one where these lists together have it.
@@ -109,7 +109,7 @@ fn print_read<'a, A: Allocator + Copy, W: Write>(
 ) -> Result<bool, ShowError<'a>>
     ensures told { AllByRecursion (IsInOrder range_of) (map arc_value runs.now) →
         IfOk result (λ there. (found : Option Entry)
-        × (runs_told options.now.key.now (seen_below options.now) None (map arc_value runs.now)
+        × (runs_result options.now.key.now (seen_below options.now) None (map arc_value runs.now)
         ≡ Ok found) × (there ≡ is_some found) × PrintsFound options.now.format found
         (W.contents output.old) (W.contents output.new)) }
     ensures list { (lists : List (List (List Entry))) →

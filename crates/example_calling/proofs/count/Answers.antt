@@ -1,7 +1,7 @@
 use Rattle.std.proofs.Common.{sym, subst}
 use Rattle.std.specs.Prelude.{Some}
 use Rattle.std.specs.Iterator.{IsFinite}
-use Rattle.lsm_tables.specs.Words.{DealsList}
+use Rattle.lsm_tables.specs.Words.{YieldsList}
 use Rattle.example_calling.proofs.Counting.{all_counted, fault_counted, none_counted, one_counted}
 use Rattle.example_calling.proofs.count.Goals as goal
 
@@ -14,7 +14,7 @@ loop-item-init g c =
       can = subst (λ s. g.I.Iterator.can_next s) (sym same) c.requires.can;
       finite = subst (λ s. IsFinite (g.I.Iterator.remaining s)) (sym same) c.requires.finite;
       counts = λ es d. none_counted next back es c.into_iter-item-iterator.result
-          (subst (λ s. DealsList next back es s) (sym same) d);
+          (subst (λ s. YieldsList next back es s) (sym same) d);
     }
 
 pub loop-item-preserved : goal.loop-item-preserved

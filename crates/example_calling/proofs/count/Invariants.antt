@@ -1,5 +1,5 @@
 use Rattle.std.specs.Prelude.{List}
-use Rattle.lsm_tables.specs.Words.{DealsList, Entry}
+use Rattle.lsm_tables.specs.Words.{YieldsList, Entry}
 use Rattle.example_calling.proofs.Counting.{Counts}
 use Rattle.example_calling.proofs.count.Given as goal
 
@@ -8,7 +8,7 @@ invariant-loop-item g l = record {
   can : (goal.iterator-loop-item g).can_next l.item-iterator;
   finite : (goal.iterator-loop-item g).is_finite l.item-iterator;
   counts : (es : List Entry)
-      → DealsList g.I.Iterator.next_gives g.I.DoubleEndedIterator.next_back_gives es l.fn.items
+      → YieldsList g.I.Iterator.next_gives g.I.DoubleEndedIterator.next_back_gives es l.fn.items
       → Counts g.I.Iterator.next_gives g.I.DoubleEndedIterator.next_back_gives es l.count
       l.item-iterator;
 }

@@ -20,7 +20,7 @@ pub enum FileFault {
     /// It does not open as a table.
     Unopened(Error),
     /// It opens, but does not store a list.
-    Unsound(Finding),
+    Invalid(Finding),
     /// It has no entry.
     Empty,
     /// It has an entry with a seqno not below that of the next write.
@@ -110,7 +110,7 @@ impl<A: Allocator + Clone> Store<A> {
         // It reads as the history that the closed store read as.
         ensures story { (s : spec.Holding) (ws : List spec.Entry) → spec.IsStore s →
             spec.IsClosed s closed.now →
-            spec.IsTold s ws → IfOk result (λ store. spec.IsTold store ws) }
+            spec.IsReported s ws → IfOk result (λ store. spec.IsReported store ws) }
         // Opening a closed store fails with `OutOfMemory` only.
         ensures taken { (s : spec.Holding) → spec.IsStore s → spec.IsClosed s closed.now →
             IfErr result (λ e. e ≡ OutOfMemory) }
@@ -246,7 +246,7 @@ fn open_table<A: Allocator + Clone>(
 ) -> Result<Table<A>, OpenError>
     ensures bytes { IfOk result (λ t. t.bytes ≡ bytes) }
     ensures unlifted { IfOk result (λ t. t.global_seqno ≡ 0) }
-    ensures opens { IfOk result (λ t. spec.recovered_told bytes 0 true true ≡ Ok t.parts) }
+    ensures opens { IfOk result (λ t. spec.recovered_result bytes 0 true true ≡ Ok t.parts) }
     ensures taken { (es : List spec.Entry) → spec.StoresList bytes es →
         IfErr result (λ e. e ≡ OutOfMemory) }
     ensures named { (next : ℕ) → IfErr result (spec.NamesFile next bytes place.0 place.1) }
@@ -276,7 +276,7 @@ fn test_table<A: Allocator + Clone>(
     place: (usize, usize),
 ) -> Result<(), OpenError>
     requires unlifted { table.now.global_seqno ≡ 0 }
-    requires opens { spec.recovered_told table.now.bytes 0 true true ≡ Ok table.now.parts }
+    requires opens { spec.recovered_result table.now.bytes 0 true true ≡ Ok table.now.parts }
     ensures own { IfOk result (λ _. spec.IsOwnTable next table.now) }
     ensures taken { (es : List spec.Entry) → spec.StoresList table.now.bytes es → 0 < length es →
         spec.AllByRecursion (spec.IsOwn next) es → IfErr result (λ e. e ≡ OutOfMemory) }
@@ -299,7 +299,7 @@ fn test_entries<A: Allocator + Clone>(
     table: &Table<A>,
     place: (usize, usize),
 ) -> Result<(), OpenError>
-    requires opens { spec.recovered_told table.now.bytes 0 true true ≡ Ok table.now.parts }
+    requires opens { spec.recovered_result table.now.bytes 0 true true ≡ Ok table.now.parts }
     ensures sound { IfOk result (λ _. (es : List spec.Entry) × spec.StoresList table.now.bytes es ×
         (0 < length es)) }
     ensures taken { (es : List spec.Entry) → spec.StoresList table.now.bytes es → 0 < length es →
@@ -315,7 +315,7 @@ fn test_entries<A: Allocator + Clone>(
         Ok(_) => Ok(()),
         Err(VerifyError::OutOfMemory) => Err(OpenError::OutOfMemory),
         Err(VerifyError::Found(finding)) => {
-            Err(OpenError::File(place.0, place.1, FileFault::Unsound(finding)))
+            Err(OpenError::File(place.0, place.1, FileFault::Invalid(finding)))
         }
     }
 }

@@ -48,7 +48,7 @@ fn scanners_of<A: Allocator + Clone>(
         (lists : List (List (List spec.Entry))) →
         spec.RunsHoldLists (map spec.arc_value runs.now) lists →
         spec.AllByRecursion spec.HaveEntries lists →
-        IfOk result (λ v. spec.DealTogether gives spec.nowhere v.items (map spec.joined lists)) }
+        IfOk result (λ v. spec.YieldTogether gives spec.nowhere v.items (map spec.joined lists)) }
     ensures memory { (lists : List (List (List spec.Entry))) →
         spec.RunsHoldLists (map spec.arc_value runs.now) lists →
         spec.AllByRecursion spec.HaveEntries lists → IfErr result (λ e. e ≡ OutOfMemory) }
@@ -66,7 +66,7 @@ fn scanner_of<A: Allocator + Clone>(run: &Arc<Run<Table<A>, A>, A>) -> Result<Ru
     ensures list { let gives = ⟦<RunScanner<A> as Iterator>⟧.next_gives in
         (lists : List (List spec.Entry)) → spec.HoldLists (spec.arc_value run.now) lists →
         spec.HaveEntries lists →
-        IfOk result (spec.DealsList gives spec.nowhere (spec.joined lists)) }
+        IfOk result (spec.YieldsList gives spec.nowhere (spec.joined lists)) }
     ensures memory { (lists : List (List spec.Entry)) →
         spec.HoldLists (spec.arc_value run.now) lists →
         spec.HaveEntries lists → IfErr result (λ e. e ≡ OutOfMemory) }
@@ -80,14 +80,14 @@ fn come_in_order<I: Iterator<Item = IterItem<A>> + Drop, A: Allocator + Clone>(
     alloc: &A,
     sources: Vec<I, A>,
 ) -> Result<bool, Error>
-    requires can { All (spec.CanDeal I.next_gives spec.nowhere I.can_next I.can_next)
+    requires can { All (spec.CanYield I.next_gives spec.nowhere I.can_next I.can_next)
         sources.items }
     requires finite { All (λ s. spec.IsFinite (I.remaining s)) sources.items }
     ensures exact { (lists : List (List (List spec.Entry))) →
-        spec.DealTogether I.next_gives spec.nowhere sources.items (map spec.joined lists) →
+        spec.YieldTogether I.next_gives spec.nowhere sources.items (map spec.joined lists) →
         IfOk result (λ b. IsTrue b ↔ spec.IsStrict (spec.union_in lists)) }
     ensures memory { (lists : List (List (List spec.Entry))) →
-        spec.DealTogether I.next_gives spec.nowhere sources.items (map spec.joined lists) →
+        spec.YieldTogether I.next_gives spec.nowhere sources.items (map spec.joined lists) →
         IfErr result (λ e. e ≡ OutOfMemory) }
 {
     let entries = Merger::new(alloc.clone()?, sources)?;
@@ -100,9 +100,9 @@ fn comes_in_order<I: Iterator<Item = IterItem<A>> + Drop, A: Allocator>(
 ) -> Result<bool, Error>
     requires can { I.can_next items }
     requires finite { spec.IsFinite (I.remaining items) }
-    ensures exact { (es : List spec.Entry) → spec.DealsList I.next_gives spec.nowhere es items →
+    ensures exact { (es : List spec.Entry) → spec.YieldsList I.next_gives spec.nowhere es items →
         IfOk result (λ b. IsTrue b ↔ spec.IsStrict es) }
-    ensures memory { (es : List spec.Entry) → spec.DealsList I.next_gives spec.nowhere es items →
+    ensures memory { (es : List spec.Entry) → spec.YieldsList I.next_gives spec.nowhere es items →
         IfErr result (λ e. e ≡ OutOfMemory) }
 {
     let mut last: Option<InternalValue<A>> = None;

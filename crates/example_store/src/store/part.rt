@@ -27,7 +27,7 @@ impl<A: Allocator + Clone> Store<A> {
     ///
     /// Those of [`Store::compact`]. The store is not changed then.
     pub fn compact_part(&mut self, from: usize, to: usize, watermark: SeqNo) -> Result<(), Error>
-        ensures story { (ws : List spec.Entry) → spec.IsTold self.old ws → spec.IsTold self.new ws }
+        ensures story { (ws : List spec.Entry) → spec.IsReported self.old ws → spec.IsReported self.new ws }
         ensures oldest { OnOk result
             (self.new.oldest ≡ max self.old.oldest (min watermark self.old.next)) }
         ensures next { self.new.next ≡ self.old.next }

@@ -33,15 +33,15 @@ impl<A: Allocator + Clone> Store<A> {
         // At a snapshot that is kept, it shows what the history of writes says.
         ensures told { let gives = ⟦<Range<A> as Iterator>⟧.next_gives in
             let back_gives = ⟦<Range<A> as DoubleEndedIterator>⟧.next_back_gives in
-            (ws : List spec.Entry) → spec.IsTold self.now ws → self.now.oldest ≤ snapshot →
-            IfOk result (λ s. (es : List spec.Entry) × spec.DealsList gives back_gives es s ×
+            (ws : List spec.Entry) → spec.IsReported self.now ws → self.now.oldest ≤ snapshot →
+            IfOk result (λ s. (es : List spec.Entry) × spec.YieldsList gives back_gives es s ×
             (spec.all_shown es ≡ spec.all_shown (spec.newest (spec.numbered_below snapshot
             (spec.within bounds.0 bounds.1 (spec.sort_entries ws)))))) }
         // At any snapshot, it yields the entries of the memtable and of the tables' lists.
         ensures read { let gives = ⟦<Range<A> as Iterator>⟧.next_gives in
             let back_gives = ⟦<Range<A> as DoubleEndedIterator>⟧.next_back_gives in
             (lists : List (List (List spec.Entry))) → spec.RunsHoldLists self.now.runs lists →
-            IfOk result (spec.DealsList gives back_gives (spec.newest (spec.numbered_below snapshot
+            IfOk result (spec.YieldsList gives back_gives (spec.newest (spec.numbered_below snapshot
             (spec.within bounds.0 bounds.1
             (spec.union_in (spec.single self.now.recent ∷ lists)))))) }
         ensures next { IfOk result (λ s. ⟦<Range<A> as Iterator>⟧.can_next s) }
@@ -68,16 +68,16 @@ fn range_beside<S: DoubleEndedIterator<Item = IterItem<A>> + Drop, A: Allocator 
         (lists : List (List (List spec.Entry))) →
         spec.RunsHoldLists (map spec.arc_value runs.now) lists →
         (es : List spec.Entry) → spec.IsStrict es →
-        IfOk source (spec.DealsList S.next_gives S.next_back_gives
+        IfOk source (spec.YieldsList S.next_gives S.next_back_gives
         (spec.within bounds.0 bounds.1 es)) →
-        IfOk result (spec.DealsList gives back_gives (spec.newest (spec.numbered_below snapshot
+        IfOk result (spec.YieldsList gives back_gives (spec.newest (spec.numbered_below snapshot
         (spec.within bounds.0 bounds.1 (spec.union_in (spec.single es ∷ lists)))))) }
     ensures next { IfOk source
-        (spec.CanDeal S.next_gives S.next_back_gives S.can_next S.can_next_back) →
+        (spec.CanYield S.next_gives S.next_back_gives S.can_next S.can_next_back) →
         IfOk source (λ s. spec.IsFinite (S.remaining s)) →
         IfOk result (λ s. ⟦<NewestOfSourcesAt<S, A> as Iterator>⟧.can_next s) }
     ensures next_back { IfOk source
-        (spec.CanDeal S.next_gives S.next_back_gives S.can_next S.can_next_back) →
+        (spec.CanYield S.next_gives S.next_back_gives S.can_next S.can_next_back) →
         IfOk source (λ s. spec.IsFinite (S.remaining s)) →
         IfOk result (λ s. ⟦<NewestOfSourcesAt<S, A> as DoubleEndedIterator>⟧.can_next_back s) }
     ensures memory { IfErr source (λ e. e ≡ OutOfMemory) → IfErr result (λ e. e ≡ OutOfMemory) }

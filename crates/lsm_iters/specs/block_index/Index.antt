@@ -5,7 +5,7 @@ use Rattle.std.specs.List.{flat_map}
 use Rattle.sst_blocks.specs.declared.block_type.BlockType.TheVariants.{Index as IndexBlock}
 use Rattle.sst_entries.specs.declared.error.Error.{Error}
 use Rattle.sst_entries.specs.Stream.{ok_results}
-use Rattle.sst_blocks.specs.Block.{Loaded, load_told, place_fault, handles_of}
+use Rattle.sst_blocks.specs.Block.{Loaded, load_result, place_fault, handles_of}
 use Rattle.sst_blocks.specs.Handle.{Handle}
 use Rattle.sst_blocks.specs.Handles.{window}
 use Rattle.sst_blocks.specs.Place.{Place, place_of}
@@ -26,7 +26,7 @@ between lower upper (Err e) = Err e ∷ []
 abbrev pub block_between : List ℕ → Option (List ℕ × ℕ) → Option (List ℕ) → Place
     → List (Result Handle Error)
 block_between body lower upper place = between lower upper
-    (load_told body place.offset place.size IndexBlock)
+    (load_result body place.offset place.size IndexBlock)
 
 -- The index block's error that precedes allocation.
 abbrev pub block_early : List ℕ → Place → Option Error

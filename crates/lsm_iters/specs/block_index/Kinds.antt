@@ -20,7 +20,7 @@ use Rattle.lsm_iters.specs.declared.block_index.kinds.BlockIndexIterImpl.TheVari
 use Rattle.lsm_iters.specs.declared.block_index.kinds.BlockIndexIterImpl.TheVariants.{
   TwoLevel as Levels,
 }
-use Rattle.lsm_iters.specs.block_index.Dealt.{DealsEnding}
+use Rattle.lsm_iters.specs.block_index.Yielded.{YieldsEnding}
 use Rattle.lsm_iters.specs.block_index.Index.{Index, full, on_demand, two_level}
 use Rattle.lsm_iters.specs.block_index.Left.{CountsUpTo, Left, OnDemandGives, TwoLevelGives}
 use Rattle.lsm_iters.specs.block_index.Left.{IsBetween}
@@ -89,7 +89,7 @@ pub record IsReader {A : Type 0} (i : BlockIndexIterImpl A) (index : Index)
   pub between : IsBetween (left_of i) low high
   pub index_is : (left_of i).index ≡ index
   pub opened : (left_of i).opened ≡ none_opened
-  pub deals : DealsEnding FrontGives BackGives (λ _. Unit {0}) (λ _. Unit {0}) i (left_of i).results
+  pub yields : YieldsEnding FrontGives BackGives (λ _. Unit {0}) (λ _. Unit {0}) i (left_of i).results
   pub counts : (ends : List Direction) (rs : List (Option (Result Handle Error)))
       (t : BlockIndexIterImpl A)
       → Runs FrontGives BackGives i ends rs t → CountsUpTo (index.loads low high) (left_of t)

@@ -4,10 +4,10 @@ pub use Rattle.sst_entries.specs.Stream.{back_of, front_of}
 pub use Rattle.sst_blocks.specs.Sections.{body_of}
 pub use Rattle.sst_blocks.specs.Handles.{window}
 pub use Rattle.sst_blocks.specs.Opened.{none_opened}
-pub use Rattle.sst_blocks.specs.Seeking.{DealsLeft, KeepsLowerEdge, KeepsUpperEdge, above_place}
+pub use Rattle.sst_blocks.specs.Seeking.{YieldsLeft, KeepsLowerEdge, KeepsUpperEdge, above_place}
 pub use Rattle.sst_blocks.specs.Seeking.{reaching_place, span_from, span_to, whole_span}
 pub use Rattle.lsm_iters.specs.block_index.Answers.{AnswersAny, AnswersTrue}
-pub use Rattle.lsm_iters.specs.block_index.Dealt.{DealsEnding}
+pub use Rattle.lsm_iters.specs.block_index.Yielded.{YieldsEnding}
 pub use Rattle.lsm_iters.specs.block_index.Index.{Index, block_between, block_early, full}
 pub use Rattle.lsm_iters.specs.block_index.Index.{on_demand}
 pub use Rattle.lsm_iters.specs.block_index.Index.{two_level}

@@ -66,13 +66,13 @@ Names at s (Some (Err e)) t =
     × IsDone t
 
 -- The result of loading the named part: the part or its error, except for `OutOfMemory`.
-abbrev pub Tells : {T X : Type 0} → (T → Remains X) → Option (Result (Loading X) Error)
+abbrev pub ReportsOf : {T X : Type 0} → (T → Remains X) → Option (Result (Loading X) Error)
     → Option (Result T Error) → Type 0
-Tells left None r = r ≡ None
-Tells left (Some (Err e)) r = r ≡ Some (Err e)
-Tells left (Some (Ok part)) None = ⊥
-Tells left (Some (Ok part)) (Some (Ok loaded)) = (left loaded).results ≡ part.results
-Tells left (Some (Ok part)) (Some (Err e)) = is_memory e ≡ false → Err e ∷ [] ≡ part.results
+ReportsOf left None r = r ≡ None
+ReportsOf left (Some (Err e)) r = r ≡ Some (Err e)
+ReportsOf left (Some (Ok part)) None = ⊥
+ReportsOf left (Some (Ok part)) (Some (Ok loaded)) = (left loaded).results ≡ part.results
+ReportsOf left (Some (Ok part)) (Some (Err e)) = is_memory e ≡ false → Err e ∷ [] ≡ part.results
 
 -- The named part's error that precedes allocation.
 abbrev pub early_named : {X : Type 0} → Option (Result (Loading X) Error) → Option Error
@@ -93,7 +93,7 @@ pub record LoadGives {P T X : Type 0} (left : T → Remains X) (coming : P → C
     (at : Direction) (s : P) (r : Option (Result T Error)) (t : P) : Type 0 where
   pub named : Option (Result (Loading X) Error)
   pub names : Names at (coming s) named (coming t)
-  pub told : Tells left named r
+  pub told : ReportsOf left named r
   pub loads : own_of left r + (coming t).loads ≤ (coming s).loads
   pub first : (f : Error) → early_named named ≡ Some f → r ≡ Some (Err f)
   pub kept : keeps s named t

@@ -5,7 +5,7 @@ ghost use Rattle.std.specs.Iterator.{at_most};
 ghost use Rattle.sst_entries.specs.declared.error.Error.TheVariants.{OutOfMemory};
 ghost use Rattle.lsm_iters.specs.block_index.Words.{SpanGives, back_of, front_of, reaching_place};
 ghost use Rattle.lsm_iters.specs.block_index.Words.{rest_in};
-ghost use Rattle.lsm_iters.specs.block_index.Words.{AnswersAny, DealsEnding, IsBetween};
+ghost use Rattle.lsm_iters.specs.block_index.Words.{AnswersAny, YieldsEnding, IsBetween};
 ghost use Rattle.lsm_iters.specs.block_index.Words.{IsSpanSought};
 ghost use Rattle.lsm_iters.specs.block_index.Words.{span_from, span_left, whole_span, window};
 
@@ -59,10 +59,10 @@ impl<A: Allocator> FullBlockIndex<A> {
             (λ i. i ≡ span_from place (whole_span self.now))) }
         ensures kept { let handles = window self.now (Some (key.now, seqno)) None in
             IfOk result (λ found. MatchOption found (Unit {0}) (λ i. rest_in i ≡ handles)) }
-        ensures deals { let gives = ⟦<Iter<A> as Iterator>⟧.next_gives in
+        ensures yields { let gives = ⟦<Iter<A> as Iterator>⟧.next_gives in
             let back_gives = ⟦<Iter<A> as DoubleEndedIterator>⟧.next_back_gives in
             IfOk result (λ found. MatchOption found (Unit {0}) (λ i.
-            DealsEnding gives back_gives (λ _. Unit {0}) (λ _. Unit {0}) i (span_left i).results)) }
+            YieldsEnding gives back_gives (λ _. Unit {0}) (λ _. Unit {0}) i (span_left i).results)) }
         ensures err { IfErr result (λ e. e ≡ OutOfMemory) }
     {
         let mut iter = self.iter()?;
@@ -82,9 +82,9 @@ impl<A: Allocator> FullBlockIndex<A> {
     pub fn iter(&self) -> Result<Iter<A>, Error>
         ensures whole { IfOk result (λ i. i ≡ whole_span self.now) }
         ensures between { IfOk result (λ i. IsBetween (span_left i) None None) }
-        ensures deals { let gives = ⟦<Iter<A> as Iterator>⟧.next_gives in
+        ensures yields { let gives = ⟦<Iter<A> as Iterator>⟧.next_gives in
             let back_gives = ⟦<Iter<A> as DoubleEndedIterator>⟧.next_back_gives in
-            IfOk result (λ i. DealsEnding gives back_gives (λ _. Unit {0}) (λ _. Unit {0}) i
+            IfOk result (λ i. YieldsEnding gives back_gives (λ _. Unit {0}) (λ _. Unit {0}) i
             (span_left i).results) }
         ensures err { IfErr result (λ e. e ≡ OutOfMemory) }
     {

@@ -1,7 +1,7 @@
 //! A double-ended iterator over the handles of an index block that it owns.
 ghost use Rattle.std.specs.Prelude.{◌≡◌, ◌+◌, ◌-◌, ◌↔◌, [], IsTrue, Some, None};
 ghost use Rattle.std.specs.Iterator.{at_most};
-ghost use Rattle.lsm_iters.specs.block_index.Words.{DealsLeft, KeepsLowerEdge, KeepsUpperEdge};
+ghost use Rattle.lsm_iters.specs.block_index.Words.{YieldsLeft, KeepsLowerEdge, KeepsUpperEdge};
 ghost use Rattle.lsm_iters.specs.block_index.Words.{PlaceGives, SpanGives};
 ghost use Rattle.lsm_iters.specs.block_index.Words.{above_place, back_of, front_of, reaching_place};
 ghost use Rattle.lsm_iters.specs.block_index.Words.{rest_in};
@@ -41,7 +41,7 @@ impl<A: Allocator> OwnedIndexBlockIter<A> {
     /// Returns an iterator over all handles of a block.
     pub fn new(block: IndexBlock<A>) -> OwnedIndexBlockIter<A>
         ensures whole { result ≡ whole_span block }
-        ensures deals { DealsLeft ⟦<OwnedIndexBlockIter<A> as Iterator>⟧.next_gives
+        ensures yields { YieldsLeft ⟦<OwnedIndexBlockIter<A> as Iterator>⟧.next_gives
             ⟦<OwnedIndexBlockIter<A> as DoubleEndedIterator>⟧.next_back_gives result }
     {
         let to = block.len();
@@ -58,7 +58,7 @@ impl<A: Allocator> OwnedIndexBlockIter<A> {
         ensures left { IsTrue result ↔ (rest_in self.new ≡ [] → ⊥) }
         ensures kept { rest_in self.new ≡ window (rest_in self.old) (Some (key.now, seqno)) None }
         ensures both { KeepsUpperEdge (key.now, seqno) self.old self.new }
-        ensures deals { DealsLeft ⟦<OwnedIndexBlockIter<A> as Iterator>⟧.next_gives
+        ensures yields { YieldsLeft ⟦<OwnedIndexBlockIter<A> as Iterator>⟧.next_gives
             ⟦<OwnedIndexBlockIter<A> as DoubleEndedIterator>⟧.next_back_gives self.new }
     {
         self.from = self.from.max(self.block.first_reaching(key, seqno));
@@ -76,7 +76,7 @@ impl<A: Allocator> OwnedIndexBlockIter<A> {
         ensures kept { let upper = window self.old.list None (Some key.now) in
             rest_in self.new ≡ rest_in (record self.old { list = upper }) }
         ensures both { KeepsLowerEdge key.now self.old self.new }
-        ensures deals { DealsLeft ⟦<OwnedIndexBlockIter<A> as Iterator>⟧.next_gives
+        ensures yields { YieldsLeft ⟦<OwnedIndexBlockIter<A> as Iterator>⟧.next_gives
             ⟦<OwnedIndexBlockIter<A> as DoubleEndedIterator>⟧.next_back_gives self.new }
     {
         let last = self.block.first_above(key);

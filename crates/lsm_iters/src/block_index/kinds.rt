@@ -3,7 +3,7 @@ ghost use Rattle.std.specs.Prelude.{◌≡◌, ℕ, Bool, List, Option, [], Some
 ghost use Rattle.std.specs.Prelude.{◌↔◌, IsTrue, OnOk, OnErr, IfOk, IfErr};
 ghost use Rattle.std.specs.Iterator.{at_most};
 ghost use Rattle.sst_entries.specs.declared.error.Error.TheVariants.{OutOfMemory};
-ghost use Rattle.lsm_iters.specs.block_index.Words.{DealsEnding, Index, IsBetween, IsEnded, Left};
+ghost use Rattle.lsm_iters.specs.block_index.Words.{YieldsEnding, Index, IsBetween, IsEnded, Left};
 ghost use Rattle.lsm_iters.specs.block_index.Words.{StaysEnded, left_size};
 ghost use Rattle.lsm_iters.specs.block_index.Kinds.{BackGives, FrontGives, HasReader, IsReader};
 ghost use Rattle.lsm_iters.specs.block_index.Kinds.{IsSought, SeekAnswers, TakesMemory};
@@ -56,7 +56,7 @@ pub trait BlockIndexIter<A: Allocator>: DoubleEndedIterator<
         // A seek does not revive an exhausted iterator.
         ensures over { IsEnded (left self.old) → IsEnded (left self.new) }
         // In any order of calls at both ends, the results left are yielded up to the first error.
-        ensures deals { DealsEnding Self.next_gives Self.next_back_gives Self.can_next
+        ensures yields { YieldsEnding Self.next_gives Self.next_back_gives Self.can_next
             Self.can_next_back self.new (left self.new).results }
         ensures index { (left self.new).index ≡ (left self.old).index }
         ensures opened { (left self.new).opened ≡ (left self.old).opened }
@@ -85,7 +85,7 @@ pub trait BlockIndexIter<A: Allocator>: DoubleEndedIterator<
         ensures answers { IfOk result (λ any. seek_answers self.new any) }
         ensures none { IfOk result (λ any. any ≡ false → (left self.new).results ≡ []) }
         ensures over { IsEnded (left self.old) → IsEnded (left self.new) }
-        ensures deals { DealsEnding Self.next_gives Self.next_back_gives Self.can_next
+        ensures yields { YieldsEnding Self.next_gives Self.next_back_gives Self.can_next
             Self.can_next_back self.new (left self.new).results }
         ensures index { (left self.new).index ≡ (left self.old).index }
         ensures opened { (left self.new).opened ≡ (left self.old).opened }

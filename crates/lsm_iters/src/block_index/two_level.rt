@@ -2,7 +2,7 @@
 ghost use Rattle.std.specs.Prelude.{◌≡◌, ◌↔◌, [], IsTrue, Some, None, IfOk, IfErr};
 ghost use Rattle.std.specs.Iterator.{at_most};
 ghost use Rattle.sst_entries.specs.declared.error.Error.TheVariants.{OutOfMemory};
-ghost use Rattle.lsm_iters.specs.block_index.Words.{AnswersTrue, DealsEnding, IsBetween};
+ghost use Rattle.lsm_iters.specs.block_index.Words.{AnswersTrue, YieldsEnding, IsBetween};
 ghost use Rattle.lsm_iters.specs.block_index.Words.{IsTwoLevelSought, TwoLevelGives, back_early};
 ghost use Rattle.lsm_iters.specs.block_index.Words.{back_needs, back_of, body_of, fault_at};
 ghost use Rattle.lsm_iters.specs.block_index.Words.{front_early};
@@ -72,9 +72,9 @@ impl<A: Allocator + Clone> TwoLevelBlockIndex<A> {
         ensures index { let index = two_level self.now.0 self.now.1 in
             IfOk result (λ i. (two_level_left i).index ≡ index) }
         ensures opened { IfOk result (λ i. i.opened ≡ none_opened) }
-        ensures deals { let gives = ⟦<Iter<A> as Iterator>⟧.next_gives in
+        ensures yields { let gives = ⟦<Iter<A> as Iterator>⟧.next_gives in
             let back_gives = ⟦<Iter<A> as DoubleEndedIterator>⟧.next_back_gives in
-            IfOk result (λ i. DealsEnding gives back_gives (λ _. Unit {0}) (λ _. Unit {0}) i
+            IfOk result (λ i. YieldsEnding gives back_gives (λ _. Unit {0}) (λ _. Unit {0}) i
             (two_level_left i).results) }
         ensures err { IfErr result (λ e. e ≡ OutOfMemory) }
     {
@@ -93,9 +93,9 @@ impl<A: Allocator + Clone> TwoLevelBlockIndex<A> {
     pub fn iter(&self) -> Result<Iter<A>, Error>
         ensures unsought { IfOk result (λ i. i ≡ new_two_level self.now.0 self.now.1) }
         ensures between { IfOk result (λ i. IsBetween (two_level_left i) None None) }
-        ensures deals { let gives = ⟦<Iter<A> as Iterator>⟧.next_gives in
+        ensures yields { let gives = ⟦<Iter<A> as Iterator>⟧.next_gives in
             let back_gives = ⟦<Iter<A> as DoubleEndedIterator>⟧.next_back_gives in
-            IfOk result (λ i. DealsEnding gives back_gives (λ _. Unit {0}) (λ _. Unit {0}) i
+            IfOk result (λ i. YieldsEnding gives back_gives (λ _. Unit {0}) (λ _. Unit {0}) i
             (two_level_left i).results) }
         ensures err { IfErr result (λ e. e ≡ OutOfMemory) }
     {

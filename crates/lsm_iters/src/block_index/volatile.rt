@@ -2,7 +2,7 @@
 ghost use Rattle.std.specs.Prelude.{◌≡◌, ◌↔◌, [], IsTrue, Some, None, IfOk, IfErr};
 ghost use Rattle.std.specs.Iterator.{at_most};
 ghost use Rattle.sst_entries.specs.declared.error.Error.TheVariants.{OutOfMemory};
-ghost use Rattle.lsm_iters.specs.block_index.Words.{AnswersTrue, DealsEnding, IsBetween};
+ghost use Rattle.lsm_iters.specs.block_index.Words.{AnswersTrue, YieldsEnding, IsBetween};
 ghost use Rattle.lsm_iters.specs.block_index.Words.{IsDemandSought, OnDemandGives, back_of};
 ghost use Rattle.lsm_iters.specs.block_index.Words.{body_of};
 ghost use Rattle.lsm_iters.specs.block_index.Words.{front_of};
@@ -63,9 +63,9 @@ impl<A: Allocator + Clone> VolatileBlockIndex<A> {
             IfOk result (λ i. i ≡ record unsought { lower = Some (key.now, seqno) }) }
         ensures between { let edge = Some (key.now, seqno) in
             IfOk result (λ i. IsBetween (on_demand_left i) edge None) }
-        ensures deals { let gives = ⟦<Iter<A> as Iterator>⟧.next_gives in
+        ensures yields { let gives = ⟦<Iter<A> as Iterator>⟧.next_gives in
             let back_gives = ⟦<Iter<A> as DoubleEndedIterator>⟧.next_back_gives in
-            IfOk result (λ i. DealsEnding gives back_gives (λ _. Unit {0}) (λ _. Unit {0}) i
+            IfOk result (λ i. YieldsEnding gives back_gives (λ _. Unit {0}) (λ _. Unit {0}) i
             (on_demand_left i).results) }
         ensures err { IfErr result (λ e. e ≡ OutOfMemory) }
     {
@@ -84,9 +84,9 @@ impl<A: Allocator + Clone> VolatileBlockIndex<A> {
     pub fn iter(&self) -> Result<Iter<A>, Error>
         ensures unsought { IfOk result (λ i. i ≡ new_on_demand self.now.0 self.now.1) }
         ensures between { IfOk result (λ i. IsBetween (on_demand_left i) None None) }
-        ensures deals { let gives = ⟦<Iter<A> as Iterator>⟧.next_gives in
+        ensures yields { let gives = ⟦<Iter<A> as Iterator>⟧.next_gives in
             let back_gives = ⟦<Iter<A> as DoubleEndedIterator>⟧.next_back_gives in
-            IfOk result (λ i. DealsEnding gives back_gives (λ _. Unit {0}) (λ _. Unit {0}) i
+            IfOk result (λ i. YieldsEnding gives back_gives (λ _. Unit {0}) (λ _. Unit {0}) i
             (on_demand_left i).results) }
         ensures err { IfErr result (λ e. e ≡ OutOfMemory) }
     {

@@ -9,8 +9,8 @@ use Rattle.lsm_readers.specs.point.Answer.{admitted_handle, answer}
 use Rattle.lsm_readers.specs.point.Parts.{Parts}
 
 -- The result of a point read for a query.
-abbrev pub query_told : {A : Type 0} → List ℕ → ℕ → Parts → Query A → Result (Option Entry) Error
-query_told body g parts q = (answer body g parts q.key q.seqno).told
+abbrev pub query_result : {A : Type 0} → List ℕ → ℕ → Parts → Query A → Result (Option Entry) Error
+query_result body g parts q = (answer body g parts q.key q.seqno).told
 
 -- A lookup of the query at an index of the list: its point read needs the block of this handle.
 pub record IsLookup {A : Type 0} (body : List ℕ) (g : ℕ) (parts : Parts) (queries : List (Query A))

@@ -5,7 +5,7 @@ use Rattle.std.specs.Option.{option_map}
 use Rattle.sst_blocks.specs.declared.version.TableVersion.{TableVersion}
 use Rattle.sst_entries.specs.declared.error.Error.{Error}
 use Rattle.sst_blocks.specs.declared.block_type.BlockType.TheVariants.{Index as IndexBlock}
-use Rattle.sst_blocks.specs.Block.{handles_of, header_len, load_told}
+use Rattle.sst_blocks.specs.Block.{handles_of, header_len, load_result}
 use Rattle.sst_blocks.specs.Handle.{Handle}
 use Rattle.sst_blocks.specs.Handles.{reaches}
 use Rattle.sst_blocks.specs.Place.{Place, place_of}
@@ -44,17 +44,17 @@ pinned_index_of (TopsKept tops) = two_level tops
 -- ---- opening an index
 
 -- The handles of an index block.
-abbrev pub handles_told : List ℕ → Place → Result (List Handle) Error
-handles_told body place =
-    load_told body place.offset place.size IndexBlock >>= λ block. Ok (handles_of block)
+abbrev pub handles_result : List ℕ → Place → Result (List Handle) Error
+handles_result body place =
+    load_result body place.offset place.size IndexBlock >>= λ block. Ok (handles_of block)
 
 -- The index opened: its top level if it has partitions, otherwise the whole block if it is to be
 -- pinned.
-abbrev pub index_told : List ℕ → ParsedRegions → Bool → Result PinnedIndex Error
-index_told body regions pin =
+abbrev pub index_result : List ℕ → ParsedRegions → Bool → Result PinnedIndex Error
+index_result body regions pin =
     if is_some regions.index
-    then (handles_told body regions.tli >>= λ tops. Ok (two_level tops))
-    else (if pin then (handles_told body regions.tli >>= λ handles. Ok (full handles))
+    then (handles_result body regions.tli >>= λ tops. Ok (two_level tops))
+    else (if pin then (handles_result body regions.tli >>= λ handles. Ok (full handles))
     else Ok volatile)
 
 -- The pinned part of a written index whose partitions start at an offset.

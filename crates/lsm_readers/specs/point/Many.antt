@@ -13,10 +13,10 @@ answers_to f [] = Ok []
 answers_to f (x ∷ xs) = f x >>= λ y. answers_to f xs >>= λ ys. Ok (y ∷ ys)
 
 -- The result of a point read for a query.
-abbrev pub found_told : {A : Type 0} → OpenTable → Query A → Result (Option Entry) Error
-found_told t q = (table_answer t q.key q.seqno).told
+abbrev pub found_result : {A : Type 0} → OpenTable → Query A → Result (Option Entry) Error
+found_result t q = (table_answer t q.key q.seqno).told
 
 -- The results of point reads for some queries.
-abbrev pub many_told : {A : Type 0} → OpenTable → List (Query A)
+abbrev pub many_results : {A : Type 0} → OpenTable → List (Query A)
     → Result (List (Option Entry)) Error
-many_told t queries = answers_to (found_told t) queries
+many_results t queries = answers_to (found_result t) queries

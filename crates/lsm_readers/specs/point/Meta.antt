@@ -3,7 +3,7 @@ use Rattle.std.specs.Prelude.{ℕ, ◌-◌, ◌^◌, ◌==◌, ◌||◌, nat_lt,
 use Rattle.std.specs.Prelude.{slice_index, Option, Some, None, Result, Ok, Err, if◌then◌else◌}
 use Rattle.std.specs.Cmp.Lexicographic.{pointwise}
 use Rattle.sst_blocks.specs.declared.block_type.BlockType.TheVariants.{Meta}
-use Rattle.sst_blocks.specs.Block.{load_told, entries_of}
+use Rattle.sst_blocks.specs.Block.{load_result, entries_of}
 use Rattle.sst_blocks.specs.Place.{Place}
 use Rattle.sst_entries.specs.declared.error.Error.{Error}
 use Rattle.sst_entries.specs.declared.error.Error.TheVariants.{MetaKeyMissing, InvalidMetaValue}
@@ -99,83 +99,83 @@ facts_said v label es blocks index_blocks size =
     (interval f.min_key f.max_key) (f.lowest, f.highest)
 
 -- The value of an item, or `MetaKeyMissing`.
-abbrev pub value_told : Option Entry → Result (List ℕ) Error
-value_told None = Err MetaKeyMissing
-value_told (Some e) = Ok e.value
+abbrev pub value_result : Option Entry → Result (List ℕ) Error
+value_result None = Err MetaKeyMissing
+value_result (Some e) = Ok e.value
 
 -- The value of the first item of a name, of any value type.
-unfoldable pub item_told : List Entry → ItemName → Result (List ℕ) Error
-item_told es name = value_told (point es (name_of name) (2 ^ 64 - 1))
+unfoldable pub item_result : List Entry → ItemName → Result (List ℕ) Error
+item_result es name = value_result (point es (name_of name) (2 ^ 64 - 1))
 
 -- A number of 8 or 16 bytes; further bytes are ignored.
-abbrev pub number8_told : List ℕ → Result ℕ Error
-number8_told value = if nat_lt (length value) 8 then Err InvalidMetaValue else Ok (num8 value)
+abbrev pub number8_result : List ℕ → Result ℕ Error
+number8_result value = if nat_lt (length value) 8 then Err InvalidMetaValue else Ok (num8 value)
 
-abbrev pub number16_told : List ℕ → Result ℕ Error
-number16_told value = if nat_lt (length value) 16 then Err InvalidMetaValue else Ok (num16 value)
+abbrev pub number16_result : List ℕ → Result ℕ Error
+number16_result value = if nat_lt (length value) 16 then Err InvalidMetaValue else Ok (num16 value)
 
 -- The item of a name as a number of 8 bytes.
-unfoldable pub u64_told : List Entry → ItemName → Result ℕ Error
-u64_told es name = item_told es name >>= number8_told
+unfoldable pub u64_result : List Entry → ItemName → Result ℕ Error
+u64_result es name = item_result es name >>= number8_result
 
 -- The value must be exactly this byte.
-abbrev pub one_byte_told : List ℕ → ℕ → Error → Result (Unit {0}) Error
-one_byte_told value byte fault =
+abbrev pub one_byte_result : List ℕ → ℕ → Error → Result (Unit {0}) Error
+one_byte_result value byte fault =
     if pointwise nat_eq value (byte ∷ []) then Ok tt else Err fault
 
 -- The item's value must be exactly this byte.
-unfoldable pub byte_told : List Entry → ItemName → ℕ → Error → Result (Unit {0}) Error
-byte_told es name byte fault = item_told es name >>= λ value. one_byte_told value byte fault
+unfoldable pub byte_result : List Entry → ItemName → ℕ → Error → Result (Unit {0}) Error
+byte_result es name byte fault = item_result es name >>= λ value. one_byte_result value byte fault
 
 -- The value's first byte must be this one.
-abbrev pub first_byte_told : List ℕ → ℕ → Error → Result (Unit {0}) Error
-first_byte_told value byte fault =
+abbrev pub first_byte_result : List ℕ → ℕ → Error → Result (Unit {0}) Error
+first_byte_result value byte fault =
     if nat_lt (length value) 1 then Err InvalidMetaValue
     else (if slice_index value 0 == byte then Ok tt else Err fault)
 
 -- The first byte of the item's value must be this one.
-unfoldable pub first_told : List Entry → ItemName → ℕ → Error → Result (Unit {0}) Error
-first_told es name byte fault = item_told es name >>= λ value. first_byte_told value byte fault
+unfoldable pub first_result : List Entry → ItemName → ℕ → Error → Result (Unit {0}) Error
+first_result es name byte fault = item_result es name >>= λ value. first_byte_result value byte fault
 
 -- The table version: one byte, 3 or 4.
-abbrev pub version_number_told : List ℕ → Result ℕ Error
-version_number_told value =
+abbrev pub version_number_result : List ℕ → Result ℕ Error
+version_number_result value =
     if pointwise nat_eq value (3 ∷ []) || pointwise nat_eq value (4 ∷ [])
     then Ok (slice_index value 0)
     else Err UnsupportedTableVersion
 
-unfoldable pub version_told : List Entry → Result ℕ Error
-version_told es = item_told es item.TableVersion >>= version_number_told
+unfoldable pub version_result : List Entry → Result ℕ Error
+version_result es = item_result es item.TableVersion >>= version_number_result
 
 -- The hash type, the checksum type and the index restart interval must be supported.
-unfoldable pub kinds_told : List Entry → Result (Unit {0}) Error
-kinds_told es =
-    byte_told es item.FilterHashType filter_hash_type UnsupportedHashType >>= λ _.
-    byte_told es item.ChecksumType 1 UnsupportedChecksumType >>= λ _.
-    first_told es item.RestartIntervalIndex 1 UnsupportedIndexInterval
+unfoldable pub kinds_result : List Entry → Result (Unit {0}) Error
+kinds_result es =
+    byte_result es item.FilterHashType filter_hash_type UnsupportedHashType >>= λ _.
+    byte_result es item.ChecksumType 1 UnsupportedChecksumType >>= λ _.
+    first_result es item.RestartIntervalIndex 1 UnsupportedIndexInterval
 
 -- No block is compressed.
-unfoldable pub compressions_told : List Entry → Result (Unit {0}) Error
-compressions_told es =
-    first_told es item.CompressionData 0 UnsupportedCompression >>= λ _.
-    first_told es item.CompressionIndex 0 UnsupportedCompression
+unfoldable pub compressions_result : List Entry → Result (Unit {0}) Error
+compressions_result es =
+    first_result es item.CompressionData 0 UnsupportedCompression >>= λ _.
+    first_result es item.CompressionIndex 0 UnsupportedCompression
 
-unfoldable pub created_told : List Entry → Result ℕ Error
-created_told es = item_told es item.CreatedAt >>= number16_told
+unfoldable pub created_result : List Entry → Result ℕ Error
+created_result es = item_result es item.CreatedAt >>= number16_result
 
 -- The counts, decoded in this order before the timestamp. The filter block count is decoded for its
 -- error only.
-unfoldable pub numbers_told : List Entry → Result Numbers Error
-numbers_told es =
-    u64_told es item.TableId >>= λ id.
-    u64_told es item.ItemCount >>= λ item_count.
-    u64_told es item.TombstoneCount >>= λ tombstone_count.
-    u64_told es item.BlockCountData >>= λ data_block_count.
-    u64_told es item.BlockCountIndex >>= λ index_block_count.
-    u64_told es item.BlockCountFilter >>= λ _.
-    u64_told es item.FileSize >>= λ file_size.
-    u64_told es item.WeakTombstoneCount >>= λ weak_tombstone_count.
-    u64_told es item.WeakTombstoneReclaimable >>= λ weak_tombstone_reclaimable.
+unfoldable pub numbers_result : List Entry → Result Numbers Error
+numbers_result es =
+    u64_result es item.TableId >>= λ id.
+    u64_result es item.ItemCount >>= λ item_count.
+    u64_result es item.TombstoneCount >>= λ tombstone_count.
+    u64_result es item.BlockCountData >>= λ data_block_count.
+    u64_result es item.BlockCountIndex >>= λ index_block_count.
+    u64_result es item.BlockCountFilter >>= λ _.
+    u64_result es item.FileSize >>= λ file_size.
+    u64_result es item.WeakTombstoneCount >>= λ weak_tombstone_count.
+    u64_result es item.WeakTombstoneReclaimable >>= λ weak_tombstone_reclaimable.
     Ok (record {
       id = id;
       item_count = item_count;
@@ -188,42 +188,42 @@ numbers_told es =
     })
 
 -- The first and the last key.
-unfoldable pub keys_told : List Entry → Result Interval Error
-keys_told es =
-    item_told es item.KeyMin >>= λ min.
-    item_told es item.KeyMax >>= λ max.
+unfoldable pub keys_result : List Entry → Result Interval Error
+keys_result es =
+    item_result es item.KeyMin >>= λ min.
+    item_result es item.KeyMax >>= λ max.
     Ok (interval min max)
 
 -- The lowest and the highest seqno.
-unfoldable pub seqnos_told : List Entry → Result (ℕ × ℕ) Error
-seqnos_told es =
-    u64_told es item.SeqnoMin >>= λ min.
-    u64_told es item.SeqnoMax >>= λ max.
+unfoldable pub seqnos_result : List Entry → Result (ℕ × ℕ) Error
+seqnos_result es =
+    u64_result es item.SeqnoMin >>= λ min.
+    u64_result es item.SeqnoMax >>= λ max.
     Ok (min, max)
 
 -- The items decoded after the version and the counts, in this order.
-unfoldable pub rest_told : List Entry → ℕ → Numbers → Result Facts Error
-rest_told es table_version numbers =
-    created_told es >>= λ created_at.
-    keys_told es >>= λ key_range.
-    seqnos_told es >>= λ seqnos.
-    compressions_told es >>= λ _.
+unfoldable pub rest_result : List Entry → ℕ → Numbers → Result Facts Error
+rest_result es table_version numbers =
+    created_result es >>= λ created_at.
+    keys_result es >>= λ key_range.
+    seqnos_result es >>= λ seqnos.
+    compressions_result es >>= λ _.
     Ok (facts_with table_version created_at numbers key_range seqnos)
 
 -- All items, decoded in this order.
-unfoldable pub facts_told : List Entry → Result Facts Error
-facts_told es =
-    version_told es >>= λ table_version.
-    kinds_told es >>= λ _.
-    numbers_told es >>= λ numbers.
-    rest_told es table_version numbers
+unfoldable pub facts_result : List Entry → Result Facts Error
+facts_result es =
+    version_result es >>= λ table_version.
+    kinds_result es >>= λ _.
+    numbers_result es >>= λ numbers.
+    rest_result es table_version numbers
 
 -- The facts of a meta block: it is loaded, then decoded.
-abbrev pub meta_told : List ℕ → Place → Result Facts Error
-meta_told body place =
-    load_told body place.offset place.size Meta >>= λ block. facts_told (entries_of block)
+abbrev pub meta_result : List ℕ → Place → Result Facts Error
+meta_result body place =
+    load_result body place.offset place.size Meta >>= λ block. facts_result (entries_of block)
 
 -- The value of one item of a meta block, whatever the others are.
-abbrev pub meta_item_told : List ℕ → Place → ItemName → Result (List ℕ) Error
-meta_item_told body place name =
-    load_told body place.offset place.size Meta >>= λ block. item_told (entries_of block) name
+abbrev pub meta_item_result : List ℕ → Place → ItemName → Result (List ℕ) Error
+meta_item_result body place name =
+    load_result body place.offset place.size Meta >>= λ block. item_result (entries_of block) name

@@ -5,7 +5,7 @@ use Rattle.std.specs.Option.{option_or}
 use Rattle.sst_blocks.specs.declared.block_type.BlockType.TheVariants.{Filter, Meta}
 use Rattle.sst_entries.specs.declared.error.Error.{Error}
 use Rattle.sst_entries.specs.declared.error.Error.TheVariants.{GlobalSeqNoTooLarge}
-use Rattle.sst_blocks.specs.Block.{load_told, place_fault}
+use Rattle.sst_blocks.specs.Block.{load_result, place_fault}
 use Rattle.sst_entries.specs.Error.{unless}
 use Rattle.sst_blocks.specs.Handle.{Handle}
 use Rattle.sst_blocks.specs.Place.{Place}
@@ -13,9 +13,9 @@ use Rattle.sst_blocks.specs.filter.Filter.{BloomFilter, filter_in, payload_of}
 use Rattle.sst_blocks.specs.Sections.{body_of, section_in, section_names, trailer_fault}
 use Rattle.lsm_sorted.specs.version.KeyRange.{Interval, interval}
 use Rattle.lsm_readers.specs.declared.regions.ParsedRegions.{ParsedRegions}
-use Rattle.lsm_readers.specs.point.IndexKinds.{PinnedIndex, handles_told, index_told}
-use Rattle.lsm_readers.specs.point.Meta.{Facts, meta_told}
-use Rattle.lsm_readers.specs.point.Regions.{regions_told}
+use Rattle.lsm_readers.specs.point.IndexKinds.{PinnedIndex, handles_result, index_result}
+use Rattle.lsm_readers.specs.point.Meta.{Facts, meta_result}
+use Rattle.lsm_readers.specs.point.Regions.{regions_result}
 use Rattle.lsm_readers.specs.point.Read.{◌>>=◌}
 
 -- The pinned blocks: those of the index, a partitioned filter's top level, and a full filter's
@@ -31,15 +31,15 @@ pub record Parts : Type 0 where
   pub pinned : Pinned
 
 -- The top level of a filter, if it has one.
-abbrev pub tops_told : List ℕ → Option Place → Result (Option (List Handle)) Error
-tops_told body None = Ok None
-tops_told body (Some place) = handles_told body place >>= λ tops. Ok (Some tops)
+abbrev pub tops_result : List ℕ → Option Place → Result (Option (List Handle)) Error
+tops_result body None = Ok None
+tops_result body (Some place) = handles_result body place >>= λ tops. Ok (Some tops)
 
 -- The filter of a block, if there is one.
-abbrev pub filter_told : List ℕ → Option Place → Result (Option BloomFilter) Error
-filter_told body None = Ok None
-filter_told body (Some place) =
-    load_told body place.offset place.size Filter >>= λ block. Ok (Some (filter_in block.payload))
+abbrev pub filter_result : List ℕ → Option Place → Result (Option BloomFilter) Error
+filter_result body None = Ok None
+filter_result body (Some place) =
+    load_result body place.offset place.size Filter >>= λ block. Ok (Some (filter_in block.payload))
 
 -- The filter block to be pinned: that of a full filter, if requested.
 abbrev pub pinned_filter : ParsedRegions → Bool → Option Place
@@ -47,11 +47,11 @@ pinned_filter regions pin =
     if pin && is_none regions.filter_tli then regions.filter else None
 
 -- The pinned blocks, loaded in the order in which their errors are reported.
-unfoldable pub pinned_told : List ℕ → ParsedRegions → Bool → Bool → Result Pinned Error
-pinned_told body regions pin_filter pin_index =
-    index_told body regions pin_index >>= λ index.
-    tops_told body regions.filter_tli >>= λ filter_tops.
-    filter_told body (pinned_filter regions pin_filter) >>= λ filter.
+unfoldable pub pinned_result : List ℕ → ParsedRegions → Bool → Bool → Result Pinned Error
+pinned_result body regions pin_filter pin_index =
+    index_result body regions pin_index >>= λ index.
+    tops_result body regions.filter_tli >>= λ filter_tops.
+    filter_result body (pinned_filter regions pin_filter) >>= λ filter.
     Ok (record { index = index; filter_tops = filter_tops; filter = filter })
 
 -- The facts, or `GlobalSeqNoTooLarge` if the highest seqno overflows with the global one added.
@@ -60,26 +60,26 @@ facts_fitting facts g =
     if nat_lt (2 ^ 64 - 1) (facts.seqno_max + g) then Err GlobalSeqNoTooLarge else Ok facts
 
 -- The meta block's facts, if the global seqno fits.
-abbrev pub fitting_told : List ℕ → Place → ℕ → Result Facts Error
-fitting_told body place g = meta_told body place >>= λ facts. facts_fitting facts g
+abbrev pub fitting_result : List ℕ → Place → ℕ → Result Facts Error
+fitting_result body place g = meta_result body place >>= λ facts. facts_fitting facts g
 
 -- The table's regions, by the sections that the trailer names.
-abbrev pub places_told : List ℕ → Result ParsedRegions Error
-places_told bytes = regions_told (map (section_in bytes) section_names)
+abbrev pub places_result : List ℕ → Result ParsedRegions Error
+places_result bytes = regions_result (map (section_in bytes) section_names)
 
 -- The regions, the meta block, the global seqno check and the pinned blocks, in this order.
-unfoldable pub parts_told : List ℕ → ℕ → Bool → Bool → Result Parts Error
-parts_told bytes g pin_filter pin_index =
-    places_told bytes >>= λ regions.
-    meta_told (body_of bytes) regions.metadata >>= λ facts.
+unfoldable pub parts_result : List ℕ → ℕ → Bool → Bool → Result Parts Error
+parts_result bytes g pin_filter pin_index =
+    places_result bytes >>= λ regions.
+    meta_result (body_of bytes) regions.metadata >>= λ facts.
     facts_fitting facts g >>= λ facts.
-    pinned_told (body_of bytes) regions pin_filter pin_index >>= λ pinned.
+    pinned_result (body_of bytes) regions pin_filter pin_index >>= λ pinned.
     Ok (record { facts = facts; regions = regions; pinned = pinned })
 
 -- The result of opening some bytes, trailer first.
-abbrev pub recovered_told : List ℕ → ℕ → Bool → Bool → Result Parts Error
-recovered_told bytes g pin_filter pin_index =
-    unless (trailer_fault bytes) (parts_told bytes g pin_filter pin_index)
+abbrev pub recovered_result : List ℕ → ℕ → Bool → Bool → Result Parts Error
+recovered_result bytes g pin_filter pin_index =
+    unless (trailer_fault bytes) (parts_result bytes g pin_filter pin_index)
 
 -- The error of opening that precedes allocation: of the trailer, the regions, or the meta block's
 -- early checks.
@@ -88,16 +88,16 @@ early_in body (Ok regions) = place_fault body regions.metadata.offset regions.me
 early_in body (Err e) = Some e
 
 abbrev pub early_fault : List ℕ → Option Error
-early_fault bytes = option_or (trailer_fault bytes) (early_in (body_of bytes) (places_told bytes))
+early_fault bytes = option_or (trailer_fault bytes) (early_in (body_of bytes) (places_result bytes))
 
 -- The key range in a table's meta block, whichever blocks are pinned.
 abbrev pub range_in : Result Facts Error → Interval
 range_in (Ok facts) = facts.key_range
 range_in (Err e) = interval [] []
 
-abbrev pub key_range_told : List ℕ → Interval
-key_range_told bytes =
-    range_in (places_told bytes >>= λ regions. meta_told (body_of bytes) regions.metadata)
+abbrev pub key_range_result : List ℕ → Interval
+key_range_result bytes =
+    range_in (places_result bytes >>= λ regions. meta_result (body_of bytes) regions.metadata)
 
 -- The size of a region, or 0 if it is absent.
 abbrev pub place_size : Option Place → ℕ

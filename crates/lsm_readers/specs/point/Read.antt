@@ -6,7 +6,7 @@ use Rattle.sst_entries.specs.declared.error.Error.{Error}
 use Rattle.sst_entries.specs.Error.{FaultsFirst, Gives, is_memory}
 use Rattle.sst_blocks.specs.declared.block_type.BlockType.{BlockType}
 use Rattle.sst_blocks.specs.declared.opened.Opened.{Opened}
-use Rattle.sst_blocks.specs.Block.{Loaded, load_told, place_fault}
+use Rattle.sst_blocks.specs.Block.{Loaded, load_result, place_fault}
 use Rattle.sst_blocks.specs.Opened.{with_load}
 use Rattle.sst_blocks.specs.Place.{Place}
 
@@ -30,7 +30,7 @@ known x = record { told = Ok x; loads = []; early = None }
 -- A read of one block.
 abbrev pub block_read : List ℕ → Place → BlockType → Read Loaded
 block_read body place kind = record {
-  told = load_told body place.offset place.size kind;
+  told = load_result body place.offset place.size kind;
   loads = kind ∷ [];
   early = place_fault body place.offset place.size kind;
 }

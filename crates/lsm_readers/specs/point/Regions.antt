@@ -13,32 +13,32 @@ use Rattle.lsm_readers.specs.point.Read.{◌>>=◌}
 use Rattle.lsm_readers.specs.declared.regions.ParsedRegions.{ParsedRegions}
 
 -- A section as an offset and a size, which must be below 2^32.
-abbrev pub region_told : Section → Result Place Error
-region_told s =
+abbrev pub region_result : Section → Result Place Error
+region_result s =
     if nat_le (2 ^ 32) s.len then Err SectionTooLarge
     else Ok (record { offset = s.position; size = s.len })
 
 -- A section that may be absent.
-abbrev pub optional_told : Option Section → Result (Option Place) Error
-optional_told None = Ok None
-optional_told (Some s) = region_told s >>= λ p. Ok (Some p)
+abbrev pub optional_result : Option Section → Result (Option Place) Error
+optional_result None = Ok None
+optional_result (Some s) = region_result s >>= λ p. Ok (Some p)
 
 -- A section that must be present.
-abbrev pub needed_told : Option Section → Result Place Error
-needed_told None = Err MissingSection
-needed_told (Some s) = region_told s
+abbrev pub needed_result : Option Section → Result Place Error
+needed_result None = Err MissingSection
+needed_result (Some s) = region_result s
 
 abbrev pub section_named : List (Option Section) → SectionName → Option Section
 section_named toc name = slice_index_or toc (slot_index name) None
 
 -- The regions, in the order in which their errors are reported.
-unfoldable pub regions_told : List (Option Section) → Result ParsedRegions Error
-regions_told toc =
-    optional_told (section_named toc FilterTli) >>= λ filter_tli.
-    needed_told (section_named toc Tli) >>= λ tli.
-    optional_told (section_named toc Index) >>= λ index.
-    optional_told (section_named toc Filter) >>= λ filter.
-    needed_told (section_named toc Meta) >>= λ metadata.
+unfoldable pub regions_result : List (Option Section) → Result ParsedRegions Error
+regions_result toc =
+    optional_result (section_named toc FilterTli) >>= λ filter_tli.
+    needed_result (section_named toc Tli) >>= λ tli.
+    optional_result (section_named toc Index) >>= λ index.
+    optional_result (section_named toc Filter) >>= λ filter.
+    needed_result (section_named toc Meta) >>= λ metadata.
     Ok (record {
       tli = tli;
       index = index;

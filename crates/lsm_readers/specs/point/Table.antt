@@ -4,7 +4,7 @@ use Rattle.lsm_readers.specs.declared.inner.Inner.{Inner}
 use Rattle.lsm_readers.specs.declared.inner.PinnedBlocks.{PinnedBlocks}
 use Rattle.lsm_readers.specs.point.IndexKinds.{pinned_index_of}
 use Rattle.lsm_readers.specs.point.Meta.{facts_of}
-use Rattle.lsm_readers.specs.point.Parts.{Parts, Pinned, recovered_told}
+use Rattle.lsm_readers.specs.point.Parts.{Parts, Pinned, recovered_result}
 
 -- The pinned blocks of a table.
 abbrev pub pinned_of : {A : Type 0} → PinnedBlocks A → Pinned
@@ -46,7 +46,7 @@ table_of bytes inner = record {
 pub record IsRecovered (t : OpenTable) : Type 0 where
   pub pin_filter : Bool
   pub pin_index : Bool
-  pub told : recovered_told t.bytes t.global_seqno pin_filter pin_index ≡ Ok t.parts
+  pub told : recovered_result t.bytes t.global_seqno pin_filter pin_index ≡ Ok t.parts
 
 -- The table was recovered, and its bytes fit in memory.
 pub record IsOpen (t : OpenTable) : Type 0 where
@@ -56,4 +56,4 @@ pub record IsOpen (t : OpenTable) : Type 0 where
 -- The table was opened with these pins, of the filter and of the index.
 abbrev pub OpenedWith : OpenTable → Bool → Bool → Type 0
 OpenedWith t pin_filter pin_index =
-    recovered_told t.bytes t.global_seqno pin_filter pin_index ≡ Ok t.parts
+    recovered_result t.bytes t.global_seqno pin_filter pin_index ≡ Ok t.parts

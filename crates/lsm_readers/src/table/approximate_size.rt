@@ -9,7 +9,7 @@ ghost use Rattle.lsm_iters.specs.block_index.Kinds.{IsSought, left_of};
 ghost use Rattle.lsm_iters.specs.block_index.Left.{LeftGives};
 ghost use Rattle.lsm_iters.specs.Bounds.{lower_edge, upper_edge};
 ghost use Rattle.lsm_readers.specs.Words.{Entry, Gives, Handle, StoresList, index_read, key_bound};
-ghost use Rattle.lsm_readers.specs.Words.{size_told, size_within, sizes_told};
+ghost use Rattle.lsm_readers.specs.Words.{size_result, size_within, sizes_result};
 
 use crate::Table;
 use lsm_iters::{BlockIndex, BlockIndexImpl, BlockIndexIter, BlockIndexIterImpl};
@@ -39,7 +39,7 @@ impl<A: Allocator + Clone> Table<A> {
         // Except for `OutOfMemory`, the result follows from the index between the edges of the
         // bounds.
         ensures told { let size =
-            size_told self.now (key_bound lower.entry) (key_bound upper.entry) in
+            size_result self.now (key_bound lower.entry) (key_bound upper.entry) in
             Gives (λ (n : ℕ). n) result size }
         // On bytes that store a list it is the total size of the blocks between the bounds.
         ensures list { (es : List Entry) (t : StoresList self.now.bytes es) →
@@ -146,7 +146,7 @@ fn sum_sizes<I: BlockIndexIter<A> + Drop, A: Allocator>(handles: I) -> Result<u6
     requires finite { IsFinite (I.remaining handles) }
     requires steps { (s : I) (r : Option (Result Handle Error)) (t : I) → I.next_gives s r t →
         LeftGives front_of (I.left s) r (I.left t) }
-    ensures { Gives (λ (n : ℕ). n) result (sizes_told (I.left handles).results) }
+    ensures { Gives (λ (n : ℕ). n) result (sizes_result (I.left handles).results) }
 {
     let mut size = 0u64;
     for handle in handles {

@@ -2,7 +2,7 @@
 ghost use Rattle.std.specs.Prelude.{◌≡◌, ◌+◌, ◌*◌, ◌/◌, ◌⊎◌, IfErr, IfOk, List, length, ℕ};
 ghost use Rattle.sst_blocks.specs.declared.block_type.BlockType.TheVariants.{Meta};
 ghost use Rattle.sst_entries.specs.declared.error.Error.TheVariants.{OutOfMemory};
-ghost use Rattle.lsm_readers.specs.point.Meta.{meta_item_told};
+ghost use Rattle.lsm_readers.specs.point.Meta.{meta_item_result};
 ghost use Rattle.lsm_readers.specs.Words.{FaultsFirst, Gives, body_of, place_fault};
 
 use crate::{Inner, Table, load_item};
@@ -55,7 +55,7 @@ impl<A: Allocator + Clone> Table<A> {
     pub fn meta_item(&self, name: ItemName) -> Result<UserValue<A>, Error>
         ensures told { let place = self.now.parts.regions.metadata in
             Gives (λ (value : List ℕ). value) result
-            (meta_item_told (body_of self.now.bytes) place name) }
+            (meta_item_result (body_of self.now.bytes) place name) }
         // A fault that is found before any allocation takes precedence over `OutOfMemory`.
         ensures early { let place = self.now.parts.regions.metadata in
             FaultsFirst result

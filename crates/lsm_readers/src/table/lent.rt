@@ -1,7 +1,7 @@
 //! Point reads that borrow the entry from the table's bytes.
 ghost use Rattle.std.specs.Prelude.{◌≡◌, [], IfOk, IfSome, IsOk, List, Ok, Option};
 ghost use Rattle.std.specs.Option.{option_map};
-ghost use Rattle.sst_blocks.specs.Asked.{told_map};
+ghost use Rattle.sst_blocks.specs.Asked.{result_map};
 ghost use Rattle.sst_blocks.specs.EntryPlace.{IsPlacedIn, entry_placed, placed_in};
 ghost use Rattle.sst_entries.specs.Lending.{entry_of_ref};
 ghost use Rattle.lsm_readers.specs.Words.{Entry, FaultsFirst, Gives, IsOpen, LoadsFew, Opens};
@@ -69,8 +69,8 @@ impl<A: Allocator + Clone> Table<A> {
         found: Result<Option<EntryPlace>, Error>,
     ) -> Result<Option<EntryRef<'_>>, Error>
         requires { IfOk found (λ place. IfSome place (IsPlacedIn self.now.bytes)) }
-        ensures { told_map (option_map entry_of_ref) result
-            ≡ told_map (option_map (entry_placed self.now.bytes)) found }
+        ensures { result_map (option_map entry_of_ref) result
+            ≡ result_map (option_map (entry_placed self.now.bytes)) found }
     {
         match found {
             Ok(Some(place)) => Ok(self.entry_at(&place)),

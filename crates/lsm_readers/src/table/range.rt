@@ -3,10 +3,10 @@ ghost use Rattle.std.specs.Prelude.{◌≡◌, List, ℕ, IfOk, IfErr};
 ghost use Rattle.std.specs.declared.ops.Bound.{Bound};
 ghost use Rattle.std.specs.declared.ops.Bound.TheVariants.{Unbounded};
 ghost use Rattle.sst_entries.specs.declared.error.Error.TheVariants.{OutOfMemory};
-ghost use Rattle.lsm_readers.specs.Words.{DealsAll, DealsEnding, DealsWithin, Entry, IsOpen};
+ghost use Rattle.lsm_readers.specs.Words.{YieldsAll, YieldsEnding, YieldsWithin, Entry, IsOpen};
 ghost use Rattle.lsm_readers.specs.Words.{IsRangeOf, LoadsAtMost, StoresList};
 ghost use Rattle.lsm_readers.specs.Words.{OpenTable, blocks_within, index_read, index_within};
-ghost use Rattle.lsm_readers.specs.Words.{range_told, table_index};
+ghost use Rattle.lsm_readers.specs.Words.{range_results, table_index};
 
 use crate::{Inner, Table};
 use lsm_iters::{BlockIndex, BlockIndexImpl, Bound as Edge, Iter, beside};
@@ -24,25 +24,25 @@ impl<A: Allocator + Clone> Table<A> {
     /// [`Error::OutOfMemory`] only.
     pub fn iter(&self) -> Result<Iter<A>, Error>
         ensures is { IfOk result (IsRangeOf self.now Unbounded Unbounded) }
-        ensures deals { let gives = ⟦<Iter<A> as Iterator>⟧.next_gives in
+        ensures yields { let gives = ⟦<Iter<A> as Iterator>⟧.next_gives in
             let back_gives = ⟦<Iter<A> as DoubleEndedIterator>⟧.next_back_gives in
-            let told = range_told self.now Unbounded Unbounded in
-            IfOk result (λ i. DealsEnding gives back_gives (λ _. Unit {0}) (λ _. Unit {0}) i told) }
+            let told = range_results self.now Unbounded Unbounded in
+            IfOk result (λ i. YieldsEnding gives back_gives (λ _. Unit {0}) (λ _. Unit {0}) i told) }
         // On bytes that store a list it yields the list, global seqno applied.
         ensures list { let gives = ⟦<Iter<A> as Iterator>⟧.next_gives in
             let back_gives = ⟦<Iter<A> as DoubleEndedIterator>⟧.next_back_gives in
             (es : List Entry) → StoresList self.now.bytes es → let g = self.now.global_seqno in
-            IfOk result (DealsAll gives back_gives es g) }
+            IfOk result (YieldsAll gives back_gives es g) }
         // As a lending iterator it yields the same at the front, also with calls at the back in
         // between.
         ensures lends { let advances = ⟦<Iter<A> as Lending>⟧.advances in
             let back_gives = ⟦<Iter<A> as DoubleEndedIterator>⟧.next_back_gives in
-            let told = range_told self.now Unbounded Unbounded in IfOk result (λ i.
-            DealsEnding advances back_gives (λ _. Unit {0}) (λ _. Unit {0}) i told) }
+            let told = range_results self.now Unbounded Unbounded in IfOk result (λ i.
+            YieldsEnding advances back_gives (λ _. Unit {0}) (λ _. Unit {0}) i told) }
         ensures lends_list { let advances = ⟦<Iter<A> as Lending>⟧.advances in
             let back_gives = ⟦<Iter<A> as DoubleEndedIterator>⟧.next_back_gives in
             (es : List Entry) → StoresList self.now.bytes es → let g = self.now.global_seqno in
-            IfOk result (DealsAll advances back_gives es g) }
+            IfOk result (YieldsAll advances back_gives es g) }
         // It loads at most all data blocks, and the index blocks that lead to them. As a lending
         // iterator it loads no more.
         ensures few { let gives = ⟦<Iter<A> as Iterator>⟧.next_gives in
@@ -81,26 +81,26 @@ impl<A: Allocator + Clone> Table<A> {
         ensures is { IfOk result (IsRangeOf self.now lower upper) }
         // For any sequence of calls at the two ends, it yields the entries of the blocks between
         // the bounds, up to the first error.
-        ensures deals { let gives = ⟦<Iter<A> as Iterator>⟧.next_gives in
+        ensures yields { let gives = ⟦<Iter<A> as Iterator>⟧.next_gives in
             let back_gives = ⟦<Iter<A> as DoubleEndedIterator>⟧.next_back_gives in
-            let told = range_told self.now lower upper in
-            IfOk result (λ i. DealsEnding gives back_gives (λ _. Unit {0}) (λ _. Unit {0}) i told) }
+            let told = range_results self.now lower upper in
+            IfOk result (λ i. YieldsEnding gives back_gives (λ _. Unit {0}) (λ _. Unit {0}) i told) }
         // On bytes that store a list it yields the list's entries within the bounds, global seqno
         // applied.
         ensures list { let gives = ⟦<Iter<A> as Iterator>⟧.next_gives in
             let back_gives = ⟦<Iter<A> as DoubleEndedIterator>⟧.next_back_gives in
             (es : List Entry) → StoresList self.now.bytes es → let g = self.now.global_seqno in
-            IfOk result (DealsWithin gives back_gives lower upper es g) }
+            IfOk result (YieldsWithin gives back_gives lower upper es g) }
         // As a lending iterator it yields the same at the front, also with calls at the back in
         // between.
         ensures lends { let advances = ⟦<Iter<A> as Lending>⟧.advances in
             let back_gives = ⟦<Iter<A> as DoubleEndedIterator>⟧.next_back_gives in
-            let told = range_told self.now lower upper in IfOk result (λ i.
-            DealsEnding advances back_gives (λ _. Unit {0}) (λ _. Unit {0}) i told) }
+            let told = range_results self.now lower upper in IfOk result (λ i.
+            YieldsEnding advances back_gives (λ _. Unit {0}) (λ _. Unit {0}) i told) }
         ensures lends_list { let advances = ⟦<Iter<A> as Lending>⟧.advances in
             let back_gives = ⟦<Iter<A> as DoubleEndedIterator>⟧.next_back_gives in
             (es : List Entry) → StoresList self.now.bytes es → let g = self.now.global_seqno in
-            IfOk result (DealsWithin advances back_gives lower upper es g) }
+            IfOk result (YieldsWithin advances back_gives lower upper es g) }
         // It loads at most the data blocks between the bounds, and the index blocks that lead to
         // them. As a lending iterator it loads no more.
         ensures few { let gives = ⟦<Iter<A> as Iterator>⟧.next_gives in

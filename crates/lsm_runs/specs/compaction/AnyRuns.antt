@@ -5,7 +5,7 @@ use Rattle.std.specs.List.{Any}
 use Rattle.std.specs.Option.{option_or}
 use Rattle.sst_entries.specs.Entry.{Entry}
 use Rattle.sst_entries.specs.Error.{is_memory}
-use Rattle.sst_entries.specs.Stream.{Deals, answer_stops, first, nowhere, ok_results}
+use Rattle.sst_entries.specs.Stream.{YieldsExactly, answer_stops, first, nowhere, ok_results}
 use Rattle.sst_entries.specs.declared.error.Error.{Error}
 use Rattle.sst_entries.specs.declared.error.Error.TheVariants.{OutOfMemory}
 use Rattle.lsm_sorted.specs.merge.Ends.{R}
@@ -131,9 +131,9 @@ CameOf w rs (Ok Stopped) = ⊥
 CameOf w rs (Err e) = is_memory e ≡ false → RefusesOf w rs e
 
 -- up to `OutOfMemory`, a source yields exactly these results
-abbrev pub DealsResults : {S : Type 0} → (S → Option R → S → Type 0) → List R → S → Type 0
-DealsResults next rs s = (stops : Error → Bool) → stops OutOfMemory ≡ true →
-    Deals (answer_stops stops) next nowhere s rs
+abbrev pub YieldsResults : {S : Type 0} → (S → Option R → S → Type 0) → List R → S → Type 0
+YieldsResults next rs s = (stops : Error → Bool) → stops OutOfMemory ≡ true →
+    YieldsExactly (answer_stops stops) next nowhere s rs
 
 -- ---- tables of any bytes
 

@@ -15,7 +15,7 @@ use Rattle.lsm_writers.specs.Tables.{AreFinished, AreInKeyOrder, AreTables, Tabl
 use Rattle.lsm_writers.specs.Tables.{TablesWriting, drawn, first_id, next_id}
 use Rattle.lsm_writers.specs.Writing.{IsWritable}
 use Rattle.lsm_readers.specs.point.Table.{OpenTable}
-use Rattle.lsm_runs.specs.RunLists.{DealsList, RunsHoldLists}
+use Rattle.lsm_runs.specs.RunLists.{YieldsList, RunsHoldLists}
 use Rattle.lsm_runs.specs.SeveralRuns.{union_in}
 
 -- ---- what is compacted
@@ -52,11 +52,11 @@ abbrev pub kept_in : Rules → List (List (List Entry)) → List Entry
 kept_in rules lists = kept rules (unfiltered (union_in lists))
 
 -- a source that yields a list that can be written
-pub record DealsWritable {S : Type 0} (next : S → Option (Result Entry Error) → S → Type 0)
+pub record YieldsWritable {S : Type 0} (next : S → Option (Result Entry Error) → S → Type 0)
     (s : S) : Type 0 where
   pub list : List Entry
   pub writable : IsWritable list
-  pub deals : DealsList next nowhere list s
+  pub yields : YieldsList next nowhere list s
 
 -- ---- a list written by a writer that has written nothing
 

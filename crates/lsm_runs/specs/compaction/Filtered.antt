@@ -21,7 +21,7 @@ use Rattle.lsm_writers.specs.Writing.{may_be_written}
 use Rattle.lsm_runs.specs.compaction.AnyRuns.{AreTaken, MayCome, results_fault, took_all}
 use Rattle.lsm_runs.specs.compaction.Chain.{writes_fault}
 use Rattle.lsm_runs.specs.compaction.Compacted.{AreWrittenBy, FitsBy}
-use Rattle.lsm_runs.specs.compaction.Observed.{ToldOfPart, WasToldAt, WasToldOf}
+use Rattle.lsm_runs.specs.compaction.Observed.{NotifiedOfPart, WasNotifiedAt, WasNotifiedOf}
 use Rattle.lsm_runs.specs.declared.compaction.any_runs.CompactionOutcome.{CompactionOutcome}
 use Rattle.lsm_runs.specs.declared.compaction.any_runs.CompactionOutcome.TheVariants.{OutOfOrder}
 use Rattle.lsm_runs.specs.declared.compaction.any_runs.CompactionOutcome.TheVariants.{Stopped}
@@ -75,14 +75,14 @@ module _ {S : Type 0} (next : S → Option R → S → Type 0) (w : TablesWritin
       pub led : S
       pub gave : Yields next s (ok_results list) led
       pub ends : EndsAs list led outcome u
-      pub told : WasToldOf says w list outcome o q
+      pub told : WasNotifiedOf says w list outcome o q
 
     -- it yielded these, and their writing ended so; the observer was called for them
     pub record WroteUntil (list : List Entry) (ending : Ending) (u : S) (q : O) : Type 0 where
       pub led : S
       pub gave : Yields next s (ok_results list) led
       pub ends : EndsAt list led ending u
-      pub told : WasToldAt says w list ending o q
+      pub told : WasNotifiedAt says w list ending o q
 
     -- it yielded these, which were written, and the observer was called for them; then, except for
     -- `OutOfMemory`, it or the writer failed with this error
@@ -92,7 +92,7 @@ module _ {S : Type 0} (next : S → Option R → S → Type 0) (w : TablesWritin
       pub led : S
       pub gave : Yields next s (ok_results list) led
       pub fails : is_memory e ≡ false → FailsAt list led e ⊎ FailsToEnd list led e
-      pub told : ToldOfPart says w list o q
+      pub told : NotifiedOfPart says w list o q
 
 -- ---- a list that is compacted
 
@@ -189,7 +189,7 @@ module _ {F C : Type 0} (gives : F → Entry → Result Verdict Error → F → 
         pub kept : List Entry
         pub taken : AreTaken w kept
         pub came : KeepsThen kept outcome d
-        pub told : WasToldOf says w kept outcome o q
+        pub told : WasNotifiedOf says w kept outcome o q
 
       -- these were kept and written; then, except for `OutOfMemory`, it failed with this error
       pub record CameUntil (e : Error) (q : O) : Type 0 where
@@ -198,4 +198,4 @@ module _ {F C : Type 0} (gives : F → Entry → Result Verdict Error → F → 
         pub callback : C
         pub given : KeepsSome (ok_results kept) callback
         pub fails : is_memory e ≡ false → KeepsFault kept e
-        pub told : ToldOfPart says w kept o q
+        pub told : NotifiedOfPart says w kept o q

@@ -18,19 +18,19 @@ use Rattle.lsm_runs.specs.declared.compaction.any_runs_with.Ending.TheVariants.{
 use Rattle.lsm_runs.specs.declared.compaction.observer.CompactionProgress.{CompactionProgress}
 
 -- a count, at most the largest number
-abbrev pub told_count : ℕ → ℕ
-told_count n = min n (2 ^ 64 - 1)
+abbrev pub steps_count : ℕ → ℕ
+steps_count n = min n (2 ^ 64 - 1)
 
 -- the progress of a compaction that has finished these tables
 abbrev pub progress_at : List (List Entry) → CompactionProgress
 progress_at ts =
-    record { tables = told_count (length ts); entries = told_count (length (joined ts)) }
+    record { tables = steps_count (length ts); entries = steps_count (length (joined ts)) }
 
 -- a compaction counts what its writer has taken
 abbrev pub IsCounted : CompactionProgress → TablesWriting → Type 0
 IsCounted progress m = progress ≡ record {
-  tables = told_count (length m.tables);
-  entries = told_count (length (all_written m));
+  tables = steps_count (length m.tables);
+  entries = steps_count (length (all_written m));
 }
 
 -- no table is finished before the present one has an entry
@@ -38,13 +38,13 @@ abbrev pub HasBegun : TablesWriting → Type 0
 HasBegun m = written m.present ≡ [] → m.tables ≡ []
 
 -- the progress reported as these tables are finished one after another, after others
-abbrev pub told_behind : List (List Entry) → List (List Entry) → List CompactionProgress
-told_behind before [] = []
-told_behind before (t ∷ ts) =
-    progress_at (before ++ t ∷ []) ∷ told_behind (before ++ t ∷ []) ts
+abbrev pub steps_after : List (List Entry) → List (List Entry) → List CompactionProgress
+steps_after before [] = []
+steps_after before (t ∷ ts) =
+    progress_at (before ++ t ∷ []) ∷ steps_after (before ++ t ∷ []) ts
 
 abbrev pub told_of : List (List Entry) → List CompactionProgress
-told_of ts = told_behind [] ts
+told_of ts = steps_after [] ts
 
 module _ {O : Type 0} (says : O → CompactionProgress → Bool → O → Type 0) where
   -- an observer was called with these in order, and returned each time to go on
@@ -62,14 +62,14 @@ module _ {O : Type 0} (says : O → CompactionProgress → Bool → O → Type 0
     pub stopped : says then last false q
 
   -- an entry was written: if that finished a table, the observer was called
-  abbrev pub TellsNext : TablesWriting → TablesWriting → O → Bool → O → Type 0
-  TellsNext m n o goes q =
+  abbrev pub NotifiesNext : TablesWriting → TablesWriting → O → Bool → O → Type 0
+  NotifiesNext m n o goes q =
       ((n.tables ≡ m.tables) × (goes ≡ true) × (o ≡ q))
       ⊎ ((t : List Entry) × (n.tables ≡ m.tables ++ t ∷ []) × says o (progress_at n.tables) goes q)
 
   -- a list was written, cut into tables by the writer: the observer was called for all but the
   -- last, and went on each time
-  pub record ToldOfPart (w : TablesWriting) (list : List Entry) (o q : O) : Type 0 where
+  pub record NotifiedOfPart (w : TablesWriting) (list : List Entry) (o q : O) : Type 0 where
     pub tables : List (List Entry)
     pub cut : AreTables w.present.options.data_block_size w.target list tables
     pub told : GoesOnAt o (told_of (but_last tables)) q
@@ -84,7 +84,7 @@ module _ {O : Type 0} (says : O → CompactionProgress → Bool → O → Type 0
     pub told : StopsAtLast o (told_of tables) q
 
   -- it was called for all but the last of these finished tables, and went on each time
-  pub record ToldOfAll {A : Type 0} (w : TablesWriting) (fs : List (FinishedTable A)) (o q : O)
+  pub record NotifiedOfAll {A : Type 0} (w : TablesWriting) (fs : List (FinishedTable A)) (o q : O)
       : Type 0 where
     pub tables : List (List Entry)
     pub finished : AreFinished w.present.options (first_written w) tables fs
@@ -92,24 +92,24 @@ module _ {O : Type 0} (says : O → CompactionProgress → Bool → O → Type 0
 
   -- the calls of an observer for a list that was written, by the outcome: a compaction stops
   -- exactly when the observer returns so, and at once
-  abbrev pub WasToldOf : {A : Type 0} → TablesWriting → List Entry → CompactionOutcome A → O → O
+  abbrev pub WasNotifiedOf : {A : Type 0} → TablesWriting → List Entry → CompactionOutcome A → O → O
       → Type 0
-  WasToldOf w list (Tables tables left) o q = ToldOfPart w list o q
-  WasToldOf w list OutOfOrder o q = ToldOfPart w list o q
-  WasToldOf w list Stopped o q = StoppedAt w list o q
+  WasNotifiedOf w list (Tables tables left) o q = NotifiedOfPart w list o q
+  WasNotifiedOf w list OutOfOrder o q = NotifiedOfPart w list o q
+  WasNotifiedOf w list Stopped o q = StoppedAt w list o q
 
   -- the same, by how the writing of the list ended
-  abbrev pub WasToldAt : TablesWriting → List Entry → Ending → O → O → Type 0
-  WasToldAt w list AtEnd o q = ToldOfPart w list o q
-  WasToldAt w list AtDisorder o q = ToldOfPart w list o q
-  WasToldAt w list AtStop o q = StoppedAt w list o q
+  abbrev pub WasNotifiedAt : TablesWriting → List Entry → Ending → O → O → Type 0
+  WasNotifiedAt w list AtEnd o q = NotifiedOfPart w list o q
+  WasNotifiedAt w list AtDisorder o q = NotifiedOfPart w list o q
+  WasNotifiedAt w list AtStop o q = StoppedAt w list o q
 
   -- the same, whatever was written
-  abbrev pub WasTold : {A : Type 0} → TablesWriting → CompactionOutcome A → O → O → Type 0
-  WasTold w (Tables tables left) o q = ToldOfAll w tables.items o q
-  WasTold w OutOfOrder o q = (list : List Entry) × ToldOfPart w list o q
-  WasTold w Stopped o q = (list : List Entry) × StoppedAt w list o q
+  abbrev pub WasNotified : {A : Type 0} → TablesWriting → CompactionOutcome A → O → O → Type 0
+  WasNotified w (Tables tables left) o q = NotifiedOfAll w tables.items o q
+  WasNotified w OutOfOrder o q = (list : List Entry) × NotifiedOfPart w list o q
+  WasNotified w Stopped o q = (list : List Entry) × StoppedAt w list o q
 
   -- the calls of an observer until a compaction failed, whatever was written
-  abbrev pub WasToldUntil : TablesWriting → O → O → Type 0
-  WasToldUntil w o q = (list : List Entry) × ToldOfPart w list o q
+  abbrev pub WasNotifiedUntil : TablesWriting → O → O → Type 0
+  WasNotifiedUntil w o q = (list : List Entry) × NotifiedOfPart w list o q

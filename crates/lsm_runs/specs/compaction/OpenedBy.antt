@@ -6,7 +6,7 @@ use Rattle.sst_entries.specs.declared.error.Error.{Error}
 use Rattle.sst_entries.specs.Entry.{Entry}
 use Rattle.lsm_writers.specs.declared.writer.FinishedTable.{FinishedTable}
 use Rattle.lsm_writers.specs.Tables.{TablesWriting}
-use Rattle.lsm_readers.specs.point.Parts.{recovered_told}
+use Rattle.lsm_readers.specs.point.Parts.{recovered_result}
 use Rattle.lsm_readers.specs.point.Table.{IsOpen, OpenTable}
 use Rattle.lsm_runs.specs.compaction.Chain.{writes_fault}
 use Rattle.lsm_runs.specs.compaction.Written.{opens_fault}
@@ -28,7 +28,7 @@ pub record IsOpenedBy {A : Type 0} (how : OpenOptions) (f : FinishedTable A) (t 
   pub checksum_is : t.checksum ≡ f.checksum.0
   pub number_is : t.global_seqno ≡ how.global_seqno
   pub tree_is : t.tree_id ≡ how.tree_id
-  pub told : recovered_told t.bytes how.global_seqno how.pin_filter how.pin_index ≡ Ok t.parts
+  pub told : recovered_result t.bytes how.global_seqno how.pin_filter how.pin_index ≡ Ok t.parts
   pub opened : IsOpen t
 
 -- the same of several tables, in their order

@@ -10,7 +10,7 @@ use Rattle.lsm_sorted.specs.declared.compaction.Rules.{Rules}
 use Rattle.lsm_sorted.specs.Point.{shown}
 use Rattle.lsm_runs.specs.compaction.Compacted.{kept_in}
 use Rattle.lsm_runs.specs.compaction.ReadsCompacted.{all_shown, joined_in}
-use Rattle.lsm_runs.specs.RunLists.{DealsList, RunsHoldLists}
+use Rattle.lsm_runs.specs.RunLists.{YieldsList, RunsHoldLists}
 use Rattle.lsm_runs.specs.SeveralRuns.{union_in}
 
 -- tables of lists in adjacent runs: before a part, in the part, and after it
@@ -26,7 +26,7 @@ module _ {S : Type 0} (front back : S → Option (Result Entry Error) → S → 
   -- bounds
   pub record ReadsOf (es : List Entry) (read : Option Entry × S) : Type 0 where
     pub point_is : read.0 ≡ point es key bound
-    pub range_is : DealsList front back (newest (within low high es)) read.1
+    pub range_is : YieldsList front back (newest (within low high es)) read.1
 
   -- the results of reading what is kept of a part's lists, with the lists before and after them
   pub record ReadsKept (rules : Rules) (fs ps bs : List (List (List Entry)))

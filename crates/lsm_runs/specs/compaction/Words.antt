@@ -2,7 +2,7 @@
 -- file imports them from one module.
 pub use Rattle.sst_entries.specs.Entry.{Entry}
 pub use Rattle.sst_entries.specs.Error.{Faults, Gives, is_memory}
-pub use Rattle.sst_entries.specs.Stream.{CanDeal, first, nowhere, ok_results}
+pub use Rattle.sst_entries.specs.Stream.{CanYield, first, nowhere, ok_results}
 pub use Rattle.sst_blocks.specs.table.Chunks.{joined}
 pub use Rattle.sst_blocks.specs.table.Facts.{highest_seqno}
 pub use Rattle.sst_blocks.specs.table.Options.{default_options}
@@ -10,28 +10,28 @@ pub use Rattle.lsm_writers.specs.Tables.{AreFinished, IsFreshRun, TablesWriting,
 pub use Rattle.lsm_writers.specs.Tables.{took_fault}
 pub use Rattle.lsm_writers.specs.Writing.{IsTableOf, IsTableWith, IsWritable, may_be_written}
 pub use Rattle.lsm_readers.specs.point.Answer.{lift}
-pub use Rattle.lsm_readers.specs.point.Parts.{recovered_told}
+pub use Rattle.lsm_readers.specs.point.Parts.{recovered_result}
 pub use Rattle.lsm_readers.specs.Stored.{StoresList}
 pub use Rattle.lsm_readers.specs.point.Table.{OpenTable}
-pub use Rattle.lsm_runs.specs.RunLists.{DealTogether, DealsList, HoldLists, RunsHoldLists}
+pub use Rattle.lsm_runs.specs.RunLists.{YieldTogether, YieldsList, HoldLists, RunsHoldLists}
 pub use Rattle.lsm_runs.specs.SeveralRuns.{union_in}
 pub use Rattle.lsm_runs.specs.compaction.AnyRuns.{AreTablesBy, BeginsWith, CameInOrder, CameOf}
-pub use Rattle.lsm_runs.specs.compaction.AnyRuns.{DealsResults, GoesThrough, HasMade, RefusesOf}
+pub use Rattle.lsm_runs.specs.compaction.AnyRuns.{YieldsResults, GoesThrough, HasMade, RefusesOf}
 pub use Rattle.lsm_runs.specs.compaction.AnyRuns.{TookList, first_block_fault, first_blocks_fault}
 pub use Rattle.lsm_runs.specs.compaction.AnyRuns.{scans_of}
 pub use Rattle.lsm_runs.specs.compaction.Chain.{AreCutOf, AreOpened, AreWritten, FitsAsTables}
 pub use Rattle.lsm_runs.specs.compaction.Chain.{IsOpenedOf, IsRunOfList, chain_fault, ids_behind}
 pub use Rattle.lsm_runs.specs.compaction.Chain.{run_label, tables_fault, writes_fault}
 pub use Rattle.lsm_runs.specs.compaction.Compacted.{AreCompactable, AreMergeable, AreWrittenBy}
-pub use Rattle.lsm_runs.specs.compaction.Compacted.{DealsWritable, FitsBy, HaveEntries, RunsOn}
+pub use Rattle.lsm_runs.specs.compaction.Compacted.{YieldsWritable, FitsBy, HaveEntries, RunsOn}
 pub use Rattle.lsm_runs.specs.compaction.Compacted.{kept_in}
 pub use Rattle.lsm_runs.specs.compaction.Compacted.{rules_by}
 pub use Rattle.lsm_runs.specs.compaction.Filtered.{CameTo, CameUntil, CameUpTo, CompactsAs}
 pub use Rattle.lsm_runs.specs.compaction.Filtered.{FitsKept}
 pub use Rattle.lsm_runs.specs.compaction.Filtered.{FitsThroughout, IsWritten, RefusesBy}
 pub use Rattle.lsm_runs.specs.compaction.Filtered.{RefusesForMemory, RefusesWritten, WroteUntil}
-pub use Rattle.lsm_runs.specs.compaction.Observed.{HasBegun, IsCounted, TellsNext, WasTold}
-pub use Rattle.lsm_runs.specs.compaction.Observed.{WasToldUntil}
+pub use Rattle.lsm_runs.specs.compaction.Observed.{HasBegun, IsCounted, NotifiesNext, WasNotified}
+pub use Rattle.lsm_runs.specs.compaction.Observed.{WasNotifiedUntil}
 pub use Rattle.lsm_runs.specs.compaction.OpenedBy.{AreOpenedBy, HasRunBy, IsOpenedBy, IsRunBy}
 pub use Rattle.lsm_runs.specs.compaction.OpenedBy.{run_with_fault}
 pub use Rattle.lsm_runs.specs.compaction.Written.{number_fault, opens_fault}

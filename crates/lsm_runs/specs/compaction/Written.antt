@@ -8,7 +8,7 @@ use Rattle.sst_entries.specs.declared.error.Error.TheVariants.{UnsupportedIndexI
 use Rattle.sst_entries.specs.Entry.{Entry}
 use Rattle.sst_blocks.specs.Fnv.{fnv1a}
 use Rattle.sst_entries.specs.Point.{point}
-use Rattle.sst_entries.specs.Stream.{Deals, ok_results, nowhere, answer_stops}
+use Rattle.sst_entries.specs.Stream.{YieldsExactly, ok_results, nowhere, answer_stops}
 use Rattle.std.specs.Option.{option_or}
 use Rattle.sst_blocks.specs.table.Facts.{highest_seqno}
 use Rattle.sst_blocks.specs.declared.table.label.Label.{Label}
@@ -16,7 +16,7 @@ use Rattle.sst_blocks.specs.declared.table.options.Options.{Options}
 use Rattle.sst_blocks.specs.table.Options.{default_options}
 use Rattle.sst_blocks.specs.table.Table.{IsTable}
 use Rattle.lsm_writers.specs.Writing.{list_fault}
-use Rattle.sst_blocks.specs.Block.{load_at_told}
+use Rattle.sst_blocks.specs.Block.{load_at_result}
 use Rattle.sst_blocks.specs.declared.block_type.BlockType.TheVariants.{Data}
 use Rattle.sst_blocks.specs.Sections.{body_of}
 use Rattle.lsm_readers.specs.point.Answer.{lift, table_answer}
@@ -66,7 +66,7 @@ pub record IsOpened (label : Label) (es : List Entry) (g : ℕ) (t : OpenTable) 
 abbrev pub reads_fault : OpenTable → List ℕ → ℕ → Option Error
 reads_fault t key bound =
     option_or (fault_of (table_answer t key bound).told)
-    (fault_of (load_at_told (body_of t.bytes) 0 Data))
+    (fault_of (load_at_result (body_of t.bytes) 0 Data))
 
 -- the results of reading a list: the first match of a key, and a scan of all, the global seqno
 -- applied
@@ -74,4 +74,4 @@ pub record ReadsList (es : List Entry) (g : ℕ) (key : List ℕ) (bound : ℕ)
     (found : Option Entry) (s : Scan) : Type 0 where
   pub point_is : found ≡ point (lift es g) key bound
   pub scan_is : (stops : Error → Bool) → stops OutOfMemory ≡ true →
-      Deals (answer_stops stops) ScansNext nowhere s (ok_results (lift es g))
+      YieldsExactly (answer_stops stops) ScansNext nowhere s (ok_results (lift es g))

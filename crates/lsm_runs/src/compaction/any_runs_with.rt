@@ -47,7 +47,7 @@ fn write_and_tell<O: CompactionObserver, A: Allocator + Clone>(
         OnOk result (spec.IsCounted progress.new writer.new) }
     ensures told { spec.IsCounted progress.old writer.old → spec.HasBegun writer.old →
         IfOk result (λ goes.
-        spec.TellsNext O.says writer.old writer.new observer.old goes observer.new) }
+        spec.NotifiesNext O.says writer.old writer.new observer.old goes observer.new) }
 {
     let ids = writer.table_ids();
     writer.write_ref(entry)?;
@@ -76,7 +76,7 @@ fn write_while_observed<L: Lending, O: CompactionObserver, A: Allocator + Clone>
     observer: &mut O,
 ) -> Result<Ending, Error>
     requires fresh { spec.IsFreshRun writer.old }
-    requires can { spec.CanDeal L.advances spec.nowhere L.can_advance L.can_advance source.old }
+    requires can { spec.CanYield L.advances spec.nowhere L.can_advance L.can_advance source.old }
     ensures took { OnOk result (spec.TookList writer.old (spec.all_written writer.new) writer.new) }
     ensures wrote { IfOk result (λ ending. spec.WroteUntil L.advances writer.old source.old O.says
         observer.old (spec.all_written writer.new) ending source.new observer.new) }
@@ -151,14 +151,14 @@ fn write_observed<
 ) -> Result<CompactionOutcome<A>, Error>
     requires fresh { spec.IsFreshRun writer }
     requires next { spec.RunsOn writer }
-    requires can { spec.CanDeal ⟦<Compacted<L, F, C, A> as Lending>⟧.advances spec.nowhere
+    requires can { spec.CanYield ⟦<Compacted<L, F, C, A> as Lending>⟧.advances spec.nowhere
         ⟦<Compacted<L, F, C, A> as Lending>⟧.can_advance
         ⟦<Compacted<L, F, C, A> as Lending>⟧.can_advance source.old }
     ensures written { let next = ⟦<Compacted<L, F, C, A> as Lending>⟧.advances in
         IfOk result (λ r.
         spec.IsWritten next writer source.old O.says observer.old r source.new observer.new) }
     ensures made { IfOk result (spec.HasMade writer) }
-    ensures told { IfOk result (λ r. spec.WasTold O.says writer r observer.old observer.new) }
+    ensures told { IfOk result (λ r. spec.WasNotified O.says writer r observer.old observer.new) }
     ensures refused { let next = ⟦<Compacted<L, F, C, A> as Lending>⟧.advances in
         IfErr result (λ e.
         spec.RefusesWritten next writer source.old O.says observer.old e observer.new) }
@@ -181,20 +181,20 @@ fn compacted_from<
     filter: F,
     callback: C,
 ) -> Result<Compacted<L, F, C, A>, Error>
-    ensures can { All (spec.CanDeal L.advances spec.nowhere L.can_advance L.can_advance)
+    ensures can { All (spec.CanYield L.advances spec.nowhere L.can_advance L.can_advance)
         sources.items →
-        IfOk result (spec.CanDeal ⟦<Compacted<L, F, C, A> as Lending>⟧.advances spec.nowhere
+        IfOk result (spec.CanYield ⟦<Compacted<L, F, C, A> as Lending>⟧.advances spec.nowhere
         ⟦<Compacted<L, F, C, A> as Lending>⟧.can_advance
         ⟦<Compacted<L, F, C, A> as Lending>⟧.can_advance) }
     ensures list { let next = ⟦<Compacted<L, F, C, A> as Lending>⟧.advances in
         (lists : List (List (List spec.Entry))) →
-        spec.DealTogether L.advances spec.nowhere sources.items (map spec.joined lists) →
+        spec.YieldTogether L.advances spec.nowhere sources.items (map spec.joined lists) →
         IfOk result (λ s. spec.CompactsAs F.gives C.gets rules filter callback
         (spec.ok_results (spec.union_in lists)) next s spec.lent_filter spec.lent_callback) }
     // For any results that come in order from each source, it compacts their merge.
     ensures any { let next = ⟦<Compacted<L, F, C, A> as Lending>⟧.advances in
         (lists : List (List spec.R)) →
-        spec.AllZip (λ s rs. spec.DealsResults L.advances rs s) sources.items lists →
+        spec.AllZip (λ s rs. spec.YieldsResults L.advances rs s) sources.items lists →
         spec.AllByRecursion (λ rs. spec.Ascends (spec.entries_among rs)) lists →
         IfOk result (λ s. spec.CompactsAs F.gives C.gets rules filter callback (spec.merge_of lists)
         next s spec.lent_filter spec.lent_callback) }
@@ -213,7 +213,7 @@ fn compacted_of<F: LentFilter<A> + Drop, C: LentCallback + Drop, A: Allocator + 
     filter: F,
     callback: C,
 ) -> Result<Compacted<RunScanner<A>, F, C, A>, Error>
-    ensures can { IfOk result (spec.CanDeal
+    ensures can { IfOk result (spec.CanYield
         ⟦<Compacted<RunScanner<A>, F, C, A> as Lending>⟧.advances spec.nowhere
         ⟦<Compacted<RunScanner<A>, F, C, A> as Lending>⟧.can_advance
         ⟦<Compacted<RunScanner<A>, F, C, A> as Lending>⟧.can_advance) }
@@ -303,9 +303,9 @@ pub fn compact_any_runs_with<
     ensures made { IfOk result (λ r. spec.HasMade writer r.0) }
     // The observer was called for each table but the last, in their order. The compaction stops
     // exactly when the observer returns so, at once.
-    ensures told { IfOk result (λ r. spec.WasTold O.says writer r.0 observer.old observer.new) }
+    ensures told { IfOk result (λ r. spec.WasNotified O.says writer r.0 observer.old observer.new) }
     // On an error, it was called for the tables that were finished until then.
-    ensures heard { IfErr result (λ _. spec.WasToldUntil O.says writer observer.old observer.new) }
+    ensures heard { IfErr result (λ _. spec.WasNotifiedUntil O.says writer observer.old observer.new) }
     // These are the tables of what was kept until then; after it comes the error, except for
     // `OutOfMemory`.
     ensures until { (lists : List (List (List spec.Entry))) →

@@ -21,13 +21,13 @@ fn scanner_of<A: Allocator + Clone>(run: &Arc<Run<Table<A>, A>, A>) -> Result<Ru
     ensures list { let gives = ⟦<RunScanner<A> as Iterator>⟧.next_gives in
         (lists : List (List spec.Entry)) → spec.HoldLists (spec.arc_value run.now) lists →
         spec.HaveEntries lists →
-        IfOk result (spec.DealsList gives spec.nowhere (spec.joined lists)) }
+        IfOk result (spec.YieldsList gives spec.nowhere (spec.joined lists)) }
     ensures refused { (lists : List (List spec.Entry)) →
         spec.HoldLists (spec.arc_value run.now) lists →
         spec.HaveEntries lists → IfErr result (λ e. e ≡ spec.OutOfMemory) }
     // For any tables, it yields the results of their scans up to the first error, or the call fails
     // with that error.
-    ensures any { IfOk result (spec.DealsResults ⟦<RunScanner<A> as Iterator>⟧.next_gives
+    ensures any { IfOk result (spec.YieldsResults ⟦<RunScanner<A> as Iterator>⟧.next_gives
         (spec.tables_scan (spec.arc_value run.now))) }
     ensures told { IfErr result (λ e. spec.is_memory e ≡ false →
         spec.first (spec.tables_scan (spec.arc_value run.now)) ≡ Some (Err e)) }
@@ -45,14 +45,14 @@ pub(crate) fn scanners_of<A: Allocator + Clone>(
     // They yield together the entries of each run.
     ensures list { let gives = ⟦<RunScanner<A> as Iterator>⟧.next_gives in
         (able : spec.AreMergeable (map spec.arc_value runs.now)) →
-        IfOk result (λ v. spec.DealTogether gives spec.nowhere v.items
+        IfOk result (λ v. spec.YieldTogether gives spec.nowhere v.items
         (map spec.joined able.lists)) }
     ensures err { spec.AreMergeable (map spec.arc_value runs.now) →
         IfErr result (λ e. e ≡ spec.OutOfMemory) }
     // For any tables, each yields the results of its scan. Else, except for `OutOfMemory`, the
     // error is that of the first run whose first data block cannot be loaded.
     ensures any { let gives = ⟦<RunScanner<A> as Iterator>⟧.next_gives in
-        IfOk result (λ v. spec.AllZip (λ s rs. spec.DealsResults gives rs s) v.items
+        IfOk result (λ v. spec.AllZip (λ s rs. spec.YieldsResults gives rs s) v.items
         (spec.scans_of (map spec.arc_value runs.now))) }
     ensures told { IfErr result (λ e. spec.is_memory e ≡ false →
         spec.BeginsWith (map spec.arc_value runs.now) e) }
@@ -82,15 +82,15 @@ fn kept_from<L: Lending + Drop, A: Allocator + Clone>(
     sources: Vec<L, A>,
     rules: Rules,
 ) -> Result<Kept<L, A>, Error>
-    ensures can { All (spec.CanDeal L.advances spec.nowhere L.can_advance L.can_advance)
-        sources.items → IfOk result (spec.CanDeal ⟦<Kept<L, A> as Lending>⟧.advances
+    ensures can { All (spec.CanYield L.advances spec.nowhere L.can_advance L.can_advance)
+        sources.items → IfOk result (spec.CanYield ⟦<Kept<L, A> as Lending>⟧.advances
         spec.nowhere ⟦<Kept<L, A> as Lending>⟧.can_advance
         ⟦<Kept<L, A> as Lending>⟧.can_advance) }
     ensures list { let advances =
         ⟦<Kept<L, A> as Lending>⟧.advances in
         (lists : List (List (List spec.Entry))) →
-        spec.DealTogether L.advances spec.nowhere sources.items (map spec.joined lists) →
-        IfOk result (spec.DealsList advances spec.nowhere (spec.kept_in rules lists)) }
+        spec.YieldTogether L.advances spec.nowhere sources.items (map spec.joined lists) →
+        IfOk result (spec.YieldsList advances spec.nowhere (spec.kept_in rules lists)) }
     ensures err { IfErr result (λ e. e ≡ spec.OutOfMemory) }
 {
     let own = alloc.clone()?;
@@ -104,14 +104,14 @@ fn kept_of<A: Allocator + Clone>(
     runs: &[Arc<Run<Table<A>, A>, A>],
     rules: Rules,
 ) -> Result<Kept<RunScanner<A>, A>, Error>
-    ensures can { IfOk result (spec.CanDeal
+    ensures can { IfOk result (spec.CanYield
         ⟦<Kept<RunScanner<A>, A> as Lending>⟧.advances spec.nowhere
         ⟦<Kept<RunScanner<A>, A> as Lending>⟧.can_advance
         ⟦<Kept<RunScanner<A>, A> as Lending>⟧.can_advance) }
     ensures list { let advances =
         ⟦<Kept<RunScanner<A>, A> as Lending>⟧.advances in
         (able : spec.AreMergeable (map spec.arc_value runs.now)) →
-        IfOk result (spec.DealsList advances spec.nowhere (spec.kept_in rules able.lists)) }
+        IfOk result (spec.YieldsList advances spec.nowhere (spec.kept_in rules able.lists)) }
     ensures err { spec.AreMergeable (map spec.arc_value runs.now) →
         IfErr result (λ e. e ≡ spec.OutOfMemory) }
 {
@@ -125,12 +125,12 @@ fn write_each<L: Lending, A: Allocator + Clone>(
     writer: &mut MultiWriter<A>,
 ) -> Result<(), Error>
     requires fresh { spec.IsFreshRun writer.old }
-    requires can { spec.CanDeal L.advances spec.nowhere L.can_advance L.can_advance source.old }
-    requires deals { spec.DealsWritable L.advances source.old }
-    ensures took { (d : spec.DealsWritable L.advances source.old) →
+    requires can { spec.CanYield L.advances spec.nowhere L.can_advance L.can_advance source.old }
+    requires yields { spec.YieldsWritable L.advances source.old }
+    ensures took { (d : spec.YieldsWritable L.advances source.old) →
         OnOk result (spec.TookList writer.old d.list writer.new) }
     // The source fails with `OutOfMemory` only.
-    ensures refused { (d : spec.DealsWritable L.advances source.old) →
+    ensures refused { (d : spec.YieldsWritable L.advances source.old) →
         IfErr result (λ e. spec.is_memory e ≡ false →
         spec.writes_fault writer.old d.list ≡ Some e) }
 {
@@ -165,13 +165,13 @@ fn write_all<L: Lending + Drop, A: Allocator + Clone>(
 ) -> Result<(Vec<FinishedTable<A>, A>, TableIds), Error>
     requires fresh { spec.IsFreshRun writer }
     requires next { spec.RunsOn writer }
-    requires can { spec.CanDeal ⟦<Kept<L, A> as Lending>⟧.advances spec.nowhere
+    requires can { spec.CanYield ⟦<Kept<L, A> as Lending>⟧.advances spec.nowhere
         ⟦<Kept<L, A> as Lending>⟧.can_advance ⟦<Kept<L, A> as Lending>⟧.can_advance source }
-    requires deals { spec.DealsWritable ⟦<Kept<L, A> as Lending>⟧.advances source }
-    ensures written { (d : spec.DealsWritable ⟦<Kept<L, A> as Lending>⟧.advances source) →
+    requires yields { spec.YieldsWritable ⟦<Kept<L, A> as Lending>⟧.advances source }
+    ensures written { (d : spec.YieldsWritable ⟦<Kept<L, A> as Lending>⟧.advances source) →
         IfOk result (λ r. spec.AreWrittenBy writer d.list r.0.items r.1) }
     // The source fails with `OutOfMemory` only.
-    ensures refused { (d : spec.DealsWritable ⟦<Kept<L, A> as Lending>⟧.advances source) →
+    ensures refused { (d : spec.YieldsWritable ⟦<Kept<L, A> as Lending>⟧.advances source) →
         spec.Faults result (spec.writes_fault writer d.list) }
 {
     let took = write_each(&mut source, &mut writer);

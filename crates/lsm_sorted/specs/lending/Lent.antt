@@ -10,7 +10,7 @@ use Rattle.std.specs.List.{AllByRecursion, insert}
 use Rattle.std.specs.Ordering.{is_lt, nat_cmp, ordering_then}
 use Rattle.std.specs.Vec.{vec_capacity}
 use Rattle.sst_entries.specs.Entry.{Entry}
-use Rattle.sst_entries.specs.Stream.{CanDeal, Deals, DealsFirst, answer_stops, but_first, nowhere}
+use Rattle.sst_entries.specs.Stream.{CanYield, YieldsExactly, YieldsFirst, answer_stops, but_first, nowhere}
 use Rattle.sst_entries.specs.declared.error.Error.{Error}
 use Rattle.lsm_sorted.specs.declared.lending_merger.Head.{Head}
 use Rattle.lsm_sorted.specs.declared.lending_merger.LendingMerger.{LendingMerger}
@@ -102,7 +102,7 @@ module _ {S : Type 0} (advances : S → Option R → S → Type 0) (can : S → 
     (lent : S → Option Entry) where
   -- the sources may be called, and the queue is in order and has capacity for each of them
   pub record IsReady {A : Type 0} (m : LendingMerger S A) : Type 0 where
-    pub sources : All (CanDeal advances nowhere can can) m.sources.items
+    pub sources : All (CanYield advances nowhere can can) m.sources.items
     pub known : All (λ q. q < length m.sources.items) (queued m)
     pub room : length m.sources.items ≤ vec_capacity m.queue
     pub queue : IsQueue (lent_at lent m.sources.items) (queued m)
@@ -118,7 +118,7 @@ module _ {S : Type 0} (advances : S → Option R → S → Type 0) (can : S → 
 module _ {S : Type 0} (stops : Error → Bool) (advances : S → Option R → S → Type 0)
     (lent : S → Option Entry) where
   abbrev pub Has : S → List R → Type 0
-  Has = Deals (answer_stops stops) advances nowhere
+  Has = YieldsExactly (answer_stops stops) advances nowhere
 
   -- the remaining list of a source. If queued: its borrowed entry and the rest; if due for a call:
   -- the rest alone; else nothing.
@@ -186,6 +186,6 @@ pub record AdvancesLent {S : Type 0} (advances : S → Option R → S → Type 0
     (lent : S → Option Entry) {A : Type 0} (m : LendingMerger S A) (r : Option R)
     (n : LendingMerger S A) : Type 0 where
   pub may : MayLend advances can lent n
-  pub gives : (stops : Error → Bool) → DealsFirst stops (LeavesLent stops advances lent) m r n
+  pub gives : (stops : Error → Bool) → YieldsFirst stops (LeavesLent stops advances lent) m r n
   pub ends : (e : Error) → r ≡ Some (Err e) → LendsNoMore n
   pub over : LendsNoMore m → (r ≡ None) × LendsNoMore n

@@ -7,7 +7,7 @@ use Rattle.std.specs.Iterator.{Yields}
 use Rattle.std.specs.Option.{option_map}
 use Rattle.sst_entries.specs.Entry.{Entry, entry}
 use Rattle.sst_entries.specs.Kind.{is_tombstone_kind, is_weak_kind}
-use Rattle.sst_entries.specs.Stream.{CanDeal, Deals, answer_stops, first, nowhere, ok_results}
+use Rattle.sst_entries.specs.Stream.{CanYield, YieldsExactly, answer_stops, first, nowhere, ok_results}
 use Rattle.sst_entries.specs.Stream.{result_stops}
 use Rattle.sst_entries.specs.declared.error.Error.{Error}
 use Rattle.sst_entries.specs.declared.error.Error.TheVariants.{OutOfMemory}
@@ -135,7 +135,7 @@ module _ {S F C A : Type 0} where
   -- the source may be called
   abbrev pub MayLendCompacted : (S → Option R → S → Type 0) → (S → Type 0)
       → LendingCompaction S F C A → Type 0
-  MayLendCompacted advances can s = CanDeal advances nowhere can can s.source
+  MayLendCompacted advances can s = CanYield advances nowhere can can s.source
 
 -- a whole lending compaction of a list of results: as `Compacted`, but a head is yielded before the
 -- error that follows it. A head that has to wait is lost instead.
@@ -288,9 +288,9 @@ fresh_of source rules f c s = record {
 -- ---- all its calls
 
 -- a source yields these entries, without errors
-abbrev pub DealsEntries : {S : Type 0} → (S → Option R → S → Type 0) → (Error → Bool) → S
+abbrev pub YieldsEntries : {S : Type 0} → (S → Option R → S → Type 0) → (Error → Bool) → S
     → List Entry → Type 0
-DealsEntries advances stops s xs = Deals (answer_stops stops) advances nowhere s (ok_results xs)
+YieldsEntries advances stops s xs = YieldsExactly (answer_stops stops) advances nowhere s (ok_results xs)
 
 -- for any list of entries without errors: calls until `None` yield, filter and report as a
 -- compaction of it does
@@ -299,7 +299,7 @@ pub record CompactsLent {S T F C : Type 0} (advances : S → Option R → S → 
     (gives : F → Entry → Result Verdict Error → F → Type 0) (gets : C → Entry → C → Type 0) (f : F)
     (c : C) (filter_in : T → F) (callback_in : T → C) : Type 0 where
   pub whole : (stops : Error → Bool) (xs : List Entry) (gave : List R) (t u : T)
-      → stops OutOfMemory ≡ true → DealsEntries advances stops source xs
+      → stops OutOfMemory ≡ true → YieldsEntries advances stops source xs
       → AllByRecursion (λ r. result_stops stops r ≡ false) gave
       → Yields next s gave t → next t None u
       → Compacted gives gets rules f c (ok_results xs) gave (filter_in u) (callback_in u)
@@ -312,20 +312,20 @@ pub record CompactsLentResults {S T F C : Type 0} (advances : S → Option R →
     (gives : F → Entry → Result Verdict Error → F → Type 0) (gets : C → Entry → C → Type 0) (f : F)
     (c : C) (source_in : T → S) (filter_in : T → F) (callback_in : T → C) : Type 0 where
   pub whole : (stops : Error → Bool) (xs gave : List R) (t u : T) → stops OutOfMemory ≡ true
-      → Deals (answer_stops stops) advances nowhere source xs
+      → YieldsExactly (answer_stops stops) advances nowhere source xs
       → AllByRecursion (λ r. result_stops stops r ≡ false) gave
       → Yields next s gave t → next t None u
       → CompactedLent gives gets rules f c xs gave (filter_in u) (callback_in u)
   pub until : (stops : Error → Bool) (xs gave : List R) (e : Error) (t u : T)
       → stops OutOfMemory ≡ true → stops e ≡ false
-      → Deals (answer_stops stops) advances nowhere source xs
+      → YieldsExactly (answer_stops stops) advances nowhere source xs
       → AllByRecursion (λ r. result_stops stops r ≡ false) gave
       → Yields next s gave t → next t (Some (Err e)) u
       → (front rest : List R) × (xs ≡ front ++ rest)
-      × Deals (answer_stops stops) advances nowhere (source_in u) rest
+      × YieldsExactly (answer_stops stops) advances nowhere (source_in u) rest
       × CompactedLent gives gets rules f c front (gave ++ Err e ∷ []) (filter_in u) (callback_in u)
   pub part : (stops : Error → Bool) (xs gave : List R) (t : T) → stops OutOfMemory ≡ true
-      → Deals (answer_stops stops) advances nowhere source xs
+      → YieldsExactly (answer_stops stops) advances nowhere source xs
       → AllByRecursion (λ r. result_stops stops r ≡ false) gave → Yields next s gave t
       → CompactedPart gives gets rules f c xs gave (filter_in t) (callback_in t)
 
@@ -335,13 +335,13 @@ module _ {S T : Type 0} (advances : S → Option R → S → Type 0) (source : S
     (next : T → Option R → T → Type 0) (t : T) (rules : Rules) where
   -- except for `OutOfMemory`: for any list of results, it yields the lending output, with the
   -- errors in order
-  pub record DealsCompactedResults : Type 0 where
-    pub deals : (stops : Error → Bool) (xs : List R) → stops OutOfMemory ≡ true
-        → Deals (answer_stops stops) advances nowhere source xs
-        → Deals (answer_stops stops) next nowhere t (lent_outs rules xs)
+  pub record YieldsCompactedResults : Type 0 where
+    pub yields : (stops : Error → Bool) (xs : List R) → stops OutOfMemory ≡ true
+        → YieldsExactly (answer_stops stops) advances nowhere source xs
+        → YieldsExactly (answer_stops stops) next nowhere t (lent_outs rules xs)
 
   -- the same without errors: it yields the entries that a compaction keeps
-  pub record DealsCompactedEntries : Type 0 where
-    pub deals : (stops : Error → Bool) (xs : List Entry) → stops OutOfMemory ≡ true
-        → Deals (answer_stops stops) advances nowhere source (ok_results xs)
-        → Deals (answer_stops stops) next nowhere t (ok_results (kept rules (unfiltered xs)))
+  pub record YieldsCompactedEntries : Type 0 where
+    pub yields : (stops : Error → Bool) (xs : List Entry) → stops OutOfMemory ≡ true
+        → YieldsExactly (answer_stops stops) advances nowhere source (ok_results xs)
+        → YieldsExactly (answer_stops stops) next nowhere t (ok_results (kept rules (unfiltered xs)))

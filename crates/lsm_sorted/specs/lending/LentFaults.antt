@@ -76,7 +76,7 @@ GaveInCalls {S} ask s (answers ∷ calls) t =
 
 -- for any number of calls, whatever the source returns: a law of the results and the source's
 -- results in each call
-pub record AlwaysTells {S T : Type 0} (Law : List (Option R) → List (List (Option R)) → Type 0)
+pub record AlwaysReports {S T : Type 0} (Law : List (Option R) → List (List (Option R)) → Type 0)
     (advances : S → Option R → S → Type 0) (source : S) (source_of : T → S)
     (next : T → Option R → T → Type 0) (t : T) : Type 0 where
   pub of : (rs : List (Option R)) (u : T) → GaveEach next t rs u
@@ -95,7 +95,7 @@ module _ {S T : Type 0} (advances : S → Option R → S → Type 0) (source_of 
     pub rests : r ≡ None → quiet t ≡ true
 
   -- a call: once ended, it returns `None` and does not call its source
-  pub record CallTells (s : T) (r : Option R) (t : T) : Type 0 where
+  pub record CallReports (s : T) (r : Option R) (t : T) : Type 0 where
     pub live : over s ≡ false → Listens s r t
     pub ended : over s ≡ true
         → (r ≡ None) × (over t ≡ true) × (source_of t ≡ source_of s)

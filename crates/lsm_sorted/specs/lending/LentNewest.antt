@@ -3,12 +3,12 @@ use Rattle.std.specs.Prelude.{◌≡◌, ℕ, Bool, true, false, cond, not, List
 use Rattle.std.specs.Prelude.{Option, Some, None, Ok, Err}
 use Rattle.sst_entries.specs.Entry.{Entry}
 use Rattle.sst_entries.specs.Key.{same_key}
-use Rattle.sst_entries.specs.Stream.{CanDeal, Deals, DealsFirst, answer_stops, nowhere, ok_results}
+use Rattle.sst_entries.specs.Stream.{CanYield, YieldsExactly, YieldsFirst, answer_stops, nowhere, ok_results}
 use Rattle.sst_entries.specs.declared.error.Error.{Error}
 use Rattle.sst_entries.specs.declared.error.Error.TheVariants.{OutOfMemory}
 use Rattle.lsm_sorted.specs.merge.Ends.{R}
 use Rattle.lsm_sorted.specs.merge.Union.{Ascends, entries_among, newest}
-use Rattle.lsm_sorted.specs.lending.LentFaults.{CallTells}
+use Rattle.lsm_sorted.specs.lending.LentFaults.{CallReports}
 use Rattle.lsm_sorted.specs.Newest.{is_of}
 use Rattle.lsm_sorted.specs.declared.lending_newest.LendingNewest.{LendingNewest}
 
@@ -53,7 +53,7 @@ newest_left left s = cond s.is_over 0 (left s.source)
 -- the source may be called
 abbrev pub MayNewest : {S A : Type 0} → (S → Option R → S → Type 0) → (S → Type 0)
     → LendingNewest S A → Type 0
-MayNewest advances can s = CanDeal advances nowhere can can s.source
+MayNewest advances can s = CanYield advances nowhere can can s.source
 
 -- the remaining results; only `OutOfMemory` ends it
 pub record LeavesNewest {S A : Type 0} (stops : Error → Bool) (advances : S → Option R → S → Type 0)
@@ -61,7 +61,7 @@ pub record LeavesNewest {S A : Type 0} (stops : Error → Bool) (advances : S �
   pub memory : stops OutOfMemory ≡ true
   pub live : s.is_over ≡ false
   pub rest : List R
-  pub has : Deals (answer_stops stops) advances nowhere s.source rest
+  pub has : YieldsExactly (answer_stops stops) advances nowhere s.source rest
   pub is : ys ≡ news (given_key s) rest
 
 -- one call: it may be called again, and its result is the first of the remaining list, up to an
@@ -69,20 +69,20 @@ pub record LeavesNewest {S A : Type 0} (stops : Error → Bool) (advances : S �
 pub record AdvancesNewest {S : Type 0} (advances : S → Option R → S → Type 0) (can : S → Type 0)
     {A : Type 0} (s : LendingNewest S A) (r : Option R) (t : LendingNewest S A) : Type 0 where
   pub may : MayNewest advances can t
-  pub gives : (stops : Error → Bool) → DealsFirst stops (LeavesNewest stops advances) s r t
-  pub tells : CallTells advances newest_lender (λ n. n.is_over) (λ n. true) s r t
+  pub gives : (stops : Error → Bool) → YieldsFirst stops (LeavesNewest stops advances) s r t
+  pub tells : CallReports advances newest_lender (λ n. n.is_over) (λ n. true) s r t
 
 module _ {S T : Type 0} (advances : S → Option R → S → Type 0) (source : S)
     (next : T → Option R → T → Type 0) (t : T) where
   -- except for `OutOfMemory`: for a sorted list, it yields the newest version of each key, with the
   -- errors in order
-  pub record DealsNewestResults : Type 0 where
-    pub deals : (stops : Error → Bool) (xs : List R) → stops OutOfMemory ≡ true
-        → Ascends (entries_among xs) → Deals (answer_stops stops) advances nowhere source xs
-        → Deals (answer_stops stops) next nowhere t (newest_results xs)
+  pub record YieldsNewestResults : Type 0 where
+    pub yields : (stops : Error → Bool) (xs : List R) → stops OutOfMemory ≡ true
+        → Ascends (entries_among xs) → YieldsExactly (answer_stops stops) advances nowhere source xs
+        → YieldsExactly (answer_stops stops) next nowhere t (newest_results xs)
 
   -- the same without errors
-  pub record DealsNewestEntries : Type 0 where
-    pub deals : (stops : Error → Bool) (xs : List Entry) → stops OutOfMemory ≡ true → Ascends xs
-        → Deals (answer_stops stops) advances nowhere source (ok_results xs)
-        → Deals (answer_stops stops) next nowhere t (ok_results (newest xs))
+  pub record YieldsNewestEntries : Type 0 where
+    pub yields : (stops : Error → Bool) (xs : List Entry) → stops OutOfMemory ≡ true → Ascends xs
+        → YieldsExactly (answer_stops stops) advances nowhere source (ok_results xs)
+        → YieldsExactly (answer_stops stops) next nowhere t (ok_results (newest xs))

@@ -28,10 +28,10 @@ Puts {A} end i (Some (Ok x)) old new =
     × IsPermutation (h ∷ old) new
 
 -- the error that a source returned, if any
-abbrev pub error_told : Option R → Result (Unit {0}) Error
-error_told None = Ok tt
-error_told (Some (Ok x)) = Ok tt
-error_told (Some (Err e)) = Err e
+abbrev pub error_result : Option R → Result (Unit {0}) Error
+error_result None = Ok tt
+error_result (Some (Ok x)) = Ok tt
+error_result (Some (Err e)) = Err e
 
 -- an end becomes ready
 abbrev pub made_ready : {S A : Type 0} → Direction → Merger S A → Merger S A
@@ -39,15 +39,15 @@ made_ready Front m = record m { front_ready = true }
 made_ready Back m = record m { back_ready = true }
 
 -- an entry, unless a source returned an error
-abbrev pub entry_told : Entry → Result (Unit {0}) Error → Result (Option Entry) Error
-entry_told x (Ok u) = Ok (Some x)
-entry_told x (Err e) = Err e
+abbrev pub entry_result : Entry → Result (Unit {0}) Error → Result (Option Entry) Error
+entry_result x (Ok u) = Ok (Some x)
+entry_result x (Err e) = Err e
 
 -- the result of a call
-abbrev pub answer_told : Result (Option Entry) Error → Option R
-answer_told (Ok None) = None
-answer_told (Ok (Some x)) = Some (Ok x)
-answer_told (Err e) = Some (Err e)
+abbrev pub answer_result : Result (Option Entry) Error → Option R
+answer_result (Ok None) = None
+answer_result (Ok (Some x)) = Some (Ok x)
+answer_result (Err e) = Some (Err e)
 
 -- an error exhausts the merger
 abbrev pub ended_at : {S A : Type 0} → Result (Option Entry) Error → Merger S A → Merger S A
@@ -87,7 +87,7 @@ module _ {S : Type 0} (ask : S → Option R → S → Type 0) (end : Direction) 
     pub asked : Asked ask was answer is
     pub written : n.sources.items ≡ slice_set m.sources.items i is
     pub puts : Puts end i answer m.heap.items n.heap.items
-    pub told : r ≡ error_told answer
+    pub told : r ≡ error_result answer
     pub same : SameRoom m n
 
   -- each source below i was called once, in turn, and returned no error
@@ -128,7 +128,7 @@ module _ {S : Type 0} (ask : S → Option R → S → Type 0) (end : Direction) 
     pub pops : Pops end m lead mid
     pub answer : Result (Unit {0}) Error
     pub asks : AsksSource lead.source mid answer n
-    pub told : r ≡ entry_told (entry_of lead) answer
+    pub told : r ≡ entry_result (entry_of lead) answer
 
   -- no item is held, or the first one is taken; an earlier error is the result
   abbrev pub TakesLeadIf : {A : Type 0} → Result (Unit {0}) Error → Merger S A
@@ -151,7 +151,7 @@ module _ {S : Type 0} (ask : S → Option R → S → Type 0) (end : Direction) 
       pub step : Result (Option Entry) Error
       pub led : Merger S A
       pub steps : TakesStep m step led
-      pub answer : r ≡ answer_told step
+      pub answer : r ≡ answer_result step
       pub state : n ≡ ended_at step led
 
   -- after an error: `None` alone; else a step

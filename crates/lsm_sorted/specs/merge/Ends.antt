@@ -7,7 +7,7 @@ use Rattle.sst_entries.specs.declared.error.Error.{Error}
 use Rattle.lsm_sorted.specs.declared.heap.ends.Ends.{Ends}
 use Rattle.sst_entries.specs.declared.stream.Direction.{Direction}
 use Rattle.sst_entries.specs.declared.stream.Direction.TheVariants.{Front, Back}
-use Rattle.sst_entries.specs.Stream.{Deals, CanDeal, answer_stops, DealsFirst, DealsLast}
+use Rattle.sst_entries.specs.Stream.{YieldsExactly, CanYield, answer_stops, YieldsFirst, YieldsLast}
 
 -- an entry, or an error
 abbrev pub R : Type 0
@@ -17,23 +17,23 @@ module _ {S : Type 0} (stops : Error → Bool) (front back : S → Option R → 
   -- the remaining results, by whether it has ended
   abbrev pub LeftIf : Bool → S → List R → Type 0
   LeftIf true s xs = xs ≡ []
-  LeftIf false s xs = Deals (answer_stops stops) front back s xs
+  LeftIf false s xs = YieldsExactly (answer_stops stops) front back s xs
 
   -- the remaining results
   pub record Left (s : Ends S) (xs : List R) : Type 0 where
     pub lists : LeftIf s.done s.iter xs
 
 -- a call returned the item at its end
-abbrev pub DealsAt : Direction → (Error → Bool) → {T : Type 0} → (T → List R → Type 0) → T
+abbrev pub YieldsAt : Direction → (Error → Bool) → {T : Type 0} → (T → List R → Type 0) → T
     → Option R → T → Type 0
-DealsAt Front stops Has = DealsFirst stops Has
-DealsAt Back stops Has = DealsLast stops Has
+YieldsAt Front stops Has = YieldsFirst stops Has
+YieldsAt Back stops Has = YieldsLast stops Has
 
 module _ {S : Type 0} (front back : S → Option R → S → Type 0) where
   -- the same, by whether it has ended
   abbrev pub GoesIf : (S → Type 0) → (S → Type 0) → (S → Count) → Bool → S → Type 0
   GoesIf can can_back left true s = Unit {0}
-  GoesIf can can_back left false s = CanDeal front back can can_back s × IsFinite (left s)
+  GoesIf can can_back left false s = CanYield front back can can_back s × IsFinite (left s)
 
   -- it may be called at both ends, and is finite
   pub record Goes (can can_back : S → Type 0) (left : S → Count) (s : Ends S) : Type 0 where

@@ -12,7 +12,7 @@ use Rattle.sst_entries.specs.Key.{key_cmp}
 use Rattle.sst_entries.specs.Kind.{tag_of}
 use Rattle.sst_entries.specs.declared.key.InternalKey.{InternalKey}
 use Rattle.sst_entries.specs.Entry.{Entry, entry}
-use Rattle.sst_entries.specs.Stream.{answer_stops, ok_results, deal, NoneStops, Runs}
+use Rattle.sst_entries.specs.Stream.{answer_stops, ok_results, yield_each, NoneStops, Runs}
 use Rattle.sst_entries.specs.declared.stream.Direction.{Direction}
 use Rattle.sst_entries.specs.declared.stream.Direction.TheVariants.{Front, Back}
 use Rattle.sst_entries.specs.declared.error.Error.{Error}
@@ -119,10 +119,10 @@ Follows errors (d ∷ told) (Some (Err e) ∷ rs) = Contains errors e
     × AllByRecursion (λ r. r ≡ None) rs
 
 -- for every list of ends, the results are those of yielding xs, up to one of the errors
-pub record DealsUntil {S : Type 0} (stops : Error → Bool) (front back : S → Option R → S → Type 0)
+pub record YieldsUntil {S : Type 0} (stops : Error → Bool) (front back : S → Option R → S → Type 0)
     (s : S) (xs : List Entry) (errors : List Error) : Type 0 where
   pub answers : (ends : List Direction) (rs : List (Option R)) (t : S) → Runs front back s ends rs t
-      → NoneStops (answer_stops stops) rs → Follows errors (deal (ok_results xs) ends) rs
+      → NoneStops (answer_stops stops) rs → Follows errors (yield_each (ok_results xs) ends) rs
 
 -- after any calls, at most this many entries of each source are held
 pub record HoldsAtMost {S A : Type 0} (most : ℕ) (front back : Merger S A → Option R → Merger S A

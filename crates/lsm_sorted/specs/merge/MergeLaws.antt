@@ -3,7 +3,7 @@ use Rattle.std.specs.Prelude.{◌≡◌, ℕ, ◌<◌, ◌≤◌, Bool, true, Li
 use Rattle.std.specs.Prelude.{count_by, slice_index_or, Option, Some, None, Ok, Err}
 use Rattle.std.specs.List.{AllZip, AllByRecursion}
 use Rattle.std.specs.Iterator.{Count, IsFinite}
-use Rattle.sst_entries.specs.Stream.{Deals, CanDeal, answer_stops, ok_results, but_first, but_last}
+use Rattle.sst_entries.specs.Stream.{YieldsExactly, CanYield, answer_stops, ok_results, but_first, but_last}
 use Rattle.sst_entries.specs.Stream.{Runs, NoneStops, nowhere}
 use Rattle.sst_entries.specs.Entry.{Entry}
 use Rattle.sst_entries.specs.declared.stream.Direction.{Direction}
@@ -12,7 +12,7 @@ use Rattle.sst_entries.specs.declared.error.Error.{Error}
 use Rattle.lsm_sorted.specs.merge.Ends.{R}
 use Rattle.lsm_sorted.specs.merge.Union.{Ascends, entries_among, all_errors, union_of}
 use Rattle.lsm_sorted.specs.merge.InPlace.{merge_of}
-use Rattle.lsm_sorted.specs.merge.Merge.{DealsUntil}
+use Rattle.lsm_sorted.specs.merge.Merge.{YieldsUntil}
 
 -- each item is at most as often in xs as in ys
 pub record IsWithinBag {A : Type 0} (xs ys : List A) : Type 0 where
@@ -59,47 +59,47 @@ every_error e = true
 
 module _ {S : Type 0} (front back : S → Option R → S → Type 0) where
   -- each source yields one of these lists, which are sorted
-  pub record DealSorted (stops : Error → Bool) (its : List S) (lists : List (List R)) : Type 0 where
-    pub deal : AllZip (Deals (answer_stops stops) front back) its lists
+  pub record YieldSorted (stops : Error → Bool) (its : List S) (lists : List (List R)) : Type 0 where
+    pub yield_each : AllZip (YieldsExactly (answer_stops stops) front back) its lists
     pub ascend : AllByRecursion (λ rs. Ascends (entries_among rs)) lists
 
   -- if no source has an error, the union of sorted sources is yielded in order
-  pub record DealsMerged {T : Type 0} (its : List S) (next next_back : T → Option R → T → Type 0)
+  pub record YieldsMerged {T : Type 0} (its : List S) (next next_back : T → Option R → T → Type 0)
       (m : T) : Type 0 where
-    pub deals : (stops : Error → Bool) (lists : List (List R)) → DealSorted stops its lists
+    pub yields : (stops : Error → Bool) (lists : List (List R)) → YieldSorted stops its lists
         → all_errors lists ≡ []
-        → Deals (answer_stops stops) next next_back m (ok_results (union_of lists))
+        → YieldsExactly (answer_stops stops) next next_back m (ok_results (union_of lists))
 
   -- if the sources have errors, the same holds as long as no error is returned
-  pub record DealsBeforeErrors {T : Type 0} (its : List S)
+  pub record YieldsBeforeErrors {T : Type 0} (its : List S)
       (next next_back : T → Option R → T → Type 0) (m : T) : Type 0 where
-    pub deals : (stops : Error → Bool) (lists : List (List R)) → DealSorted stops its lists
-        → Deals (answer_stops every_error) next next_back m (ok_results (union_of lists))
+    pub yields : (stops : Error → Bool) (lists : List (List R)) → YieldSorted stops its lists
+        → YieldsExactly (answer_stops every_error) next next_back m (ok_results (union_of lists))
 
   -- if the sources have errors, the union is yielded up to one of them
-  pub record DealsUntilError {T : Type 0} (its : List S)
+  pub record YieldsUntilError {T : Type 0} (its : List S)
       (next next_back : T → Option R → T → Type 0) (m : T) : Type 0 where
-    pub deals : (stops : Error → Bool) (lists : List (List R)) → DealSorted stops its lists
-        → DealsUntil stops next next_back m (union_of lists) (all_errors lists)
+    pub yields : (stops : Error → Bool) (lists : List (List R)) → YieldSorted stops its lists
+        → YieldsUntil stops next next_back m (union_of lists) (all_errors lists)
 
   -- calls at one end only return an error after all entries before it, from that end, except
   -- possibly for the farthest
   pub record MeetsErrorsLate {T : Type 0} (its : List S) (end : Direction)
       (call : T → Option R → T → Type 0) (m : T) : Type 0 where
-    pub meets : (stops : Error → Bool) (lists : List (List R)) → DealSorted stops its lists
+    pub meets : (stops : Error → Bool) (lists : List (List R)) → YieldSorted stops its lists
         → (ends : List Direction) (rs : List (Option R)) (t : T) → RunsAt end call m ends rs t
         → NoneStops (answer_stops stops) rs → ErrorsComeLate end lists [] rs
 
   -- the merge of sorted sources is yielded in order up to and including the first error, which
   -- directly follows the preceding entry of its source
-  pub record DealsInPlace {T : Type 0} (its : List S) (next next_back : T → Option R → T → Type 0)
+  pub record YieldsInPlace {T : Type 0} (its : List S) (next next_back : T → Option R → T → Type 0)
       (m : T) : Type 0 where
-    pub deals : (stops : Error → Bool) (lists : List (List R)) → DealSorted stops its lists
-        → Deals (answer_stops stops) next next_back m (merge_of lists)
+    pub yields : (stops : Error → Bool) (lists : List (List R)) → YieldSorted stops its lists
+        → YieldsExactly (answer_stops stops) next next_back m (merge_of lists)
 
   -- if the sources may be called and are finite, the merger may be called
   pub record CanMerge {T : Type 0} (can can_back : S → Type 0) (left : S → Count) (its : List S)
       (next next_back : T → Option R → T → Type 0) (can_next can_next_back : T → Type 0)
       (m : T) : Type 0 where
-    pub asks : All (CanDeal front back can can_back) its → All (λ s. IsFinite (left s)) its
-        → CanDeal next next_back can_next can_next_back m
+    pub asks : All (CanYield front back can can_back) its → All (λ s. IsFinite (left s)) its
+        → CanYield next next_back can_next can_next_back m

@@ -10,6 +10,6 @@ pub use Rattle.lsm_sorted.specs.merge.Merge.{LowersTotal}
 pub use Rattle.lsm_sorted.specs.merge.Merge.{merge_size, entry_of, is_ready, turn_cmp, turn_total}
 pub use Rattle.lsm_sorted.specs.merge.Asks.{AsksSource, Fills, Calls, IsMergerOf, HoldsNone, Pops}
 pub use Rattle.lsm_sorted.specs.merge.Asks.{made_ready}
-pub use Rattle.lsm_sorted.specs.merge.MergeLaws.{DealsBeforeErrors, DealsInPlace, DealsMerged}
-pub use Rattle.lsm_sorted.specs.merge.MergeLaws.{DealsUntilError}
+pub use Rattle.lsm_sorted.specs.merge.MergeLaws.{YieldsBeforeErrors, YieldsInPlace, YieldsMerged}
+pub use Rattle.lsm_sorted.specs.merge.MergeLaws.{YieldsUntilError}
 pub use Rattle.lsm_sorted.specs.merge.MergeLaws.{MeetsErrorsLate, CanMerge}

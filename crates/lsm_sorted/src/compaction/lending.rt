@@ -7,7 +7,7 @@ ghost use Rattle.sst_entries.specs.Entry.{Entry, entry};
 ghost use Rattle.sst_entries.specs.Key.{same_key};
 ghost use Rattle.sst_entries.specs.Kind.{is_tombstone_kind};
 ghost use Rattle.sst_entries.specs.Lending.{came, entry_of_ref};
-ghost use Rattle.sst_entries.specs.Stream.{CanDeal, Lowers, nowhere};
+ghost use Rattle.sst_entries.specs.Stream.{CanYield, Lowers, nowhere};
 ghost use Rattle.sst_entries.specs.declared.error.Error.{Error};
 ghost use Rattle.sst_entries.specs.declared.error.Error.TheVariants.{OutOfMemory};
 ghost use Rattle.lsm_sorted.specs.Compaction.{Verdict, is_value, keep, reports_by};
@@ -16,14 +16,14 @@ ghost use Rattle.lsm_sorted.specs.CompactionState.{answer_of, failure};
 ghost use Rattle.lsm_sorted.specs.Verdicts.{said};
 ghost use Rattle.lsm_sorted.specs.lending.LentCompaction.{AdvancesCompacted, CompactsLent};
 ghost use Rattle.lsm_sorted.specs.lending.LentCompaction.{CompactsLentResults};
-ghost use Rattle.lsm_sorted.specs.lending.LentCompaction.{DealsCompactedEntries};
-ghost use Rattle.lsm_sorted.specs.lending.LentCompaction.{DealsCompactedResults, FetchesCompacted};
+ghost use Rattle.lsm_sorted.specs.lending.LentCompaction.{YieldsCompactedEntries};
+ghost use Rattle.lsm_sorted.specs.lending.LentCompaction.{YieldsCompactedResults, FetchesCompacted};
 ghost use Rattle.lsm_sorted.specs.lending.LentCompaction.{MayLendCompacted, SettlesCompacted};
 ghost use Rattle.lsm_sorted.specs.lending.LentCompaction.{StepsCompacted, compacted_left, fresh_of};
 ghost use Rattle.lsm_sorted.specs.lending.LentCompaction.{has_to_wait, lender, lent_callback};
 ghost use Rattle.lsm_sorted.specs.lending.LentCompaction.{lent_compacted, lent_filter, one_more_if};
 ghost use Rattle.lsm_sorted.specs.lending.LentCompaction.{put_into};
-ghost use Rattle.lsm_sorted.specs.lending.LentFaults.{AlwaysTells, FilterSays, PassesAll};
+ghost use Rattle.lsm_sorted.specs.lending.LentFaults.{AlwaysReports, FilterSays, PassesAll};
 ghost use Rattle.lsm_sorted.specs.lending.LentFaults.{PassesAllOr};
 ghost use Rattle.lsm_sorted.specs.lending.LentFaults.{StaysOver, StaysOverOr};
 ghost use Rattle.lsm_sorted.specs.lending.LentNewest.{is_given};
@@ -235,24 +235,24 @@ impl<L: Lending, A: Allocator> LendingCompaction<L, NoFilter, NoCallback, A> {
         // It has no current entry yet.
         ensures none { IfOk result (λ c. ⟦<LendingCompaction<L, NoFilter, NoCallback, A> as Lending>⟧.lent c ≡ None) }
         // For a list without errors, it yields the entries that a compaction keeps.
-        ensures kept { IfOk result (λ c. DealsCompactedEntries L.advances source
+        ensures kept { IfOk result (λ c. YieldsCompactedEntries L.advances source
             ⟦<LendingCompaction<L, NoFilter, NoCallback, A> as Lending>⟧.advances c rules) }
         // With errors, it yields the entries kept between them, and each error in order.
-        ensures places { IfOk result (λ c. DealsCompactedResults L.advances source
+        ensures places { IfOk result (λ c. YieldsCompactedResults L.advances source
             ⟦<LendingCompaction<L, NoFilter, NoCallback, A> as Lending>⟧.advances c rules) }
         // For any source, it passes on each error. Its only error of its own is `OutOfMemory`.
-        ensures faults { IfOk result (AlwaysTells PassesAll L.advances source lender
+        ensures faults { IfOk result (AlwaysReports PassesAll L.advances source lender
             ⟦<LendingCompaction<L, NoFilter, NoCallback, A> as Lending>⟧.advances) }
         // After its own `OutOfMemory` it is exhausted. After the end it advances the source again,
         // and yields nothing while the source yields nothing.
-        ensures over { IfOk result (AlwaysTells StaysOver L.advances source lender
+        ensures over { IfOk result (AlwaysReports StaysOver L.advances source lender
             ⟦<LendingCompaction<L, NoFilter, NoCallback, A> as Lending>⟧.advances) }
         // It can be advanced as often as the source can.
-        ensures can { CanDeal L.advances nowhere L.can_advance L.can_advance source →
-            IfOk result (CanDeal ⟦<LendingCompaction<L, NoFilter, NoCallback, A> as Lending>⟧.advances nowhere
+        ensures can { CanYield L.advances nowhere L.can_advance L.can_advance source →
+            IfOk result (CanYield ⟦<LendingCompaction<L, NoFilter, NoCallback, A> as Lending>⟧.advances nowhere
             ⟦<LendingCompaction<L, NoFilter, NoCallback, A> as Lending>⟧.can_advance
             ⟦<LendingCompaction<L, NoFilter, NoCallback, A> as Lending>⟧.can_advance) }
-        ensures advance { CanDeal L.advances nowhere L.can_advance L.can_advance source →
+        ensures advance { CanYield L.advances nowhere L.can_advance L.can_advance source →
             IfOk result ⟦<LendingCompaction<L, NoFilter, NoCallback, A> as Lending>⟧.can_advance }
         ensures err { IfErr result (λ e. e ≡ OutOfMemory) }
     {
@@ -290,19 +290,19 @@ impl<L: Lending, F: LentFilter<A> + Drop, C: LentCallback + Drop, A: Allocator> 
             filter callback lender lent_filter lent_callback) }
         // For any source, it passes on each error. Its only other errors are the filter's and its
         // own `OutOfMemory`.
-        ensures faults { IfOk result (AlwaysTells (PassesAllOr (FilterSays F.gives)) L.advances
+        ensures faults { IfOk result (AlwaysReports (PassesAllOr (FilterSays F.gives)) L.advances
             source lender ⟦<LendingCompaction<L, F, C, A> as Lending>⟧.advances) }
         // After its own `OutOfMemory` it is exhausted; this is stated for filters that never return
         // `OutOfMemory`. After the end it advances the source again, and yields nothing while the
         // source yields nothing.
-        ensures over { IfOk result (AlwaysTells (StaysOverOr (FilterSays F.gives)) L.advances
+        ensures over { IfOk result (AlwaysReports (StaysOverOr (FilterSays F.gives)) L.advances
             source lender ⟦<LendingCompaction<L, F, C, A> as Lending>⟧.advances) }
         // It can be advanced as often as the source can.
-        ensures can { CanDeal L.advances nowhere L.can_advance L.can_advance source →
-            IfOk result (CanDeal ⟦<LendingCompaction<L, F, C, A> as Lending>⟧.advances
+        ensures can { CanYield L.advances nowhere L.can_advance L.can_advance source →
+            IfOk result (CanYield ⟦<LendingCompaction<L, F, C, A> as Lending>⟧.advances
             nowhere ⟦<LendingCompaction<L, F, C, A> as Lending>⟧.can_advance
             ⟦<LendingCompaction<L, F, C, A> as Lending>⟧.can_advance) }
-        ensures advance { CanDeal L.advances nowhere L.can_advance L.can_advance source →
+        ensures advance { CanYield L.advances nowhere L.can_advance L.can_advance source →
             IfOk result ⟦<LendingCompaction<L, F, C, A> as Lending>⟧.can_advance }
         ensures err { IfErr result (λ e. e ≡ OutOfMemory) }
     {

@@ -2,8 +2,8 @@
 ghost use Rattle.std.specs.Prelude.{◌≡◌, ◌≤◌, nat_lt, Bool, false, List, Some, None, Result, Ok};
 ghost use Rattle.std.specs.Prelude.{IfOk};
 ghost use Rattle.std.specs.Iterator.{at_most, IsFinite};
-ghost use Rattle.lsm_sorted.specs.Words.{CanDeal, Compacts, CompactsHeard, CompactsNext};
-ghost use Rattle.lsm_sorted.specs.Words.{CompactsWhole, Deals, DealsKept, DealsOuts, DrainsIn};
+ghost use Rattle.lsm_sorted.specs.Words.{CanYield, Compacts, CompactsHeard, CompactsNext};
+ghost use Rattle.lsm_sorted.specs.Words.{CompactsWhole, YieldsExactly, YieldsKept, YieldsOuts, DrainsIn};
 ghost use Rattle.lsm_sorted.specs.Words.{DrainsKey, Entry, Filters, GetsAll, GivesOuts, Hears};
 ghost use Rattle.lsm_sorted.specs.Words.{HoldsAhead, MayCompact, PartLaw, R, ReadLaw, Settles};
 ghost use Rattle.lsm_sorted.specs.Words.{SettlesIn, StaysStrict, Verdict, answer_stops, before_any};
@@ -111,9 +111,9 @@ impl<I: Iterator<Item = IterItem<A>>, A: Allocator> CompactionStream<I, NoFilter
     pub fn new(iter: I, gc_seqno_threshold: SeqNo) -> Self
         ensures starts { compaction_outlook result ≡ before_any iter }
         ensures compacts { (stops : Error → Bool) (xs : List R) →
-            Deals (answer_stops stops) I.next_gives nowhere iter xs →
+            YieldsExactly (answer_stops stops) I.next_gives nowhere iter xs →
             Compacts stops I.next_gives result xs }
-        ensures may { CanDeal I.next_gives nowhere I.can_next I.can_next iter →
+        ensures may { CanYield I.next_gives nowhere I.can_next I.can_next iter →
             IsFinite (I.remaining iter) → MayCompact I.next_gives I.can_next I.remaining result }
         ensures rules { rules_of result ≡ record {
           watermark = gc_seqno_threshold;
@@ -475,7 +475,7 @@ impl<
         ensures heard { CompactsHeard I.next_gives
             ⟦<CompactionStream<I, F, C> as Iterator>⟧.next_gives self.now F.gives C.gets }
         ensures can { MayCompact I.next_gives I.can_next I.remaining self.now →
-            CanDeal ⟦<CompactionStream<I, F, C> as Iterator>⟧.next_gives nowhere
+            CanYield ⟦<CompactionStream<I, F, C> as Iterator>⟧.next_gives nowhere
             ⟦<CompactionStream<I, F, C> as Iterator>⟧.can_next
             ⟦<CompactionStream<I, F, C> as Iterator>⟧.can_next self.now }
     {}
@@ -491,9 +491,9 @@ impl<
     /// For any list of results, it yields the output of the compaction rules. For entries without
     /// errors, these are the entries kept. The call does nothing: its contract states the law.
     pub fn unfiltered_run(&self)
-        ensures outs { DealsOuts I.next_gives
+        ensures outs { YieldsOuts I.next_gives
             ⟦<CompactionStream<I, NoFilter, C> as Iterator>⟧.next_gives self.now }
-        ensures kept { DealsKept I.next_gives
+        ensures kept { YieldsKept I.next_gives
             ⟦<CompactionStream<I, NoFilter, C> as Iterator>⟧.next_gives self.now }
         // Before any call, this holds for any source, errors included.
         ensures heard { GivesOuts I.next_gives

@@ -4,8 +4,8 @@ ghost use Rattle.sst_entries.specs.declared.stream.Direction.{Direction};
 ghost use Rattle.sst_entries.specs.declared.stream.Direction.TheVariants.{Front, Back};
 ghost use Rattle.std.specs.Prelude.{Bool, ◌≡◌, false, Option};
 ghost use Rattle.std.specs.Iterator.{MakesProgress};
-ghost use Rattle.sst_entries.specs.Stream.{CanDeal, Steps, nowhere, DealsFirst, DealsLast, Lowers};
-ghost use Rattle.lsm_sorted.specs.merge.Ends.{Left, Goes, Asked, DealsAt, ends_size};
+ghost use Rattle.sst_entries.specs.Stream.{CanYield, Steps, nowhere, YieldsFirst, YieldsLast, Lowers};
+ghost use Rattle.lsm_sorted.specs.merge.Ends.{Left, Goes, Asked, YieldsAt, ends_size};
 
 use sst_entries::{Direction, IterItem};
 use std::alloc::Allocator;
@@ -24,9 +24,9 @@ pub trait End<I: Iterator> {
 
     // Polls the iterator at this end.
     fn ask(iter: &mut I) -> Option<I::Item>
-        requires { CanDeal I.next_gives back_gives I.can_next can_back iter.old }
+        requires { CanYield I.next_gives back_gives I.can_next can_back iter.old }
         ensures steps { Steps I.next_gives back_gives end iter.old result iter.new }
-        ensures goes { MakesProgress (CanDeal I.next_gives back_gives I.can_next can_back)
+        ensures goes { MakesProgress (CanYield I.next_gives back_gives I.can_next can_back)
             I.remaining iter.old result iter.new };
 }
 
@@ -90,8 +90,8 @@ impl<I: Iterator<Item = IterItem<A>>, A: Allocator> Ends<I> {
     pub fn ask<E: End<I>>(&mut self) -> Option<IterItem<A>>
         requires { Goes I.next_gives E.back_gives I.can_next E.can_back I.remaining self.old }
         ensures goes { Goes I.next_gives E.back_gives I.can_next E.can_back I.remaining self.new }
-        ensures deals { (stops : Error → Bool) →
-            DealsAt E.end stops (Left stops I.next_gives E.back_gives) self.old result self.new }
+        ensures yields { (stops : Error → Bool) →
+            YieldsAt E.end stops (Left stops I.next_gives E.back_gives) self.old result self.new }
         ensures asked { Asked (Steps I.next_gives E.back_gives E.end) self.old result self.new }
         ensures lowers { Lowers result (ends_size I.remaining self.old)
             (ends_size I.remaining self.new) }
@@ -108,8 +108,8 @@ impl<I: Iterator<Item = IterItem<A>>, A: Allocator> Ends<I> {
     pub fn next_in_front(&mut self) -> Option<IterItem<A>>
         requires { Goes I.next_gives nowhere I.can_next I.can_next I.remaining self.old }
         ensures goes { Goes I.next_gives nowhere I.can_next I.can_next I.remaining self.new }
-        ensures deals { (stops : Error → Bool) →
-            DealsFirst stops (Left stops I.next_gives nowhere) self.old result self.new }
+        ensures yields { (stops : Error → Bool) →
+            YieldsFirst stops (Left stops I.next_gives nowhere) self.old result self.new }
         ensures asked { Asked I.next_gives self.old result self.new }
         ensures lowers { Lowers result (ends_size I.remaining self.old)
             (ends_size I.remaining self.new) }
@@ -125,7 +125,7 @@ impl<I: DoubleEndedIterator<Item = IterItem<A>>, A: Allocator> Ends<I> {
             self.old }
         ensures goes { Goes I.next_gives I.next_back_gives I.can_next I.can_next_back I.remaining
             self.new }
-        ensures deals { (stops : Error → Bool) → DealsFirst stops
+        ensures yields { (stops : Error → Bool) → YieldsFirst stops
             (Left stops I.next_gives I.next_back_gives) self.old result self.new }
         ensures asked { Asked I.next_gives self.old result self.new }
         ensures lowers { Lowers result (ends_size I.remaining self.old)
@@ -140,7 +140,7 @@ impl<I: DoubleEndedIterator<Item = IterItem<A>>, A: Allocator> Ends<I> {
             self.old }
         ensures goes { Goes I.next_gives I.next_back_gives I.can_next I.can_next_back I.remaining
             self.new }
-        ensures deals { (stops : Error → Bool) → DealsLast stops
+        ensures yields { (stops : Error → Bool) → YieldsLast stops
             (Left stops I.next_gives I.next_back_gives) self.old result self.new }
         ensures asked { Asked I.next_back_gives self.old result self.new }
         ensures lowers { Lowers result (ends_size I.remaining self.old)

@@ -9,7 +9,7 @@ use Rattle.sst_blocks.specs.declared.section.SectionName.TheVariants.{Filter as 
 use Rattle.sst_blocks.specs.declared.section.SectionName.TheVariants.{FilterTli}
 use Rattle.sst_blocks.specs.declared.version.TableVersion.TheVariants.{V4}
 use Rattle.sst_blocks.specs.declared.block_type.BlockType.TheVariants.{Filter}
-use Rattle.sst_blocks.specs.Block.{Loaded, load_told}
+use Rattle.sst_blocks.specs.Block.{Loaded, load_result}
 use Rattle.sst_blocks.specs.Handle.{Handle}
 use Rattle.sst_blocks.specs.filter.Filter.{admits, filter_in}
 use Rattle.sst_blocks.specs.declared.table.options.FilterKind.{FilterKind}
@@ -28,7 +28,7 @@ was_given given key = is_among (all_keys given) key
 -- the block at this offset and size loads, and its filter admits the hash of the key
 pub record SaysYes (body : List ℕ) (offset size : ℕ) (key : List ℕ) : Type 0 where
   pub block : Loaded
-  pub loads : load_told body offset size Filter ≡ Ok block
+  pub loads : load_result body offset size Filter ≡ Ok block
   pub yes : admits (filter_in block.payload) (hash_of key) ≡ true
 
 -- the first handle whose end key is not below the key refers to a filter that admits the key

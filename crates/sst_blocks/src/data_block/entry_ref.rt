@@ -57,7 +57,7 @@ impl<'a> ItemRef<'a> for EntryRef<'a> {
     ghost use Rattle.sst_entries.specs.Lending.{entry_of_ref};
     ghost use Rattle.sst_entries.specs.Entry.{Entry};
 
-    ghost Told = { Entry };
+    ghost Reported = { Entry };
 
     ghost told = { entry_of_ref };
 

@@ -5,7 +5,7 @@ ghost use Rattle.std.specs.declared.ops.Bound.TheVariants.{Included, Excluded, U
 ghost use Rattle.sst_entries.specs.Point.{lower_place, upper_place, within};
 ghost use Rattle.sst_entries.specs.Span.{SpanGives, rest_in};
 ghost use Rattle.sst_entries.specs.Stream.{front_of, back_of};
-ghost use Rattle.sst_blocks.specs.Seeking.{whole_span, span_from, span_to, DealsLeft, KeepsLower};
+ghost use Rattle.sst_blocks.specs.Seeking.{whole_span, span_from, span_to, YieldsLeft, KeepsLower};
 ghost use Rattle.sst_blocks.specs.Seeking.{KeepsUpper};
 
 use super::DataBlock;
@@ -53,7 +53,7 @@ impl<'a, A: Allocator> Iter<'a, A> {
         ensures left { IsTrue result ↔ (rest_in self.new ≡ [] → ⊥) }
         ensures kept { rest_in self.new ≡ within (Included key.now) Unbounded (rest_in self.old) }
         ensures both { KeepsUpper (Included key.now) self.old self.new }
-        ensures deals { DealsLeft ⟦<Iter<'a, A> as Iterator>⟧.next_gives
+        ensures yields { YieldsLeft ⟦<Iter<'a, A> as Iterator>⟧.next_gives
             ⟦<Iter<'a, A> as DoubleEndedIterator>⟧.next_back_gives self.new }
     {
         self.from = self.from.max(self.block.first_at_least(key));
@@ -67,7 +67,7 @@ impl<'a, A: Allocator> Iter<'a, A> {
         ensures left { IsTrue result ↔ (rest_in self.new ≡ [] → ⊥) }
         ensures kept { rest_in self.new ≡ within (Excluded key.now) Unbounded (rest_in self.old) }
         ensures both { KeepsUpper (Excluded key.now) self.old self.new }
-        ensures deals { DealsLeft ⟦<Iter<'a, A> as Iterator>⟧.next_gives
+        ensures yields { YieldsLeft ⟦<Iter<'a, A> as Iterator>⟧.next_gives
             ⟦<Iter<'a, A> as DoubleEndedIterator>⟧.next_back_gives self.new }
     {
         self.from = self.from.max(self.block.first_above(key));
@@ -81,7 +81,7 @@ impl<'a, A: Allocator> Iter<'a, A> {
         ensures left { IsTrue result ↔ (rest_in self.new ≡ [] → ⊥) }
         ensures kept { rest_in self.new ≡ within Unbounded (Included key.now) (rest_in self.old) }
         ensures both { KeepsLower (Included key.now) self.old self.new }
-        ensures deals { DealsLeft ⟦<Iter<'a, A> as Iterator>⟧.next_gives
+        ensures yields { YieldsLeft ⟦<Iter<'a, A> as Iterator>⟧.next_gives
             ⟦<Iter<'a, A> as DoubleEndedIterator>⟧.next_back_gives self.new }
     {
         self.to = self.to.min(self.block.first_above(key));
@@ -95,7 +95,7 @@ impl<'a, A: Allocator> Iter<'a, A> {
         ensures left { IsTrue result ↔ (rest_in self.new ≡ [] → ⊥) }
         ensures kept { rest_in self.new ≡ within Unbounded (Excluded key.now) (rest_in self.old) }
         ensures both { KeepsLower (Excluded key.now) self.old self.new }
-        ensures deals { DealsLeft ⟦<Iter<'a, A> as Iterator>⟧.next_gives
+        ensures yields { YieldsLeft ⟦<Iter<'a, A> as Iterator>⟧.next_gives
             ⟦<Iter<'a, A> as DoubleEndedIterator>⟧.next_back_gives self.new }
     {
         self.to = self.to.min(self.block.first_at_least(key));

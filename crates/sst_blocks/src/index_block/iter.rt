@@ -5,7 +5,7 @@ ghost use Rattle.sst_blocks.specs.Handles.{window};
 ghost use Rattle.sst_entries.specs.Span.{SpanGives, rest_in};
 ghost use Rattle.sst_entries.specs.Stream.{front_of, back_of};
 ghost use Rattle.sst_blocks.specs.Seeking.{whole_span, span_from, span_to, reaching_place};
-ghost use Rattle.sst_blocks.specs.Seeking.{above_place, DealsLeft, KeepsLowerEdge, KeepsUpperEdge};
+ghost use Rattle.sst_blocks.specs.Seeking.{above_place, YieldsLeft, KeepsLowerEdge, KeepsUpperEdge};
 
 use super::IndexBlock;
 use crate::{Error, KeyedBlockHandle, SeqNo};
@@ -56,7 +56,7 @@ impl<'a, A: Allocator> Iter<'a, A> {
         ensures left { IsTrue result ↔ (rest_in self.new ≡ [] → ⊥) }
         ensures kept { rest_in self.new ≡ window (rest_in self.old) (Some (key.now, seqno)) None }
         ensures both { KeepsUpperEdge (key.now, seqno) self.old self.new }
-        ensures deals { DealsLeft ⟦<Iter<'a, A> as Iterator>⟧.next_gives
+        ensures yields { YieldsLeft ⟦<Iter<'a, A> as Iterator>⟧.next_gives
             ⟦<Iter<'a, A> as DoubleEndedIterator>⟧.next_back_gives self.new }
     {
         self.from = self.from.max(self.block.first_reaching(key, seqno));
@@ -75,7 +75,7 @@ impl<'a, A: Allocator> Iter<'a, A> {
         ensures kept { let upper = window self.old.list None (Some key.now) in
             rest_in self.new ≡ rest_in (record self.old { list = upper }) }
         ensures both { KeepsLowerEdge key.now self.old self.new }
-        ensures deals { DealsLeft ⟦<Iter<'a, A> as Iterator>⟧.next_gives
+        ensures yields { YieldsLeft ⟦<Iter<'a, A> as Iterator>⟧.next_gives
             ⟦<Iter<'a, A> as DoubleEndedIterator>⟧.next_back_gives self.new }
     {
         let last = self.block.first_above(key);

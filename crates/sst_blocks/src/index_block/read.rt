@@ -30,7 +30,7 @@ impl<'a> ItemRef<'a> for HandleRef<'a> {
     ghost use Rattle.sst_blocks.specs.Handles.{IsSpellableHandle, handle_format};
     ghost use Rattle.sst_blocks.specs.SeenHandle.{handle_of_ref};
 
-    ghost Told = { Handle };
+    ghost Reported = { Handle };
 
     ghost told = { handle_of_ref };
 

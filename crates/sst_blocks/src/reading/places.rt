@@ -67,7 +67,7 @@ pub(crate) fn front_len<'a, R: ItemRef<'a>, A: Allocator, P: Fn(&[u8], SeqNo) ->
     ensures value { (p : List ℕ → ℕ → Bool) →
         ((key : _) (n : _) (r : _) → P.post passes key n r → r ≡ p key.now n) →
         let f = R.format version in
-        let q = λ (x : R.Told). p (f.key x).user_key (f.key x).seqno in
+        let q = λ (x : R.Reported). p (f.key x).user_key (f.key x).seqno in
         let items = items_of f payload.now in
         IsPartitionedBy q items → result ≡ front_length q items }
 {

@@ -4,13 +4,13 @@ ghost use Rattle.std.specs.Prelude.{IfSome};
 ghost use Rattle.std.specs.Option.{option_map};
 ghost use Rattle.sst_blocks.specs.EntryPlace.{IsPlacedIn, entry_placed, placed_in};
 ghost use Rattle.sst_entries.specs.Lending.{entry_of_ref};
-ghost use Rattle.sst_blocks.specs.Asked.{IsSure, find_told, maybe_in, maybe_told, place_for};
-ghost use Rattle.sst_blocks.specs.Asked.{point_of, point_told, told_map};
-ghost use Rattle.sst_blocks.specs.Block.{checked_payload, in_grammar, load_told, place_fault};
+ghost use Rattle.sst_blocks.specs.Asked.{IsSure, find_result, maybe_in, maybe_result, place_for};
+ghost use Rattle.sst_blocks.specs.Asked.{point_of, point_result, result_map};
+ghost use Rattle.sst_blocks.specs.Block.{checked_payload, in_grammar, load_result, place_fault};
 ghost use Rattle.sst_blocks.specs.declared.block_type.BlockType.TheVariants.{Data, Filter, Index};
 ghost use Rattle.sst_blocks.specs.declared.opened.Opened.{Opened};
 ghost use Rattle.sst_blocks.specs.Opened.{with_load};
-ghost use Rattle.sst_blocks.specs.Placed.{IsSound, IsSoundAt, IsSoundHeaded};
+ghost use Rattle.sst_blocks.specs.Placed.{IsValid, IsValidAt, IsValidHeaded};
 ghost use Rattle.sst_entries.specs.Entry.{Entry};
 ghost use Rattle.sst_entries.specs.Error.{FaultsFirst, Gives};
 ghost use Rattle.sst_blocks.specs.Sections.{body_of};
@@ -27,7 +27,7 @@ use std::alloc::Allocator;
 
 /// A payload with a valid checksum and count, its header, and whether its grammar was checked.
 #[derive(Clone, Copy)]
-struct Sound {
+struct Valid {
     header: Header,
     start: usize,
     end: usize,
@@ -52,8 +52,8 @@ impl<A: Allocator + Clone> BlockSource<A> {
         opened: &mut Opened,
     ) -> Result<Option<EntryPlace>, Error>
         ensures told { let body = body_of self.now in
-            told_map (option_map (entry_placed self.now)) result
-            ≡ point_told body handle.now.offset handle.now.size key.now seqno }
+            result_map (option_map (entry_placed self.now)) result
+            ≡ point_result body handle.now.offset handle.now.size key.now seqno }
         ensures placed { IfOk result (λ found. IfSome found (IsPlacedIn self.now)) }
         ensures first { let body = body_of self.now in
             FaultsFirst result (place_fault body handle.now.offset handle.now.size Data) }
@@ -91,10 +91,10 @@ impl<A: Allocator + Clone> BlockSource<A> {
     ) -> Result<Option<InternalValue<A>>, Error>
         ensures told { let body = body_of self.now in
             Gives (λ (found : Option Entry). found) result
-            (point_told body handle.now.offset handle.now.size key.now seqno) }
+            (point_result body handle.now.offset handle.now.size key.now seqno) }
         // Only sharing an existing entry can fail with `OutOfMemory`.
         ensures sure { let body = body_of self.now in
-            IsSure result (point_told body handle.now.offset handle.now.size key.now seqno) }
+            IsSure result (point_result body handle.now.offset handle.now.size key.now seqno) }
         ensures first { let body = body_of self.now in
             FaultsFirst result (place_fault body handle.now.offset handle.now.size Data) }
         ensures counted { opened.new ≡ with_load Data opened.old }
@@ -123,7 +123,7 @@ impl<A: Allocator + Clone> BlockSource<A> {
         opened: &mut Opened,
     ) -> Result<Option<BlockHandle>, Error>
         ensures told { let body = body_of self.now in
-            result ≡ find_told body handle.now.offset handle.now.size key.now seqno }
+            result ≡ find_result body handle.now.offset handle.now.size key.now seqno }
         ensures first { let body = body_of self.now in
             FaultsFirst result (place_fault body handle.now.offset handle.now.size Index) }
         ensures counted { opened.new ≡ with_load Index opened.old }
@@ -147,7 +147,7 @@ impl<A: Allocator + Clone> BlockSource<A> {
         opened: &mut Opened,
     ) -> Result<bool, Error>
         ensures told { let body = body_of self.now in
-            result ≡ maybe_told body handle.now.offset handle.now.size hash }
+            result ≡ maybe_result body handle.now.offset handle.now.size hash }
         ensures first { let body = body_of self.now in
             FaultsFirst result (place_fault body handle.now.offset handle.now.size Filter) }
         ensures counted { opened.new ≡ with_load Filter opened.old }
@@ -158,18 +158,18 @@ impl<A: Allocator + Clone> BlockSource<A> {
     }
 
     /// Returns the payload of the block of a kind, with its checksum and count verified.
-    fn sound(&self, handle: &BlockHandle, kind: BlockType) -> Result<Sound, Error>
+    fn sound(&self, handle: &BlockHandle, kind: BlockType) -> Result<Valid, Error>
         ensures sound { IfOk result (λ s.
-            IsSoundAt (body_of self.now) handle.now.offset handle.now.size kind s) }
-        ensures headed { IfOk result (IsSoundHeaded self.now kind) }
+            IsValidAt (body_of self.now) handle.now.offset handle.now.size kind s) }
+        ensures headed { IfOk result (IsValidHeaded self.now kind) }
         ensures told { let body = body_of self.now in
-            IfErr result (λ e. load_told body handle.now.offset handle.now.size kind ≡ Err e) }
+            IfErr result (λ e. load_result body handle.now.offset handle.now.size kind ≡ Err e) }
         ensures first { let body = body_of self.now in
             IfErr result (λ e. place_fault body handle.now.offset handle.now.size kind ≡ Some e) }
     {
         let placed = self.place(handle, kind)?;
         let is_tested = self.test(&placed.header, kind, placed.start, placed.end)?;
-        Ok(Sound {
+        Ok(Valid {
             header: placed.header,
             start: placed.start,
             end: placed.end,
@@ -180,16 +180,16 @@ impl<A: Allocator + Clone> BlockSource<A> {
     /// Finds the first entry of a key below `seqno` in a payload of entries.
     fn place_of_entry(
         &self,
-        sound: &Sound,
+        sound: &Valid,
         key: &[u8],
         seqno: SeqNo,
     ) -> Result<Option<EntryPlace>, Error>
-        requires sound { IsSound (body_of self.now) Data sound.now }
-        requires headed { IsSoundHeaded self.now Data sound.now }
+        requires sound { IsValid (body_of self.now) Data sound.now }
+        requires headed { IsValidHeaded self.now Data sound.now }
         ensures told { let body = body_of self.now in
             let payload = slice_range body sound.now.start sound.now.end in
             let header = sound.now.header in
-            told_map (option_map (entry_placed self.now)) result ≡ told_map (point_of key.now seqno)
+            result_map (option_map (entry_placed self.now)) result ≡ result_map (point_of key.now seqno)
             (checked_payload header.version header.checksum Data payload) }
         ensures placed { IfOk result (λ found. IfSome found (IsPlacedIn self.now)) }
     {
@@ -210,16 +210,16 @@ impl<A: Allocator + Clone> BlockSource<A> {
     /// Finds the first handle that reaches a key at `seqno` in a payload of handles.
     fn handle_in(
         &self,
-        sound: &Sound,
+        sound: &Valid,
         key: &[u8],
         seqno: SeqNo,
     ) -> Result<Option<BlockHandle>, Error>
-        requires sound { IsSound (body_of self.now) Index sound.now }
-        requires headed { IsSoundHeaded self.now Index sound.now }
+        requires sound { IsValid (body_of self.now) Index sound.now }
+        requires headed { IsValidHeaded self.now Index sound.now }
         ensures told { let body = body_of self.now in
             let payload = slice_range body sound.now.start sound.now.end in
             let header = sound.now.header in
-            result ≡ told_map (place_for key.now seqno)
+            result ≡ result_map (place_for key.now seqno)
             (checked_payload header.version header.checksum Index payload) }
     {
         let payload = &self.body()[sound.start..sound.end];
@@ -232,13 +232,13 @@ impl<A: Allocator + Clone> BlockSource<A> {
     }
 
     /// Returns whether the filter of a payload may contain a hash.
-    fn has_hash_in(&self, sound: &Sound, hash: u64) -> bool
-        requires sound { IsSound (body_of self.now) Filter sound.now }
-        requires headed { IsSoundHeaded self.now Filter sound.now }
+    fn has_hash_in(&self, sound: &Valid, hash: u64) -> bool
+        requires sound { IsValid (body_of self.now) Filter sound.now }
+        requires headed { IsValidHeaded self.now Filter sound.now }
         ensures told { let body = body_of self.now in
             let payload = slice_range body sound.now.start sound.now.end in
             let header = sound.now.header in
-            Ok result ≡ told_map (maybe_in hash)
+            Ok result ≡ result_map (maybe_in hash)
             (checked_payload header.version header.checksum Filter payload) }
     {
         // A filter's grammar is the check that `test` has made already.
@@ -247,9 +247,9 @@ impl<A: Allocator + Clone> BlockSource<A> {
     }
 
     /// Caches that a payload's grammar was checked, unless the cache says so already.
-    fn remember_walk(&self, sound: &Sound, kind: BlockType)
-        requires sound { IsSound (body_of self.now) kind sound.now }
-        requires headed { IsSoundHeaded self.now kind sound.now }
+    fn remember_walk(&self, sound: &Valid, kind: BlockType)
+        requires sound { IsValid (body_of self.now) kind sound.now }
+        requires headed { IsValidHeaded self.now kind sound.now }
         requires items { let body = body_of self.now in
             let payload = slice_range body sound.now.start sound.now.end in
             in_grammar sound.now.header.version kind payload ≡ true }

@@ -4,7 +4,7 @@
 use crate::blocks::large::{Size, Within, part};
 use crate::blocks::payloads::{data_block, source_of};
 use crate::blocks::walks::{Edge, NONE, Walk, Walked, refusal, walks_so};
-use crate::blocks::written::{Told, is_written, length_behind_seven};
+use crate::blocks::written::{Reported, is_written, length_behind_seven};
 use crate::sections::tables::{handle, table_of};
 use sst_blocks::Direction::{Back, Front};
 use sst_blocks::{
@@ -61,7 +61,7 @@ pub(crate) fn told<A: Allocator>(
     alloc: A,
     entries: Result<Vec<InternalValue<A>, A>, Error>,
     payload: &[u8],
-) -> Result<Told, Error> {
+) -> Result<Reported, Error> {
     let entries = entries?;
     let mut written = Vec::from_slice(alloc, &[7])?;
     let (bound, done) = encoded(&mut written, &entries);

@@ -3,7 +3,7 @@
 use crate::blocks::large::{Size, Within, part};
 use crate::blocks::payloads::index_block;
 use crate::blocks::walks::{Edge, NONE, Walk, Walked, refusal, walks_so};
-use crate::blocks::written::{Told, is_written, length_behind_seven};
+use crate::blocks::written::{Reported, is_written, length_behind_seven};
 use sst_blocks::Direction::{Back, Front};
 use sst_blocks::{
     BlockHandle, BlockOffset, BlockType, Direction, Error, IndexBlock, IndexBlockIter,
@@ -55,7 +55,7 @@ pub(crate) fn told<A: Allocator>(
     alloc: A,
     handles: Result<Vec<KeyedBlockHandle<A>, A>, Error>,
     payload: &[u8],
-) -> Result<Told, Error> {
+) -> Result<Reported, Error> {
     let handles = handles?;
     let mut written = Vec::from_slice(alloc, &[7])?;
     let (bound, done) = encoded(&mut written, &handles);

@@ -3,7 +3,7 @@
 use sst_blocks::Error;
 
 /// The bound on a block, its length or the error, and whether it is the expected payload.
-pub(crate) type Told = (u64, Result<usize, Error>, bool);
+pub(crate) type Reported = (u64, Result<usize, Error>, bool);
 
 /// The number of bytes written after the byte 7. On an error, the byte 7 is unchanged.
 pub(crate) fn length_behind_seven(written: &[u8], done: Result<(), Error>) -> Result<usize, Error> {
@@ -15,7 +15,7 @@ pub(crate) fn length_behind_seven(written: &[u8], done: Result<(), Error>) -> Re
 }
 
 /// Whether a payload was written within its bound; or `OutOfMemory`, where it may fail.
-pub(crate) fn is_written(told: Result<Told, Error>, payload: &[u8], may_fail: bool) -> bool {
+pub(crate) fn is_written(told: Result<Reported, Error>, payload: &[u8], may_fail: bool) -> bool {
     let size = 24 + payload.len() as u64;
     match told {
         Ok((bound, Ok(_), is_it)) => is_it && bound == size,

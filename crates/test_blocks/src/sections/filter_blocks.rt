@@ -28,9 +28,9 @@ fn load(alloc: Global, payload: &[u8]) -> Result<FilterBlock, Error> {
 }
 
 // The size of a filter, and whether the filter and its clone admit a key.
-type Told = (usize, bool, bool);
+type Reported = (usize, bool, bool);
 
-fn told(filter: &FilterBlock, key: &[u8]) -> Result<Told, Error> {
+fn told(filter: &FilterBlock, key: &[u8]) -> Result<Reported, Error> {
     let hash = Builder::<Global>::get_hash(key);
     let clone: FilterBlock = filter.clone()?;
     let clone_admits = clone.maybe_contains_hash(hash);
@@ -43,7 +43,7 @@ fn told(filter: &FilterBlock, key: &[u8]) -> Result<Told, Error> {
 }
 
 // The size and the answers of the filter that is loaded from a payload.
-fn told_of(alloc: Global, payload: &[u8], key: &[u8]) -> Result<Told, Error> {
+fn told_of(alloc: Global, payload: &[u8], key: &[u8]) -> Result<Reported, Error> {
     let filter = load(alloc, payload)?;
     let told = told(&filter, key);
     drop(filter);
@@ -51,7 +51,7 @@ fn told_of(alloc: Global, payload: &[u8], key: &[u8]) -> Result<Told, Error> {
 }
 
 // A payload, a key, and the results of the filter, or the error.
-const ASKED: &[(&[u8], &[u8], Result<Told, Error>)] = &[
+const ASKED: &[(&[u8], &[u8], Result<Reported, Error>)] = &[
     (&[1, 0], b"a", Ok((2, false, false))),
     (&[30, 255], b"a", Ok((2, true, true))),
     (&[0, 255], b"a", Err(Error::InvalidBlock)),

@@ -124,13 +124,13 @@ type Progress = (u64, u64);
 
 // Records the progress of its calls, three at most, and stops the compaction at one of them.
 #[derive(Clone, Copy)]
-struct Told {
+struct Reported {
     progress: [Progress; 3],
     count: usize,
     stop: usize,
 }
 
-impl CompactionObserver for Told {
+impl CompactionObserver for Reported {
     ghost says = { λ o progress goes q. Unit {0} };
 
     fn goes_on(&mut self, progress: CompactionProgress) -> bool {
@@ -211,7 +211,7 @@ fn compacted(
     wanted: &Wanted,
 ) -> Result<Option<Came>, Error> {
     let (watermark, target, first, dropped, hidden, stop) = how;
-    let mut observer = Told {
+    let mut observer = Reported {
         progress: [(0, 0); 3],
         count: 0,
         stop,

@@ -79,7 +79,7 @@ fn agree_newest<L: Lending + Drop>(
     given: Vec<IterItem<Global>>,
     lent: LentNewestOf<L, Global>,
 ) -> Result<bool, Error>
-    requires lent { spec.CanDeal ⟦<LentNewestOf<L, Global> as Lending>⟧.advances spec.nowhere
+    requires lent { spec.CanYield ⟦<LentNewestOf<L, Global> as Lending>⟧.advances spec.nowhere
         ⟦<LentNewestOf<L, Global> as Lending>⟧.can_advance
         ⟦<LentNewestOf<L, Global> as Lending>⟧.can_advance lent }
 {

@@ -48,9 +48,9 @@ const ON_DEMAND: u8 = 1;
 const TWO_LEVELS: u8 = 2;
 
 // The kind of an index, and where its readers start, from a key within it and from one after it.
-type Told = (u8, Option<Option<SeqNo>>, Option<Option<SeqNo>>);
+type Reported = (u8, Option<Option<SeqNo>>, Option<Option<SeqNo>>);
 
-fn told(index: &BlockIndexImpl) -> Result<Told, Error> {
+fn told(index: &BlockIndexImpl) -> Result<Reported, Error> {
     let kind = match index {
         BlockIndexImpl::Full(_) => FULL,
         BlockIndexImpl::VolatileFull(_) => ON_DEMAND,
@@ -65,7 +65,7 @@ const NO_HANDLE: Option<Option<SeqNo>> = Some(None);
 
 // Tables, written and stored, their pins, and the kind and the readers of their index. Only a
 // pinned one returns no reader where no handle reaches a key.
-const INDEXES: &[(Of, Pins, Told)] = &[
+const INDEXES: &[(Of, Pins, Reported)] = &[
     (Of::Rows(Parted::Nothing), (true, true), (FULL, FOUND, None)),
     (
         Of::Rows(Parted::Nothing),
@@ -97,7 +97,7 @@ const INDEXES: &[(Of, Pins, Told)] = &[
 ];
 
 // Whether a table's index has its kind and readers, after the table is dropped.
-fn tells(alloc: Global, of: Of, pins: Pins, expected: Told) -> bool {
+fn tells(alloc: Global, of: Of, pins: Pins, expected: Reported) -> bool {
     let index = asked(opened(alloc, &(of, &[], pins, 0)), index_in);
     asked(index, told) == Ok(expected)
 }

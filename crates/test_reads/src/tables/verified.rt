@@ -31,13 +31,13 @@ const ONE_ITEM: Result<Verified, VerifyError> = Ok(Verified {
 });
 
 // A table, a checksum of its file, and the result.
-type Told = (
+type Reported = (
     Changed<'static>,
     Option<u128>,
     Result<Verified, VerifyError>,
 );
 
-static SOUND_AND_NOT: [Told; 4] = [
+static SOUND_AND_NOT: [Reported; 4] = [
     (ONE, None, ONE_ITEM),
     (WRITTEN, Some(OF_WRITTEN), ONE_ITEM),
     (WRITTEN, Some(0), OTHER_CHECKSUM),
@@ -57,7 +57,7 @@ const UNLOADED: Result<Verified, VerifyError> = Err(VerifyError::Found(Finding {
 }));
 
 // The index of the first table with another result.
-fn wrong_table(alloc: Global, rows: &[Told]) -> Option<usize> {
+fn wrong_table(alloc: Global, rows: &[Reported]) -> Option<usize> {
     for (place, (changed, checksum, expected)) in rows.iter().enumerate() {
         match asked_with(opened(alloc, changed), *checksum, verified) {
             Ok(found) if found == *expected => {}

@@ -433,7 +433,7 @@ fn each_kind_of_index_leaves_what_lies_between_edges(rt: HostRuntime) {
 // ---- sequence numbers, and blocks of other kinds
 
 // A table, an iterator, calls, and their outcome.
-type Told = (Changed<'static>, Subject, &'static [Call], Came);
+type Reported = (Changed<'static>, Subject, &'static [Call], Came);
 
 const A_AT_1: Call = Call::Front(Some((b'a', 1)));
 
@@ -447,7 +447,7 @@ const PINS: Pins = (true, true);
 
 const OVERFLOWS: Came = Err((0, Error::SeqNoOverflow));
 
-const TOLD: &[Told] = &[
+const TOLD: &[Reported] = &[
     // a scan of some blocks, or of one at least; the block after them is no data block
     (
         (Of::One, &[], PINS, 0),
@@ -545,7 +545,7 @@ const TOLD: &[Told] = &[
 ];
 
 // The index of the first row with another outcome.
-fn wrong_told(alloc: Global, rows: &[Told]) -> Option<usize> {
+fn wrong_told(alloc: Global, rows: &[Reported]) -> Option<usize> {
     for (place, (changed, subject, calls, came)) in rows.iter().enumerate() {
         if outcome(alloc, changed, subject, calls) != *came {
             return Some(place);

@@ -10,12 +10,12 @@ use test_support::Refusing;
 
 // Whether a range is well-formed, has the first key of another one, overlaps with that one, and
 // contains it.
-type Told = (bool, bool, bool, bool);
+type Reported = (bool, bool, bool, bool);
 
 // A query of key ranges, and its result.
 enum Asked {
     // A range compared with another one.
-    Of(&'static str, &'static str, Told),
+    Of(&'static str, &'static str, Reported),
     // Whether at most three ranges are disjoint, and their aggregate.
     Together(&'static str, bool, &'static str),
     // Whether the range from "key1" to "key5" overlaps with a lower and an upper bound.
@@ -23,7 +23,7 @@ enum Asked {
 }
 
 // Compares the range of a table in a run with another one.
-fn told_by<A: Allocator>(table: &Indexed<FakeTable<A>>, other: &KeyRange<A>) -> Told {
+fn told_by<A: Allocator>(table: &Indexed<FakeTable<A>>, other: &KeyRange<A>) -> Reported {
     let range = table.key_range();
     (
         range.is_well_formed(),
@@ -41,7 +41,7 @@ fn shows<A: Allocator>(table: &Indexed<FakeTable<A>>, range: &'static str) -> bo
 }
 
 // Compares a range with another one; and whether a table with the range has its ends.
-fn told_of(range: &'static str, other: &'static str) -> (Told, bool) {
+fn told_of(range: &'static str, other: &'static str) -> (Reported, bool) {
     let table: Indexed<FakeTable> = Indexed::new(FakeTable {
         id: 7,
         range: range_of(range),

@@ -1,6 +1,6 @@
 //! Compaction of some results, with filters and callbacks, by value and borrowed.
 ghost use Rattle.std.specs.Iterator.{IsFinite};
-ghost use Rattle.sst_entries.specs.Stream.{CanDeal, nowhere};
+ghost use Rattle.sst_entries.specs.Stream.{CanYield, nowhere};
 
 mod rows;
 
@@ -153,7 +153,7 @@ type Row = (
 
 // Whether a compaction of any source yields the results of a row and reports its entries.
 fn gives_and_reports<I: Iterator<Item = IterItem> + Drop>(row: &Row, source: I) -> bool
-    requires can { CanDeal I.next_gives nowhere I.can_next I.can_next source }
+    requires can { CanYield I.next_gives nowhere I.can_next I.can_next source }
     requires finite { IsFinite (I.remaining source) }
 {
     let mut stream = CompactionStream::new(source, row.1)

@@ -5,7 +5,7 @@ ghost use Rattle.lsm_sorted.specs.Words as spec;
 ghost use Rattle.sst_entries.specs.Stream.{ok_results};
 ghost use Rattle.sst_entries.specs.declared.error.Error.{Error};
 ghost use Rattle.lsm_sorted.specs.merge.Union.{all_errors, union_of};
-ghost use Rattle.lsm_sorted.specs.merge.MergeLaws.{CanMerge, DealSorted, every_error};
+ghost use Rattle.lsm_sorted.specs.merge.MergeLaws.{CanMerge, YieldSorted, every_error};
 ghost use Rattle.lsm_sorted.specs.Compaction.{kept, unfiltered};
 ghost use Rattle.lsm_sorted.specs.Gap.{GivesUpToGap};
 
@@ -23,9 +23,9 @@ fn compaction_of<I: Iterator<Item = IterItem<A>>, A: Allocator + Clone>(
     threshold: SeqNo,
 ) -> Result<CompactionStream<Merger<I, A>, NoFilter, NoCallback>, Error>
     ensures kept { IfOk result (λ s. (stops : Error → Bool) (lists : List (List spec.R)) →
-        DealSorted I.next_gives spec.nowhere stops iterators.items lists →
+        YieldSorted I.next_gives spec.nowhere stops iterators.items lists →
         all_errors lists ≡ [] →
-        spec.Deals (spec.answer_stops stops)
+        spec.YieldsExactly (spec.answer_stops stops)
         ⟦<CompactionStream<Merger<I, A>, NoFilter, NoCallback> as Iterator>⟧.next_gives
         spec.nowhere s (ok_results (kept (spec.rules_of s) (unfiltered (union_of lists))))) }
     // With errors among the items: the entries up to the first error that is met, and this error.
@@ -46,9 +46,9 @@ fn merged_from_the_front<I: DoubleEndedIterator<Item = IterItem<A>>, A: Allocato
     alloc: A,
     iterators: Vec<I, A>,
 ) -> Result<Merger<I, A>, Error>
-    ensures deals { IfOk result (λ m. (stops : Error → Bool) (lists : List (List spec.R)) →
-        DealSorted I.next_gives I.next_back_gives stops iterators.items lists →
-        spec.Deals (spec.answer_stops every_error) ⟦<Merger<I, A> as Iterator>⟧.next_gives
+    ensures yields { IfOk result (λ m. (stops : Error → Bool) (lists : List (List spec.R)) →
+        YieldSorted I.next_gives I.next_back_gives stops iterators.items lists →
+        spec.YieldsExactly (spec.answer_stops every_error) ⟦<Merger<I, A> as Iterator>⟧.next_gives
         spec.nowhere m (ok_results (union_of lists))) }
     ensures can { IfOk result (λ m.
         CanMerge I.next_gives spec.nowhere I.can_next I.can_next I.remaining iterators.items

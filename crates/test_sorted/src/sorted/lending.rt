@@ -1,7 +1,7 @@
 //! Lending newest versions, compactions and mergers, compared with those by value over the same
 //! lists; and lending iterators of the entries below a bound.
 ghost use Rattle.std.specs.Prelude.{IfOk};
-ghost use Rattle.sst_entries.specs.Stream.{CanDeal, nowhere};
+ghost use Rattle.sst_entries.specs.Stream.{CanYield, nowhere};
 
 use crate::sorted::words::{lends_so, results_of, said_by, said_lent};
 use lsm_sorted::compaction::Rules;
@@ -87,7 +87,7 @@ fn lists_of(alloc: Global, seed: u64, count: u8) -> Result<Vec<Vec<IterItem>>, E
 }
 
 fn merger_of(alloc: Global, lists: Vec<Vec<IterItem>>) -> Result<Merger<IntoIter<IterItem>>, Error>
-    ensures can { IfOk result (CanDeal ⟦<Merger<IntoIter<IterItem>> as Iterator>⟧.next_gives nowhere
+    ensures can { IfOk result (CanYield ⟦<Merger<IntoIter<IterItem>> as Iterator>⟧.next_gives nowhere
         ⟦<Merger<IntoIter<IterItem>> as Iterator>⟧.can_next
         ⟦<Merger<IntoIter<IterItem>> as Iterator>⟧.can_next) }
 {
@@ -102,7 +102,7 @@ fn lending_merger_of(
     alloc: Global,
     lists: Vec<Vec<IterItem>>,
 ) -> Result<LendingMerger<LentList>, Error>
-    ensures can { IfOk result (CanDeal ⟦<LendingMerger<LentList> as Lending>⟧.advances nowhere
+    ensures can { IfOk result (CanYield ⟦<LendingMerger<LentList> as Lending>⟧.advances nowhere
         ⟦<LendingMerger<LentList> as Lending>⟧.can_advance
         ⟦<LendingMerger<LentList> as Lending>⟧.can_advance) }
 {
@@ -230,7 +230,7 @@ fn an_error_is_answered_right_behind_the_entry_before_it(rt: HostRuntime) {
 
 // A lending iterator over the results of a text, before its first step or after it.
 fn source_of(alloc: Global, text: &'static str, is_lent: bool) -> Result<LentList, Error>
-    ensures can { IfOk result (CanDeal ⟦<LentList as Lending>⟧.advances nowhere
+    ensures can { IfOk result (CanYield ⟦<LentList as Lending>⟧.advances nowhere
         ⟦<LentList as Lending>⟧.can_advance ⟦<LentList as Lending>⟧.can_advance) }
 {
     let mut source = lent_list(results_of(alloc, text)?);

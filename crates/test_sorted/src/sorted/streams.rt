@@ -2,7 +2,7 @@
 //! turn.
 ghost use Rattle.std.specs.Prelude.{All};
 ghost use Rattle.std.specs.Iterator.{IsFinite};
-ghost use Rattle.sst_entries.specs.Stream.{CanDeal, nowhere};
+ghost use Rattle.sst_entries.specs.Stream.{CanYield, nowhere};
 
 use crate::sorted::sources::{forwards_of, listed_of, lists_of};
 use crate::sorted::words::{answers_so, gives_all, gives_so};
@@ -19,7 +19,7 @@ fn merger_answers_so<I: DoubleEndedIterator<Item = IterItem<A>> + Drop, A: Alloc
     ends: &str,
     wanted: &str,
 ) -> Result<bool, Error>
-    requires can { All (CanDeal I.next_gives I.next_back_gives I.can_next I.can_next_back)
+    requires can { All (CanYield I.next_gives I.next_back_gives I.can_next I.can_next_back)
         sources.items }
     requires finite { All (λ s. IsFinite (I.remaining s)) sources.items }
 {
@@ -34,7 +34,7 @@ fn stream_answers_so<A: Allocator, I: DoubleEndedIterator<Item = IterItem<A>> + 
     ends: &str,
     wanted: &str,
 ) -> bool
-    requires can { CanDeal I.next_gives I.next_back_gives I.can_next I.can_next_back source }
+    requires can { CanYield I.next_gives I.next_back_gives I.can_next I.can_next_back source }
     requires finite { IsFinite (I.remaining source) }
 {
     let stream = MvccStream::new(source);
@@ -49,7 +49,7 @@ fn newest_answers_so<I: DoubleEndedIterator<Item = IterItem<A>> + Drop, A: Alloc
     ends: &str,
     wanted: &str,
 ) -> Result<bool, Error>
-    requires can { All (CanDeal I.next_gives I.next_back_gives I.can_next I.can_next_back)
+    requires can { All (CanYield I.next_gives I.next_back_gives I.can_next I.can_next_back)
         sources.items }
     requires finite { All (λ s. IsFinite (I.remaining s)) sources.items }
 {
@@ -65,7 +65,7 @@ fn compaction_gives_so<A: Allocator, I: Iterator<Item = IterItem<A>> + Drop>(
     threshold: u64,
     wanted: &str,
 ) -> bool
-    requires can { CanDeal I.next_gives nowhere I.can_next I.can_next source }
+    requires can { CanYield I.next_gives nowhere I.can_next I.can_next source }
     requires finite { IsFinite (I.remaining source) }
 {
     let mut stream = CompactionStream::new(source, threshold);
@@ -102,7 +102,7 @@ fn gives_before_it_goes<A: Allocator, I: Iterator<Item = IterItem<A>> + Drop>(
     mut stream: I,
     wanted: &str,
 ) -> bool
-    requires { CanDeal I.next_gives nowhere I.can_next I.can_next stream }
+    requires { CanYield I.next_gives nowhere I.can_next I.can_next stream }
 {
     gives_so(&mut stream, wanted)
 }
@@ -250,7 +250,7 @@ const OF_SOURCES: &str = "\
 aV3 bV1 cV4 / aV7 bV2 / dV1 / | FFFFF | aV7 bV2 cV4 dV1 -
 aV3 bV1 cV4 / aV7 bV2 / dV1 / | BBBBB | dV1 cV4 bV2 aV7 -
 aV3 bV1 cV4 / aV7 bV2 / dV1 / | FBFBF | aV7 dV1 bV2 cV4 -
-# An error in the middle of a source takes the place of all that is not dealt.
+# An error in the middle of a source takes the place of all that is not yielded.
 aV2 cV3 !7 dV1 / bV1 / | FFFF | aV2 !7 - -
 aV2 bV3 !7 dV1 / aV1 bV2 cV1 / | FFF | !7 - -
 aV2 bV3 !7 dV1 / aV1 bV2 cV1 / | BBB | !7 - -

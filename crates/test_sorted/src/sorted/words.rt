@@ -5,7 +5,7 @@
 //! unless it is given. `!4` is the error 4 of a caller's own source, `?1` is `OutOfMemory`, and `-`
 //! is no item.
 ghost use Rattle.std.specs.Iterator.{IsFinite};
-ghost use Rattle.sst_entries.specs.Stream.{CanDeal, nowhere};
+ghost use Rattle.sst_entries.specs.Stream.{CanYield, nowhere};
 
 use sst_entries::{
     Direction, EntryRef, Error, InternalValue, IterItem, Lending, Slice, ValueType, answer_at,
@@ -140,8 +140,8 @@ pub fn said_lent<L: Lending>(source: &L) -> Said {
 
 // The word of the next item of a lending iterator.
 fn said_next<L: Lending>(source: &mut L) -> Said
-    requires { CanDeal L.advances nowhere L.can_advance L.can_advance source.old }
-    ensures can { CanDeal L.advances nowhere L.can_advance L.can_advance source.new }
+    requires { CanYield L.advances nowhere L.can_advance L.can_advance source.old }
+    ensures can { CanYield L.advances nowhere L.can_advance L.can_advance source.new }
 {
     match go_on(source) {
         Ok(_) => said_lent(source),
@@ -151,7 +151,7 @@ fn said_next<L: Lending>(source: &mut L) -> Said
 
 /// Whether a lending iterator yields these items, and then nothing.
 pub fn lends_so<L: Lending>(source: &mut L, wanted: &str) -> bool
-    requires { CanDeal L.advances nowhere L.can_advance L.can_advance source.old }
+    requires { CanYield L.advances nowhere L.can_advance L.can_advance source.old }
 {
     let mut is_right = true;
     for word in wanted.split_whitespace() {
@@ -166,7 +166,7 @@ pub fn answers_so<A: Allocator, I: DoubleEndedIterator<Item = IterItem<A>> + Dro
     ends: &str,
     wanted: &str,
 ) -> bool
-    requires { CanDeal I.next_gives I.next_back_gives I.can_next I.can_next_back stream }
+    requires { CanYield I.next_gives I.next_back_gives I.can_next I.can_next_back stream }
 {
     let mut words = wanted.split_whitespace();
     let mut is_right = true;
@@ -184,15 +184,15 @@ pub fn answers_so<A: Allocator, I: DoubleEndedIterator<Item = IterItem<A>> + Dro
 
 // The word of the next item of a stream.
 fn said_first<A: Allocator, I: Iterator<Item = IterItem<A>>>(stream: &mut I) -> Said
-    requires { CanDeal I.next_gives nowhere I.can_next I.can_next stream.old }
-    ensures can { CanDeal I.next_gives nowhere I.can_next I.can_next stream.new }
+    requires { CanYield I.next_gives nowhere I.can_next I.can_next stream.old }
+    ensures can { CanYield I.next_gives nowhere I.can_next I.can_next stream.new }
 {
     said_of(stream.next())
 }
 
 /// Whether a stream yields these items, and then nothing.
 pub fn gives_so<A: Allocator, I: Iterator<Item = IterItem<A>>>(stream: &mut I, wanted: &str) -> bool
-    requires { CanDeal I.next_gives nowhere I.can_next I.can_next stream.old }
+    requires { CanYield I.next_gives nowhere I.can_next I.can_next stream.old }
 {
     let mut is_right = true;
     for word in wanted.split_whitespace() {

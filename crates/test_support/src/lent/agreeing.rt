@@ -1,20 +1,20 @@
 //! Compares lending iterators with iterators by value.
-ghost use Rattle.sst_entries.specs.Stream.{CanDeal, nowhere};
+ghost use Rattle.sst_entries.specs.Stream.{CanYield, nowhere};
 
 use sst_entries::{Error, InternalValue, IterItem, Lending};
 
 /// Advances a source. It may be called any number of times.
 pub fn go_on<L: Lending>(source: &mut L) -> Result<bool, Error>
-    requires { CanDeal L.advances nowhere L.can_advance L.can_advance source.old }
-    ensures can { CanDeal L.advances nowhere L.can_advance L.can_advance source.new }
+    requires { CanYield L.advances nowhere L.can_advance L.can_advance source.old }
+    ensures can { CanYield L.advances nowhere L.can_advance L.can_advance source.new }
 {
     source.advance()
 }
 
 // Whether a source yields this entry next.
 fn is_next<L: Lending>(source: &mut L, item: &InternalValue) -> Result<bool, Error>
-    requires { CanDeal L.advances nowhere L.can_advance L.can_advance source.old }
-    ensures can { CanDeal L.advances nowhere L.can_advance L.can_advance source.new }
+    requires { CanYield L.advances nowhere L.can_advance L.can_advance source.old }
+    ensures can { CanYield L.advances nowhere L.can_advance L.can_advance source.new }
 {
     let has_more = go_on(source)?;
     Ok(has_more && source.entry() == Some(item.as_entry_ref()))
@@ -22,8 +22,8 @@ fn is_next<L: Lending>(source: &mut L, item: &InternalValue) -> Result<bool, Err
 
 // Whether the next item of a source equals this one, which is an entry or the end.
 fn agrees<L: Lending>(source: &mut L, item: Option<IterItem>) -> Result<bool, Error>
-    requires { CanDeal L.advances nowhere L.can_advance L.can_advance source.old }
-    ensures can { CanDeal L.advances nowhere L.can_advance L.can_advance source.new }
+    requires { CanYield L.advances nowhere L.can_advance L.can_advance source.old }
+    ensures can { CanYield L.advances nowhere L.can_advance L.can_advance source.new }
 {
     match item {
         Some(Ok(item)) => is_next(source, &item),
@@ -34,8 +34,8 @@ fn agrees<L: Lending>(source: &mut L, item: Option<IterItem>) -> Result<bool, Er
 
 // Returns the next item. It may be called any number of times.
 fn next_of<I: Iterator<Item = IterItem>>(source: &mut I) -> Option<IterItem>
-    requires { CanDeal I.next_gives nowhere I.can_next I.can_next source.old }
-    ensures can { CanDeal I.next_gives nowhere I.can_next I.can_next source.new }
+    requires { CanYield I.next_gives nowhere I.can_next I.can_next source.old }
+    ensures can { CanYield I.next_gives nowhere I.can_next I.can_next source.new }
 {
     source.next()
 }
@@ -47,8 +47,8 @@ pub fn agree<I: Iterator<Item = IterItem> + Drop, L: Lending + Drop>(
     mut lending: L,
     calls: usize,
 ) -> Result<bool, Error>
-    requires by_value { CanDeal I.next_gives nowhere I.can_next I.can_next by_value }
-    requires lending { CanDeal L.advances nowhere L.can_advance L.can_advance lending }
+    requires by_value { CanYield I.next_gives nowhere I.can_next I.can_next by_value }
+    requires lending { CanYield L.advances nowhere L.can_advance L.can_advance lending }
 {
     let mut is_same = true;
     for _ in 0..calls {

@@ -1,5 +1,5 @@
 //! A list as a lending iterator.
-ghost use Rattle.sst_entries.specs.Stream.{CanDeal, nowhere};
+ghost use Rattle.sst_entries.specs.Stream.{CanYield, nowhere};
 
 use sst_entries::{EntryRef, Error, InternalValue, IterItem, Lending};
 use std::vec::IntoIter;
@@ -49,7 +49,7 @@ impl Lending for LentList {
 
 /// A lending iterator over a list, from its front.
 pub fn lent_list(results: Vec<IterItem>) -> LentList
-    ensures can { CanDeal ⟦<LentList as Lending>⟧.advances nowhere
+    ensures can { CanYield ⟦<LentList as Lending>⟧.advances nowhere
         ⟦<LentList as Lending>⟧.can_advance ⟦<LentList as Lending>⟧.can_advance result }
 {
     LentList {

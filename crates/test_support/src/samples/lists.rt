@@ -1,7 +1,7 @@
 //! Lists of entries, and the entries at both ends of a stream of them.
 ghost use Rattle.std.specs.Prelude.{IfOk};
 ghost use Rattle.lsm_writers.specs.Writing.{IsWritable};
-ghost use Rattle.sst_entries.specs.Stream.{CanDeal};
+ghost use Rattle.sst_entries.specs.Stream.{CanYield};
 
 use crate::samples::rows::{Row, entry};
 use crate::samples::runs::{Bounds, Name, Tables, name_in, name_of, owned_range};
@@ -39,7 +39,7 @@ fn answers_in<S: DoubleEndedIterator<Item = IterItem<A>>, A: Allocator + Copy>(
     stream: &mut NewestOf<S, A>,
     ends: &[Direction],
 ) -> Result<Vec<Option<IterItem<A>>, A>, Error>
-    requires { CanDeal ⟦<NewestOf<S, A> as Iterator>⟧.next_gives
+    requires { CanYield ⟦<NewestOf<S, A> as Iterator>⟧.next_gives
         ⟦<NewestOf<S, A> as DoubleEndedIterator>⟧.next_back_gives
         ⟦<NewestOf<S, A> as Iterator>⟧.can_next
         ⟦<NewestOf<S, A> as DoubleEndedIterator>⟧.can_next_back stream.old }
@@ -54,7 +54,7 @@ fn answers_of<A: Allocator + Copy>(
     stream: &mut Stream<A>,
     ends: &[Direction],
 ) -> Result<Vec<Option<IterItem<A>>, A>, Error>
-    requires { CanDeal ⟦<Stream<A> as Iterator>⟧.next_gives
+    requires { CanYield ⟦<Stream<A> as Iterator>⟧.next_gives
         ⟦<Stream<A> as DoubleEndedIterator>⟧.next_back_gives
         ⟦<Stream<A> as Iterator>⟧.can_next
         ⟦<Stream<A> as DoubleEndedIterator>⟧.can_next_back stream.old }
@@ -67,7 +67,7 @@ fn answers_last<A: Allocator + Copy>(
     mut stream: Stream<A>,
     ends: &[Direction],
 ) -> Result<Vec<Option<IterItem<A>>, A>, Error>
-    requires { CanDeal ⟦<Stream<A> as Iterator>⟧.next_gives
+    requires { CanYield ⟦<Stream<A> as Iterator>⟧.next_gives
         ⟦<Stream<A> as DoubleEndedIterator>⟧.next_back_gives
         ⟦<Stream<A> as Iterator>⟧.can_next
         ⟦<Stream<A> as DoubleEndedIterator>⟧.can_next_back stream }
@@ -95,7 +95,7 @@ pub fn ends_of<A: Allocator + Copy>(
     alloc: A,
     stream: &mut Stream<A>,
 ) -> Result<Vec<Option<IterItem<A>>, A>, Error>
-    requires { CanDeal ⟦<Stream<A> as Iterator>⟧.next_gives
+    requires { CanYield ⟦<Stream<A> as Iterator>⟧.next_gives
         ⟦<Stream<A> as DoubleEndedIterator>⟧.next_back_gives
         ⟦<Stream<A> as Iterator>⟧.can_next
         ⟦<Stream<A> as DoubleEndedIterator>⟧.can_next_back stream.old }
@@ -108,7 +108,7 @@ pub fn read_names<A: Allocator + Copy>(
     alloc: A,
     read: (Option<InternalValue<A>>, Stream<A>),
 ) -> Result<[Option<Name>; 3], Error>
-    requires { CanDeal ⟦<Stream<A> as Iterator>⟧.next_gives
+    requires { CanYield ⟦<Stream<A> as Iterator>⟧.next_gives
         ⟦<Stream<A> as DoubleEndedIterator>⟧.next_back_gives
         ⟦<Stream<A> as Iterator>⟧.can_next
         ⟦<Stream<A> as DoubleEndedIterator>⟧.can_next_back read.1 }

@@ -6,7 +6,7 @@ use Rattle.sst_entries.specs.Point.{point}
 use Rattle.lsm_writers.proofs.CutTables.{some_length}
 use Rattle.lsm_readers.specs.point.Answer.{lift}
 use Rattle.lsm_runs.proofs.Opening.{or_fine, or_first, or_second, reads}
-use Rattle.lsm_runs.proofs.RunBack.{told_alone}
+use Rattle.lsm_runs.proofs.RunBack.{reported_alone}
 use Rattle.lsm_runs.proofs.RunWriting.{wants}
 use Rattle.example_calling.proofs.one_answer.read_and_scan.Goals as goal
 
@@ -15,7 +15,7 @@ returns-in_err-found-clause-err g c es t some =
     let a = c.args in
     let e = c.in_err-found.field-0.0 in
     wants c.from_residual.result e c.from_residual.ensures.1
-    (told_alone (point (lift es a.table.now.global_seqno) a.key.now a.seqno) e (c.in_err-found.ensures.list es t))
+    (reported_alone (point (lift es a.table.now.global_seqno) a.key.now a.seqno) e (c.in_err-found.ensures.list es t))
 
 pub returns-in_err-scan-clause-err : goal.returns-in_err-scan-clause-err
 returns-in_err-scan-clause-err g c es t some =

@@ -2,7 +2,7 @@ use Rattle.std.proofs.Common.{◌≡◌, ap, List, [], ◌∷◌}
 use Rattle.std.specs.Prelude.{IfErr, IfOk, None, Ok}
 use Rattle.sst_entries.specs.Error.{Fails}
 use Rattle.lsm_readers.specs.point.Table.{OpenTable}
-use Rattle.lsm_runs.specs.SeveralRuns.{runs_told}
+use Rattle.lsm_runs.specs.SeveralRuns.{runs_result}
 use Rattle.example_calling.proofs.OneRun.{of_one, over_one}
 use Rattle.lsm_runs.proofs.RunBack.{reads_back, run_held}
 use Rattle.example_calling.proofs.reads.read_run.Goals as goal
@@ -22,12 +22,12 @@ returns-clause-taken g c es n h =
 pub returns-clause-told : goal.returns-clause-told
 returns-clause-told g c =
     let a = c.args in
-    of_one (λ (rs : List (List OpenTable)). IfOk c.read_runs.result (λ read. runs_told a.key.now a.seqno None rs ≡ Ok read.0)) _ a.run (ap (λ (r : List OpenTable). r ∷ []) c.in_ok-new.ensures.ok) c.read_runs.ensures.told
+    of_one (λ (rs : List (List OpenTable)). IfOk c.read_runs.result (λ read. runs_result a.key.now a.seqno None rs ≡ Ok read.0)) _ a.run (ap (λ (r : List OpenTable). r ∷ []) c.in_ok-new.ensures.ok) c.read_runs.ensures.told
 
 pub returns-clause-fails : goal.returns-clause-fails
 returns-clause-fails g c =
     let a = c.args in
-    of_one (λ (rs : List (List OpenTable)). IfErr c.read_runs.result (λ e. Fails e (runs_told a.key.now a.seqno None rs))) _ a.run (ap (λ (r : List OpenTable). r ∷ []) c.in_ok-new.ensures.ok) c.read_runs.ensures.fails
+    of_one (λ (rs : List (List OpenTable)). IfErr c.read_runs.result (λ e. Fails e (runs_result a.key.now a.seqno None rs))) _ a.run (ap (λ (r : List OpenTable). r ∷ []) c.in_ok-new.ensures.ok) c.read_runs.ensures.fails
 
 pub returns-clause-steps : goal.returns-clause-steps
 returns-clause-steps g c =

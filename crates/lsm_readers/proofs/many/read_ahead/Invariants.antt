@@ -1,5 +1,5 @@
 use Rattle.std.proofs.Common.{◌≡◌, ◌≤◌, ◌-◌, length}
-use Rattle.lsm_readers.specs.point.Batch.{AreFound, query_told}
+use Rattle.lsm_readers.specs.point.Batch.{AreFound, query_result}
 use Rattle.lsm_readers.specs.point.Table.{parts_of}
 use Rattle.sst_blocks.specs.Sections.{body_of}
 use Rattle.lsm_readers.proofs.many.read_ahead.Given as goal
@@ -7,7 +7,7 @@ use Rattle.lsm_readers.proofs.many.read_ahead.Given as goal
 abbrev pub invariant-loop-from : goal.invariant-loop-from
 invariant-loop-from g l = record {
   same : body_of l.source.0 ≡ body_of l.blocks;
-  are_found : AreFound (query_told (body_of l.blocks) l.inner.global_seqno (parts_of l.inner)) l.queries l.batch.found.items l.batch.done.items;
+  are_found : AreFound (query_result (body_of l.blocks) l.inner.global_seqno (parts_of l.inner)) l.queries l.batch.found.items l.batch.done.items;
   within : l.from ≤ length l.lookups;
 }
 

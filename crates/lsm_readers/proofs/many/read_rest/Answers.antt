@@ -4,7 +4,7 @@ use Rattle.std.specs.Prelude.{Ok}
 use Rattle.sst_entries.specs.Entry.{Entry}
 use Rattle.sst_blocks.specs.Sections.{body_of}
 use Rattle.lsm_readers.specs.point.Table.{parts_of}
-use Rattle.lsm_readers.specs.point.Batch.{AreFound, query_told}
+use Rattle.lsm_readers.specs.point.Batch.{AreFound, query_result}
 use Rattle.lsm_readers.specs.point.Many.{answers_to}
 use Rattle.lsm_readers.proofs.BatchReads.{found_at, one_known, one_read}
 use Rattle.lsm_readers.proofs.ManyReads.{refused_at}
@@ -14,13 +14,13 @@ use Rattle.lsm_readers.proofs.many.read_rest.Goals.{then-not-index+in_ok-get_one
 
 pub returns-in_err-get_one : goal.returns-in_err-get_one
 returns-in_err-get_one g c =
-    let told = query_told (body_of c.args.blocks.now) c.args.inner.now.global_seqno (parts_of c.args.inner.now) in
+    let told = query_result (body_of c.args.blocks.now) c.args.inner.now.global_seqno (parts_of c.args.inner.now) in
     passes_fault (λ found. found.items) c.from_residual.result (answers_to told c.args.queries.now) c.in_err-get_one.field-0.0 c.from_residual.ensures.1
     (λ small. refused_at told c.args.queries.now c.loop-at.at c.index-queries-at.result (take c.loop-at.at c.loop-at.found.items) c.in_err-get_one.field-0.0 c.loop-at-test.true c.index-queries-at.is c.loop-at.invariant.so_far (c.in_err-get_one.ensures.told small))
 
 pub loop-at-preserved : goal.loop-at-preserved
 loop-at-preserved g c =
-    let told = query_told (body_of c.args.blocks.now) c.args.inner.now.global_seqno (parts_of c.args.inner.now) in
+    let told = query_result (body_of c.args.blocks.now) c.args.inner.now.global_seqno (parts_of c.args.inner.now) in
     let queries = c.args.queries.now in
     let at = c.loop-at.at in
     let query = c.index-queries-at.result in

@@ -1,6 +1,6 @@
 use Rattle.std.proofs.Common.{Option, subst, sym}
 use Rattle.std.specs.Option.{option_map}
-use Rattle.sst_blocks.specs.Block.{load_told}
+use Rattle.sst_blocks.specs.Block.{load_result}
 use Rattle.sst_blocks.specs.EntryPlace.{entry_placed}
 use Rattle.sst_blocks.specs.declared.block_type.BlockType.TheVariants.{Data}
 use Rattle.sst_entries.specs.Entry.{Entry}
@@ -16,7 +16,7 @@ pub lifted_place-requires : goal.lifted_place-requires
 lifted_place-requires g c =
     let bytes = c.args.source.now in
     let place = c.args.handle.now in
-    let told = load_told (body_of bytes) place.offset place.size Data in
+    let told = load_result (body_of bytes) place.offset place.size Data in
     let found = c.in_ok-found.found in
     some_seen (entry_placed bytes) _ found (lift_fits told c.args.key.now c.args.seqno c.args.global_seqno (option_map (entry_placed bytes) found) c.requires (sym c.in_ok-found.ensures.told))
 

@@ -1,6 +1,6 @@
 use Rattle.std.proofs.Common.{Option, subst, sym}
 use Rattle.sst_entries.specs.Entry.{Entry}
-use Rattle.sst_blocks.specs.Block.{load_told}
+use Rattle.sst_blocks.specs.Block.{load_result}
 use Rattle.sst_blocks.specs.declared.block_type.BlockType.TheVariants.{Data}
 use Rattle.lsm_readers.specs.point.Answer.{match_at}
 use Rattle.lsm_readers.specs.point.Read.{DoesRead}
@@ -11,7 +11,7 @@ use Rattle.lsm_readers.proofs.point.read_in.Goals as goal
 pub lifted_found-requires : goal.lifted_found-requires
 lifted_found-requires g c =
     let place = c.args.handle in
-    let told = load_told (g.S.LoadBlocks.body c.args.source.now) place.offset place.size Data in
+    let told = load_result (g.S.LoadBlocks.body c.args.source.now) place.offset place.size Data in
     lift_fits told c.args.key.now c.args.seqno c.args.global_seqno c.in_ok-found.found c.requires c.in_ok-found.ensures.told
 
 pub returns-in_err-found-clause-read : goal.returns-in_err-found-clause-read

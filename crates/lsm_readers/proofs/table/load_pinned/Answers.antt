@@ -8,7 +8,7 @@ use Rattle.sst_blocks.specs.Handle.{Handle}
 use Rattle.sst_blocks.specs.Place.{Place}
 use Rattle.lsm_readers.specs.declared.pinned.PinnedBlockIndex.{PinnedBlockIndex}
 use Rattle.lsm_readers.specs.point.IndexKinds.{pinned_index_of}
-use Rattle.lsm_readers.specs.point.Parts.{Pinned, filter_told, pinned_told}
+use Rattle.lsm_readers.specs.point.Parts.{Pinned, filter_result, pinned_result}
 use Rattle.lsm_readers.specs.point.Table.{pinned_of}
 use Rattle.lsm_readers.proofs.Steps.{goes_on, fails_here, fails_later, passes_fault, beside_fails}
 use Rattle.lsm_readers.proofs.Steps.{beside_first, beside_gives}
@@ -19,35 +19,35 @@ abbrev told : {A : Type 0} → PinnedBlockIndex A → Option (List Handle) → O
 told index tops filter = Ok (record { index = pinned_index_of index; filter_tops = tops; filter = filter })
 
 pub returns-in_err-index : goal.returns-in_err-index
-unfolding pinned_told
+unfolding pinned_result
 returns-in_err-index g c =
     passes_fault (pinned_of {A = g.row.A.Denot}) c.from_residual.result _ c.in_err-index.field-0.0 c.from_residual.ensures.1
     (fails_here _ _ _ c.in_err-index.ensures)
 
 pub returns-in_err-index-2 : goal.returns-in_err-index-2
-unfolding pinned_told
+unfolding pinned_result
 returns-in_err-index-2 g c =
     passes_fault (pinned_of {A = g.row.A.Denot}) c.from_residual-in_err-index-2.result _ c.in_err-index-2.field-0.0 c.from_residual-in_err-index-2.ensures.1
     (fails_later _ _ _ _ c.in_ok-index.ensures
     (fails_here _ _ _ (beside_fails (λ (tops : Option (List Handle)). tops) c.in_ok-index.index c.load_filter_index.result _ _ c.load_filter_index.ensures c.in_err-index-2.ensures.both)))
 
 pub returns-in_err-tops : goal.returns-in_err-tops
-unfolding pinned_told
+unfolding pinned_result
 returns-in_err-tops g c =
     let second = c.in_ok-index-2 in
-    let filter = subst (λ (place : Option Place). Gives (λ (f : Option BloomFilter). f) c.load_filter.result (filter_told (body_of c.args.source.now) place)) c.filter_to_pin-pinned.ensures c.load_filter.ensures in
+    let filter = subst (λ (place : Option Place). Gives (λ (f : Option BloomFilter). f) c.load_filter.result (filter_result (body_of c.args.source.now) place)) c.filter_to_pin-pinned.ensures c.load_filter.ensures in
     passes_fault (pinned_of {A = g.row.A.Denot}) c.from_residual-in_err-tops.result _ c.in_err-tops.field-0.0 c.from_residual-in_err-tops.ensures.1
     (fails_later _ _ _ _ c.in_ok-index.ensures
     (fails_later _ _ _ _ (beside_gives (λ (tops : Option (List Handle)). tops) c.in_ok-index.index c.load_filter_index.result _ second.index second.filter_index c.load_filter_index.ensures second.ensures.both)
     (fails_here _ _ _ (beside_fails (λ (f : Option BloomFilter). f) (second.index, second.filter_index) c.load_filter.result _ _ filter c.in_err-tops.ensures.both))))
 
 pub returns : goal.returns
-unfolding pinned_told
+unfolding pinned_result
 returns g c =
     let first = c.in_ok-index.index in
     let second = c.in_ok-index-2 in
     let third = c.in_ok-tops in
-    let filter = subst (λ (place : Option Place). Gives (λ (f : Option BloomFilter). f) c.load_filter.result (filter_told (body_of c.args.source.now) place)) c.filter_to_pin-pinned.ensures c.load_filter.ensures in
+    let filter = subst (λ (place : Option Place). Gives (λ (f : Option BloomFilter). f) c.load_filter.result (filter_result (body_of c.args.source.now) place)) c.filter_to_pin-pinned.ensures c.load_filter.ensures in
     goes_on _ _ _ _ c.in_ok-index.ensures
     (goes_on _ _ _ _ (beside_gives (λ (tops : Option (List Handle)). tops) first c.load_filter_index.result _ second.index second.filter_index c.load_filter_index.ensures second.ensures.both)
     (goes_on _ _ _ _ (beside_gives (λ (f : Option BloomFilter). f) (second.index, second.filter_index) c.load_filter.result _ third.tops third.filter_block filter third.ensures.both)

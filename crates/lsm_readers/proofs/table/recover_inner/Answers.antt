@@ -1,14 +1,14 @@
 use Rattle.std.proofs.Common.{ap, sym, ◌∙◌}
 use Rattle.std.proofs.lemmas.Result.{IfOk-from_err}
 use Rattle.sst_blocks.specs.Sections.{body_of}
-use Rattle.lsm_readers.specs.point.Meta.{Facts, facts_of, meta_told}
+use Rattle.lsm_readers.specs.point.Meta.{Facts, facts_of, meta_result}
 use Rattle.std.specs.Prelude.{Result, Ok}
 use Rattle.sst_entries.specs.declared.error.Error.{Error}
 use Rattle.lsm_readers.specs.declared.meta.ParsedMeta.{ParsedMeta}
 use Rattle.lsm_readers.specs.declared.regions.ParsedRegions.{ParsedRegions}
-use Rattle.lsm_readers.specs.point.Parts.{Parts, Pinned, parts_told, facts_fitting, pinned_told}
-use Rattle.lsm_readers.specs.point.Parts.{places_told}
-use Rattle.lsm_readers.specs.point.Regions.{regions_told}
+use Rattle.lsm_readers.specs.point.Parts.{Parts, Pinned, parts_result, facts_fitting, pinned_result}
+use Rattle.lsm_readers.specs.point.Parts.{places_result}
+use Rattle.lsm_readers.specs.point.Regions.{regions_result}
 use Rattle.lsm_readers.specs.point.Table.{parts_of, pinned_of}
 use Rattle.lsm_readers.proofs.Recovered.{first_from, first_none, places_fine, places_first}
 use Rattle.lsm_readers.proofs.Recovered.{places_none}
@@ -17,14 +17,14 @@ use Rattle.lsm_readers.proofs.Steps.{both_fail, both_later, beside_fails, beside
 use Rattle.lsm_readers.proofs.Steps.{beside_gives}
 use Rattle.lsm_readers.proofs.table.recover_inner.Goals as goal
 
-abbrev told_parts : Facts → ParsedRegions → Pinned → Result Parts Error
-told_parts facts regions pinned = Ok (record { facts = facts; regions = regions; pinned = pinned })
+abbrev reported_parts : Facts → ParsedRegions → Pinned → Result Parts Error
+reported_parts facts regions pinned = Ok (record { facts = facts; regions = regions; pinned = pinned })
 
 pub returns-in_err-regions-clause-told : goal.returns-in_err-regions-clause-told
-unfolding parts_told
+unfolding parts_result
 returns-in_err-regions-clause-told g c =
     passes_fault (parts_of {A = g.row.A.Denot}) c.from_residual.result _ c.in_err-regions.field-0.0 c.from_residual.ensures.1
-    (fails_here _ _ _ (λ memory. ap regions_told (sym c.toc.ensures.toc) ∙ sym c.in_err-regions.ensures))
+    (fails_here _ _ _ (λ memory. ap regions_result (sym c.toc.ensures.toc) ∙ sym c.in_err-regions.ensures))
 
 pub returns-in_err-regions-clause-number : goal.returns-in_err-regions-clause-number
 returns-in_err-regions-clause-number g c = IfOk-from_err _ _ c.from_residual.ensures.0
@@ -36,10 +36,10 @@ pub returns-in_err-regions-clause-checksum : goal.returns-in_err-regions-clause-
 returns-in_err-regions-clause-checksum g c = IfOk-from_err _ _ c.from_residual.ensures.0
 
 pub returns-in_err-metadata-clause-told : goal.returns-in_err-metadata-clause-told
-unfolding parts_told
+unfolding parts_result
 returns-in_err-metadata-clause-told g c =
     passes_fault (parts_of {A = g.row.A.Denot}) c.from_residual-in_err-metadata.result _ c.in_err-metadata.field-0.0 c.from_residual-in_err-metadata.ensures.1
-    (fails_later _ _ _ _ (ap regions_told (sym c.toc.ensures.toc) ∙ sym c.in_ok-regions.ensures) (both_fail (meta_told (body_of c.args.source.now) (c.in_ok-regions.regions).metadata) (λ (facts : Facts). facts_fitting facts c.args.global_seqno) _ _ c.in_err-metadata.ensures.told))
+    (fails_later _ _ _ _ (ap regions_result (sym c.toc.ensures.toc) ∙ sym c.in_ok-regions.ensures) (both_fail (meta_result (body_of c.args.source.now) (c.in_ok-regions.regions).metadata) (λ (facts : Facts). facts_fitting facts c.args.global_seqno) _ _ c.in_err-metadata.ensures.told))
 
 pub returns-in_err-metadata-clause-number : goal.returns-in_err-metadata-clause-number
 returns-in_err-metadata-clause-number g c = IfOk-from_err _ _ c.from_residual-in_err-metadata.ensures.0
@@ -51,14 +51,14 @@ pub returns-in_err-metadata-clause-checksum : goal.returns-in_err-metadata-claus
 returns-in_err-metadata-clause-checksum g c = IfOk-from_err _ _ c.from_residual-in_err-metadata.ensures.0
 
 pub returns-in_err-metadata-2-clause-told : goal.returns-in_err-metadata-2-clause-told
-unfolding parts_told
+unfolding parts_result
 returns-in_err-metadata-2-clause-told g c =
     let regions = c.in_ok-regions.regions in
     let body = body_of c.args.source.now in
     let e = c.in_err-metadata-2.field-0.0 in
-    let fails = beside_fails (pinned_of {A = g.row.A.Denot}) c.in_ok-metadata.metadata c.load_pinned-pinned.result (pinned_told body regions c.args.pin_filter c.args.pin_index) e c.load_pinned-pinned.ensures c.in_err-metadata-2.ensures.both in
+    let fails = beside_fails (pinned_of {A = g.row.A.Denot}) c.in_ok-metadata.metadata c.load_pinned-pinned.result (pinned_result body regions c.args.pin_filter c.args.pin_index) e c.load_pinned-pinned.ensures c.in_err-metadata-2.ensures.both in
     passes_fault (parts_of {A = g.row.A.Denot}) c.from_residual-in_err-metadata-2.result _ e c.from_residual-in_err-metadata-2.ensures.1
-    (fails_later _ _ _ _ (ap regions_told (sym c.toc.ensures.toc) ∙ sym c.in_ok-regions.ensures) (both_later (meta_told body regions.metadata) (λ (facts : Facts). facts_fitting facts c.args.global_seqno) _ _ _ c.in_ok-metadata.ensures.told (fails_here _ _ _ fails)))
+    (fails_later _ _ _ _ (ap regions_result (sym c.toc.ensures.toc) ∙ sym c.in_ok-regions.ensures) (both_later (meta_result body regions.metadata) (λ (facts : Facts). facts_fitting facts c.args.global_seqno) _ _ _ c.in_ok-metadata.ensures.told (fails_here _ _ _ fails)))
 
 pub returns-in_err-metadata-2-clause-number : goal.returns-in_err-metadata-2-clause-number
 returns-in_err-metadata-2-clause-number g c = IfOk-from_err _ _ c.from_residual-in_err-metadata-2.ensures.0
@@ -70,34 +70,34 @@ pub returns-in_err-metadata-2-clause-checksum : goal.returns-in_err-metadata-2-c
 returns-in_err-metadata-2-clause-checksum g c = IfOk-from_err _ _ c.from_residual-in_err-metadata-2.ensures.0
 
 pub returns-clause-told : goal.returns-clause-told
-unfolding parts_told
+unfolding parts_result
 returns-clause-told g c =
     let regions = c.in_ok-regions.regions in
     let body = body_of c.args.source.now in
     let kept = c.in_ok-metadata-2.metadata in
     let pinned = c.in_ok-metadata-2.pinned in
     let call = c.load_pinned-pinned in
-    let gives = beside_gives (pinned_of {A = g.row.A.Denot}) c.in_ok-metadata.metadata call.result (pinned_told body regions c.args.pin_filter c.args.pin_index) kept pinned call.ensures c.in_ok-metadata-2.ensures.both in
+    let gives = beside_gives (pinned_of {A = g.row.A.Denot}) c.in_ok-metadata.metadata call.result (pinned_result body regions c.args.pin_filter c.args.pin_index) kept pinned call.ensures c.in_ok-metadata-2.ensures.both in
     let same = beside_first c.in_ok-metadata.metadata call.result kept pinned c.in_ok-metadata-2.ensures.both in
-    goes_on _ _ _ _ (ap regions_told (sym c.toc.ensures.toc) ∙ sym c.in_ok-regions.ensures)
-    (both_on (meta_told body regions.metadata) (λ (facts : Facts). facts_fitting facts c.args.global_seqno) _ _ _ c.in_ok-metadata.ensures.told (goes_on _ _ _ _ gives (ap (λ (m : ParsedMeta g.row.A.Denot). told_parts (facts_of m) regions (pinned_of pinned)) (sym same))))
+    goes_on _ _ _ _ (ap regions_result (sym c.toc.ensures.toc) ∙ sym c.in_ok-regions.ensures)
+    (both_on (meta_result body regions.metadata) (λ (facts : Facts). facts_fitting facts c.args.global_seqno) _ _ _ c.in_ok-metadata.ensures.told (goes_on _ _ _ _ gives (ap (λ (m : ParsedMeta g.row.A.Denot). reported_parts (facts_of m) regions (pinned_of pinned)) (sym same))))
 
 pub returns-in_err-regions-clause-early : goal.returns-in_err-regions-clause-early
 returns-in_err-regions-clause-early g c =
-    places_first c.from_residual.result (body_of c.args.source.now) (places_told c.args.source.now) c.in_err-regions.field-0.0 c.from_residual.ensures.1
-    (ap regions_told (sym c.toc.ensures.toc) ∙ sym c.in_err-regions.ensures)
+    places_first c.from_residual.result (body_of c.args.source.now) (places_result c.args.source.now) c.in_err-regions.field-0.0 c.from_residual.ensures.1
+    (ap regions_result (sym c.toc.ensures.toc) ∙ sym c.in_err-regions.ensures)
 
 pub returns-in_err-metadata-clause-early : goal.returns-in_err-metadata-clause-early
 returns-in_err-metadata-clause-early g c =
-    places_fine c.from_residual-in_err-metadata.result (body_of c.args.source.now) (places_told c.args.source.now) c.in_ok-regions.regions (ap regions_told (sym c.toc.ensures.toc) ∙ sym c.in_ok-regions.ensures)
+    places_fine c.from_residual-in_err-metadata.result (body_of c.args.source.now) (places_result c.args.source.now) c.in_ok-regions.regions (ap regions_result (sym c.toc.ensures.toc) ∙ sym c.in_ok-regions.ensures)
     (first_from c.from_residual-in_err-metadata.result c.in_err-metadata.field-0.0 _ c.from_residual-in_err-metadata.ensures.1 c.in_err-metadata.ensures.early)
 
 pub returns-in_err-metadata-2-clause-early : goal.returns-in_err-metadata-2-clause-early
 returns-in_err-metadata-2-clause-early g c =
-    places_fine c.from_residual-in_err-metadata-2.result (body_of c.args.source.now) (places_told c.args.source.now) c.in_ok-regions.regions (ap regions_told (sym c.toc.ensures.toc) ∙ sym c.in_ok-regions.ensures)
+    places_fine c.from_residual-in_err-metadata-2.result (body_of c.args.source.now) (places_result c.args.source.now) c.in_ok-regions.regions (ap regions_result (sym c.toc.ensures.toc) ∙ sym c.in_ok-regions.ensures)
     (first_none c.from_residual-in_err-metadata-2.result _ c.in_ok-metadata.ensures.early)
 
 pub returns-clause-early : goal.returns-clause-early
 returns-clause-early g c =
-    places_none (body_of c.args.source.now) (places_told c.args.source.now) c.in_ok-regions.regions (ap regions_told (sym c.toc.ensures.toc) ∙ sym c.in_ok-regions.ensures)
+    places_none (body_of c.args.source.now) (places_result c.args.source.now) c.in_ok-regions.regions (ap regions_result (sym c.toc.ensures.toc) ∙ sym c.in_ok-regions.ensures)
     c.in_ok-metadata.ensures.early

@@ -4,7 +4,7 @@ use Rattle.std.specs.Option.{option_and_then, option_map}
 use Rattle.std.specs.Prelude.{List, Option, Result, Some, slice_get}
 use Rattle.sst_entries.specs.declared.error.Error.{Error}
 use Rattle.sst_entries.specs.Entry.{Entry}
-use Rattle.sst_blocks.specs.Asked.{told_map}
+use Rattle.sst_blocks.specs.Asked.{result_map}
 use Rattle.sst_blocks.specs.EntryPlace.{entry_placed}
 use Rattle.sst_blocks.specs.Opened.{none_opened}
 use Rattle.lsm_readers.proofs.ReadViews.{does_by}
@@ -33,9 +33,9 @@ returns-clause-read g c order =
     let is = table-there g c in
     let here = sym is ∙ c.in-Some.ensures order in
     let does = does_by (option_map (entry_placed t.bytes)) found (table_answer t key n) none_opened own told.told told.early told.opened told.calm in
-    let seen = ap (told_map (option_and_then (placed_in_run c.args.run.now))) c.found_in.ensures ∙ seen_there c.args.run.now t c.args.number c.in-Some.index is found told.placed in
+    let seen = ap (result_map (option_and_then (placed_in_run c.args.run.now))) c.found_in.ensures ∙ seen_there c.args.run.now t c.args.number c.in-Some.index is found told.placed in
     subst (λ (r : Result (Option Entry) Error). DoesRead r (run_read key n c.args.run.now) none_opened own) (sym seen)
-    (subst (λ (o : Option OpenTable). DoesRead (told_map (option_map (entry_placed t.bytes)) found) (table_read key n o) none_opened own) here does)
+    (subst (λ (o : Option OpenTable). DoesRead (result_map (option_map (entry_placed t.bytes)) found) (table_read key n o) none_opened own) here does)
 
 pub returns-clause-there : goal.returns-clause-there
 returns-clause-there g c =

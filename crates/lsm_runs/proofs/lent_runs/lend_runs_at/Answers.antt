@@ -9,7 +9,7 @@ use Rattle.lsm_sorted.proofs.LentBelows.{can_lend_below}
 use Rattle.lsm_runs.proofs.LentPlaces.{newest_places}
 use Rattle.lsm_runs.proofs.LentRunLaws.{lending_front}
 use Rattle.lsm_runs.proofs.LentTogether.{newest_below, together_front}
-use Rattle.lsm_runs.proofs.Numbered.{dealt_as, none_cut}
+use Rattle.lsm_runs.proofs.Numbered.{yielded_as, none_cut}
 use Rattle.lsm_runs.proofs.Together.{all_of, union_cut}
 use Rattle.lsm_runs.proofs.lent_runs.lend_runs_at.Goals as goal
 
@@ -20,12 +20,12 @@ returns-clause-list g c lists held =
     if_ok c.lent_stream.result
     (λ s law. newest_below c.args.seqno RunLends (λ _. Unit {0}) run_size _ s c.in_ok-readers.readers.items _ _ c.in_ok-below.below.items
     c.in_ok-below.ensures.of (union_cut {S = ℕ} (λ _ _ _. ℕ) (λ _ _ _. ℕ) low high lists) (together_front RunLends (RunGives back_of back_tables) _ _ (c.in_ok-readers.ensures.lends lists held)) law)
-    c.lent_stream.ensures.deals
+    c.lent_stream.ensures.yields
 
 pub returns-clause-whole : goal.returns-clause-whole
 returns-clause-whole g c lists held all =
     if_ok c.lent_stream.result
-    (λ s deals. dealt_as _ _ s _ _ (none_cut c.args.seqno c.args.range.0 c.args.range.1 lists all) deals)
+    (λ s yields. yielded_as _ _ s _ _ (none_cut c.args.seqno c.args.range.0 c.args.range.1 lists all) yields)
     (returns-clause-list g c lists held)
 
 pub returns-clause-can : goal.returns-clause-can
@@ -39,4 +39,4 @@ pub returns-clause-places : goal.returns-clause-places
 returns-clause-places g c order up =
     if_ok c.lent_stream.result
     (λ s law. newest_places c.args.seqno _ s c.args.range.0 c.args.range.1 (map arc_value c.args.runs.now) c.in_ok-readers.readers.items c.in_ok-below.below.items c.in_ok-below.ensures.of (c.in_ok-readers.ensures.spans order) up law)
-    c.lent_stream.ensures.deals
+    c.lent_stream.ensures.yields

@@ -1,7 +1,7 @@
 use Rattle.lsm_runs.proofs.runs.newest_stream.Goals as goal
 
-pub returns-clause-deals : goal.returns-clause-deals
-returns-clause-deals g c = c.newest_from_both_ends.ensures.deals c.args.sources.items c.in_ok-stream.ensures.starts
+pub returns-clause-yields : goal.returns-clause-yields
+returns-clause-yields g c = c.newest_from_both_ends.ensures.yields c.args.sources.items c.in_ok-stream.ensures.starts
 
 pub returns-clause-past : goal.returns-clause-past
 returns-clause-past g c = c.newest_from_both_ends.ensures.past c.args.sources.items c.in_ok-stream.ensures.starts

@@ -2,21 +2,21 @@ use Rattle.sst_entries.specs.Stream.{back_of, front_of}
 use Rattle.sst_entries.proofs.StreamLemmas.{can_now, can_now_back}
 use Rattle.lsm_sorted.proofs.PackLemmas.{if_ok}
 use Rattle.lsm_runs.specs.RunRange.{RunGives, back_tables, front_tables}
-use Rattle.lsm_runs.proofs.RunLaws.{if_ok_both, run_deals}
+use Rattle.lsm_runs.proofs.RunLaws.{if_ok_both, run_yields}
 use Rattle.lsm_runs.proofs.Together.{all_of, newest_together}
 use Rattle.lsm_runs.proofs.runs.range_runs.Goals as goal
 
 pub returns-clause-list : goal.returns-clause-list
 returns-clause-list g c lists held =
     if_ok c.newest_stream.result
-    (λ s deals. newest_together (RunGives front_of front_tables) (RunGives back_of back_tables) c.args.range.0 c.args.range.1 lists _ _ s c.in_ok-readers.readers.items (c.in_ok-readers.ensures.list lists held) deals)
-    c.newest_stream.ensures.deals
+    (λ s yields. newest_together (RunGives front_of front_tables) (RunGives back_of back_tables) c.args.range.0 c.args.range.1 lists _ _ s c.in_ok-readers.readers.items (c.in_ok-readers.ensures.list lists held) yields)
+    c.newest_stream.ensures.yields
 
 pub returns-clause-can : goal.returns-clause-can
 returns-clause-can g c =
     let readers = c.in_ok-readers.readers.items in
     if_ok c.newest_stream.result
-    (λ s can. can.asks (all_of _ (λ r. (run_deals r).can) readers) (all_of _ (λ r. tt) readers))
+    (λ s can. can.asks (all_of _ (λ r. (run_yields r).can) readers) (all_of _ (λ r. tt) readers))
     c.newest_stream.ensures.can
 
 pub returns-clause-steps : goal.returns-clause-steps
@@ -26,7 +26,7 @@ returns-clause-steps g c order =
     (λ s starts past. record {
       readers = readers;
       spans = c.in_ok-readers.ensures.spans order;
-      deal = all_of _ (λ r. run_deals r) readers;
+      yield_each = all_of _ (λ r. run_yields r) readers;
       of = starts;
       answers = past;
     })

@@ -1,5 +1,5 @@
 use Rattle.std.proofs.Common.{◌≤◌}
-use Rattle.sst_entries.specs.Stream.{CanDeal, nowhere}
+use Rattle.sst_entries.specs.Stream.{CanYield, nowhere}
 use Rattle.lsm_sorted.specs.Below.{LetsGo}
 use Rattle.lsm_sorted.proofs.below.advance_below.Given as goal
 
@@ -9,7 +9,7 @@ invariant-loop-source g l =
     let can = g.L.Lending.can_advance in
     let left = g.L.Lending.left in
     record {
-      asks : CanDeal advances nowhere can can l.source;
+      asks : CanYield advances nowhere can can l.source;
       before : LetsGo l.seqno advances l.fn.source l.source;
       fewer : left l.source ≤ left l.fn.source;
     }

@@ -1,16 +1,16 @@
-use Rattle.lsm_sorted.proofs.DealsMerged.{new_may}
-use Rattle.lsm_sorted.proofs.CallsMerged.{front_merges, back_merges, merger_deals, merger_until}
+use Rattle.lsm_sorted.proofs.YieldsMerged.{new_may}
+use Rattle.lsm_sorted.proofs.CallsMerged.{front_merges, back_merges, merger_yields, merger_until}
 use Rattle.lsm_sorted.proofs.CallsMerged.{ends_at, can_both, holds_two}
 use Rattle.lsm_sorted.proofs.LateErrors.{merger_late, merger_late_back}
 use Rattle.lsm_sorted.specs.merge.Union.{union_of, all_errors}
-use Rattle.lsm_sorted.proofs.UntilLemmas.{deals_until_error}
+use Rattle.lsm_sorted.proofs.UntilLemmas.{yields_until_error}
 use Rattle.lsm_sorted.proofs.merge.from_both_ends.Goals as goal
 
-pub returns-clause-deals : goal.returns-clause-deals
-returns-clause-deals g c its of =
+pub returns-clause-yields : goal.returns-clause-yields
+returns-clause-yields g c its of =
     let front = g.I.Iterator.next_gives in
     let back = g.I.DoubleEndedIterator.next_back_gives in
-    merger_deals front back _ _ (front_merges front back _) (back_merges front back _) its c.args.merger.now of
+    merger_yields front back _ _ (front_merges front back _) (back_merges front back _) its c.args.merger.now of
 
 pub returns-clause-until : goal.returns-clause-until
 returns-clause-until g c its of =
@@ -46,5 +46,5 @@ returns-clause-late_back g c its of = merger_late_back g.I.Iterator.next_gives g
 
 pub returns-clause-before : goal.returns-clause-before
 returns-clause-before g c its of = record {
-  deals = λ stops lists sorted. deals_until_error stops _ _ _ (union_of lists) (all_errors lists) ((returns-clause-until g c its of).deals stops lists sorted);
+  yields = λ stops lists sorted. yields_until_error stops _ _ _ (union_of lists) (all_errors lists) ((returns-clause-until g c its of).yields stops lists sorted);
 }

@@ -6,14 +6,14 @@ use Rattle.lsm_sorted.proofs.GapLemmas.{merges_up_to_gap}
 use Rattle.lsm_sorted.proofs.NewestPast.{answers_newest, merger_read, starts_read}
 use Rattle.lsm_sorted.proofs.newest.newest_from_both_ends.Goals as goal
 
-pub returns-clause-deals : goal.returns-clause-deals
-returns-clause-deals g c its h =
+pub returns-clause-yields : goal.returns-clause-yields
+returns-clause-yields g c its h =
     let m = c.source.result.now in
     let of = merger_read its c.args.stream.now m c.source.ensures h in
     let starts = starts_read its c.args.stream.now m c.source.ensures h in
     record {
-      deals = λ stops lists sorted none.
-          (c.from_both_ends-2.ensures.newest m starts).deals stops (union_of lists) (merged_union lists).ascends ((c.from_both_ends.ensures.deals its of).deals stops lists sorted none);
+      yields = λ stops lists sorted none.
+          (c.from_both_ends-2.ensures.newest m starts).yields stops (union_of lists) (merged_union lists).ascends ((c.from_both_ends.ensures.yields its of).yields stops lists sorted none);
     }
 
 pub returns-clause-until : goal.returns-clause-until
@@ -22,8 +22,8 @@ returns-clause-until g c its h =
     let of = merger_read its c.args.stream.now m c.source.ensures h in
     let starts = starts_read its c.args.stream.now m c.source.ensures h in
     record {
-      deals = λ stops lists sorted.
-          (c.from_both_ends-2.ensures.newest m starts).deals every_error (union_of lists) (merged_union lists).ascends ((c.from_both_ends.ensures.before its of).deals stops lists sorted);
+      yields = λ stops lists sorted.
+          (c.from_both_ends-2.ensures.newest m starts).yields every_error (union_of lists) (merged_union lists).ascends ((c.from_both_ends.ensures.before its of).yields stops lists sorted);
     }
 
 pub returns-clause-past : goal.returns-clause-past

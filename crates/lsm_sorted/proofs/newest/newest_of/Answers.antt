@@ -8,18 +8,18 @@ use Rattle.lsm_sorted.proofs.newest.newest_of.Goals as goal
 pub returns-clause-starts : goal.returns-clause-starts
 returns-clause-starts g c = record { source = c.in_ok-merger.merger; starts = c.new-2.ensures.starts; of = c.in_ok-merger.ensures.fresh }
 
-pub returns-clause-deals : goal.returns-clause-deals
-returns-clause-deals g c = record {
-  deals = λ stops lists sorted none.
-      c.new-2.ensures.newest.deals stops (union_of lists) (c.in_ok-merger.ensures.union lists).ascends
-      (c.in_ok-merger.ensures.deals.deals stops lists sorted none);
+pub returns-clause-yields : goal.returns-clause-yields
+returns-clause-yields g c = record {
+  yields = λ stops lists sorted none.
+      c.new-2.ensures.newest.yields stops (union_of lists) (c.in_ok-merger.ensures.union lists).ascends
+      (c.in_ok-merger.ensures.yields.yields stops lists sorted none);
 }
 
 pub returns-clause-until : goal.returns-clause-until
 returns-clause-until g c = record {
-  deals = λ stops lists sorted.
-      c.new-2.ensures.newest.deals every_error (union_of lists) (c.in_ok-merger.ensures.union lists).ascends
-      (c.in_ok-merger.ensures.before.deals stops lists sorted);
+  yields = λ stops lists sorted.
+      c.new-2.ensures.newest.yields every_error (union_of lists) (c.in_ok-merger.ensures.union lists).ascends
+      (c.in_ok-merger.ensures.before.yields stops lists sorted);
 }
 
 pub returns-clause-past : goal.returns-clause-past

@@ -5,7 +5,7 @@ use Rattle.std.specs.List.{AllByRecursion}
 use Rattle.std.specs.Global.{Global}
 use Rattle.lsm_sorted.specs.version.Run.{IsInOrder}
 use Rattle.lsm_run_parts.specs.RunParts.{range_of}
-use Rattle.lsm_runs.specs.SeveralRuns.{runs_told}
+use Rattle.lsm_runs.specs.SeveralRuns.{runs_result}
 use Rattle.lsm_tables.specs.Words.{Entry}
 use Rattle.tool_lines.specs.Escapes.{WordMeans}
 use Rattle.tool_show.specs.Failures.{NamesFaulty}
@@ -48,11 +48,11 @@ returns-clause-does g c =
           c.as_slice-2.ensures.value c.in_ok-tables.ensures.named;
       told = subst (λ (fs : List (NamedTable Global)). AllByRecursion (IsInOrder range_of) (runs_in fs)
           → (found : Option Entry)
-          × (runs_told options.key.now (seen_below options) None (runs_in fs) ≡ Ok found)
+          × (runs_result options.key.now (seen_below options) None (runs_in fs) ≡ Ok found)
           × (c.in_ok-found.found ≡ is_some found)) seen c.in_ok-found.ensures.told;
       printed = subst (λ (fs : List (NamedTable Global)).
           AllByRecursion (IsInOrder range_of) (runs_in fs) → (found : Option Entry)
-          × (runs_told options.key.now (seen_below options) None (runs_in fs) ≡ Ok found)
+          × (runs_result options.key.now (seen_below options) None (runs_in fs) ≡ Ok found)
           × PrintsText (IsAnswer options fs found) old new) seen c.in_ok-found.ensures.shown;
     }
 

@@ -2,11 +2,11 @@ use Rattle.std.proofs.Common.{◌≡◌, ◌≢◌, ◌+◌, ◌<◌, ◌≤◌,
 use Rattle.std.specs.Prelude.{drop, map, slice_index_or, take}
 use Rattle.std.specs.List.{sum}
 use Rattle.sst_c.specs.Adds.{Adds, AddsAll, rows_in, size_of}
-use Rattle.sst_c.specs.declared.entries.EntryTold.{EntryTold}
+use Rattle.sst_c.specs.declared.entries.EntryReport.{EntryReport}
 use Rattle.sst_c.proofs.Adding.{adds_all, adds_next, adds_stopped, bytes_next, cut_row, next_row, rest_next, rows_length}
 use Rattle.sst_c.proofs.adds.add_each.Goals as goal
 
-abbrev none : EntryTold
+abbrev none : EntryReport
 none = record { kind = 0; seqno = 0; key_len = 0; value_len = 0 }
 
 pub returns-then-code-ne0 : goal.returns-then-code-ne0

@@ -1,5 +1,5 @@
 use Rattle.std.proofs.Common.{◌∙◌}
-use Rattle.lsm_readers.specs.point.Many.{found_told}
+use Rattle.lsm_readers.specs.point.Many.{found_result}
 use Rattle.lsm_readers.specs.Words.{lift}
 use Rattle.sst_c.specs.Many.{keys_cut}
 use Rattle.sst_c.proofs.ManyFound.{counted, list_given}
@@ -13,6 +13,6 @@ returns-clause-list c es stores =
 
 pub returns-clause-count : goal.returns-clause-count
 returns-clause-count c =
-    counted (λ found. found.items) c.get_many.result (found_told c.args.table.now) c.args.keys.now
+    counted (λ found. found.items) c.get_many.result (found_result c.args.table.now) c.args.keys.now
     c.args.lens.now c.args.seqno c.deref.result.now
     (c.deref.ensures.value ∙ c.in_ok-queries.ensures.ok) c.get_many.ensures.told

@@ -1,6 +1,6 @@
 use Rattle.std.proofs.Common.{◌≡◌, ◌++◌}
 use Rattle.std.specs.Prelude.{map, take, drop}
-use Rattle.sst_c.specs.Told.{entry_facts}
+use Rattle.sst_c.specs.Reported.{entry_facts}
 use Rattle.sst_c.proofs.many.tell_each.Given as goal
 
 abbrev pub invariant-loop-at : goal.invariant-loop-at

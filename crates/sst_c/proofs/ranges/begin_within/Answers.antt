@@ -1,14 +1,14 @@
 use Rattle.std.proofs.Common.{IsSomeAnd, Option, subst, sym}
-use Rattle.sst_c.specs.What.{DealsTable, IsRangeWhere, bound_told}
+use Rattle.sst_c.specs.What.{YieldsTable, IsRangeWhere, decode_bound}
 use Rattle.sst_c.specs.declared.held.Held.{Held}
 use Rattle.sst_c.proofs.ranges.begin_within.Goals as goal
 
 -- what the handle holds is the range that was begun
 pub returns-in-Ok-clause-list : goal.returns-in-Ok-clause-list
 returns-in-Ok-clause-list c es stores zero =
-    let low = bound_told c.args.lower_kind c.args.lower.now in
-    let high = bound_told c.args.upper_kind c.args.upper.now in
+    let low = decode_bound c.args.lower_kind c.args.lower.now in
+    let high = decode_bound c.args.upper_kind c.args.upper.now in
     let g = c.args.table.now.global_seqno in
     let P : Option Held → Type 0 =
-    λ o. IsSomeAnd o (λ r. IsRangeWhere (DealsTable low high es g) r.what) in
+    λ o. IsSomeAnd o (λ r. IsRangeWhere (YieldsTable low high es g) r.what) in
     subst P (sym (c.begin.ensures.begun zero)) (c.in-Ok.ensures.list es stores)

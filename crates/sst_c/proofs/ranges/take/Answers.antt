@@ -1,4 +1,4 @@
-use Rattle.sst_c.specs.Told.{found_by}
+use Rattle.sst_c.specs.Reported.{found_by}
 use Rattle.sst_c.proofs.Bulk.{merged_many, range_many}
 use Rattle.sst_c.proofs.ranges.take.Goals as goal
 

@@ -1,7 +1,7 @@
 use Rattle.std.proofs.Common.{None, refl}
 use Rattle.sst_c.specs.Reads.{ReadsOn}
 use Rattle.sst_c.specs.Takes.{ReadsMany}
-use Rattle.sst_c.specs.Told.{found_by}
+use Rattle.sst_c.specs.Reported.{found_by}
 use Rattle.sst_c.specs.declared.held.Held.{Held}
 use Rattle.sst_c.proofs.Bulk.{part_many}
 use Rattle.sst_c.proofs.reads.take_held.Goals as goal

@@ -1,8 +1,8 @@
 use Rattle.std.proofs.Common.{◌≡◌, [], List, None, Ok}
 use Rattle.lsm_readers.specs.Words.{OpenTable, point}
-use Rattle.lsm_runs.specs.Words.{RunsHoldLists, runs_read, runs_told, union_in}
-use Rattle.sst_c.specs.Codes.{TellsFirst}
-use Rattle.sst_c.specs.Told.{AnswersRead, found_at}
+use Rattle.lsm_runs.specs.Words.{RunsHoldLists, runs_read, runs_result, union_in}
+use Rattle.sst_c.specs.Codes.{ReportsFirst}
+use Rattle.sst_c.specs.Reported.{AnswersRead, found_at}
 use Rattle.sst_c.specs.declared.held.What.{What}
 use Rattle.sst_c.proofs.Placing.{at_runs}
 use Rattle.sst_c.proofs.runs.get.Goals as goal
@@ -12,13 +12,13 @@ pub returns-in-Runs-clause-told : goal.returns-in-Runs-clause-told
 returns-in-Runs-clause-told c are =
     let P : What → List (List OpenTable) → Type 0 = λ w rs.
     AnswersRead c.get_in.result (found_at c.get_in.new.found w)
-    (runs_told c.args.key.now c.args.seqno None rs) in
+    (runs_result c.args.key.now c.args.seqno None rs) in
     at_runs P c.args.held.now.what c.in-Runs.runs c.in-Runs.is c.get_in.ensures.told
 
 pub returns-in-Runs-clause-early : goal.returns-in-Runs-clause-early
 returns-in-Runs-clause-early c are =
     let P : What → List (List OpenTable) → Type 0 = λ w rs.
-    TellsFirst c.get_in.result (runs_read c.args.key.now c.args.seqno None rs).early in
+    ReportsFirst c.get_in.result (runs_read c.args.key.now c.args.seqno None rs).early in
     at_runs P c.args.held.now.what c.in-Runs.runs c.in-Runs.is c.get_in.ensures.early
 
 pub returns-in-Runs-clause-calm : goal.returns-in-Runs-clause-calm

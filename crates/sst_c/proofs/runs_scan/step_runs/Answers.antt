@@ -4,7 +4,7 @@ use Rattle.sst_c.proofs.Asking.{same_source}
 use Rattle.sst_c.proofs.Lending.{stays_behind}
 use Rattle.sst_c.proofs.Scanning.{lent_comes}
 use Rattle.sst_c.specs.Newest.{newest_lent}
-use Rattle.sst_c.specs.Told.{outcome_of}
+use Rattle.sst_c.specs.Reported.{outcome_of}
 use Rattle.sst_c.proofs.runs_scan.step_runs.Goals as goal
 
 -- what is lent after a step is what the step found

@@ -1,4 +1,4 @@
-use Rattle.sst_c.specs.Told.{found_by}
+use Rattle.sst_c.specs.Reported.{found_by}
 use Rattle.sst_c.proofs.Bulk.{ended_many, runs_scan_many, scan_many}
 use Rattle.sst_c.proofs.scans.take.Goals as goal
 

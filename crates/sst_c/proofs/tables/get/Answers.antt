@@ -2,8 +2,8 @@ use Rattle.std.proofs.Common.{◌≡◌, [], Ok}
 use Rattle.lsm_readers.specs.Words.{OpenTable, StoresList, lift, point, table_answer}
 use Rattle.sst_c.proofs.Placing.{at_table}
 use Rattle.sst_c.proofs.tables.get.Goals as goal
-use Rattle.sst_c.specs.Codes.{TellsFirst}
-use Rattle.sst_c.specs.Told.{AnswersRead, found_at}
+use Rattle.sst_c.specs.Codes.{ReportsFirst}
+use Rattle.sst_c.specs.Reported.{AnswersRead, found_at}
 use Rattle.sst_c.specs.declared.held.What.{What}
 
 -- the table that is read is the one that is held
@@ -16,7 +16,7 @@ returns-in-Table-clause-told c t same =
 pub returns-in-Table-clause-early : goal.returns-in-Table-clause-early
 returns-in-Table-clause-early c t same =
     let P : What → OpenTable → Type 0 = λ w u.
-    TellsFirst c.get_in.result (table_answer u c.args.key.now c.args.seqno).early in
+    ReportsFirst c.get_in.result (table_answer u c.args.key.now c.args.seqno).early in
     at_table P c.args.held.now.what c.in-Table.table t c.in-Table.is same c.get_in.ensures.early
 
 pub returns-in-Table-clause-list : goal.returns-in-Table-clause-list

@@ -1,6 +1,6 @@
 use Rattle.lsm_readers.specs.Words.{lift, point, table_answer}
 use Rattle.std.proofs.Common.{Ok, ◌∙◌}
-use Rattle.sst_c.proofs.Answering.{first_tells}
+use Rattle.sst_c.proofs.Answering.{first_reports}
 use Rattle.sst_c.proofs.Placing.{place_answers}
 use Rattle.sst_c.proofs.tables.get_in.Goals as goal
 
@@ -23,5 +23,5 @@ returns-clause-list c es stores =
 pub returns-clause-early : goal.returns-clause-early
 returns-clause-early c e is =
     c.keep_place.ensures.code
-    ∙ first_tells c.get_place.result.0
+    ∙ first_reports c.get_place.result.0
     (table_answer c.args.table.now c.args.key.now c.args.seqno).early c.get_place.ensures.early e is

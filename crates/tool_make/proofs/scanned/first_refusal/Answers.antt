@@ -9,7 +9,7 @@ loop-error-preserved g c = λ rs d.
     let one = came_entry ScansLent c.loop-error.items c.advance.new.self _ _
     c.in-Ok-true.ensures.more c.in-Ok-true.field-0-test c.in-Ok-true.ensures.goes in
     let next = came_ok ScansLent c.loop-error.items c.advance.new.self one.0 left.0 left.1 one.1 in
-    (next.others, next.deals, refused_behind rs left.0 next.others one.0 left.2 next.are)
+    (next.others, next.yields, refused_behind rs left.0 next.others one.0 left.2 next.are)
 
 pub returns-in-Ok-false : goal.returns-in-Ok-false
 returns-in-Ok-false g c = record {

@@ -1,14 +1,14 @@
 use Rattle.std.proofs.Common.{◌≡◌}
 use Rattle.std.specs.Prelude.{List}
-use Rattle.lsm_runs.specs.compaction.AnyRuns.{DealsResults}
+use Rattle.lsm_runs.specs.compaction.AnyRuns.{YieldsResults}
 use Rattle.lsm_sorted.specs.merge.Ends.{R}
 use Rattle.lsm_sorted.specs.merge.Union.{errors_among}
 use Rattle.lsm_readers.specs.Scan.{ScansLent, scan_size}
 use Rattle.tool_make.proofs.scanned.first_refusal.Given as goal
 
 abbrev pub invariant-loop-error : goal.invariant-loop-error
-invariant-loop-error g l = (rs : List R) → DealsResults ScansLent rs l.fn.items
-    → (rest : List R) × DealsResults ScansLent rest l.items
+invariant-loop-error g l = (rs : List R) → YieldsResults ScansLent rs l.fn.items
+    → (rest : List R) × YieldsResults ScansLent rest l.items
     × (errors_among rs ≡ errors_among rest)
 
 abbrev pub decreases-loop-error : goal.decreases-loop-error

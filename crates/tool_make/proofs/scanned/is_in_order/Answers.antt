@@ -42,7 +42,7 @@ loop-error-preserved g c = λ rs d.
     let may = test_told c.loop-error.key.items c.deref.result.now c.loop-error.last x
     c.may_follow.result true c.deref.ensures.value c.may_follow.ensures c.if-not-may_follow.false in (
       next.others,
-      next.deals,
+      next.yields,
       left.2 ∙ order_more _ x c.put_bytes.new.buffer.items c.in-Some.entry.seqno left.0 next.others may
           next.are c.in_ok-put_bytes.ensures.put refl,
     )

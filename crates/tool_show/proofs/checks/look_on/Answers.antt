@@ -4,7 +4,7 @@ use Rattle.sst_blocks.specs.Sections.{body_of}
 use Rattle.lsm_readers.specs.Stored.{StoresList}
 use Rattle.lsm_readers.specs.point.Table.{OpenTable}
 use Rattle.lsm_readers.specs.Verify.{Misses, table_found}
-use Rattle.tool_show.proofs.StepLemmas.{reads_up_to, same_table, told_at, went_all, went_more}
+use Rattle.tool_show.proofs.StepLemmas.{reads_up_to, same_table, reported_at, went_all, went_more}
 use Rattle.tool_show.proofs.StepLemmas.{went_none}
 use Rattle.tool_show.proofs.checks.look_on.Goals as goal
 
@@ -23,7 +23,7 @@ loop-blocks-preserved g c =
     let new = g.P.Progress.moves c.moved.new.self in
     went_more c.args.verification.now w x (g.P.Progress.moves c.args.progress.now) left new
     c.loop-blocks.blocks c.saturating_add-blocks.result went (c.step.ensures.table, reads)
-    (told_at c.args.verification.now w x went.steps left new c.bytes_read.result c.args.all went.reached
+    (reported_at c.args.verification.now w x went.steps left new c.bytes_read.result c.args.all went.reached
     c.step.ensures.table c.bytes_read.ensures c.requires c.moved.ensures.told)
     c.saturating_add-blocks.ensures falls
 

@@ -2,7 +2,7 @@ use Rattle.std.proofs.Common.{◌≡◌, rules, subst, List, ℕ}
 use Rattle.std.specs.Prelude.{None, OnOk, Some}
 use Rattle.sst_entries.specs.declared.error.Error.{Error}
 use Rattle.sst_blocks.specs.Sections.{body_of, trailer_fault}
-use Rattle.lsm_readers.specs.point.Parts.{places_told}
+use Rattle.lsm_readers.specs.point.Parts.{places_result}
 use Rattle.tool_show.specs.Faults.{faults_in}
 use Rattle.tool_show.specs.Lines.{AreJoined, IsUnloadedLine, PrintsText}
 use Rattle.tool_show.specs.declared.places.BlockPlace.{BlockPlace}
@@ -20,7 +20,7 @@ returns-in-Ok-clause-printed g c =
     subst (λ (fs : List (BlockPlace × Error)). OnOk c.print_regions.result
     (PrintsText (AreJoined (IsUnloadedLine name) fs) old new)) (faults_read bytes none)
     (subst (λ (bs : List ℕ). OnOk c.print_regions.result (PrintsText (AreJoined (IsUnloadedLine name)
-    (faults_in (body_of bs) (places_told bs))) old new)) same c.print_regions.ensures.printed)
+    (faults_in (body_of bs) (places_result bs))) old new)) same c.print_regions.ensures.printed)
 
 pub returns-in-Err-clause-printed : goal.returns-in-Err-clause-printed
 returns-in-Err-clause-printed g c =

@@ -14,9 +14,9 @@ use Rattle.tool_show.proofs.dumps.dump_items.Goals as goal
 pub loop-left-init : goal.loop-left-init
 loop-left-init g c = (
   c.requires.can,
-  λ stops rs deals. prints_none _ _ stops c.args.items c.args.options.now.reverse c.args.most _ rs _ deals,
-  λ rs deals. let none = comes_none _ _ c.args.items c.args.options.now.reverse c.args.most rs
-      (ends_up _ _ _ _ c.args.items rs deals) in (none.0, no_line _ none.0.came _ none.1),
+  λ stops rs yields. prints_none _ _ stops c.args.items c.args.options.now.reverse c.args.most _ rs _ yields,
+  λ rs yields. let none = comes_none _ _ c.args.items c.args.options.now.reverse c.args.most rs
+      (ends_up _ _ _ _ c.args.items rs yields) in (none.0, no_line _ none.0.came _ none.1),
 )
 
 pub print_item-requires-clause-can : goal.print_item-requires-clause-can
@@ -34,12 +34,12 @@ loop-left-preserved g c =
     c.in_ok-print_item.field-0 c.if-not-branch.false c.in_ok-print_item.ensures in (
       may_go_on _ _ _ _ c.loop-left.items c.print_item.new.items c.args.options.now.reverse
           (Some (Ok one.entry)) c.loop-left.invariant.0 one.gave.at_front one.gave.at_back,
-      λ stops rs deals. prints_one _ _ stops c.loop-left.items c.print_item.new.items
+      λ stops rs yields. prints_one _ _ stops c.loop-left.items c.print_item.new.items
           c.args.options.now.reverse c.loop-left.left _ _ (Ok one.entry) one.entry _ _ _ _
-          c.loop-left-test.true refl (c.loop-left.invariant.1 stops rs deals) one.gave.at_front
+          c.loop-left-test.true refl (c.loop-left.invariant.1 stops rs yields) one.gave.at_front
           one.gave.at_back one.line,
-      λ rs deals.
-          let before = c.loop-left.invariant.2 rs deals in
+      λ rs yields.
+          let before = c.loop-left.invariant.2 rs yields in
           let now = comes_one _ _ c.loop-left.items c.print_item.new.items
           c.args.options.now.reverse c.loop-left.left (Ok one.entry) one.entry _
           c.loop-left-test.true refl before.0 one.gave.at_front one.gave.at_back in (
@@ -49,7 +49,7 @@ loop-left-preserved g c =
     )
 
 pub returns-then-not-branch-clause-printed : goal.returns-then-not-branch-clause-printed
-returns-then-not-branch-clause-printed g c = λ rs deals.
+returns-then-not-branch-clause-printed g c = λ rs yields.
     let end = shows_end g.I.Lending.advances g.I.DoubleEndedIterator.next_back_gives c.loop-left.items
     c.print_item.new.items c.args.options.now.reverse c.args.options.now.format
     (g.W.Write.contents c.loop-left.output) (g.W.Write.contents c.print_item.new.output)
@@ -59,30 +59,30 @@ returns-then-not-branch-clause-printed g c = λ rs deals.
     (sym end.stays)
     (prints_all _ _ (λ _. true) c.loop-left.items c.print_item.new.items
     c.args.options.now.reverse c.loop-left.left _ _ _ _ _
-    (c.loop-left.invariant.1 (λ _. true) rs deals) end.gave.at_front end.gave.at_back).0
+    (c.loop-left.invariant.1 (λ _. true) rs yields) end.gave.at_front end.gave.at_back).0
 
 pub returns-then-not-branch-clause-left : goal.returns-then-not-branch-clause-left
-returns-then-not-branch-clause-left g c = λ rs deals.
+returns-then-not-branch-clause-left g c = λ rs yields.
     let end = shows_end g.I.Lending.advances g.I.DoubleEndedIterator.next_back_gives c.loop-left.items
     c.print_item.new.items c.args.options.now.reverse c.args.options.now.format
     (g.W.Write.contents c.loop-left.output) (g.W.Write.contents c.print_item.new.output)
     c.in_ok-print_item.field-0 c.if-not-branch.true c.in_ok-print_item.ensures in
     (prints_all _ _ (λ _. true) c.loop-left.items c.print_item.new.items
     c.args.options.now.reverse c.loop-left.left _ _ _ _ _
-    (c.loop-left.invariant.1 (λ _. true) rs deals) end.gave.at_front end.gave.at_back).1
+    (c.loop-left.invariant.1 (λ _. true) rs yields) end.gave.at_front end.gave.at_back).1
 
 pub returns-clause-printed : goal.returns-clause-printed
-returns-clause-printed g c = λ rs deals.
+returns-clause-printed g c = λ rs yields.
     (prints_end _ _ (λ _. true) c.loop-left.items c.args.options.now.reverse c.loop-left.left _ _ _
-    _ _ c.loop-left-test.false (c.loop-left.invariant.1 (λ _. true) rs deals)).0
+    _ _ c.loop-left-test.false (c.loop-left.invariant.1 (λ _. true) rs yields)).0
 
 pub returns-clause-left : goal.returns-clause-left
-returns-clause-left g c = λ rs deals.
+returns-clause-left g c = λ rs yields.
     (prints_end _ _ (λ _. true) c.loop-left.items c.args.options.now.reverse c.loop-left.left _ _ _
-    _ _ c.loop-left-test.false (c.loop-left.invariant.1 (λ _. true) rs deals)).1
+    _ _ c.loop-left-test.false (c.loop-left.invariant.1 (λ _. true) rs yields)).1
 
 pub returns-in_err-print_item-clause-sound : goal.returns-in_err-print_item-clause-sound
-returns-in_err-print_item-clause-sound g c = λ es deals.
+returns-in_err-print_item-clause-sound g c = λ es yields.
     let f = c.in_err-print_item.field-0.0 in
     error_shown g.I.Lending.advances g.I.DoubleEndedIterator.next_back_gives c.loop-left.items
     c.print_item.new.items c.args.options.now.reverse c.args.options.now.format
@@ -90,12 +90,12 @@ returns-in_err-print_item-clause-sound g c = λ es deals.
     c.from_residual.result f BlamesNoFile c.from_residual.ensures.1 (λ none. none)
     (λ e shown. error_is_memory _ _ c.loop-left.items c.print_item.new.items
     c.args.options.now.reverse c.loop-left.left _ _ (Err e) e es _ _ c.loop-left-test.true refl
-    (c.loop-left.invariant.1 is_memory (ok_results es) (deals is_memory refl))
+    (c.loop-left.invariant.1 is_memory (ok_results es) (yields is_memory refl))
     shown.gave.at_front shown.gave.at_back)
     c.in_err-print_item.ensures
 
 pub returns-in_err-print_item-clause-refused : goal.returns-in_err-print_item-clause-refused
-returns-in_err-print_item-clause-refused g c = λ rs deals.
+returns-in_err-print_item-clause-refused g c = λ rs yields.
     let f = c.in_err-print_item.field-0.0 in
     let read = dumped c.args.options.now.reverse c.args.most rs in
     error_shown g.I.Lending.advances g.I.DoubleEndedIterator.next_back_gives c.loop-left.items
@@ -105,16 +105,16 @@ returns-in_err-print_item-clause-refused g c = λ rs deals.
     (none_fails f (λ e. first_error read ≡ Some e))
     (λ e shown other. (comes_error _ _ c.loop-left.items c.print_item.new.items
     c.args.options.now.reverse c.loop-left.left (Err e) e read c.loop-left-test.true refl other
-    (c.loop-left.invariant.2 rs deals).0 shown.gave.at_front shown.gave.at_back).0)
+    (c.loop-left.invariant.2 rs yields).0 shown.gave.at_front shown.gave.at_back).0)
     c.in_err-print_item.ensures
 
 pub returns-in_err-print_item-clause-before : goal.returns-in_err-print_item-clause-before
-returns-in_err-print_item-clause-before g c = λ rs deals.
+returns-in_err-print_item-clause-before g c = λ rs yields.
     let f = c.in_err-print_item.field-0.0 in
     let old = g.W.Write.contents c.args.output.now in
     let new = g.W.Write.contents c.print_item.new.output in
     let read = dumped c.args.options.now.reverse c.args.most rs in
-    let before = c.loop-left.invariant.2 rs deals in
+    let before = c.loop-left.invariant.2 rs yields in
     let Holds = PrintsLines c.args.options.now.format (before_error read) old new in
     error_shown g.I.Lending.advances g.I.DoubleEndedIterator.next_back_gives c.loop-left.items
     c.print_item.new.items c.args.options.now.reverse c.args.options.now.format

@@ -1,8 +1,8 @@
 -- What was printed and what is left to print are together what is to be printed.
 use Rattle.std.proofs.Common.{Bool, List}
-use Rattle.sst_entries.specs.Stream.{CanDeal, Deals, answer_stops}
+use Rattle.sst_entries.specs.Stream.{CanYield, YieldsExactly, answer_stops}
 use Rattle.sst_entries.specs.declared.error.Error.{Error}
-use Rattle.lsm_iters.specs.block_index.Dealt.{DealsEnding}
+use Rattle.lsm_iters.specs.block_index.Yielded.{YieldsEnding}
 use Rattle.tool_show.proofs.DumpLemmas.{Prints}
 use Rattle.tool_show.proofs.EndingLemmas.{Comes}
 use Rattle.tool_show.specs.Printed.{Outcome, PrintsLines, dumped}
@@ -10,16 +10,16 @@ use Rattle.tool_show.proofs.dumps.dump_items.Given as goal
 
 abbrev pub invariant-loop-left : goal.invariant-loop-left
 invariant-loop-left g l =
-    CanDeal g.I.Lending.advances g.I.DoubleEndedIterator.next_back_gives g.I.Lending.can_advance
+    CanYield g.I.Lending.advances g.I.DoubleEndedIterator.next_back_gives g.I.Lending.can_advance
     g.I.DoubleEndedIterator.can_next_back l.items
     × ((stops : Error → Bool) (rs : List Outcome)
-    → Deals (answer_stops stops) g.I.Lending.advances g.I.DoubleEndedIterator.next_back_gives
+    → YieldsExactly (answer_stops stops) g.I.Lending.advances g.I.DoubleEndedIterator.next_back_gives
     l.fn.items rs
     → Prints g.I.Lending.advances g.I.DoubleEndedIterator.next_back_gives stops l.items l.options.reverse
     l.left l.fn.most l.options.format (dumped l.options.reverse l.fn.most rs)
     (g.W.Write.contents l.fn.output) (g.W.Write.contents l.output))
     × ((rs : List Outcome)
-    → DealsEnding g.I.Lending.advances g.I.DoubleEndedIterator.next_back_gives (λ _. Unit {0})
+    → YieldsEnding g.I.Lending.advances g.I.DoubleEndedIterator.next_back_gives (λ _. Unit {0})
     (λ _. Unit {0}) l.fn.items rs
     → (before : Comes g.I.Lending.advances g.I.DoubleEndedIterator.next_back_gives l.items
     l.options.reverse l.left (dumped l.options.reverse l.fn.most rs))

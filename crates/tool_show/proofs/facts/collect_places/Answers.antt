@@ -9,17 +9,17 @@ use Rattle.tool_show.proofs.StatLemmas.{places_one, refused_is}
 use Rattle.tool_show.proofs.facts.collect_places.Goals as goal
 
 pub loop-handle-init : goal.loop-handle-init
-loop-handle-init g c = λ rs deals.
+loop-handle-init g c = λ rs yields.
     let start = came_none F B c.args.handles.now rs
-    (ends_up F B (λ _. Unit {0}) (λ _. Unit {0}) c.args.handles.now rs deals) in
+    (ends_up F B (λ _. Unit {0}) (λ _. Unit {0}) c.args.handles.now rs yields) in
     (start.0, c.new-places.ensures.items ∙ sym (ap (map lies_at) start.1))
 
 pub loop-handle-smaller : goal.loop-handle-smaller
 loop-handle-smaller g c = (c.in-Some.ensures.goes.on tt).2
 
 pub loop-handle-preserved : goal.loop-handle-preserved
-loop-handle-preserved g c = λ rs deals.
-    let before = c.loop-handle.invariant rs deals in
+loop-handle-preserved g c = λ rs yields.
+    let before = c.loop-handle.invariant rs yields in
     let step = subst (λ (r : Result Handle Error). F c.loop-handle.handles (Some r) c.next.new.self)
     c.in_ok-handle.was c.in-Some.ensures.steps in
     let more = came_one F B c.loop-handle.handles c.next.new.self c.in_ok-handle.field-0 rs
@@ -31,8 +31,8 @@ loop-handle-preserved g c = λ rs deals.
     )
 
 pub loop-handle-preserved-in_ok-push : goal.loop-handle-preserved-in_ok-push
-loop-handle-preserved-in_ok-push g c = λ rs deals.
-    let before = c.loop-handle.invariant rs deals in
+loop-handle-preserved-in_ok-push g c = λ rs yields.
+    let before = c.loop-handle.invariant rs yields in
     let step = subst (λ (r : Result Handle Error). F c.loop-handle.handles (Some r) c.next.new.self)
     c.in_ok-handle.was c.in-Some.ensures.steps in
     let more = came_one F B c.loop-handle.handles c.next.new.self c.in_ok-handle.field-0 rs
@@ -44,16 +44,16 @@ loop-handle-preserved-in_ok-push g c = λ rs deals.
     )
 
 pub returns-clause-all : goal.returns-clause-all
-returns-clause-all g c = λ rs deals.
-    let before = c.loop-handle.invariant rs deals in (
+returns-clause-all g c = λ rs yields.
+    let before = c.loop-handle.invariant rs yields in (
       before.0.came,
       came_all F B c.loop-handle.handles c.next.new.self rs before.0 c.in_default.ensures.steps,
       before.1,
     )
 
 pub returns-in_err-handle-clause-refused : goal.returns-in_err-handle-clause-refused
-returns-in_err-handle-clause-refused g c = λ rs deals.
-    let before = c.loop-handle.invariant rs deals in
+returns-in_err-handle-clause-refused g c = λ rs yields.
+    let before = c.loop-handle.invariant rs yields in
     let e = c.in_err-handle.field-0.0 in
     let step = subst (λ (r : Result Handle Error). F c.loop-handle.handles (Some r) c.next.new.self)
     c.in_err-handle.was c.in-Some.ensures.steps in

@@ -6,7 +6,7 @@ use Rattle.lsm_sorted.specs.version.Run.{IsInOrder}
 use Rattle.lsm_readers.specs.point.Table.{OpenTable}
 use Rattle.lsm_runs.specs.RunLists.{RunsHoldLists}
 use Rattle.lsm_run_parts.specs.RunParts.{range_of}
-use Rattle.lsm_runs.specs.SeveralRuns.{runs_told}
+use Rattle.lsm_runs.specs.SeveralRuns.{runs_result}
 use Rattle.tool_show.specs.Files.{runs_in}
 use Rattle.tool_show.specs.Printed.{seen_below}
 use Rattle.tool_show.proofs.TextLemmas.{answer_text}
@@ -19,7 +19,7 @@ returns-clause-told g c = λ order.
     let read = c.in_ok-is_there.ensures.told
     (subst (λ (ts : List (List OpenTable)). AllByRecursion (IsInOrder range_of) ts) (sym same) order)
     in
-    (read.0, ap (runs_told c.args.options.now.key.now (seen_below c.args.options.now) None) (sym same) ∙ read.1, read.2)
+    (read.0, ap (runs_result c.args.options.now.key.now (seen_below c.args.options.now) None) (sym same) ∙ read.1, read.2)
 
 pub returns-clause-shown : goal.returns-clause-shown
 returns-clause-shown g c = λ order.
@@ -29,7 +29,7 @@ returns-clause-shown g c = λ order.
     (subst (λ (ts : List (List OpenTable)). AllByRecursion (IsInOrder range_of) ts) (sym same) order)
     in (
       read.0,
-      ap (runs_told c.args.options.now.key.now (seen_below c.args.options.now) None) (sym same) ∙ read.1,
+      ap (runs_result c.args.options.now.key.now (seen_below c.args.options.now) None) (sym same) ∙ read.1,
       answer_text c.args.options.now c.args.files.now read.0 _ _ _ read.3
           c.in_ok-print_loads.ensures.printed,
     )

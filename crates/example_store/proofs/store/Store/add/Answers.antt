@@ -2,18 +2,18 @@ use Rattle.std.proofs.Common.{sym, ◌∙◌, ap, subst, ℕ, ◌+◌, ◌-◌, 
 use Rattle.lsm_tables.specs.Words.{Entry}
 use Rattle.example_store.specs.Recent.{IsPut}
 use Rattle.example_store.specs.Story.{Holding}
-use Rattle.example_store.proofs.Stories.{sound_more, tells_more}
+use Rattle.example_store.proofs.Stories.{valid_more, reports_more}
 use Rattle.example_store.proofs.store.Store.add.Goals as goal
 
 pub invariant_of-self-2 : goal.invariant_of-self-2
 invariant_of-self-2 g c =
     let next = ap (λ (h : Holding). h.next) c.self.view_is in
-    sound_more c.self.inside.memtable c.insert.new.self _ _ _ c.self.inside.next _ _ _ c.args.item c.self.invariant c.in_ok-insert.ensures.put (c.requires.number ∙ sym next) c.requires.kind (subst (λ (n : ℕ). n < 2 ^ 64 - 2) (sym next) c.requires.room)
+    valid_more c.self.inside.memtable c.insert.new.self _ _ _ c.self.inside.next _ _ _ c.args.item c.self.invariant c.in_ok-insert.ensures.put (c.requires.number ∙ sym next) c.requires.kind (subst (λ (n : ℕ). n < 2 ^ 64 - 2) (sym next) c.requires.room)
 
 pub returns-clause-written : goal.returns-clause-written
 returns-clause-written g c ws told =
     let is = c.self.view_is in
-    tells_more c.args.self.now _ c.args.item ws told
+    reports_more c.args.self.now _ c.args.item ws told
     (subst (λ (es : List Entry). IsPut c.args.item es c.insert.new.self) (ap (λ (h : Holding). h.recent) is) c.in_ok-insert.ensures.put)
     c.requires.number
     (ap (λ (h : Holding). h.next + 1) is)

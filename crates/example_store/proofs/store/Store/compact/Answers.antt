@@ -7,7 +7,7 @@ use Rattle.lsm_tables.specs.Words.{AreCompactable, AreCutOf, OpenTable, RunsHold
 use Rattle.lsm_tables.specs.Words.{is_memory, kept_in, rules_by, run_label, tables_fault}
 use Rattle.example_store.specs.Ids.{AreMadeOf}
 use Rattle.example_store.specs.Story.{Holding, IsOwnRun, IsStore}
-use Rattle.example_store.proofs.Compacting.{sound_replaced, tells_compacted}
+use Rattle.example_store.proofs.Compacting.{valid_replaced, reports_compacted}
 use Rattle.example_store.proofs.Refusing.{passed_on}
 use Rattle.example_store.proofs.store.Store.compact.Goals as goal
 
@@ -47,7 +47,7 @@ invariant_of-self g c =
     let kept = c.self.invariant.kept in
     let lowest : c.min-watermark.result ≡ min c.args.watermark c.self.inside.next = search rules in
     let highest : c.max-self-inside.result ≡ max c.self.inside.oldest c.min-watermark.result = search rules in
-    sound_replaced i.memtable (map arc_value i.runs.items) (map arc_value c.in_ok-runs.runs.items) i.ids c.in_ok-runs.ids i.target i.next i.flushed i.oldest c.max-self-inside.result i.limit c.self.invariant
+    valid_replaced i.memtable (map arc_value i.runs.items) (map arc_value c.in_ok-runs.runs.items) i.ids c.in_ok-runs.ids i.target i.next i.flushed i.oldest c.max-self-inside.result i.limit c.self.invariant
     (record { own = c.in_ok-runs.ensures.own i.flushed own; able = c.in_ok-runs.ensures.able })
     (omega (arith, kept, lowest, highest))
 
@@ -59,7 +59,7 @@ returns-clause-story g c ws told =
     let hold = subst (λ (rs : List (List OpenTable)). RunsHoldLists rs told.lists) (sym same) told.hold in
     let highest : c.max-self-inside.result ≡ max c.self.inside.oldest c.min-watermark.result = search rules in
     let oldest = ap (λ (h : Holding). h.oldest) is in
-    tells_compacted s _ ws (rules_by c.min-watermark.result true false) (subst IsStore is c.self.invariant) told
+    reports_compacted s _ ws (rules_by c.min-watermark.result true false) (subst IsStore is c.self.invariant) told
     (c.in_ok-runs.ensures.kept told.lists hold)
     (ap (λ (h : Holding). h.recent) is)
     (ap (λ (h : Holding). h.next) is)

@@ -9,8 +9,8 @@ use Rattle.lsm_tables.specs.Words.{run_label}
 use Rattle.example_store.specs.Ids.{AreMadeOf}
 use Rattle.example_store.specs.Part.{front_runs, part_runs}
 use Rattle.example_store.specs.Story.{Holding, IsOwnRun, IsStore}
-use Rattle.example_store.proofs.Compacting.{sound_replaced}
-use Rattle.example_store.proofs.Parts.{able_alone, below_part, placed_part, tells_part}
+use Rattle.example_store.proofs.Compacting.{valid_replaced}
+use Rattle.example_store.proofs.Parts.{able_alone, below_part, placed_part, reports_part}
 use Rattle.example_store.proofs.store.Store.compact_part.Goals as goal
 
 pub compacted-requires : goal.compacted-requires
@@ -37,7 +37,7 @@ invariant_of-self g c =
     let highest : c.max-self-inside.result ≡ max c.self.inside.oldest c.min-watermark.result = search rules in
     let placed = placed_part _ _ _ new (front_runs from to old) made (drop to old) c.in_ok-runs.ensures.runs
     (c.cut_out.ensures.front ∙ ap (front_runs from to) given) (ap (map arc_value) c.deref-2.ensures.value) (c.cut_out.ensures.behind ∙ ap (drop to) given) in
-    sound_replaced i.memtable old new i.ids c.in_ok-made.ids i.target i.next i.flushed i.oldest c.max-self-inside.result i.limit c.self.invariant
+    valid_replaced i.memtable old new i.ids c.in_ok-made.ids i.target i.next i.flushed i.oldest c.max-self-inside.result i.limit c.self.invariant
     (below_part i.flushed from to c.min-watermark.result old new made c.self.invariant.runs
     (λ ps hold. c.in_ok-made.ensures.kept ps (subst (λ (rs : List (List OpenTable)). RunsHoldLists rs ps) part hold))
     (λ own. c.in_ok-made.ensures.own i.flushed (subst (AllByRecursion (IsOwnRun i.flushed)) part own))
@@ -58,7 +58,7 @@ returns-clause-story g c ws told =
     (c.cut_out.ensures.front ∙ ap (front_runs from to) given) (ap (map arc_value) c.deref-2.ensures.value) (c.cut_out.ensures.behind ∙ ap (drop to) given) in
     let highest : c.max-self-inside.result ≡ max c.self.inside.oldest c.min-watermark.result = search rules in
     let oldest = ap (λ (h : Holding). h.oldest) is in
-    tells_part s _ ws from to c.min-watermark.result made (subst IsStore is c.self.invariant) told
+    reports_part s _ ws from to c.min-watermark.result made (subst IsStore is c.self.invariant) told
     (λ ps hold. c.in_ok-made.ensures.kept ps (subst (λ (rs : List (List OpenTable)). RunsHoldLists rs ps) part hold))
     placed
     (ap (λ (h : Holding). h.recent) is)

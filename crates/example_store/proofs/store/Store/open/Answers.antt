@@ -7,7 +7,7 @@ use Rattle.lsm_tables.proofs.TableLaws.{all_more}
 use Rattle.example_store.specs.Closed.{StoreLists}
 use Rattle.example_store.specs.Story.{AreNumbered, IsOwnRun}
 use Rattle.example_store.specs.declared.store.open.OpenError.TheVariants.{OutOfMemory}
-use Rattle.example_store.proofs.Opening.{strict_alike, tells_alike}
+use Rattle.example_store.proofs.Opening.{strict_alike, reports_alike}
 use Rattle.example_store.proofs.Own.{later_runs, own_able, own_run_lists, runs_stored}
 use Rattle.example_store.proofs.Refusing.{wanted}
 use Rattle.example_store.specs.Faulty.{AreOwnFiles, IsFirstFault, IsOpenFault}
@@ -86,7 +86,7 @@ returns-clause-story g c s ws sound closed told =
     let n = c.args.closed.now.next in
     let own = c.in_ok-runs.ensures.own in
     let same = sym closed.files ∙ ap (map (λ run. run.items)) (sym c.deref.ensures.value) ∙ sym c.in_ok-runs.ensures.files in
-    tells_alike s.flushed n s _ ws told sound.runs.own own same (closed.none ∙ sym c.new-memtable.ensures) closed.next closed.oldest
+    reports_alike s.flushed n s _ ws told sound.runs.own own same (closed.none ∙ sym c.new-memtable.ensures) closed.next closed.oldest
 
 pub returns-in_err-test_numbers-clause-refused : goal.returns-in_err-test_numbers-clause-refused
 returns-in_err-test_numbers-clause-refused g c =

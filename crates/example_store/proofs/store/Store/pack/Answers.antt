@@ -6,7 +6,7 @@ use Rattle.lsm_tables.specs.Words.{SameTables, range_of}
 use Rattle.lsm_tables.proofs.TableLaws.{runs_in_order}
 use Rattle.std.specs.List.{AllByRecursion}
 use Rattle.example_store.specs.Story.{Holding, IsOwnRun}
-use Rattle.example_store.proofs.Compacting.{sound_replaced, tells_packed}
+use Rattle.example_store.proofs.Compacting.{valid_replaced, reports_packed}
 use Rattle.example_store.proofs.store.Store.pack.Goals as goal
 
 pub invariant_of-self : goal.invariant_of-self
@@ -16,7 +16,7 @@ invariant_of-self g c =
     let given = ap (map arc_value) (sym c.deref.ensures.value) in
     let hold = subst (λ (rs : List (List OpenTable)). RunsHoldLists rs able.lists) given able.hold in
     let own = subst (AllByRecursion (IsOwnRun i.flushed)) given c.self.invariant.runs.own in
-    sound_replaced i.memtable (map arc_value i.runs.items) (map arc_value c.in_ok-packed.packed.items) i.ids i.ids i.target i.next i.flushed i.oldest i.oldest i.limit c.self.invariant
+    valid_replaced i.memtable (map arc_value i.runs.items) (map arc_value c.in_ok-packed.packed.items) i.ids i.ids i.target i.next i.flushed i.oldest i.oldest i.limit c.self.invariant
     (record {
       own = c.in_ok-packed.ensures.own i.flushed (runs_in_order (map arc_value c.deref.result.now) able.lists hold) own;
       able = c.in_ok-packed.ensures.able (subst AreCompactable given able);
@@ -29,7 +29,7 @@ returns-clause-story g c ws told =
     let s = c.args.self.now in
     let same : map arc_value c.deref.result.now ≡ s.runs = ap (map arc_value) c.deref.ensures.value ∙ ap (λ (h : Holding). h.runs) is in
     let hold = subst (λ (rs : List (List OpenTable)). RunsHoldLists rs told.lists) (sym same) told.hold in
-    tells_packed s _ ws told (c.in_ok-packed.ensures.list told.lists hold)
+    reports_packed s _ ws told (c.in_ok-packed.ensures.list told.lists hold)
     (ap (λ (h : Holding). h.recent) is)
     (ap (λ (h : Holding). h.next) is)
     (ap (λ (h : Holding). h.oldest) is)

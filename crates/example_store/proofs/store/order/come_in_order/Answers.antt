@@ -12,9 +12,9 @@ comes_in_order-requires g c = record {
 pub returns-clause-exact : goal.returns-clause-exact
 returns-clause-exact g c lists together =
     c.comes_in_order.ensures.exact (union_in lists)
-    (merged_together g.I.Iterator.next_gives nowhere _ nowhere lists c.args.sources.items c.in_ok-entries.entries together c.in_ok-entries.ensures.deals)
+    (merged_together g.I.Iterator.next_gives nowhere _ nowhere lists c.args.sources.items c.in_ok-entries.entries together c.in_ok-entries.ensures.yields)
 
 pub returns-clause-memory : goal.returns-clause-memory
 returns-clause-memory g c lists together =
     c.comes_in_order.ensures.memory (union_in lists)
-    (merged_together g.I.Iterator.next_gives nowhere _ nowhere lists c.args.sources.items c.in_ok-entries.entries together c.in_ok-entries.ensures.deals)
+    (merged_together g.I.Iterator.next_gives nowhere _ nowhere lists c.args.sources.items c.in_ok-entries.entries together c.in_ok-entries.ensures.yields)

@@ -1,5 +1,5 @@
-use Rattle.lsm_iters.proofs.RangeLaws.{range_deals}
+use Rattle.lsm_iters.proofs.RangeLaws.{range_yields}
 use Rattle.lsm_iters.proofs.iter.Iter.set_lower_bound.Goals as goal
 
-pub returns-clause-deals : goal.returns-clause-deals
-returns-clause-deals g c = range_deals _
+pub returns-clause-yields : goal.returns-clause-yields
+returns-clause-yields g c = range_yields _

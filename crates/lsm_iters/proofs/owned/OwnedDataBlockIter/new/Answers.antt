@@ -1,5 +1,5 @@
 use Rattle.sst_blocks.proofs.SpanLemmas.{span_left}
 use Rattle.lsm_iters.proofs.owned.OwnedDataBlockIter.new.Goals as goal
 
-pub returns-clause-deals : goal.returns-clause-deals
-returns-clause-deals g c = span_left _
+pub returns-clause-yields : goal.returns-clause-yields
+returns-clause-yields g c = span_left _

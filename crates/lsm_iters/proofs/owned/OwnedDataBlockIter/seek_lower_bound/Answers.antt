@@ -18,8 +18,8 @@ returns-clause-both g c =
     let place : c.max-self-inside.result ≡ max s.from (lower_place (edge_of c.args.bound.now) s.list) = c.max-self-inside.ensures ∙ ap (max c.self.inside.from) c.first_behind.ensures.place in
     rw (← c.self.view_is) (keeps_upper (edge_of c.args.bound.now) s (record s { from = c.max-self-inside.result }) (sought_lower (edge_of c.args.bound.now) s c.max-self-inside.result c.first_behind.ensures.strict place))
 
-pub returns-clause-deals : goal.returns-clause-deals
-returns-clause-deals g c = span_left (record { list = c.self.inside.block; from = c.max-self-inside.result; to = c.self.inside.to })
+pub returns-clause-yields : goal.returns-clause-yields
+returns-clause-yields g c = span_left (record { list = c.self.inside.block; from = c.max-self-inside.result; to = c.self.inside.to })
 
 pub returns-clause-left : goal.returns-clause-left
 returns-clause-left g c = left_any (record { list = c.self.inside.block; from = c.max-self-inside.result; to = c.self.inside.to }) c.self.invariant

@@ -18,8 +18,8 @@ returns-clause-both g c =
     let place : c.min-self-inside.result ≡ min s.to (upper_place (edge_of c.args.bound.now) s.list) = c.min-self-inside.ensures ∙ ap (min c.self.inside.to) c.first_past.ensures.place in
     rw (← c.self.view_is) (keeps_lower (edge_of c.args.bound.now) s (record s { to = c.min-self-inside.result }) (sought_upper (edge_of c.args.bound.now) s c.min-self-inside.result c.first_past.ensures.strict place))
 
-pub returns-clause-deals : goal.returns-clause-deals
-returns-clause-deals g c = span_left (record { list = c.self.inside.block; from = c.self.inside.from; to = c.min-self-inside.result })
+pub returns-clause-yields : goal.returns-clause-yields
+returns-clause-yields g c = span_left (record { list = c.self.inside.block; from = c.self.inside.from; to = c.min-self-inside.result })
 
 pub returns-clause-left : goal.returns-clause-left
 returns-clause-left g c = left_any (record { list = c.self.inside.block; from = c.self.inside.from; to = c.min-self-inside.result }) (omega (arith, c.self.invariant, c.min-self-inside.ensures))

@@ -3,8 +3,8 @@ use Rattle.std.specs.Option.{option_map}
 use Rattle.sst_blocks.specs.Sections.{body_of}
 use Rattle.sst_blocks.specs.Cursor.{Cursor}
 use Rattle.lsm_readers.specs.point.Answer.{lifted}
-use Rattle.lsm_readers.specs.Scan.{scan_told}
-use Rattle.lsm_readers.proofs.Scans.{first_left, lends_end, same_left, scan_deals, scan_ends, scan_lends}
+use Rattle.lsm_readers.specs.Scan.{scan_results}
+use Rattle.lsm_readers.proofs.Scans.{first_left, lends_end, same_left, scan_yields, scan_ends, scan_lends}
 use Rattle.lsm_readers.proofs.Steps.{beside_first, beside_is}
 use Rattle.lsm_readers.proofs.scanner.Scanner.new.Goals as goal
 
@@ -35,14 +35,14 @@ returns-clause-left g c =
     (ap body_of (sym (beside_is _ _ c.in_ok-block.block c.clone.result c.in_ok-block-2.block c.in_ok-block-2.source c.clone.ensures.cases kept))) (sym (ap (λ (k : Cursor). k.behind) c.into_cursor.ensures ∙ beside_first c.in_ok-block.block c.clone.result c.in_ok-block-2.block c.in_ok-block-2.source kept)) (sym c.saturating_sub.ensures) in
     record { lent = ap (λ (k : Cursor). option_map (lifted c.args.global_seqno) k.lent) c.into_cursor.ensures; left = sym (first ∙ rest); blocks = c.saturating_sub.ensures }
 
-pub returns-clause-deals : goal.returns-clause-deals
-returns-clause-deals g c stops memory =
+pub returns-clause-yields : goal.returns-clause-yields
+returns-clause-yields g c stops memory =
     let body = body_of c.args.source.now in
     let left = first_left body c.args.global_seqno c.args.block_count c.in_ok-block.block c.in_ok-block.position c.in_ok-block.ensures.told in
     let kept = c.in_ok-block-2.ensures.both in
     let rest = same_left body (body_of c.in_ok-block-2.source) c.args.global_seqno c.in_ok-block.block c.into_cursor.result.behind c.in_ok-block.position (c.args.block_count - 1) c.saturating_sub.result
     (ap body_of (sym (beside_is _ _ c.in_ok-block.block c.clone.result c.in_ok-block-2.block c.in_ok-block-2.source c.clone.ensures.cases kept))) (sym (ap (λ (k : Cursor). k.behind) c.into_cursor.ensures ∙ beside_first c.in_ok-block.block c.clone.result c.in_ok-block-2.block c.in_ok-block-2.source kept)) (sym c.saturating_sub.ensures) in
-    scan_deals stops _ (scan_told body c.args.block_count c.args.global_seqno) (left ∙ rest, inr memory)
+    scan_yields stops _ (scan_results body c.args.block_count c.args.global_seqno) (left ∙ rest, inr memory)
 
 pub returns-clause-lends : goal.returns-clause-lends
 returns-clause-lends g c stops memory =
@@ -51,4 +51,4 @@ returns-clause-lends g c stops memory =
     let kept = c.in_ok-block-2.ensures.both in
     let rest = same_left body (body_of c.in_ok-block-2.source) c.args.global_seqno c.in_ok-block.block c.into_cursor.result.behind c.in_ok-block.position (c.args.block_count - 1) c.saturating_sub.result
     (ap body_of (sym (beside_is _ _ c.in_ok-block.block c.clone.result c.in_ok-block-2.block c.in_ok-block-2.source c.clone.ensures.cases kept))) (sym (ap (λ (k : Cursor). k.behind) c.into_cursor.ensures ∙ beside_first c.in_ok-block.block c.clone.result c.in_ok-block-2.block c.in_ok-block-2.source kept)) (sym c.saturating_sub.ensures) in
-    scan_lends stops _ (scan_told body c.args.block_count c.args.global_seqno) (left ∙ rest, inr memory)
+    scan_lends stops _ (scan_results body c.args.block_count c.args.global_seqno) (left ∙ rest, inr memory)

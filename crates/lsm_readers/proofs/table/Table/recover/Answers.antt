@@ -7,9 +7,9 @@ use Rattle.sst_entries.specs.Error.{Gives}
 use Rattle.sst_blocks.specs.declared.checksum.Checksum.{Checksum}
 use Rattle.lsm_readers.specs.point.Parts.{Parts}
 use Rattle.lsm_readers.specs.point.Table.{OpenTable, parts_of, table_of}
-use Rattle.lsm_readers.proofs.FileParts.{table_told}
+use Rattle.lsm_readers.proofs.FileParts.{table_result}
 use Rattle.lsm_readers.proofs.StoredParts.{opens_by, stored_fits}
-use Rattle.lsm_readers.proofs.Recovered.{first_from, is_open, opening_fails, opening_told}
+use Rattle.lsm_readers.proofs.Recovered.{first_from, is_open, opening_fails, opening_result}
 use Rattle.lsm_readers.proofs.Recovered.{trailer_fine, trailer_first, trailer_none}
 use Rattle.lsm_readers.proofs.Steps.{beside_early, beside_fails, beside_first, beside_gives}
 use Rattle.lsm_readers.proofs.Steps.{beside_none, beside_second, passes_fault, shared_early}
@@ -30,7 +30,7 @@ returns-in_err-source-2-clause-told g c =
     let call = c.share-shared in
     let e = c.in_err-source-2.field-0.0 in
     passes_fault (λ (t : OpenTable). t.parts) c.from_residual-in_err-source-2.result _ e c.from_residual-in_err-source-2.ensures.1
-    (λ memory. opening_told c.args.bytes c.in_ok-source.source c.args.global_seqno c.args.pin_filter c.args.pin_index _ c.in_ok-source.ensures.refused c.in_ok-source.ensures.ok
+    (λ memory. opening_result c.args.bytes c.in_ok-source.source c.args.global_seqno c.args.pin_filter c.args.pin_index _ c.in_ok-source.ensures.refused c.in_ok-source.ensures.ok
     (beside_fails _ c.in_ok-source.source call.result _ e (shared_gives arc_value parts_of made.result call.result _ call.ensures.ok call.ensures.err made.ensures.told) c.in_err-source-2.ensures.both memory))
 
 pub returns-in_err-source-2-clause-early : goal.returns-in_err-source-2-clause-early
@@ -60,14 +60,14 @@ invariant_of-result g c =
     (beside_first c.in_ok-source.source call.result source inner both ∙ c.in_ok-source.ensures.ok)
     (IfOk-at_ok _ (beside_second c.in_ok-source.source call.result source inner both) (shared_has arc_value _ made.result call.result call.ensures.ok made.ensures.number))
     c.in_ok-source.ensures.short
-    (opening_told c.args.bytes c.in_ok-source.source c.args.global_seqno c.args.pin_filter c.args.pin_index _ c.in_ok-source.ensures.refused c.in_ok-source.ensures.ok
+    (opening_result c.args.bytes c.in_ok-source.source c.args.global_seqno c.args.pin_filter c.args.pin_index _ c.in_ok-source.ensures.refused c.in_ok-source.ensures.ok
     (beside_gives _ c.in_ok-source.source call.result _ source inner (shared_gives arc_value parts_of made.result call.result _ call.ensures.ok call.ensures.err made.ensures.told) both))
 
 pub returns-clause-told : goal.returns-clause-told
 returns-clause-told g c =
     let made = c.recover_inner-inner in
     let call = c.share-shared in
-    opening_told c.args.bytes c.in_ok-source.source c.args.global_seqno c.args.pin_filter c.args.pin_index _ c.in_ok-source.ensures.refused c.in_ok-source.ensures.ok
+    opening_result c.args.bytes c.in_ok-source.source c.args.global_seqno c.args.pin_filter c.args.pin_index _ c.in_ok-source.ensures.refused c.in_ok-source.ensures.ok
     (beside_gives _ c.in_ok-source.source call.result _ c.in_ok-source-2.source c.in_ok-source-2.inner (shared_gives arc_value parts_of made.result call.result _ call.ensures.ok call.ensures.err made.ensures.told) c.in_ok-source-2.ensures.both)
 
 by_list : {X : Type 0} (view : X → Parts) (r : Result X Error) (told list : Result Parts Error) → Gives view r told → told ≡ list → Gives view r list
@@ -76,16 +76,16 @@ by_list view r told list gives same = subst (λ (x : Result Parts Error). Gives 
 pub returns-in_err-source-clause-list : goal.returns-in_err-source-clause-list
 returns-in_err-source-clause-list g c es t one =
     by_list (λ (x : OpenTable). x.parts) c.from_residual.result _ _ (returns-in_err-source-clause-told g c)
-    (table_told c.args.bytes es t c.in_err-source.ensures.short c.args.global_seqno c.args.pin_filter c.args.pin_index one)
+    (table_result c.args.bytes es t c.in_err-source.ensures.short c.args.global_seqno c.args.pin_filter c.args.pin_index one)
 
 pub returns-in_err-source-2-clause-list : goal.returns-in_err-source-2-clause-list
 returns-in_err-source-2-clause-list g c es t one =
     by_list (λ (x : OpenTable). x.parts) c.from_residual-in_err-source-2.result _ _ (returns-in_err-source-2-clause-told g c)
-    (table_told c.args.bytes es t c.in_ok-source.ensures.short c.args.global_seqno c.args.pin_filter c.args.pin_index one)
+    (table_result c.args.bytes es t c.in_ok-source.ensures.short c.args.global_seqno c.args.pin_filter c.args.pin_index one)
 
 pub returns-clause-list : goal.returns-clause-list
 returns-clause-list g c es t one =
-    sym (table_told c.args.bytes es t c.in_ok-source.ensures.short c.args.global_seqno c.args.pin_filter c.args.pin_index one) ∙ returns-clause-told g c
+    sym (table_result c.args.bytes es t c.in_ok-source.ensures.short c.args.global_seqno c.args.pin_filter c.args.pin_index one) ∙ returns-clause-told g c
 
 pub returns-in_err-source-clause-stores : goal.returns-in_err-source-clause-stores
 returns-in_err-source-clause-stores g c es t =

@@ -3,7 +3,7 @@ use Rattle.sst_blocks.specs.Sections.{body_of}
 use Rattle.lsm_readers.specs.declared.verify.Verified.{Verified}
 use Rattle.lsm_readers.specs.point.Table.{IsOpen, OpenTable, table_of}
 use Rattle.lsm_readers.specs.Verify.{Finds, FindsFirst, table_early, table_found}
-use Rattle.lsm_readers.proofs.VerifyTables.{all_complete, all_first, all_sound}
+use Rattle.lsm_readers.proofs.VerifyTables.{all_complete, all_first, all_valid}
 use Rattle.lsm_readers.proofs.table.Table.verify.Goals as goal
 
 pub returns-clause-told : goal.returns-clause-told
@@ -21,7 +21,7 @@ returns-clause-early g c =
 pub returns-clause-sound : goal.returns-clause-sound
 returns-clause-sound g c =
     let held = subst IsOpen c.self.view_is c.self.invariant in
-    all_sound c.args.self.now held c.verify_table.result (returns-clause-told g c)
+    all_valid c.args.self.now held c.verify_table.result (returns-clause-told g c)
 
 pub returns-clause-complete : goal.returns-clause-complete
 returns-clause-complete g c es is =

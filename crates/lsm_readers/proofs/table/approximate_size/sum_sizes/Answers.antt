@@ -1,6 +1,6 @@
 use Rattle.std.proofs.Common.{◌≡◌, ℕ, ◌+◌, ◌-◌, ◌^◌, sym, ap, ◌∙◌, arith}
 use Rattle.std.specs.Prelude.{min, Some, None, Ok, Err}
-use Rattle.lsm_readers.specs.Sizes.{dealt, sizes_told}
+use Rattle.lsm_readers.specs.Sizes.{yielded, sizes_result}
 use Rattle.lsm_readers.proofs.Sizes.{added, added_fault, added_last, added_next, added_none}
 use Rattle.lsm_readers.proofs.Steps.{passes_fault}
 use Rattle.lsm_readers.proofs.table.approximate_size.sum_sizes.Goals as goal
@@ -12,7 +12,7 @@ loop-handle-init g c =
       can = rw same c.requires.can;
       finite = rw same c.requires.finite;
       fits = omega arith;
-      told = rw same (added_none (dealt (g.I.BlockIndexIter.left c.args.handles).results));
+      told = rw same (added_none (yielded (g.I.BlockIndexIter.left c.args.handles).results));
     }
 
 pub loop-handle-preserved : goal.loop-handle-preserved
@@ -30,7 +30,7 @@ loop-handle-preserved g c =
       can = c.in-Some.ensures.goes.keeps;
       finite = (c.in-Some.ensures.goes.on c.loop-handle.invariant.finite).1;
       fits = c.saturating_add-size.type_inv;
-      told = ap (λ (n : ℕ). added n (dealt (left t).results)) size ∙ sym more ∙ c.loop-handle.invariant.told;
+      told = ap (λ (n : ℕ). added n (yielded (left t).results)) size ∙ sym more ∙ c.loop-handle.invariant.told;
     }
 
 pub returns-in_err-handle : goal.returns-in_err-handle
@@ -40,7 +40,7 @@ returns-in_err-handle g c =
     let t = c.next.new.self in
     let e = c.in_err-handle.field-0.0 in
     let step = rw c.in_err-handle.was at c.in-Some.ensures.steps in
-    passes_fault (λ (n : ℕ). n) c.from_residual.result (sizes_told (left c.args.handles).results) e c.from_residual.ensures.1
+    passes_fault (λ (n : ℕ). n) c.from_residual.result (sizes_result (left c.args.handles).results) e c.from_residual.ensures.1
     (λ memory. sym c.loop-handle.invariant.told ∙ added_fault c.loop-handle.size (left s) (left t) e (c.requires.steps s (Some (Err e)) t step) memory)
 
 pub returns : goal.returns

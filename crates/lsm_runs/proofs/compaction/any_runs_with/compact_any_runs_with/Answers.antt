@@ -16,7 +16,7 @@ use Rattle.lsm_runs.proofs.OneList.{one_way}
 use Rattle.lsm_runs.proofs.FilteredCame.{came_none, came_or_begun, came_to, came_until, came_up}
 use Rattle.lsm_runs.proofs.FilteredCame.{err_any, err_passed, match_err, refuses_by}
 use Rattle.lsm_runs.proofs.FilteredFits.{fits_all, fits_any}
-use Rattle.lsm_runs.proofs.Observing.{told_nothing}
+use Rattle.lsm_runs.proofs.Observing.{reported_nothing}
 use Rattle.lsm_runs.proofs.RunWriting.{wants}
 use Rattle.lsm_runs.proofs.TookList.{err_at, ok_at}
 use Rattle.lsm_runs.proofs.compaction.any_runs_with.compact_any_runs_with.Goals as goal
@@ -28,7 +28,7 @@ write_observed-written-requires g c =
 
 pub returns-in_err-source-clause-heard : goal.returns-in_err-source-clause-heard
 returns-in_err-source-clause-heard g c =
-    err_any c.from_residual.result ([], told_nothing g.O.CompactionObserver.says c.args.writer c.args.observer.now)
+    err_any c.from_residual.result ([], reported_nothing g.O.CompactionObserver.says c.args.writer c.args.observer.now)
 
 pub returns-in_err-source-clause-until : goal.returns-in_err-source-clause-until
 returns-in_err-source-clause-until g c lists held some =

@@ -1,5 +1,5 @@
 use Rattle.sst_entries.proofs.Refusals.{faults_refusal}
-use Rattle.lsm_runs.proofs.FilteredCame.{memory_faults, memory_tells}
+use Rattle.lsm_runs.proofs.FilteredCame.{memory_faults, memory_reports}
 use Rattle.lsm_runs.proofs.Scanners.{scan_asked}
 use Rattle.lsm_runs.proofs.Together.{all_of}
 use Rattle.lsm_runs.proofs.compaction.any_runs_with.compacted_of.Goals as goal
@@ -16,7 +16,7 @@ pub returns-clause-any : goal.returns-clause-any
 returns-clause-any g c ascend = c.compacted_from.ensures.any _ c.in_ok-scanners.ensures.any ascend
 
 pub returns-clause-told : goal.returns-clause-told
-returns-clause-told g c = memory_tells _ c.compacted_from.result c.compacted_from.ensures.err
+returns-clause-told g c = memory_reports _ c.compacted_from.result c.compacted_from.ensures.err
 
 pub returns-in_err-scanners-clause-opens : goal.returns-in_err-scanners-clause-opens
 returns-in_err-scanners-clause-opens g c =

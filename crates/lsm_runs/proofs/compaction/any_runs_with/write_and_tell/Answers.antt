@@ -6,7 +6,7 @@ use Rattle.lsm_writers.specs.Writing.{written}
 use Rattle.sst_blocks.specs.table.Chunks.{joined}
 use Rattle.lsm_runs.proofs.Observing.{counted_one_more, counted_same, finished_len, none_counted}
 use Rattle.lsm_runs.proofs.Observing.{none_finished, one_finished, other_ids, same_ids}
-use Rattle.lsm_runs.proofs.Observing.{some_counted, told_more_tables}
+use Rattle.lsm_runs.proofs.Observing.{some_counted, reported_more_tables}
 use Rattle.lsm_runs.proofs.compaction.any_runs_with.write_and_tell.Goals as goal
 
 pub returns-then-written-eq0-clause-told : goal.returns-then-written-eq0-clause-told
@@ -56,5 +56,5 @@ returns-clause-told g c counted begun =
     let one = one_finished m e fine begun (some_counted m n e c.args.progress.now counted c.if-written-eq0.false)
     (λ same. other_ids _ _ (sym c.if-eq.ensures) (c.table_ids.ensures ∙ ap (λ (x : TablesWriting). x.ids) c.in_ok-write_ref.ensures.ok ∙ same ∙ sym c.table_ids-ids.ensures)) in
     let more : n.tables ≡ m.tables ++ written m.present ∷ [] = ap (λ (x : TablesWriting). x.tables) c.in_ok-write_ref.ensures.ok ∙ one in
-    told_more_tables m n e c.args.progress.now counted g.O.CompactionObserver.says c.args.observer.now c.goes_on.new.self c.goes_on.result (written m.present) c.saturating_add-progress-2.result more
+    reported_more_tables m n e c.args.progress.now counted g.O.CompactionObserver.says c.args.observer.now c.goes_on.new.self c.goes_on.result (written m.present) c.saturating_add-progress-2.result more
     (ap (λ (x : TablesWriting). length (joined x.tables)) c.in_ok-write_ref.ensures.ok ∙ finished_len m e fine begun one) c.saturating_add-progress-2.ensures c.goes_on.ensures

@@ -1,5 +1,5 @@
 use Rattle.std.proofs.Common.{◌≡◌}
-use Rattle.sst_entries.specs.Stream.{CanDeal, nowhere}
+use Rattle.sst_entries.specs.Stream.{CanYield, nowhere}
 use Rattle.lsm_writers.specs.Tables.{all_written}
 use Rattle.lsm_runs.specs.compaction.AnyRuns.{took_all}
 use Rattle.lsm_runs.proofs.Observing.{Observing}
@@ -7,7 +7,7 @@ use Rattle.lsm_runs.proofs.compaction.any_runs_with.write_while_observed.Given a
 
 abbrev pub invariant-loop-source : goal.invariant-loop-source
 invariant-loop-source g l = record {
-  can : CanDeal g.L.Lending.advances nowhere g.L.Lending.can_advance g.L.Lending.can_advance
+  can : CanYield g.L.Lending.advances nowhere g.L.Lending.can_advance g.L.Lending.can_advance
       l.source;
   observing : Observing g.L.Lending.advances g.O.CompactionObserver.says l.fn.writer l.fn.source
       l.fn.observer l.writer l.source l.progress l.observer;

@@ -24,7 +24,7 @@ write_all-requires g c =
       fresh = c.requires.fresh;
       next = next;
       can = c.in_ok-kept.ensures.can;
-      deals = record { list = kept_in rules able.lists; writable = stays_writable rules (union_in able.lists) able.writable; deals = c.in_ok-kept.ensures.list (merged_as able) };
+      yields = record { list = kept_in rules able.lists; writable = stays_writable rules (union_in able.lists) able.writable; yields = c.in_ok-kept.ensures.list (merged_as able) };
     }
 
 pub returns-clause-tables : goal.returns-clause-tables
@@ -32,14 +32,14 @@ returns-clause-tables g c lists held =
     let rules = rules_by c.args.gc_seqno_threshold c.args.evict_tombstones c.args.zero_seqnos in
     let able = c.requires.able in
     subst (λ (ls : List (List (List Entry))). IfOk c.write_all.result (λ r. AreWrittenBy c.args.writer (kept_in rules ls) r.0.items r.1)) (one_way (map arc_value c.args.runs.now) able.lists lists able.hold held)
-    (c.write_all.ensures.written (record { list = kept_in rules able.lists; writable = stays_writable rules (union_in able.lists) able.writable; deals = c.in_ok-kept.ensures.list (merged_as able) }))
+    (c.write_all.ensures.written (record { list = kept_in rules able.lists; writable = stays_writable rules (union_in able.lists) able.writable; yields = c.in_ok-kept.ensures.list (merged_as able) }))
 
 pub returns-clause-refused : goal.returns-clause-refused
 returns-clause-refused g c lists held =
     let rules = rules_by c.args.gc_seqno_threshold c.args.evict_tombstones c.args.zero_seqnos in
     let able = c.requires.able in
     subst (λ (ls : List (List (List Entry))). Faults c.write_all.result (writes_fault c.args.writer (kept_in rules ls))) (one_way (map arc_value c.args.runs.now) able.lists lists able.hold held)
-    (c.write_all.ensures.refused (record { list = kept_in rules able.lists; writable = stays_writable rules (union_in able.lists) able.writable; deals = c.in_ok-kept.ensures.list (merged_as able) }))
+    (c.write_all.ensures.refused (record { list = kept_in rules able.lists; writable = stays_writable rules (union_in able.lists) able.writable; yields = c.in_ok-kept.ensures.list (merged_as able) }))
 
 pub returns-clause-taken : goal.returns-clause-taken
 returns-clause-taken g c lists held fits =

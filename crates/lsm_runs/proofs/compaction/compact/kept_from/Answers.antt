@@ -7,4 +7,4 @@ pub returns-clause-list : goal.returns-clause-list
 returns-clause-list g c lists together =
     let m = c.in_ok-merger.merger in
     kept_lent _ _ m c.args.rules (union_in lists) c.new-2.result c.new-2.ensures.kept
-    (merged_together g.L.Lending.advances nowhere _ nowhere lists c.args.sources.items m together c.in_ok-merger.ensures.deals)
+    (merged_together g.L.Lending.advances nowhere _ nowhere lists c.args.sources.items m together c.in_ok-merger.ensures.yields)

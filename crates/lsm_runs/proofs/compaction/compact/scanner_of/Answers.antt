@@ -5,7 +5,7 @@ use Rattle.sst_entries.specs.declared.error.Error.{Error}
 use Rattle.sst_entries.specs.Error.{Faults, is_memory}
 use Rattle.lsm_runs.specs.compaction.AnyRuns.{first_block_fault}
 use Rattle.sst_entries.specs.Stream.{first, nowhere}
-use Rattle.lsm_iters.specs.block_index.Dealt.{DealsEnding}
+use Rattle.lsm_iters.specs.block_index.Yielded.{YieldsEnding}
 use Rattle.lsm_readers.specs.point.Table.{OpenTable}
 use Rattle.lsm_runs.specs.RunLists.{HoldLists}
 use Rattle.lsm_runs.specs.RunScan.{RunScansNext, tables_scan}
@@ -37,7 +37,7 @@ returns-clause-any g c =
     let same : ts ≡ arc_value c.args.run.now = c.in_ok-clone.ensures.cases in
     let is = whole_run ts (subst (λ (us : List OpenTable). 0 < length us) (sym same) c.requires) ∙ same in
     scanned_any RunScansNext (arc_value c.args.run.now) c.culled.result
-    (subst (λ (us : List OpenTable). IfOk c.culled.result (λ s. DealsEnding RunScansNext nowhere (λ _. Unit {0}) (λ _. Unit {0}) s (tables_scan us))) is c.culled.ensures.deals)
+    (subst (λ (us : List OpenTable). IfOk c.culled.result (λ s. YieldsEnding RunScansNext nowhere (λ _. Unit {0}) (λ _. Unit {0}) s (tables_scan us))) is c.culled.ensures.yields)
 
 pub returns-clause-told : goal.returns-clause-told
 returns-clause-told g c =

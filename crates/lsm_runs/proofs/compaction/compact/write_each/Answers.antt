@@ -3,7 +3,7 @@ use Rattle.sst_entries.specs.Stream.{nowhere}
 use Rattle.sst_entries.proofs.StreamLemmas.{can_front, can_now}
 use Rattle.lsm_runs.proofs.AnyTaken.{taking_more, taking_none}
 use Rattle.lsm_runs.proofs.TookList.{err_fault, took_list, took_more, took_none}
-use Rattle.lsm_runs.proofs.WritesOn.{all_taken, deals_fine, lent_next, lent_over, may_follow_on}
+use Rattle.lsm_runs.proofs.WritesOn.{all_taken, yields_fine, lent_next, lent_over, may_follow_on}
 use Rattle.lsm_runs.proofs.WritesOn.{nothing_written_yet, refused_one, writes_more}
 use Rattle.lsm_runs.proofs.WrittenBy.{nothing_yet}
 use Rattle.lsm_runs.proofs.compaction.compact.write_each.Goals as goal
@@ -16,7 +16,7 @@ loop-source-init g c =
       can = c.requires.can;
       taking = taking_none w none;
       took = took_none w none;
-      writes = λ d. nothing_written_yet g.L.Lending.advances w d.list c.args.source.now none d.deals;
+      writes = λ d. nothing_written_yet g.L.Lending.advances w d.list c.args.source.now none d.yields;
     }
 
 pub advance-requires : goal.advance-requires
@@ -28,12 +28,12 @@ returns-in_err-advance-clause-refused g c d =
     let f = c.in_err-advance.field-0.0 in
     let on = c.loop-source.invariant.writes d in
     err_fault c.from_residual.result f _ c.from_residual.ensures.1
-    (λ fine. absurd (deals_fine next on.rest c.loop-source.source c.advance.new.self f on.deals c.in_err-advance.ensures.goes fine))
+    (λ fine. absurd (yields_fine next on.rest c.loop-source.source c.advance.new.self f on.yields c.in_err-advance.ensures.goes fine))
 
 pub write_ref-requires : goal.write_ref-requires
 write_ref-requires g c =
     let next = g.L.Lending.advances in
-    let d = c.requires.deals in
+    let d = c.requires.yields in
     let step = lent_next next _ _ _ c.in_ok-advance.field-0 _ c.in-Some.ensures c.in_ok-advance.ensures.goes in
     may_follow_on next c.args.writer.now d.list c.loop-source.writer c.loop-source.source c.advance.new.self (entry_of_ref c.in-Some.entry) (c.loop-source.invariant.writes d) step d.writable
 
@@ -45,7 +45,7 @@ loop-source-preserved-in-Continue-branch-2 g c =
     let m = l.writer in
     let n = c.write_ref.new.self in
     let e = entry_of_ref c.in-Some.entry in
-    let d = c.requires.deals in
+    let d = c.requires.yields in
     let step = lent_next next _ _ _ c.in_ok-advance.field-0 _ c.in-Some.ensures c.in_ok-advance.ensures.goes in
     let o = c.in_ok-write_ref.ensures in
     record {

@@ -9,7 +9,7 @@ use Rattle.lsm_readers.specs.point.Table.{OpenTable}
 use Rattle.lsm_run_parts.specs.RunParts.{ends_given}
 use Rattle.lsm_runs.specs.RunScan.{early_scan_fault, scan_fault, tables_between, tables_scan}
 use Rattle.lsm_run_parts.proofs.Places.{table_at}
-use Rattle.lsm_runs.proofs.ScanSteps.{begun, fault_passed, first_passed, lists_deal, passed_on, scan_deals, span_refused}
+use Rattle.lsm_runs.proofs.ScanSteps.{begun, fault_passed, first_passed, lists_yield, passed_on, scan_yields, span_refused}
 use Rattle.lsm_runs.proofs.run_scanner.RunScanner.culled.Goals as goal
 
 pub returns-clause-is : goal.returns-clause-is
@@ -36,17 +36,17 @@ returns-in_err-reader-clause-told g c =
     passed_on (λ (e : Error). is_memory e ≡ false → first (tables_scan (tables_between ts ends)) ≡ Some (Err e)) c.from_residual.result c.in_err-reader.field-0.0 c.from_residual.ensures.1
     (span_refused ts ends t.0 c.in_err-reader.field-0.0 c.requires.0 t.1 (c.in_err-reader.ensures.begins t.0 there))
 
-pub returns-clause-deals : goal.returns-clause-deals
-returns-clause-deals g c = scan_deals _ _ (returns-clause-is g c).left
+pub returns-clause-yields : goal.returns-clause-yields
+returns-clause-yields g c = scan_yields _ _ (returns-clause-is g c).left
 
 pub returns-clause-list : goal.returns-clause-list
-returns-clause-list g c lists some held = lists_deal (tables_between (arc_value c.args.run) (ends_given (arc_value c.args.run) c.args.span)) lists held some _ (returns-clause-is g c).left
+returns-clause-list g c lists some held = lists_yield (tables_between (arc_value c.args.run) (ends_given (arc_value c.args.run) c.args.span)) lists held some _ (returns-clause-is g c).left
 
 pub returns-clause-lends : goal.returns-clause-lends
-returns-clause-lends g c = scan_deals _ _ (returns-clause-is g c).left
+returns-clause-lends g c = scan_yields _ _ (returns-clause-is g c).left
 
 pub returns-clause-lends_list : goal.returns-clause-lends_list
-returns-clause-lends_list g c lists some held = lists_deal (tables_between (arc_value c.args.run) (ends_given (arc_value c.args.run) c.args.span)) lists held some _ (returns-clause-is g c).left
+returns-clause-lends_list g c lists some held = lists_yield (tables_between (arc_value c.args.run) (ends_given (arc_value c.args.run) c.args.span)) lists held some _ (returns-clause-is g c).left
 
 pub returns-clause-refused : goal.returns-clause-refused
 returns-clause-refused g c t at =

@@ -4,7 +4,7 @@ use Rattle.std.proofs.Common.{cond, List, slice_set}
 use Rattle.std.specs.Prelude.{All, is_ok}
 use Rattle.std.specs.List.{insert}
 use Rattle.std.proofs.lemmas.Result.{err_from_is_err_and}
-use Rattle.sst_entries.specs.Stream.{CanDeal, nowhere}
+use Rattle.sst_entries.specs.Stream.{CanYield, nowhere}
 use Rattle.sst_entries.proofs.StreamLemmas.{can_now}
 use Rattle.lsm_sorted.specs.declared.lending_merger.Head.{Head}
 use Rattle.lsm_sorted.specs.lending.Lent.{IsHead, lent_at, queued, source_of}
@@ -18,7 +18,7 @@ advance-requires g c =
     let can = g.L.Lending.can_advance in
     let advances = g.L.Lending.advances in
     can_now advances nowhere can can c.index_mut.result.now
-    (subst (CanDeal advances nowhere can can) (sym c.index_mut.ensures.value) (c.requires.ready.sources c.args.source c.index_mut.result.now c.requires.place))
+    (subst (CanYield advances nowhere can can) (sym c.index_mut.ensures.value) (c.requires.ready.sources c.args.source c.index_mut.result.now c.requires.place))
 
 pub returns-in_err-advance-clause-ready : goal.returns-in_err-advance-clause-ready
 returns-in_err-advance-clause-ready g c =

@@ -1,10 +1,10 @@
 -- A fresh merger.
 use Rattle.std.proofs.Common.{refl, arith}
-use Rattle.lsm_sorted.proofs.LentDeals.{lent_in_place, lent_merged, lent_may, lent_can, lent_ends}
+use Rattle.lsm_sorted.proofs.LentYields.{lent_in_place, lent_merged, lent_may, lent_can, lent_ends}
 use Rattle.lsm_sorted.proofs.lending_merger.LendingMerger.new.Goals as goal
 
-pub returns-clause-deals : goal.returns-clause-deals
-returns-clause-deals g c =
+pub returns-clause-yields : goal.returns-clause-yields
+returns-clause-yields g c =
     lent_merged g.L.Lending.advances g.L.Lending.can_advance g.L.Lending.lent c.args.sources.items _ refl c.in_ok-queue.ensures.items refl
 
 pub returns-clause-places : goal.returns-clause-places

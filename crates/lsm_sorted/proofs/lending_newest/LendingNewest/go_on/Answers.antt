@@ -2,7 +2,7 @@
 use Rattle.std.proofs.Common.{◌≡◌, ℕ, List, true, false, refl, sym, ◌∙◌, subst, arith}
 use Rattle.std.specs.Prelude.{Option}
 use Rattle.std.proofs.lemmas.Result.{err_from_is_err_and}
-use Rattle.sst_entries.specs.Stream.{CanDeal, nowhere}
+use Rattle.sst_entries.specs.Stream.{CanYield, nowhere}
 use Rattle.sst_entries.proofs.StreamLemmas.{can_front, can_now}
 use Rattle.lsm_sorted.specs.lending.LentNewest.{is_other, given_key}
 use Rattle.lsm_sorted.proofs.LentNewestLemmas.{still_skips, gives_kept, gives_end, gives_fault}
@@ -37,7 +37,7 @@ returns-in-Err-clause-goes g c =
     let before = c.loop-self.invariant in
     let can = g.L.Lending.can_advance in
     record {
-      may = subst (CanDeal g.L.Lending.advances nowhere can can) (sym c.in-Err.ensures.source)
+      may = subst (CanYield g.L.Lending.advances nowhere can can) (sym c.in-Err.ensures.source)
           (can_front g.L.Lending.advances nowhere can can c.loop-self.self.source _ c.advance.new.self before.may c.in_ok-advance.ensures.goes);
       gives = λ stops. gives_memory stops g.L.Lending.advances c.args.self.now _ c.in-Err.error c.in-Err.ensures.err;
       tells = record {
@@ -57,7 +57,7 @@ returns-then-is_other-clause-goes g c =
     let other : is_other (given_key c.args.self.now) (lent t) ≡ true =
     subst (λ (k : Option (List ℕ)). is_other k (lent t) ≡ true) kept (sym c.is_other.ensures ∙ c.if-is_other.true) in
     record {
-      may = subst (CanDeal g.L.Lending.advances nowhere can can) (sym c.in_default.ensures.source)
+      may = subst (CanYield g.L.Lending.advances nowhere can can) (sym c.in_default.ensures.source)
           (can_front g.L.Lending.advances nowhere can can m.source _ t before.may c.in_ok-advance.ensures.goes);
       gives = λ stops. gives_kept stops g.L.Lending.advances lent c.args.self.now c.remember.new.self m.source (before.still stops) (c.in_default.ensures.over ∙ before.live ∙ c.requires.live)
           t c.in_default.ensures.source c.in_ok-advance.field-0 c.in_default.ensures.has c.in_ok-advance.ensures.more c.if-branch.true other c.in_default.ensures.key c.in_ok-advance.ensures.goes;

@@ -1,5 +1,5 @@
 use Rattle.std.proofs.Common.{◌≡◌, ◌≤◌, Bool}
-use Rattle.sst_entries.specs.Stream.{CanDeal, nowhere}
+use Rattle.sst_entries.specs.Stream.{CanYield, nowhere}
 use Rattle.sst_entries.specs.declared.error.Error.{Error}
 use Rattle.lsm_sorted.specs.lending.LentNewest.{given_key}
 use Rattle.lsm_sorted.proofs.LentNewestLemmas.{Still}
@@ -11,7 +11,7 @@ invariant-loop-self g l =
     let advances = g.L.Lending.advances in
     let can = g.L.Lending.can_advance in
     record {
-      may : CanDeal advances nowhere can can l.self.source;
+      may : CanYield advances nowhere can can l.self.source;
       key : l.self.key ≡ l.initial.self.key;
       has : l.self.has_key ≡ l.initial.self.has_key;
       live : l.self.is_over ≡ l.initial.self.is_over;

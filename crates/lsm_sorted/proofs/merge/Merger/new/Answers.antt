@@ -1,12 +1,12 @@
 use Rattle.std.proofs.Common.{refl, arith}
 use Rattle.sst_entries.specs.Stream.{nowhere}
 use Rattle.lsm_sorted.proofs.UnionLemmas.{merged_union, only_union}
-use Rattle.lsm_sorted.proofs.DealsMerged.{new_may}
-use Rattle.lsm_sorted.proofs.CallsMerged.{front_merges, merger_deals, merger_until, ends_at}
+use Rattle.lsm_sorted.proofs.YieldsMerged.{new_may}
+use Rattle.lsm_sorted.proofs.CallsMerged.{front_merges, merger_yields, merger_until, ends_at}
 use Rattle.lsm_sorted.proofs.CallsMerged.{can_in_front, holds_one}
 use Rattle.lsm_sorted.proofs.LateErrors.{merger_late}
 use Rattle.lsm_sorted.specs.merge.Union.{union_of, all_errors}
-use Rattle.lsm_sorted.proofs.UntilLemmas.{deals_until_error}
+use Rattle.lsm_sorted.proofs.UntilLemmas.{yields_until_error}
 use Rattle.lsm_sorted.proofs.merge.Merger.new.Goals as goal
 
 pub returns-clause-union : goal.returns-clause-union
@@ -25,10 +25,10 @@ returns-clause-fresh g c = record {
   fine = refl;
 }
 
-pub returns-clause-deals : goal.returns-clause-deals
-returns-clause-deals g c =
+pub returns-clause-yields : goal.returns-clause-yields
+returns-clause-yields g c =
     let front = g.I.Iterator.next_gives in
-    merger_deals front nowhere _ nowhere (front_merges front nowhere _) (λ s r t no. absurd no) _ _ (returns-clause-fresh g c)
+    merger_yields front nowhere _ nowhere (front_merges front nowhere _) (λ s r t no. absurd no) _ _ (returns-clause-fresh g c)
 
 pub returns-clause-until : goal.returns-clause-until
 returns-clause-until g c =
@@ -58,5 +58,5 @@ returns-clause-late g c = merger_late g.I.Iterator.next_gives nowhere _ _ _ (ret
 
 pub returns-clause-before : goal.returns-clause-before
 returns-clause-before g c = record {
-  deals = λ stops lists sorted. deals_until_error stops _ _ _ (union_of lists) (all_errors lists) ((returns-clause-until g c).deals stops lists sorted);
+  yields = λ stops lists sorted. yields_until_error stops _ _ _ (union_of lists) (all_errors lists) ((returns-clause-until g c).yields stops lists sorted);
 }

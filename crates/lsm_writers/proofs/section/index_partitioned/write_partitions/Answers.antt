@@ -1,7 +1,7 @@
 -- A handle waits, or fills a part that is written.
 use Rattle.std.proofs.Common.{◌+◌, length, arith}
 use Rattle.sst_entries.proofs.Refusals.{faults_refusal}
-use Rattle.lsm_writers.proofs.SectionCutting.{all_fit, all_short, all_told, all_written, cut_filled}
+use Rattle.lsm_writers.proofs.SectionCutting.{all_fit, all_short, all_result, all_written, cut_filled}
 use Rattle.lsm_writers.proofs.SectionCutting.{cut_none, cut_waits, done_front, done_length}
 use Rattle.lsm_writers.proofs.SectionCutting.{front_stays, no_rest, part_done, part_fails}
 use Rattle.lsm_writers.proofs.SectionCutting.{part_next, rest_next}
@@ -86,13 +86,13 @@ returns-in_ok-write_partition-2-clause-tops g c =
     let now = c.loop-i in
     let rest = rest_next c.args.partition_size c.args.handles.now c.args.writer.now now.writer now.tops.items now.start now.i now.size now.invariant c.loop-i-test.false c.if-start-handles.true in
     let wrote = c.in_ok-write_partition-2.ensures in
-    all_told _ c.args.writer.now c.write_partition-then-start-handles.new.writer c.write_partition-then-start-handles.new.tops.items
+    all_result _ c.args.writer.now c.write_partition-then-start-handles.new.writer c.write_partition-then-start-handles.new.tops.items
     (part_done _ _ c.args.writer.now now.writer now.tops.items _ rest c.position-base.result c.position-base.ensures _ _ wrote.ok wrote.top wrote.bound wrote.short wrote.refused)
 
 pub returns-else-start-handles-clause-tops : goal.returns-else-start-handles-clause-tops
 returns-else-start-handles-clause-tops g c =
     let now = c.loop-i in
-    all_told _ c.args.writer.now now.writer now.tops.items
+    all_result _ c.args.writer.now now.writer now.tops.items
     (no_rest c.args.partition_size c.args.handles.now c.args.writer.now now.writer now.tops.items now.start now.i now.size now.invariant c.loop-i-test.false c.if-start-handles.false)
 
 pub returns-in_ok-write_partition-2-clause-short : goal.returns-in_ok-write_partition-2-clause-short

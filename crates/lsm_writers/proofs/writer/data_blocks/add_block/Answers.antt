@@ -8,7 +8,7 @@ use Rattle.sst_blocks.proofs.Faults.{on_ok}
 use Rattle.sst_blocks.specs.table.Chunks.{joined}
 use Rattle.sst_blocks.specs.table.Index.{last_entry}
 use Rattle.lsm_writers.specs.Cut.{AreCut}
-use Rattle.lsm_writers.proofs.Cutting.{cut_lost, cut_more, registered_strict, told_handle}
+use Rattle.lsm_writers.proofs.Cutting.{cut_lost, cut_more, registered_strict, reported_handle}
 use Rattle.lsm_writers.proofs.Refused.{err_then}
 use Rattle.lsm_writers.proofs.writer.data_blocks.add_block.Goals as goal
 
@@ -26,14 +26,14 @@ register_block-requires-clause-strict g c =
     let r = c.requires.cut in
     let w = c.args.file_writer.now in
     registered_strict r.chunks w c.args.index_writer.now.handles r.last c.args.index_writer.now.failed c.args.entries.now _ r.are r.works r.strict c.write_into.ensures.readable
-    (told_handle c.args.entries.now c.write_into.new.self (length w.bytes) c.in_ok-block.block c.write_into.ensures.same c.in_ok-block.ensures.handle)
+    (reported_handle c.args.entries.now c.write_into.new.self (length w.bytes) c.in_ok-block.block c.write_into.ensures.same c.in_ok-block.ensures.handle)
 
 pub returns-clause-added : goal.returns-clause-added
 returns-clause-added g c =
     let w = c.args.file_writer.now in
     let es = c.args.entries.now in
     let readable = c.write_into.ensures.readable in
-    let told = told_handle es c.write_into.new.self (length w.bytes) c.in_ok-block.block c.write_into.ensures.same c.in_ok-block.ensures.handle in
+    let told = reported_handle es c.write_into.new.self (length w.bytes) c.in_ok-block.block c.write_into.ensures.same c.in_ok-block.ensures.handle in
     on_ok _ _ c.register_block.result c.register_block.ensures.ok (λ more chunks before are strict.
     let hs = more ∙ ap (λ (h : Handle). c.args.index_writer.now.handles ++ h ∷ []) told in
     cut_more chunks w c.write_into.new.file_writer c.args.index_writer.now.handles c.register_block.new.index_writer.handles before (Some (last_entry es)) c.args.index_writer.now.failed c.register_block.new.index_writer.failed es are c.requires.cut.works strict readable c.in_ok-block.ensures.ok hs refl)

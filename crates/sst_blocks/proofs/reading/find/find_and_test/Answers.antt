@@ -39,7 +39,7 @@ pub loop-preserved : goal.loop-preserved
 loop-preserved g c =
     let f = g.R.ItemRef.format c.args.version in
     let told = g.R.ItemRef.told in
-    let p = λ (x : g.R.ItemRef.Told). is_before (read_place c.args.key.now c.args.seqno) (f.key x) in
+    let p = λ (x : g.R.ItemRef.Reported). is_before (read_place c.args.key.now c.args.seqno) (f.key x) in
     let some : f.read c.loop.rest.now ≡ Some (told c.in-Some.read.0, c.in-Some.read.1.now) = search rules in
     let follows : may_follow (option_map (λ x. f.key (told x)) c.loop.last) (f.key (told c.in-Some.read.0)) ≡ true = search rules in
     let start = length c.args.payload.now - length c.loop.rest.now in

@@ -24,7 +24,7 @@ pub returns-then-is_past-clause-found : goal.returns-then-is_past-clause-found
 returns-then-is_past-clause-found g c =
     let f = g.R.ItemRef.format c.args.version in
     let told = g.R.ItemRef.told in
-    let p = λ (x : g.R.ItemRef.Told). is_before (read_place c.args.key.now c.args.seqno) (f.key x) in
+    let p = λ (x : g.R.ItemRef.Reported). is_before (read_place c.args.key.now c.args.seqno) (f.key x) in
     let some : f.read c.loop.rest.now ≡ Some (told c.in-Some.read.0, c.in-Some.read.1.now) = search rules in
     let follows = walk_tested f _ _ _ _ _ _ _ c.loop.invariant.1.walk (omega arith) some c.requires.tested in
     let next = is_next None (p (told c.in-Some.read.0)) c.is_past.result (told c.in-Some.read.0) refl (c.is_past.ensures c.args.version) c.if-is_past.true in
@@ -35,7 +35,7 @@ pub returns-then-is_past-clause-place : goal.returns-then-is_past-clause-place
 returns-then-is_past-clause-place g c =
     let f = g.R.ItemRef.format c.args.version in
     let told = g.R.ItemRef.told in
-    let p = λ (x : g.R.ItemRef.Told). is_before (read_place c.args.key.now c.args.seqno) (f.key x) in
+    let p = λ (x : g.R.ItemRef.Reported). is_before (read_place c.args.key.now c.args.seqno) (f.key x) in
     let some : f.read c.loop.rest.now ≡ Some (told c.in-Some.read.0, c.in-Some.read.1.now) = search rules in
     search_place f p _ _ _ _ _ _ _ c.loop.invariant.1 some
 
@@ -43,7 +43,7 @@ pub loop-preserved : goal.loop-preserved
 loop-preserved g c =
     let f = g.R.ItemRef.format c.args.version in
     let told = g.R.ItemRef.told in
-    let p = λ (x : g.R.ItemRef.Told). is_before (read_place c.args.key.now c.args.seqno) (f.key x) in
+    let p = λ (x : g.R.ItemRef.Reported). is_before (read_place c.args.key.now c.args.seqno) (f.key x) in
     let some : f.read c.loop.rest.now ≡ Some (told c.in-Some.read.0, c.in-Some.read.1.now) = search rules in
     let follows = walk_tested f _ _ _ _ _ _ _ c.loop.invariant.1.walk (omega arith) some c.requires.tested in
     let next = is_not_next None (p (told c.in-Some.read.0)) c.is_past.result (told c.in-Some.read.0) refl (c.is_past.ensures c.args.version) c.if-is_past.false in

@@ -14,11 +14,11 @@ invariant-loop-low g l =
       order : l.low ≤ l.high;
       within : l.high ≤ length l.starts;
       parts : (p : List ℕ → ℕ → Bool) → ((key : _) (n : _) (r : _) → goal.P-post g l.passes key n r
-          → r ≡ p key.now n) → IsPartitionedBy (λ (x : g.R.ItemRef.Told). p (f.key x).user_key
+          → r ≡ p key.now n) → IsPartitionedBy (λ (x : g.R.ItemRef.Reported). p (f.key x).user_key
           (f.key x).seqno) items
-          → ((i : ℕ) (x : g.R.ItemRef.Told) → i < l.low → slice_get items i ≡ Some x
+          → ((i : ℕ) (x : g.R.ItemRef.Reported) → i < l.low → slice_get items i ≡ Some x
           → p (f.key x).user_key (f.key x).seqno ≡ true)
-          × ((x : g.R.ItemRef.Told) → slice_get items l.high ≡ Some x
+          × ((x : g.R.ItemRef.Reported) → slice_get items l.high ≡ Some x
           → p (f.key x).user_key (f.key x).seqno ≡ false);
     }
 

@@ -27,6 +27,6 @@ pub returns : goal.returns
 returns g c =
     let f = g.R.ItemRef.format c.args.version in
     let h = holds f c.is_format.ensures.advances _ _ c.args.index c.at-start.result c.requires.spelled c.requires.within c.at-start.ensures.found in
-    let key = λ (x : g.R.ItemRef.Told). key_and_number (f.key x) in
-    let read = λ (bytes : List ℕ). option_map (λ (x : g.R.ItemRef.Told × List ℕ). key x.0) (f.read bytes) in
-    ap (option_map key) h.there ∙ sym (ap read (take_rest c.args.payload.now c.at-start.result) ∙ ap (option_map (λ (x : g.R.ItemRef.Told × List ℕ). key x.0)) h.here.found) ∙ c.read_key.ensures
+    let key = λ (x : g.R.ItemRef.Reported). key_and_number (f.key x) in
+    let read = λ (bytes : List ℕ). option_map (λ (x : g.R.ItemRef.Reported × List ℕ). key x.0) (f.read bytes) in
+    ap (option_map key) h.there ∙ sym (ap read (take_rest c.args.payload.now c.at-start.result) ∙ ap (option_map (λ (x : g.R.ItemRef.Reported × List ℕ). key x.0)) h.here.found) ∙ c.read_key.ensures

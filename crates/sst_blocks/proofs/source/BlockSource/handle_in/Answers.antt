@@ -6,7 +6,7 @@ use Rattle.sst_blocks.specs.Sections.{body_of}
 use Rattle.sst_blocks.specs.Version.{key_width}
 use Rattle.sst_blocks.specs.Place.{Place, place_of}
 use Rattle.sst_blocks.specs.SeenHandle.{handle_of_ref}
-use Rattle.sst_blocks.proofs.Asked.{handles_told, handles_wrong}
+use Rattle.sst_blocks.proofs.Asked.{handles_result, handles_wrong}
 use Rattle.sst_blocks.proofs.Room.{room_long}
 use Rattle.sst_blocks.proofs.source.BlockSource.handle_in.Goals as goal
 
@@ -30,11 +30,11 @@ returns-in-Some g c =
     let part : slice_range c.body.result.now s.start s.end ≡ slice_range (body_of c.args.self.now) s.start s.end = ap (λ (b : List ℕ). slice_range b s.start s.end) c.body.ensures.body in
     let found = sym (ap (option_map handle_of_ref) c.in-Some.is) ∙ c.in_ok-first.ensures.found in
     let place : c.new.result ≡ place_of (handle_of_ref c.in-Some.found) = rw (c.new.ensures.offset, c.new.ensures.size) refl in
-    record { told = ap (λ (p : Place). Ok (Some p)) place ∙ handles_told s.header.version s.header.checksum _ _ part c.requires.sound.sum c.args.key.now c.args.seqno (Some (handle_of_ref c.in-Some.found)) c.in_ok-first.ensures.whole found }
+    record { told = ap (λ (p : Place). Ok (Some p)) place ∙ handles_result s.header.version s.header.checksum _ _ part c.requires.sound.sum c.args.key.now c.args.seqno (Some (handle_of_ref c.in-Some.found)) c.in_ok-first.ensures.whole found }
 
 pub returns-in-None : goal.returns-in-None
 returns-in-None g c =
     let s = c.args.sound.now in
     let part : slice_range c.body.result.now s.start s.end ≡ slice_range (body_of c.args.self.now) s.start s.end = ap (λ (b : List ℕ). slice_range b s.start s.end) c.body.ensures.body in
     let found = sym (ap (option_map handle_of_ref) c.in-None.is) ∙ c.in_ok-first.ensures.found in
-    record { told = handles_told s.header.version s.header.checksum _ _ part c.requires.sound.sum c.args.key.now c.args.seqno None c.in_ok-first.ensures.whole found }
+    record { told = handles_result s.header.version s.header.checksum _ _ part c.requires.sound.sum c.args.key.now c.args.seqno None c.in_ok-first.ensures.whole found }

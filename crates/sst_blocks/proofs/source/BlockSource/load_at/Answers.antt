@@ -5,7 +5,7 @@ use Rattle.std.specs.Prelude.{Option, None, Some}
 use Rattle.std.specs.Option.{option_or}
 use Rattle.sst_entries.specs.declared.error.Error.{Error}
 use Rattle.sst_entries.specs.declared.error.Error.TheVariants.{Truncated, InvalidHeader}
-use Rattle.sst_blocks.specs.Block.{Loaded, load_at_told, position_fault, checked_payload, checksum_fault, data_len, header_fault, room_fault, stored_checksum, version_in}
+use Rattle.sst_blocks.specs.Block.{Loaded, load_at_result, position_fault, checked_payload, checksum_fault, data_len, header_fault, room_fault, stored_checksum, version_in}
 use Rattle.sst_blocks.proofs.MarkLemmas.{headed_there}
 use Rattle.sst_entries.specs.Error.{FaultsFirst, Gives}
 use Rattle.sst_blocks.specs.Sections.{body_of}
@@ -40,7 +40,7 @@ returns-then-body-start-clause-told g c =
 pub returns-clause-told : goal.returns-clause-told
 returns-clause-told g c =
     let told = load_at_checked c.body-body.result.now c.args.position c.args.kind (omega arith) c.in_ok-header.ensures.fault (omega (arith, c.in_ok-header.ensures.data_len, c.in_ok-header.ensures.uncompressed_len)) (omega (arith, c.in_ok-header.ensures.data_len)) in
-    let whole : load_at_told (body_of c.args.self.now) c.args.position c.args.kind ≡ checked_payload c.in_ok-header.header.version c.in_ok-header.header.checksum c.args.kind (slice_range (body_of c.args.self.now) (c.args.position + 24) (c.args.position + 24 + c.in_ok-header.header.data_len)) = cc (c.body-body.ensures.body, c.in_ok-header.ensures.version, c.in_ok-header.ensures.checksum, c.in_ok-header.ensures.data_len) in
+    let whole : load_at_result (body_of c.args.self.now) c.args.position c.args.kind ≡ checked_payload c.in_ok-header.header.version c.in_ok-header.header.checksum c.args.kind (slice_range (body_of c.args.self.now) (c.args.position + 24) (c.args.position + 24 + c.in_ok-header.header.data_len)) = cc (c.body-body.ensures.body, c.in_ok-header.ensures.version, c.in_ok-header.ensures.checksum, c.in_ok-header.ensures.data_len) in
     subst (λ (told : Result Loaded Error). Gives {X = Loaded} {Y = Loaded} (λ b. b) c.block.result told) (sym whole) c.block.ensures.told
 
 pub returns-clause-within : goal.returns-clause-within

@@ -2,7 +2,7 @@ use Rattle.std.proofs.Common.{◌≡◌, ◌+◌, ℕ, List, ap, subst, length, 
 use Rattle.std.specs.Prelude.{None, Some, Err}
 use Rattle.std.specs.Option.{option_or}
 use Rattle.std.proofs.lemmas.Result.{err_from_is_err_and}
-use Rattle.sst_blocks.specs.Block.{load_told, place_fault, checked_payload, checksum_fault, data_len, header_fault, room_fault, stored_checksum, version_in}
+use Rattle.sst_blocks.specs.Block.{load_result, place_fault, checked_payload, checksum_fault, data_len, header_fault, room_fault, stored_checksum, version_in}
 use Rattle.sst_blocks.specs.Marks.{IsHeaded}
 use Rattle.sst_blocks.proofs.MarkLemmas.{headed_there}
 use Rattle.sst_blocks.specs.Sections.{body_of}
@@ -23,7 +23,7 @@ pub returns-in_err-header-clause-told : goal.returns-in_err-header-clause-told
 returns-in_err-header-clause-told g c =
     let p = err_from_is_err_and c.from_residual.result c.from_residual.ensures.1 in
     let told = load_fault c.body-body.result.now c.offset-start.result.0 c.args.handle.now.size c.args.kind c.in_err-header.field-0.0 (omega arith) (omega arith) c.in_err-header.ensures.fault in
-    let same : load_told (body_of c.args.self.now) c.args.handle.now.offset c.args.handle.now.size c.args.kind ≡ Err c.in_err-header.field-0.0 = cc (c.body-body.ensures.body, c.offset-start.ensures) in
+    let same : load_result (body_of c.args.self.now) c.args.handle.now.offset c.args.handle.now.size c.args.kind ≡ Err c.in_err-header.field-0.0 = cc (c.body-body.ensures.body, c.offset-start.ensures) in
     rw (p.1, p.2) same
 
 pub returns-then-header-clause-told : goal.returns-then-header-clause-told
@@ -68,7 +68,7 @@ returns-clause-placed g c =
     let payload = slice_range (body_of c.args.self.now) (c.offset-start.result.0 + 24) (c.offset-start.result.0 + c.size-size.result) in
     let load = load_checked c.body-body.result.now c.offset-start.result.0 c.size-size.result c.args.kind (omega arith) (omega arith) c.in_ok-header.ensures.fault (omega (arith, c.in_ok-header.ensures.data_len, c.in_ok-header.ensures.uncompressed_len)) (omega (arith, c.in_ok-header.ensures.data_len, c.in_ok-header.ensures.uncompressed_len)) in
     let fault = place_checked c.body-body.result.now c.offset-start.result.0 c.size-size.result c.args.kind (omega arith) (omega arith) c.in_ok-header.ensures.fault (omega (arith, c.in_ok-header.ensures.data_len, c.in_ok-header.ensures.uncompressed_len)) (omega (arith, c.in_ok-header.ensures.data_len, c.in_ok-header.ensures.uncompressed_len)) in
-    let told : load_told (body_of c.args.self.now) c.args.handle.now.offset c.args.handle.now.size c.args.kind ≡ checked_payload header.version header.checksum c.args.kind payload = cc (c.body-body.ensures.body, c.offset-start.ensures, c.size-size.ensures, c.in_ok-header.ensures.version, c.in_ok-header.ensures.checksum) in
+    let told : load_result (body_of c.args.self.now) c.args.handle.now.offset c.args.handle.now.size c.args.kind ≡ checked_payload header.version header.checksum c.args.kind payload = cc (c.body-body.ensures.body, c.offset-start.ensures, c.size-size.ensures, c.in_ok-header.ensures.version, c.in_ok-header.ensures.checksum) in
     let first : place_fault (body_of c.args.self.now) c.args.handle.now.offset c.args.handle.now.size c.args.kind ≡ option_or (checksum_fault header.checksum payload) (room_fault header.version c.args.kind payload) = cc (c.body-body.ensures.body, c.offset-start.ensures, c.size-size.ensures, c.in_ok-header.ensures.version, c.in_ok-header.ensures.checksum) in
     record {
       ordered = omega arith;

@@ -8,7 +8,7 @@ use Rattle.sst_entries.specs.Entry.{Entry}
 use Rattle.sst_entries.specs.Lending.{entry_of_ref}
 use Rattle.sst_blocks.proofs.EntryPlaces.{lies_within, placed_is}
 use Rattle.sst_entries.specs.declared.entry_ref.EntryRef.{EntryRef}
-use Rattle.sst_blocks.proofs.Asked.{body_within, entries_told, entries_wrong, found_hit, found_none, found_other, shares_there, spelled_strict}
+use Rattle.sst_blocks.proofs.Asked.{body_within, entries_results, entries_wrong, found_hit, found_none, found_other, shares_there, spelled_strict}
 use Rattle.sst_blocks.proofs.Points.{keys_apart, keys_same}
 use Rattle.sst_blocks.proofs.Room.{room_long}
 use Rattle.sst_blocks.proofs.source.BlockSource.place_of_entry.Goals as goal
@@ -32,7 +32,7 @@ returns-in_default-clause-told g c =
     let s = c.args.sound.now in
     let part : slice_range c.body.result.now s.start s.end ≡ slice_range (body_of c.args.self.now) s.start s.end = ap (λ (b : List ℕ). slice_range b s.start s.end) c.body.ensures.body in
     let none = sym c.in_ok-first.ensures.found ∙ ap (option_map (λ (x : ℕ × EntryRef). entry_of_ref x.1)) c.in_default.is in
-    sym (entries_told s.header.version s.header.checksum _ _ part c.requires.sound.sum c.args.key.now c.args.seqno None c.in_ok-first.ensures.whole (found_none _ c.args.key.now c.args.seqno none))
+    sym (entries_results s.header.version s.header.checksum _ _ part c.requires.sound.sum c.args.key.now c.args.seqno None c.in_ok-first.ensures.whole (found_none _ c.args.key.now c.args.seqno none))
 
 pub returns-then-ne-clause-told : goal.returns-then-ne-clause-told
 returns-then-ne-clause-told g c =
@@ -42,7 +42,7 @@ returns-then-ne-clause-told g c =
     let some = sym c.in_ok-first.ensures.found ∙ ap (option_map (λ (x : ℕ × EntryRef). entry_of_ref x.1)) first in
     let other = keys_apart c.in-Some.entry.user_key.now c.args.key.now c.ne.result c.ne.ensures c.if-ne.true in
     let strict = spelled_strict s.header.version (slice_range c.body.result.now s.start s.end) c.in_ok-first.ensures.whole in
-    sym (entries_told s.header.version s.header.checksum _ _ part c.requires.sound.sum c.args.key.now c.args.seqno None c.in_ok-first.ensures.whole (found_other _ c.args.key.now c.args.seqno (entry_of_ref c.in-Some.entry) strict some other))
+    sym (entries_results s.header.version s.header.checksum _ _ part c.requires.sound.sum c.args.key.now c.args.seqno None c.in_ok-first.ensures.whole (found_other _ c.args.key.now c.args.seqno (entry_of_ref c.in-Some.entry) strict some other))
 
 pub overflow_add-key_at : goal.overflow_add-key_at
 overflow_add-key_at g c =
@@ -81,7 +81,7 @@ returns-clause-told g c =
     let is : key_at ≡ s.start + c.in-Some.at + (13 + key_width s.header.version) = omega (arith, c.head_len.ensures) in
     let shares = shares_there s.header.version c.args.self.now s.start s.end c.in-Some.at key_at e c.requires.sound.ordered c.requires.sound.within is (rw c.body.ensures.body at place) in
     ap (λ (x : Entry). Ok (Some x)) (placed_is c.args.self.now key_at e c.of.result c.of.ensures shares.key shares.value)
-    ∙ sym (entries_told s.header.version s.header.checksum _ _ part c.requires.sound.sum c.args.key.now c.args.seqno _ c.in_ok-first.ensures.whole (found_hit _ c.args.key.now c.args.seqno e some same))
+    ∙ sym (entries_results s.header.version s.header.checksum _ _ part c.requires.sound.sum c.args.key.now c.args.seqno _ c.in_ok-first.ensures.whole (found_hit _ c.args.key.now c.args.seqno e some same))
 
 pub returns-clause-placed : goal.returns-clause-placed
 returns-clause-placed g c =

@@ -1,6 +1,6 @@
 use Rattle.std.proofs.Common.{◌∙◌, ap, subst}
 use Rattle.lsm_readers.specs.Verification.{Verifying}
-use Rattle.sst_c.specs.Stepwise.{TellsStep, progress_told}
+use Rattle.sst_c.specs.Stepwise.{ReportsStep, progress_result}
 use Rattle.sst_c.proofs.verifier.Verifier.step.Goals as goal
 
 -- what is told is what the library's step answered
@@ -10,7 +10,7 @@ returns c =
     let code = c.tell_answer.result in
     let told = c.tell_answer.new.told in
     let left = c.step-answer.new.self in
-    subst (λ (v : Verifying). TellsStep v code c.progress.result told left) c.self.view_is (
+    subst (λ (v : Verifying). ReportsStep v code c.progress.result told left) c.self.view_is (
       c.step-answer.result,
       record {
         table = is.table;
@@ -31,5 +31,5 @@ returns c =
       },
       c.tell_answer.ensures.code,
       c.tell_answer.ensures.told,
-      c.progress.ensures ∙ ap (progress_told left) c.end_of.ensures,
+      c.progress.ensures ∙ ap (progress_result left) c.end_of.ensures,
     )

@@ -3,7 +3,7 @@ use Rattle.sst_blocks.specs.Handle.{Handle}
 use Rattle.sst_blocks.specs.Seeking.{reaching_place, span_from}
 use Rattle.sst_entries.specs.Span.{Span, rest_in}
 use Rattle.lsm_iters.proofs.Seeks.{lower_of, none_left}
-use Rattle.lsm_iters.proofs.Laws.{span_deals}
+use Rattle.lsm_iters.proofs.Laws.{span_yields}
 use Rattle.lsm_iters.proofs.block_index.full.FullBlockIndex.forward_reader.Goals as goal
 
 pub returns-else-seek_lower-clause-none : goal.returns-else-seek_lower-clause-none
@@ -22,5 +22,5 @@ pub returns-then-seek_lower-clause-kept : goal.returns-then-seek_lower-clause-ke
 returns-then-seek_lower-clause-kept g c =
     lower_of c.iter-2.inside.0 c.seek_lower.new.self c.args.self.now (c.args.key.now, c.args.seqno) (c.iter-2.view_is ∙ c.in_ok-iter.ensures.whole) c.seek_lower.ensures.both
 
-pub returns-then-seek_lower-clause-deals : goal.returns-then-seek_lower-clause-deals
-returns-then-seek_lower-clause-deals g c = span_deals _
+pub returns-then-seek_lower-clause-yields : goal.returns-then-seek_lower-clause-yields
+returns-then-seek_lower-clause-yields g c = span_yields _

@@ -1,5 +1,5 @@
 use Rattle.std.proofs.lemmas.Result.{on_err_weaker}
-use Rattle.lsm_iters.proofs.KindLaws.{kind_deals, kind_stays}
+use Rattle.lsm_iters.proofs.KindLaws.{kind_yields, kind_stays}
 use Rattle.lsm_iters.proofs.block_index.kinds.BlockIndexIterImplBlockIndexIter.seek_upper.Goals as goal
 
 pub returns-in-Full-clause-between : goal.returns-in-Full-clause-between
@@ -8,8 +8,8 @@ returns-in-Full-clause-between g c lower was = c.seek_upper.ensures.between lowe
 pub returns-in-Full-clause-over : goal.returns-in-Full-clause-over
 returns-in-Full-clause-over g c was = c.seek_upper.ensures.over (rw c.in-Full.is at was)
 
-pub returns-in-Full-clause-deals : goal.returns-in-Full-clause-deals
-returns-in-Full-clause-deals g c = kind_deals _
+pub returns-in-Full-clause-yields : goal.returns-in-Full-clause-yields
+returns-in-Full-clause-yields g c = kind_yields _
 
 pub returns-in-Full-clause-stays : goal.returns-in-Full-clause-stays
 returns-in-Full-clause-stays g c = on_err_weaker c.seek_upper.result (kind_stays _) c.seek_upper.ensures.ended
@@ -20,8 +20,8 @@ returns-in-Volatile-clause-between g c lower was = c.seek_upper-in-Volatile.ensu
 pub returns-in-Volatile-clause-over : goal.returns-in-Volatile-clause-over
 returns-in-Volatile-clause-over g c was = c.seek_upper-in-Volatile.ensures.over (rw c.in-Volatile.is at was)
 
-pub returns-in-Volatile-clause-deals : goal.returns-in-Volatile-clause-deals
-returns-in-Volatile-clause-deals g c = kind_deals _
+pub returns-in-Volatile-clause-yields : goal.returns-in-Volatile-clause-yields
+returns-in-Volatile-clause-yields g c = kind_yields _
 
 pub returns-in-Volatile-clause-stays : goal.returns-in-Volatile-clause-stays
 returns-in-Volatile-clause-stays g c = on_err_weaker c.seek_upper-in-Volatile.result (kind_stays _) c.seek_upper-in-Volatile.ensures.ended
@@ -32,8 +32,8 @@ returns-in-TwoLevel-clause-between g c lower was = c.seek_upper-in-TwoLevel.ensu
 pub returns-in-TwoLevel-clause-over : goal.returns-in-TwoLevel-clause-over
 returns-in-TwoLevel-clause-over g c was = c.seek_upper-in-TwoLevel.ensures.over (rw c.in-TwoLevel.is at was)
 
-pub returns-in-TwoLevel-clause-deals : goal.returns-in-TwoLevel-clause-deals
-returns-in-TwoLevel-clause-deals g c = kind_deals _
+pub returns-in-TwoLevel-clause-yields : goal.returns-in-TwoLevel-clause-yields
+returns-in-TwoLevel-clause-yields g c = kind_yields _
 
 pub returns-in-TwoLevel-clause-stays : goal.returns-in-TwoLevel-clause-stays
 returns-in-TwoLevel-clause-stays g c = on_err_weaker c.seek_upper-in-TwoLevel.result (kind_stays _) c.seek_upper-in-TwoLevel.ensures.ended

@@ -6,12 +6,12 @@ use Rattle.sst_blocks.specs.Handle.{Handle}
 use Rattle.sst_blocks.specs.Handles.{window}
 use Rattle.lsm_iters.specs.block_index.Left.{IsEnded, TwoLevel, two_level_left}
 use Rattle.lsm_iters.specs.block_index.Seen.{rest_of}
-use Rattle.lsm_iters.proofs.Laws.{levels_between, levels_deals, levels_stays}
+use Rattle.lsm_iters.proofs.Laws.{levels_between, levels_yields, levels_stays}
 use Rattle.lsm_iters.proofs.Sought.{levels_lower, levels_over}
 use Rattle.lsm_iters.proofs.block_index.two_level.IterBlockIndexIter.seek_lower.Goals as goal
 
-pub returns-in-Err-clause-deals : goal.returns-in-Err-clause-deals
-returns-in-Err-clause-deals g c = levels_deals _
+pub returns-in-Err-clause-yields : goal.returns-in-Err-clause-yields
+returns-in-Err-clause-yields g c = levels_yields _
 
 pub returns-in-Ok-clause-sought : goal.returns-in-Ok-clause-sought
 returns-in-Ok-clause-sought g c upper was =
@@ -30,8 +30,8 @@ returns-in-Ok-clause-over g c over =
     (λ none. c.seek_lower.ensures.kept ∙ ap (λ (hs : List Handle). window hs (Some (c.args.key.now, c.args.seqno)) None) none)
     (subst (λ (x : TwoLevel). IsEnded (two_level_left x)) (sym c.self.view_is) over)
 
-pub returns-in-Ok-clause-deals : goal.returns-in-Ok-clause-deals
-returns-in-Ok-clause-deals g c = levels_deals _
+pub returns-in-Ok-clause-yields : goal.returns-in-Ok-clause-yields
+returns-in-Ok-clause-yields g c = levels_yields _
 
 pub returns-in-Err-clause-stays : goal.returns-in-Err-clause-stays
 returns-in-Err-clause-stays g c = levels_stays _ (search rules)

@@ -3,7 +3,7 @@ use Rattle.std.proofs.Common.{ap, ◌∙◌}
 use Rattle.lsm_iters.specs.block_index.Index.{two_level}
 use Rattle.lsm_iters.specs.block_index.Left.{TwoLevel}
 use Rattle.lsm_iters.proofs.KindLaws.{levels_new}
-use Rattle.lsm_iters.proofs.Laws.{levels_deals}
+use Rattle.lsm_iters.proofs.Laws.{levels_yields}
 use Rattle.lsm_iters.proofs.Refusals.{handed_on, handed_on_always, refused_alike}
 use Rattle.lsm_iters.proofs.block_index.two_level.TwoLevelBlockIndex.forward_reader.Goals as goal
 
@@ -23,8 +23,8 @@ pub returns-clause-opened : goal.returns-clause-opened
 returns-clause-opened g c =
     handed_on_always _ _ _ _ c.and.ensures (c.seek_lower-sought.ensures.opened ∙ ap (λ (x : TwoLevel). x.opened) c.in_ok-iter.ensures.unsought)
 
-pub returns-clause-deals : goal.returns-clause-deals
-returns-clause-deals g c = handed_on_always _ _ _ _ c.and.ensures (levels_deals _)
+pub returns-clause-yields : goal.returns-clause-yields
+returns-clause-yields g c = handed_on_always _ _ _ _ c.and.ensures (levels_yields _)
 
 pub returns-clause-err : goal.returns-clause-err
 returns-clause-err g c = refused_alike _ _ _ _ c.and.ensures c.seek_lower-sought.ensures.err

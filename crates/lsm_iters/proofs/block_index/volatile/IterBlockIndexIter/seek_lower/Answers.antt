@@ -2,7 +2,7 @@ use Rattle.std.specs.Prelude.{Some}
 use Rattle.std.proofs.Common.{sym, subst, rules}
 use Rattle.sst_blocks.specs.Sections.{body_of}
 use Rattle.lsm_iters.specs.block_index.Left.{IsEnded, OnDemand, on_demand_left}
-use Rattle.lsm_iters.proofs.Laws.{demand_between, demand_deals, demand_stays}
+use Rattle.lsm_iters.proofs.Laws.{demand_between, demand_yields, demand_stays}
 use Rattle.lsm_iters.proofs.Sought.{demand_lower, demand_over}
 use Rattle.lsm_iters.proofs.block_index.volatile.IterBlockIndexIter.seek_lower.Goals as goal
 
@@ -19,11 +19,11 @@ returns-in-Ok-clause-over g c over =
     let s : OnDemand = record { body = body_of c.self.inside.source; place = c.self.inside.handle; lower = c.self.inside.edges.0; upper = c.self.inside.edges.1; part = c.self.inside.part; opened = c.self.inside.opened } in
     demand_over s c.set_lower.new.self (subst (λ (x : OnDemand). IsEnded (on_demand_left x)) (sym c.self.view_is) over)
 
-pub returns-in-Ok-clause-deals : goal.returns-in-Ok-clause-deals
-returns-in-Ok-clause-deals g c = demand_deals _
+pub returns-in-Ok-clause-yields : goal.returns-in-Ok-clause-yields
+returns-in-Ok-clause-yields g c = demand_yields _
 
-pub returns-in-Err-clause-deals : goal.returns-in-Err-clause-deals
-returns-in-Err-clause-deals g c = demand_deals _
+pub returns-in-Err-clause-yields : goal.returns-in-Err-clause-yields
+returns-in-Err-clause-yields g c = demand_yields _
 
 pub returns-in-Err-clause-stays : goal.returns-in-Err-clause-stays
 returns-in-Err-clause-stays g c = demand_stays _ (search rules)

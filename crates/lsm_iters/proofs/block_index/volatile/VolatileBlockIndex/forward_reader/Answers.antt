@@ -4,7 +4,7 @@ use Rattle.std.proofs.lemmas.Result.{on_ok_weaker}
 use Rattle.sst_blocks.specs.Place.{Place}
 use Rattle.sst_blocks.specs.Sections.{body_of}
 use Rattle.lsm_iters.specs.block_index.Left.{IsBetween, OnDemand, new_on_demand, on_demand_left}
-use Rattle.lsm_iters.proofs.Laws.{demand_deals}
+use Rattle.lsm_iters.proofs.Laws.{demand_yields}
 use Rattle.lsm_iters.proofs.Refusals.{handed_on, handed_on_always, refused_alike}
 use Rattle.lsm_iters.proofs.block_index.volatile.VolatileBlockIndex.forward_reader.Goals as goal
 
@@ -27,8 +27,8 @@ returns-clause-between g c =
     let s : OnDemand = record { body = body_of c.iter-2.inside.source; place = c.iter-2.inside.handle; lower = c.iter-2.inside.edges.0; upper = c.iter-2.inside.edges.1; part = c.iter-2.inside.part; opened = c.iter-2.inside.opened } in
     handed_on _ _ _ _ c.and.ensures (on_ok_weaker c.set_lower-sought.result (from_lower s c.args.self.now.0 c.args.self.now.1 (c.args.key.now, c.args.seqno) c.set_lower-sought.new.self (c.iter-2.view_is ∙ c.in_ok-iter.ensures.unsought)) c.set_lower-sought.ensures.ok)
 
-pub returns-clause-deals : goal.returns-clause-deals
-returns-clause-deals g c = handed_on_always _ _ _ _ c.and.ensures (demand_deals _)
+pub returns-clause-yields : goal.returns-clause-yields
+returns-clause-yields g c = handed_on_always _ _ _ _ c.and.ensures (demand_yields _)
 
 pub returns-clause-err : goal.returns-clause-err
 returns-clause-err g c = refused_alike _ _ _ _ c.and.ensures c.set_lower-sought.ensures.err

@@ -10,7 +10,7 @@ use Rattle.lsm_readers.specs.declared.verify.Verified.{Verified}
 use Rattle.lsm_readers.specs.declared.verify.VerifyError.TheVariants.{Found, OutOfMemory}
 use Rattle.lsm_readers.proofs.VerifyEarly.{passes_first}
 use Rattle.lsm_readers.proofs.VerifySteps.{answer}
-use Rattle.lsm_readers.proofs.VerifyTables.{all_complete, all_first, all_sound}
+use Rattle.lsm_readers.proofs.VerifyTables.{all_complete, all_first, all_valid}
 use Rattle.lsm_readers.proofs.Verifications.{refuses, refuses_with}
 use Rattle.lsm_readers.proofs.table.verification.Verification.step.Goals as goal
 
@@ -42,7 +42,7 @@ returns-then-branch-clause-sound g c =
     let told = sym c.self.invariant ∙ ends.rest
     ∙ ap (λ (v : Verified). answer v) (sym c.says.ensures) in
     let held = subst IsOpen shown c.read_next.ensures.open in
-    all_sound c.args.self.now.table held (Ok c.says.result)
+    all_valid c.args.self.now.table held (Ok c.says.result)
     (subst (λ (t : OpenTable). table_found (body_of t.bytes) t.parts ≡ answer c.says.result) shown
     told)
 

@@ -2,7 +2,7 @@ use Rattle.std.proofs.Common.{◌≡◌, ◌∙◌, subst, sym, List, ℕ, ◌<�
 use Rattle.std.specs.Prelude.{Ok}
 use Rattle.sst_entries.proofs.Refusals.{faults_refusal}
 use Rattle.sst_blocks.specs.table.Table.{IsTable}
-use Rattle.lsm_readers.specs.point.Parts.{recovered_told}
+use Rattle.lsm_readers.specs.point.Parts.{recovered_result}
 use Rattle.lsm_runs.specs.compaction.Written.{opens_fault}
 use Rattle.lsm_runs.proofs.Intervals.{opened_fits, refused_so}
 use Rattle.lsm_runs.proofs.OpenedRuns.{with_bytes}
@@ -19,7 +19,7 @@ returns-clause-opened g c =
       checksum_is = o.checksum;
       number_is = o.number;
       tree_is = o.tree;
-      told = subst (λ (b : List ℕ). recovered_told b how.global_seqno how.pin_filter how.pin_index ≡ Ok t.parts) (sym o.bytes) o.told;
+      told = subst (λ (b : List ℕ). recovered_result b how.global_seqno how.pin_filter how.pin_index ≡ Ok t.parts) (sym o.bytes) o.told;
       opened = c.tells_its_list.ensures.open;
     }
 

@@ -1,6 +1,6 @@
 -- A fresh compaction.
-use Rattle.lsm_sorted.proofs.CompactionDeals.{fresh_can, fresh_passes, fresh_results, fresh_stays}
-use Rattle.lsm_sorted.proofs.CompactionDeals.{fresh_whole, of_made}
+use Rattle.lsm_sorted.proofs.CompactionYields.{fresh_can, fresh_passes, fresh_results, fresh_stays}
+use Rattle.lsm_sorted.proofs.CompactionYields.{fresh_whole, of_made}
 use Rattle.lsm_sorted.proofs.compaction.lending.LendingCompaction.with.Goals as goal
 
 pub returns-clause-whole : goal.returns-clause-whole

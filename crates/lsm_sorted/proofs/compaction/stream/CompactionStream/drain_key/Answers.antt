@@ -21,18 +21,18 @@ loop-x-preserved g c = record {
   filter = c.loop-x.invariant.filter;
   size = omega (arith, c.in-Some-Ok.ensures.lowers, c.loop-x.invariant.size);
   hears = hears_version g.I.Iterator.next_gives g.C.DroppedKvCallback.gets c.args.head.now.user_key c.args.self.now.inner c.loop-x.self.inner c.next.new.self c.args.self.now.dropped_callback c.loop-x.self.dropped_callback c.on_dropped.new.self c.in-Some-Ok.x c.loop-x.invariant.hears (rw c.in-Some-Ok.field-0-is at c.in-Some-Ok.ensures.hears) (sym c.has_key_of.ensures ∙ c.if-not-has_key_of.false) c.on_dropped.ensures;
-  draining = λ stops. draining_more stops (HoldsAhead stops g.I.Iterator.next_gives) g.C.DroppedKvCallback.gets c.args.head.now.user_key c.args.self.now.inner c.loop-x.self.inner c.next.new.self c.args.self.now.dropped_callback c.loop-x.self.dropped_callback c.on_dropped.new.self c.in-Some-Ok.x (c.loop-x.invariant.draining stops) (rw c.in-Some-Ok.field-0-is at (c.in-Some-Ok.ensures.deals stops)) (sym c.has_key_of.ensures ∙ c.if-not-has_key_of.false) c.on_dropped.ensures;
+  draining = λ stops. draining_more stops (HoldsAhead stops g.I.Iterator.next_gives) g.C.DroppedKvCallback.gets c.args.head.now.user_key c.args.self.now.inner c.loop-x.self.inner c.next.new.self c.args.self.now.dropped_callback c.loop-x.self.dropped_callback c.on_dropped.new.self c.in-Some-Ok.x (c.loop-x.invariant.draining stops) (rw c.in-Some-Ok.field-0-is at (c.in-Some-Ok.ensures.yields stops)) (sym c.has_key_of.ensures ∙ c.if-not-has_key_of.false) c.on_dropped.ensures;
 }
 
 pub returns-then-not-has_key_of-clause-drains : goal.returns-then-not-has_key_of-clause-drains
 returns-then-not-has_key_of-clause-drains g c stops =
-    drained_stop stops (HoldsAhead stops g.I.Iterator.next_gives) g.C.DroppedKvCallback.gets c.args.head.now.user_key c.args.self.now.inner c.loop-x.self.inner c.next.new.self c.put_back.new.self c.args.self.now.dropped_callback c.loop-x.self.dropped_callback c.in-Some-Ok.x tt (c.loop-x.invariant.draining stops) (rw c.in-Some-Ok.field-0-is at (c.in-Some-Ok.ensures.deals stops)) (sym c.has_key_of.ensures ∙ c.if-not-has_key_of.true) (c.put_back.ensures.lists stops)
+    drained_stop stops (HoldsAhead stops g.I.Iterator.next_gives) g.C.DroppedKvCallback.gets c.args.head.now.user_key c.args.self.now.inner c.loop-x.self.inner c.next.new.self c.put_back.new.self c.args.self.now.dropped_callback c.loop-x.self.dropped_callback c.in-Some-Ok.x tt (c.loop-x.invariant.draining stops) (rw c.in-Some-Ok.field-0-is at (c.in-Some-Ok.ensures.yields stops)) (sym c.has_key_of.ensures ∙ c.if-not-has_key_of.true) (c.put_back.ensures.lists stops)
 
 pub returns-in-Some-Err-clause-drains : goal.returns-in-Some-Err-clause-drains
-returns-in-Some-Err-clause-drains g c stops = drained_err stops (HoldsAhead stops g.I.Iterator.next_gives) g.C.DroppedKvCallback.gets c.args.head.now.user_key c.args.self.now.inner c.loop-x.self.inner c.next.new.self c.args.self.now.dropped_callback c.loop-x.self.dropped_callback c.in-Some-Err.error (c.loop-x.invariant.draining stops) (rw c.in-Some-Err.field-0-is at (c.in-Some-Err.ensures.deals stops))
+returns-in-Some-Err-clause-drains g c stops = drained_err stops (HoldsAhead stops g.I.Iterator.next_gives) g.C.DroppedKvCallback.gets c.args.head.now.user_key c.args.self.now.inner c.loop-x.self.inner c.next.new.self c.args.self.now.dropped_callback c.loop-x.self.dropped_callback c.in-Some-Err.error (c.loop-x.invariant.draining stops) (rw c.in-Some-Err.field-0-is at (c.in-Some-Err.ensures.yields stops))
 
 pub returns-in-None-clause-drains : goal.returns-in-None-clause-drains
-returns-in-None-clause-drains g c stops = drained_end stops (HoldsAhead stops g.I.Iterator.next_gives) g.C.DroppedKvCallback.gets c.args.head.now.user_key c.args.self.now.inner c.loop-x.self.inner c.next.new.self c.args.self.now.dropped_callback c.loop-x.self.dropped_callback tt (c.loop-x.invariant.draining stops) (c.in-None.ensures.deals stops)
+returns-in-None-clause-drains g c stops = drained_end stops (HoldsAhead stops g.I.Iterator.next_gives) g.C.DroppedKvCallback.gets c.args.head.now.user_key c.args.self.now.inner c.loop-x.self.inner c.next.new.self c.args.self.now.dropped_callback c.loop-x.self.dropped_callback tt (c.loop-x.invariant.draining stops) (c.in-None.ensures.yields stops)
 
 pub returns-then-not-has_key_of-clause-hears : goal.returns-then-not-has_key_of-clause-hears
 returns-then-not-has_key_of-clause-hears g c =

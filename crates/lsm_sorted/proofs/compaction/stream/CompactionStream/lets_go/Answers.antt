@@ -13,23 +13,23 @@ size_less : (old between new : ℕ) → between < old → new ≤ between → ne
 size_less old between new less more = omega arith
 
 pub returns-in-Some-Err-clause-settles : goal.returns-in-Some-Err-clause-settles
-returns-in-Some-Err-clause-settles g c stops = settles_err stops (HoldsAhead stops g.I.Iterator.next_gives) g.C.DroppedKvCallback.gets _ c.args.head.now _ _ _ c.in-Some-Err.error (rw c.in-Some-Err.field-0-is at (c.in-Some-Err.ensures.deals stops))
+returns-in-Some-Err-clause-settles g c stops = settles_err stops (HoldsAhead stops g.I.Iterator.next_gives) g.C.DroppedKvCallback.gets _ c.args.head.now _ _ _ c.in-Some-Err.error (rw c.in-Some-Err.field-0-is at (c.in-Some-Err.ensures.yields stops))
 
 pub returns-in-None-clause-settles : goal.returns-in-None-clause-settles
-returns-in-None-clause-settles g c stops = settles_end stops (HoldsAhead stops g.I.Iterator.next_gives) g.C.DroppedKvCallback.gets _ c.args.head.now _ _ _ _ (c.in-None.ensures.deals stops) c.goes_alone.ensures
+returns-in-None-clause-settles g c stops = settles_end stops (HoldsAhead stops g.I.Iterator.next_gives) g.C.DroppedKvCallback.gets _ c.args.head.now _ _ _ _ (c.in-None.ensures.yields stops) c.goes_alone.ensures
 
 pub returns-then-not-has_key_of-clause-settles : goal.returns-then-not-has_key_of-clause-settles
 returns-then-not-has_key_of-clause-settles g c stops =
-    settles_other stops (HoldsAhead stops g.I.Iterator.next_gives) g.C.DroppedKvCallback.gets _ c.args.head.now _ c.next.new.self _ _ c.in-Some-Ok.next _ (rw c.in-Some-Ok.field-0-is at (c.in-Some-Ok.ensures.deals stops)) (sym c.has_key_of.ensures ∙ c.if-not-has_key_of.true) (c.put_back.ensures.lists stops) c.goes_alone-then-not-has_key_of.ensures
+    settles_other stops (HoldsAhead stops g.I.Iterator.next_gives) g.C.DroppedKvCallback.gets _ c.args.head.now _ c.next.new.self _ _ c.in-Some-Ok.next _ (rw c.in-Some-Ok.field-0-is at (c.in-Some-Ok.ensures.yields stops)) (sym c.has_key_of.ensures ∙ c.if-not-has_key_of.true) (c.put_back.ensures.lists stops) c.goes_alone-then-not-has_key_of.ensures
 
 pub returns-then-not-is_below_threshold-clause-settles : goal.returns-then-not-is_below_threshold-clause-settles
 returns-then-not-is_below_threshold-clause-settles g c stops =
-    settles_open stops (HoldsAhead stops g.I.Iterator.next_gives) g.C.DroppedKvCallback.gets _ c.args.head.now _ c.next.new.self _ _ c.in-Some-Ok.next (rw c.in-Some-Ok.field-0-is at (c.in-Some-Ok.ensures.deals stops)) (sym c.has_key_of.ensures ∙ c.if-not-has_key_of.false) (sym c.is_below_threshold.ensures ∙ c.if-not-is_below_threshold.true) (c.put_back-then-not-is_below_threshold.ensures.lists stops)
+    settles_open stops (HoldsAhead stops g.I.Iterator.next_gives) g.C.DroppedKvCallback.gets _ c.args.head.now _ c.next.new.self _ _ c.in-Some-Ok.next (rw c.in-Some-Ok.field-0-is at (c.in-Some-Ok.ensures.yields stops)) (sym c.has_key_of.ensures ∙ c.if-not-has_key_of.false) (sym c.is_below_threshold.ensures ∙ c.if-not-is_below_threshold.true) (c.put_back-then-not-is_below_threshold.ensures.lists stops)
 
 pub returns-clause-settles : goal.returns-clause-settles
 returns-clause-settles g c stops =
     let drains = c.drain_hidden-goes.ensures.drains stops in
-    settles_closed stops (HoldsAhead stops g.I.Iterator.next_gives) g.C.DroppedKvCallback.gets _ c.args.head.now c.args.self.now.inner c.next.new.self _ c.args.self.now.dropped_callback drains.0 _ c.in-Some-Ok.next (rw c.in-Some-Ok.field-0-is at (c.in-Some-Ok.ensures.deals stops)) (sym c.has_key_of.ensures ∙ c.if-not-has_key_of.false) (sym c.is_below_threshold.ensures ∙ c.if-not-is_below_threshold.false) drains.1 c.drain_hidden-goes.result drains.2 c.drain_hidden-goes.ensures.goes
+    settles_closed stops (HoldsAhead stops g.I.Iterator.next_gives) g.C.DroppedKvCallback.gets _ c.args.head.now c.args.self.now.inner c.next.new.self _ c.args.self.now.dropped_callback drains.0 _ c.in-Some-Ok.next (rw c.in-Some-Ok.field-0-is at (c.in-Some-Ok.ensures.yields stops)) (sym c.has_key_of.ensures ∙ c.if-not-has_key_of.false) (sym c.is_below_threshold.ensures ∙ c.if-not-is_below_threshold.false) drains.1 c.drain_hidden-goes.result drains.2 c.drain_hidden-goes.ensures.goes
 
 pub returns-then-not-has_key_of-clause-may : goal.returns-then-not-has_key_of-clause-may
 returns-then-not-has_key_of-clause-may g c = rw c.put_back.ensures.source c.in-Some-Ok.ensures.goes

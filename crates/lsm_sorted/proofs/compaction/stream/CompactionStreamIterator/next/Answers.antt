@@ -27,7 +27,7 @@ returns-in-Some-Err-clause-steps g c = record {
   may = c.in-Some-Err.ensures.goes;
   rules = c.loop-head.invariant.rules;
   hears = hears_source_err g.I.Iterator.next_gives g.F.StreamFilter.gives g.C.DroppedKvCallback.gets (rules_of c.args.self.now) c.args.self.now.inner c.loop-head.self.inner c.next.new.self c.args.self.now.filter c.loop-head.self.filter c.args.self.now.dropped_callback c.loop-head.self.dropped_callback c.loop-head.invariant.hears c.in-Some-Err.error (rw c.in-Some-Err.field-0-is at c.in-Some-Err.ensures.hears);
-  calls = λ stops. called_source_err stops (HoldsAhead stops g.I.Iterator.next_gives) g.F.StreamFilter.gives g.C.DroppedKvCallback.gets (rules_of c.args.self.now) c.args.self.now.inner c.loop-head.self.inner c.next.new.self c.args.self.now.filter c.loop-head.self.filter c.args.self.now.dropped_callback c.loop-head.self.dropped_callback (c.loop-head.invariant.going stops) c.in-Some-Err.error (rw c.in-Some-Err.field-0-is at (c.in-Some-Err.ensures.deals stops));
+  calls = λ stops. called_source_err stops (HoldsAhead stops g.I.Iterator.next_gives) g.F.StreamFilter.gives g.C.DroppedKvCallback.gets (rules_of c.args.self.now) c.args.self.now.inner c.loop-head.self.inner c.next.new.self c.args.self.now.filter c.loop-head.self.filter c.args.self.now.dropped_callback c.loop-head.self.dropped_callback (c.loop-head.invariant.going stops) c.in-Some-Err.error (rw c.in-Some-Err.field-0-is at (c.in-Some-Err.ensures.yields stops));
 }
 
 pub returns-in-None-clause-steps : goal.returns-in-None-clause-steps
@@ -35,7 +35,7 @@ returns-in-None-clause-steps g c = record {
   may = c.in-None.ensures.goes;
   rules = c.loop-head.invariant.rules;
   hears = hears_none g.I.Iterator.next_gives g.F.StreamFilter.gives g.C.DroppedKvCallback.gets (rules_of c.args.self.now) c.args.self.now.inner c.loop-head.self.inner c.next.new.self c.args.self.now.filter c.loop-head.self.filter c.args.self.now.dropped_callback c.loop-head.self.dropped_callback c.loop-head.invariant.hears c.in-None.ensures.hears;
-  calls = λ stops. called_none stops (HoldsAhead stops g.I.Iterator.next_gives) g.F.StreamFilter.gives g.C.DroppedKvCallback.gets (rules_of c.args.self.now) c.args.self.now.inner c.loop-head.self.inner c.next.new.self c.args.self.now.filter c.loop-head.self.filter c.args.self.now.dropped_callback c.loop-head.self.dropped_callback (c.loop-head.invariant.going stops) (c.in-None.ensures.deals stops);
+  calls = λ stops. called_none stops (HoldsAhead stops g.I.Iterator.next_gives) g.F.StreamFilter.gives g.C.DroppedKvCallback.gets (rules_of c.args.self.now) c.args.self.now.inner c.loop-head.self.inner c.next.new.self c.args.self.now.filter c.loop-head.self.filter c.args.self.now.dropped_callback c.loop-head.self.dropped_callback (c.loop-head.invariant.going stops) (c.in-None.ensures.yields stops);
 }
 
 pub loop-head-preserved-in-Ok-None : goal.loop-head-preserved-in-Ok-None
@@ -44,7 +44,7 @@ loop-head-preserved-in-Ok-None g c = record {
   rules = c.filtered.ensures.rules ∙ c.loop-head.invariant.rules;
   size = rw c.filtered.ensures.source (omega (arith, c.in-Some-Ok.ensures.lowers, c.loop-head.invariant.size));
   hears = rw c.filtered.ensures.source (hears_dropped g.I.Iterator.next_gives g.F.StreamFilter.gives g.C.DroppedKvCallback.gets (rules_of c.args.self.now) c.args.self.now.inner c.loop-head.self.inner c.next.new.self c.args.self.now.filter c.loop-head.self.filter c.args.self.now.dropped_callback c.loop-head.self.dropped_callback c.loop-head.invariant.hears c.filtered.new.self.filter c.filtered.new.self.dropped_callback c.in-Some-Ok.head (rw c.in-Some-Ok.field-0-is at c.in-Some-Ok.ensures.hears) (rw c.in-Ok-None.field-0-is at c.in-Ok-None.ensures.filters));
-  going = λ stops. rw c.filtered.ensures.source (going_dropped stops (HoldsAhead stops g.I.Iterator.next_gives) g.F.StreamFilter.gives g.C.DroppedKvCallback.gets (rules_of c.args.self.now) c.args.self.now.inner c.loop-head.self.inner c.next.new.self c.args.self.now.filter c.loop-head.self.filter c.filtered.new.self.filter c.args.self.now.dropped_callback c.loop-head.self.dropped_callback c.filtered.new.self.dropped_callback c.in-Some-Ok.head (c.loop-head.invariant.going stops) (rw c.in-Some-Ok.field-0-is at (c.in-Some-Ok.ensures.deals stops)) (rw c.in-Ok-None.field-0-is at c.in-Ok-None.ensures.filters));
+  going = λ stops. rw c.filtered.ensures.source (going_dropped stops (HoldsAhead stops g.I.Iterator.next_gives) g.F.StreamFilter.gives g.C.DroppedKvCallback.gets (rules_of c.args.self.now) c.args.self.now.inner c.loop-head.self.inner c.next.new.self c.args.self.now.filter c.loop-head.self.filter c.filtered.new.self.filter c.args.self.now.dropped_callback c.loop-head.self.dropped_callback c.filtered.new.self.dropped_callback c.in-Some-Ok.head (c.loop-head.invariant.going stops) (rw c.in-Some-Ok.field-0-is at (c.in-Some-Ok.ensures.yields stops)) (rw c.in-Ok-None.field-0-is at c.in-Ok-None.ensures.filters));
 }
 
 pub returns-in-Err-clause-steps : goal.returns-in-Err-clause-steps
@@ -52,7 +52,7 @@ returns-in-Err-clause-steps g c = record {
   may = rw c.filtered.ensures.source c.in-Some-Ok.ensures.goes;
   rules = c.filtered.ensures.rules ∙ c.loop-head.invariant.rules;
   hears = rw c.filtered.ensures.source (hears_filter_err g.I.Iterator.next_gives g.F.StreamFilter.gives g.C.DroppedKvCallback.gets (rules_of c.args.self.now) c.args.self.now.inner c.loop-head.self.inner c.next.new.self c.args.self.now.filter c.loop-head.self.filter c.args.self.now.dropped_callback c.loop-head.self.dropped_callback c.loop-head.invariant.hears c.filtered.new.self.filter c.filtered.new.self.dropped_callback c.in-Some-Ok.head (rw c.in-Some-Ok.field-0-is at c.in-Some-Ok.ensures.hears) c.in-Err.error c.in-Err.ensures.filters);
-  calls = λ stops. rw c.filtered.ensures.source (called_filter_err stops (HoldsAhead stops g.I.Iterator.next_gives) g.F.StreamFilter.gives g.C.DroppedKvCallback.gets (rules_of c.args.self.now) c.args.self.now.inner c.loop-head.self.inner c.next.new.self c.args.self.now.filter c.loop-head.self.filter c.filtered.new.self.filter c.args.self.now.dropped_callback c.loop-head.self.dropped_callback c.filtered.new.self.dropped_callback c.in-Some-Ok.head (c.loop-head.invariant.going stops) (rw c.in-Some-Ok.field-0-is at (c.in-Some-Ok.ensures.deals stops)) c.in-Err.error c.in-Err.ensures.filters);
+  calls = λ stops. rw c.filtered.ensures.source (called_filter_err stops (HoldsAhead stops g.I.Iterator.next_gives) g.F.StreamFilter.gives g.C.DroppedKvCallback.gets (rules_of c.args.self.now) c.args.self.now.inner c.loop-head.self.inner c.next.new.self c.args.self.now.filter c.loop-head.self.filter c.filtered.new.self.filter c.args.self.now.dropped_callback c.loop-head.self.dropped_callback c.filtered.new.self.dropped_callback c.in-Some-Ok.head (c.loop-head.invariant.going stops) (rw c.in-Some-Ok.field-0-is at (c.in-Some-Ok.ensures.yields stops)) c.in-Err.error c.in-Err.ensures.filters);
 }
 
 pub returns-in-Ok-false-clause-steps : goal.returns-in-Ok-false-clause-steps
@@ -64,7 +64,7 @@ returns-in-Ok-false-clause-steps g c =
       hears = rw c.lets_go.ensures.filter (hears_kept g.I.Iterator.next_gives g.F.StreamFilter.gives g.C.DroppedKvCallback.gets (rules_of c.args.self.now) c.args.self.now.inner c.loop-head.self.inner c.next.new.self c.args.self.now.filter c.loop-head.self.filter c.args.self.now.dropped_callback c.loop-head.self.dropped_callback c.loop-head.invariant.hears c.filtered.new.self.filter c.filtered.new.self.dropped_callback c.in-Some-Ok.head (rw c.in-Some-Ok.field-0-is at c.in-Some-Ok.ensures.hears) c.in-Ok-Some.head (rw c.in-Ok-Some.field-0-is at c.in-Ok-Some.ensures.filters) (rules_of c.filtered.new.self) c.filtered.new.self.inner c.lets_go.new.self.inner c.lets_go.new.self.dropped_callback c.filtered.ensures.source (c.filtered.ensures.rules ∙ c.loop-head.invariant.rules) c.zeroed.result (c.zeroed.ensures ∙ ap (λ (o : Rules). zeroed o c.in-Ok-Some.head) rules) (rw c.in-Ok-false.field-0-test at c.in-Ok-false.ensures.hears));
       calls = λ stops. called_along stops (HoldsAhead stops g.I.Iterator.next_gives) g.F.StreamFilter.gives g.C.DroppedKvCallback.gets (rules_of c.args.self.now) c.args.self.now.inner c.lets_go.new.self.inner c.args.self.now.filter c.filtered.new.self.filter c.lets_go.new.self.filter c.args.self.now.dropped_callback c.lets_go.new.self.dropped_callback (Some (Ok (zeroed (rules_of c.args.self.now) c.in-Ok-Some.head))) (Some (Ok c.zeroed.result))
           (sym (ap (λ (x : Entry). Some (Ok x)) (c.zeroed.ensures ∙ ap (λ (o : Rules). zeroed o c.in-Ok-Some.head) rules))) (sym c.lets_go.ensures.filter)
-          (called_kept stops (HoldsAhead stops g.I.Iterator.next_gives) g.F.StreamFilter.gives g.C.DroppedKvCallback.gets (rules_of c.args.self.now) c.args.self.now.inner c.loop-head.self.inner c.next.new.self c.args.self.now.filter c.loop-head.self.filter c.filtered.new.self.filter c.args.self.now.dropped_callback c.loop-head.self.dropped_callback c.filtered.new.self.dropped_callback c.in-Some-Ok.head (c.loop-head.invariant.going stops) (rw c.in-Some-Ok.field-0-is at (c.in-Some-Ok.ensures.deals stops)) c.in-Ok-Some.head (rw c.in-Ok-Some.field-0-is at c.in-Ok-Some.ensures.filters) c.lets_go.new.self.inner c.lets_go.new.self.dropped_callback (settles_along stops (HoldsAhead stops g.I.Iterator.next_gives) g.F.StreamFilter.gives g.C.DroppedKvCallback.gets (rules_of c.args.self.now) (rules_of c.filtered.new.self) (rules_of c.args.self.now) c.in-Ok-Some.head c.filtered.new.self.inner c.next.new.self c.lets_go.new.self.inner c.filtered.new.self.dropped_callback c.lets_go.new.self.dropped_callback (Ok false) (c.filtered.ensures.rules ∙ c.loop-head.invariant.rules) c.filtered.ensures.source (rw c.in-Ok-false.field-0-test at (c.in-Ok-false.ensures.settles stops))));
+          (called_kept stops (HoldsAhead stops g.I.Iterator.next_gives) g.F.StreamFilter.gives g.C.DroppedKvCallback.gets (rules_of c.args.self.now) c.args.self.now.inner c.loop-head.self.inner c.next.new.self c.args.self.now.filter c.loop-head.self.filter c.filtered.new.self.filter c.args.self.now.dropped_callback c.loop-head.self.dropped_callback c.filtered.new.self.dropped_callback c.in-Some-Ok.head (c.loop-head.invariant.going stops) (rw c.in-Some-Ok.field-0-is at (c.in-Some-Ok.ensures.yields stops)) c.in-Ok-Some.head (rw c.in-Ok-Some.field-0-is at c.in-Ok-Some.ensures.filters) c.lets_go.new.self.inner c.lets_go.new.self.dropped_callback (settles_along stops (HoldsAhead stops g.I.Iterator.next_gives) g.F.StreamFilter.gives g.C.DroppedKvCallback.gets (rules_of c.args.self.now) (rules_of c.filtered.new.self) (rules_of c.args.self.now) c.in-Ok-Some.head c.filtered.new.self.inner c.next.new.self c.lets_go.new.self.inner c.filtered.new.self.dropped_callback c.lets_go.new.self.dropped_callback (Ok false) (c.filtered.ensures.rules ∙ c.loop-head.invariant.rules) c.filtered.ensures.source (rw c.in-Ok-false.field-0-test at (c.in-Ok-false.ensures.settles stops))));
     }
 
 pub returns-in-Err-lets_go-clause-steps : goal.returns-in-Err-lets_go-clause-steps
@@ -73,7 +73,7 @@ returns-in-Err-lets_go-clause-steps g c = record {
   rules = c.lets_go.ensures.rules ∙ c.filtered.ensures.rules ∙ c.loop-head.invariant.rules;
   hears = rw c.lets_go.ensures.filter (hears_settle_err g.I.Iterator.next_gives g.F.StreamFilter.gives g.C.DroppedKvCallback.gets (rules_of c.args.self.now) c.args.self.now.inner c.loop-head.self.inner c.next.new.self c.args.self.now.filter c.loop-head.self.filter c.args.self.now.dropped_callback c.loop-head.self.dropped_callback c.loop-head.invariant.hears c.filtered.new.self.filter c.filtered.new.self.dropped_callback c.in-Some-Ok.head (rw c.in-Some-Ok.field-0-is at c.in-Some-Ok.ensures.hears) c.in-Ok-Some.head (rw c.in-Ok-Some.field-0-is at c.in-Ok-Some.ensures.filters) (rules_of c.filtered.new.self) c.filtered.new.self.inner c.lets_go.new.self.inner c.lets_go.new.self.dropped_callback c.filtered.ensures.source (c.filtered.ensures.rules ∙ c.loop-head.invariant.rules) c.in-Err-lets_go.error c.in-Err-lets_go.ensures.hears);
   calls = λ stops. called_along stops (HoldsAhead stops g.I.Iterator.next_gives) g.F.StreamFilter.gives g.C.DroppedKvCallback.gets (rules_of c.args.self.now) c.args.self.now.inner c.lets_go.new.self.inner c.args.self.now.filter c.filtered.new.self.filter c.lets_go.new.self.filter c.args.self.now.dropped_callback c.lets_go.new.self.dropped_callback (Some (Err c.in-Err-lets_go.error)) (Some (Err c.in-Err-lets_go.error)) refl (sym c.lets_go.ensures.filter)
-      (called_err stops (HoldsAhead stops g.I.Iterator.next_gives) g.F.StreamFilter.gives g.C.DroppedKvCallback.gets (rules_of c.args.self.now) c.args.self.now.inner c.loop-head.self.inner c.next.new.self c.args.self.now.filter c.loop-head.self.filter c.filtered.new.self.filter c.args.self.now.dropped_callback c.loop-head.self.dropped_callback c.filtered.new.self.dropped_callback c.in-Some-Ok.head (c.loop-head.invariant.going stops) (rw c.in-Some-Ok.field-0-is at (c.in-Some-Ok.ensures.deals stops)) c.in-Ok-Some.head (rw c.in-Ok-Some.field-0-is at c.in-Ok-Some.ensures.filters) c.lets_go.new.self.inner c.lets_go.new.self.dropped_callback c.in-Err-lets_go.error (settles_along stops (HoldsAhead stops g.I.Iterator.next_gives) g.F.StreamFilter.gives g.C.DroppedKvCallback.gets (rules_of c.args.self.now) (rules_of c.filtered.new.self) (rules_of c.args.self.now) c.in-Ok-Some.head c.filtered.new.self.inner c.next.new.self c.lets_go.new.self.inner c.filtered.new.self.dropped_callback c.lets_go.new.self.dropped_callback (Err c.in-Err-lets_go.error) (c.filtered.ensures.rules ∙ c.loop-head.invariant.rules) c.filtered.ensures.source (c.in-Err-lets_go.ensures.settles stops)));
+      (called_err stops (HoldsAhead stops g.I.Iterator.next_gives) g.F.StreamFilter.gives g.C.DroppedKvCallback.gets (rules_of c.args.self.now) c.args.self.now.inner c.loop-head.self.inner c.next.new.self c.args.self.now.filter c.loop-head.self.filter c.filtered.new.self.filter c.args.self.now.dropped_callback c.loop-head.self.dropped_callback c.filtered.new.self.dropped_callback c.in-Some-Ok.head (c.loop-head.invariant.going stops) (rw c.in-Some-Ok.field-0-is at (c.in-Some-Ok.ensures.yields stops)) c.in-Ok-Some.head (rw c.in-Ok-Some.field-0-is at c.in-Ok-Some.ensures.filters) c.lets_go.new.self.inner c.lets_go.new.self.dropped_callback c.in-Err-lets_go.error (settles_along stops (HoldsAhead stops g.I.Iterator.next_gives) g.F.StreamFilter.gives g.C.DroppedKvCallback.gets (rules_of c.args.self.now) (rules_of c.filtered.new.self) (rules_of c.args.self.now) c.in-Ok-Some.head c.filtered.new.self.inner c.next.new.self c.lets_go.new.self.inner c.filtered.new.self.dropped_callback c.lets_go.new.self.dropped_callback (Err c.in-Err-lets_go.error) (c.filtered.ensures.rules ∙ c.loop-head.invariant.rules) c.filtered.ensures.source (c.in-Err-lets_go.ensures.settles stops)));
 }
 
 pub loop-head-preserved : goal.loop-head-preserved
@@ -83,7 +83,7 @@ loop-head-preserved g c = record {
   size = omega (arith, c.lets_go.ensures.size, rw c.filtered.ensures.source at c.lets_go.ensures.size, c.in-Some-Ok.ensures.lowers, c.loop-head.invariant.size);
   hears = rw c.lets_go.ensures.filter (hears_on g.I.Iterator.next_gives g.F.StreamFilter.gives g.C.DroppedKvCallback.gets (rules_of c.args.self.now) c.args.self.now.inner c.loop-head.self.inner c.next.new.self c.args.self.now.filter c.loop-head.self.filter c.args.self.now.dropped_callback c.loop-head.self.dropped_callback c.loop-head.invariant.hears c.filtered.new.self.filter c.filtered.new.self.dropped_callback c.in-Some-Ok.head (rw c.in-Some-Ok.field-0-is at c.in-Some-Ok.ensures.hears) c.in-Ok-Some.head (rw c.in-Ok-Some.field-0-is at c.in-Ok-Some.ensures.filters) (rules_of c.filtered.new.self) c.filtered.new.self.inner c.lets_go.new.self.inner c.lets_go.new.self.dropped_callback c.filtered.ensures.source (c.filtered.ensures.rules ∙ c.loop-head.invariant.rules) (rw c.in-Ok-true.field-0-test at c.in-Ok-true.ensures.hears));
   going = λ stops. going_along stops (HoldsAhead stops g.I.Iterator.next_gives) g.F.StreamFilter.gives g.C.DroppedKvCallback.gets (rules_of c.args.self.now) c.args.self.now.inner c.lets_go.new.self.inner c.args.self.now.filter c.filtered.new.self.filter c.lets_go.new.self.filter c.args.self.now.dropped_callback c.lets_go.new.self.dropped_callback (sym c.lets_go.ensures.filter)
-      (going_on stops (HoldsAhead stops g.I.Iterator.next_gives) g.F.StreamFilter.gives g.C.DroppedKvCallback.gets (rules_of c.args.self.now) c.args.self.now.inner c.loop-head.self.inner c.next.new.self c.args.self.now.filter c.loop-head.self.filter c.filtered.new.self.filter c.args.self.now.dropped_callback c.loop-head.self.dropped_callback c.filtered.new.self.dropped_callback c.in-Some-Ok.head (c.loop-head.invariant.going stops) (rw c.in-Some-Ok.field-0-is at (c.in-Some-Ok.ensures.deals stops)) c.in-Ok-Some.head (rw c.in-Ok-Some.field-0-is at c.in-Ok-Some.ensures.filters) c.lets_go.new.self.inner c.lets_go.new.self.dropped_callback (settles_along stops (HoldsAhead stops g.I.Iterator.next_gives) g.F.StreamFilter.gives g.C.DroppedKvCallback.gets (rules_of c.args.self.now) (rules_of c.filtered.new.self) (rules_of c.args.self.now) c.in-Ok-Some.head c.filtered.new.self.inner c.next.new.self c.lets_go.new.self.inner c.filtered.new.self.dropped_callback c.lets_go.new.self.dropped_callback (Ok true) (c.filtered.ensures.rules ∙ c.loop-head.invariant.rules) c.filtered.ensures.source (rw c.in-Ok-true.field-0-test at (c.in-Ok-true.ensures.settles stops))));
+      (going_on stops (HoldsAhead stops g.I.Iterator.next_gives) g.F.StreamFilter.gives g.C.DroppedKvCallback.gets (rules_of c.args.self.now) c.args.self.now.inner c.loop-head.self.inner c.next.new.self c.args.self.now.filter c.loop-head.self.filter c.filtered.new.self.filter c.args.self.now.dropped_callback c.loop-head.self.dropped_callback c.filtered.new.self.dropped_callback c.in-Some-Ok.head (c.loop-head.invariant.going stops) (rw c.in-Some-Ok.field-0-is at (c.in-Some-Ok.ensures.yields stops)) c.in-Ok-Some.head (rw c.in-Ok-Some.field-0-is at c.in-Ok-Some.ensures.filters) c.lets_go.new.self.inner c.lets_go.new.self.dropped_callback (settles_along stops (HoldsAhead stops g.I.Iterator.next_gives) g.F.StreamFilter.gives g.C.DroppedKvCallback.gets (rules_of c.args.self.now) (rules_of c.filtered.new.self) (rules_of c.args.self.now) c.in-Ok-Some.head c.filtered.new.self.inner c.next.new.self c.lets_go.new.self.inner c.filtered.new.self.dropped_callback c.lets_go.new.self.dropped_callback (Ok true) (c.filtered.ensures.rules ∙ c.loop-head.invariant.rules) c.filtered.ensures.source (rw c.in-Ok-true.field-0-test at (c.in-Ok-true.ensures.settles stops))));
 }
 
 pub returns-in-Some-Err-clause-goes : goal.returns-in-Some-Err-clause-goes

@@ -1,12 +1,12 @@
 -- A writer that has failed registers nothing.
 use Rattle.std.proofs.Common.{ap}
 use Rattle.lsm_writers.specs.section.Held.{Hashes}
-use Rattle.lsm_writers.proofs.Sections.{spent_first, spent_told}
+use Rattle.lsm_writers.proofs.Sections.{spent_first, spent_result}
 use Rattle.lsm_writers.proofs.SectionFinishing.{works_first}
 use Rattle.lsm_writers.proofs.section.filter_full.FullFilterWriterFilterWriter.register_key_bytes.Goals as goal
 
 pub returns-then-self-clause-refused : goal.returns-then-self-clause-refused
-returns-then-self-clause-refused g c = λ keys h memory. spent_told c.self.inside.failed c.args.self.now.failed _ (ap (λ (w : Hashes). w.failed) c.self.view_is) c.if-self.true
+returns-then-self-clause-refused g c = λ keys h memory. spent_result c.self.inside.failed c.args.self.now.failed _ (ap (λ (w : Hashes). w.failed) c.self.view_is) c.if-self.true
 
 pub returns-then-self-clause-first : goal.returns-then-self-clause-first
 returns-then-self-clause-first g c = λ e told. spent_first c.self.inside.failed c.args.self.now.failed e (ap (λ (w : Hashes). w.failed) c.self.view_is) c.if-self.true told

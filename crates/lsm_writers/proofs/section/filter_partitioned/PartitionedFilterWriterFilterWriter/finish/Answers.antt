@@ -7,8 +7,8 @@ use Rattle.lsm_writers.specs.section.Held.{as_list, CutParts, end_keys, HoldsPar
 use Rattle.lsm_writers.proofs.Emptiness.{vec_is_empty}
 use Rattle.lsm_writers.proofs.Holding.{none_cut, none_waits}
 use Rattle.lsm_writers.proofs.RisingLaws.{rising_front}
-use Rattle.lsm_writers.proofs.Sections.{faults_same, finish_told, finish_none, finish_none_fault}
-use Rattle.lsm_writers.proofs.Sections.{finish_writes, rest_refused, spent_first, spent_told}
+use Rattle.lsm_writers.proofs.Sections.{faults_same, finish_result, finish_none, finish_none_fault}
+use Rattle.lsm_writers.proofs.Sections.{finish_writes, rest_refused, spent_first, spent_result}
 use Rattle.lsm_writers.proofs.Sections.{written_blocks}
 use Rattle.lsm_writers.proofs.Sizes.{first_failed, first_none, first_passed, first_works}
 use Rattle.lsm_writers.proofs.Sizes.{size_refused, sizes_none}
@@ -33,7 +33,7 @@ returns-clause-ok g c =
 pub returns-clause-refused : goal.returns-clause-refused
 returns-clause-refused g c = λ keys h.
     faults_same c.write_sections.result _ _
-    (finish_told c.spill_rest.new.self c.args.self.size c.args.self.policy c.self-2.inside.partitions.items keys c.args.self.failed
+    (finish_result c.spill_rest.new.self c.args.self.size c.args.self.policy c.self-2.inside.partitions.items keys c.args.self.failed
     (sym (ap (λ (w : CutParts). w.failed) c.self.view_is) ∙ c.if-self.false) (c.in_ok-spill_rest.ensures.refused keys h)
     (c.in_ok-spill_rest.ensures.ok keys h) c.spill_rest.ensures.policy c.spill_rest.ensures.size
     (ap (λ (w : CutParts). w.parts) c.self-2.view_is) (c.in_ok-check_sizes.ensures keys h))
@@ -134,7 +134,7 @@ pub returns-then-self-clause-before : goal.returns-then-self-clause-before
 returns-then-self-clause-before g c = bytes_stay c.args.writer.now
 
 pub returns-then-self-clause-refused : goal.returns-then-self-clause-refused
-returns-then-self-clause-refused g c = λ keys h memory. spent_told c.self.inside.failed c.args.self.failed _ (ap (λ (w : CutParts). w.failed) c.self.view_is) c.if-self.true
+returns-then-self-clause-refused g c = λ keys h memory. spent_result c.self.inside.failed c.args.self.failed _ (ap (λ (w : CutParts). w.failed) c.self.view_is) c.if-self.true
 
 pub returns-then-self-clause-first : goal.returns-then-self-clause-first
 returns-then-self-clause-first g c = λ e told. spent_first c.self.inside.failed c.args.self.failed e (ap (λ (w : CutParts). w.failed) c.self.view_is) c.if-self.true told

@@ -19,8 +19,8 @@ returns-clause-both g c =
     let place : c.max-self-inside.result ≡ max s.from (lower_place (Excluded c.args.key.now) s.list) = omega arith in
     rw (← c.self.view_is) (keeps_upper (Excluded c.args.key.now) s (record s { from = c.max-self-inside.result }) (sought_lower (Excluded c.args.key.now) s c.max-self-inside.result c.first_above.ensures.strict place))
 
-pub returns-clause-deals : goal.returns-clause-deals
-returns-clause-deals g c = span_left (record { list = c.self.inside.block.now; from = c.max-self-inside.result; to = c.self.inside.to })
+pub returns-clause-yields : goal.returns-clause-yields
+returns-clause-yields g c = span_left (record { list = c.self.inside.block.now; from = c.max-self-inside.result; to = c.self.inside.to })
 
 pub returns-clause-left : goal.returns-clause-left
 returns-clause-left g c = left_any (record { list = c.self.inside.block.now; from = c.max-self-inside.result; to = c.self.inside.to }) c.self.invariant

@@ -19,8 +19,8 @@ returns-clause-both g c =
     let place : c.min-self-inside.result ≡ min s.to (upper_place (Included c.args.key.now) s.list) = cc (c.min-self-inside.ensures, c.first_above.ensures.place) in
     rw (← c.self.view_is) (keeps_lower (Included c.args.key.now) s (record s { to = c.min-self-inside.result }) (sought_upper (Included c.args.key.now) s c.min-self-inside.result c.first_above.ensures.strict place))
 
-pub returns-clause-deals : goal.returns-clause-deals
-returns-clause-deals g c = span_left (record { list = c.self.inside.block.now; from = c.self.inside.from; to = c.min-self-inside.result })
+pub returns-clause-yields : goal.returns-clause-yields
+returns-clause-yields g c = span_left (record { list = c.self.inside.block.now; from = c.self.inside.from; to = c.min-self-inside.result })
 
 pub returns-clause-left : goal.returns-clause-left
 returns-clause-left g c = left_any (record { list = c.self.inside.block.now; from = c.self.inside.from; to = c.min-self-inside.result }) (omega (arith, c.self.invariant, c.min-self-inside.ensures))

@@ -18,8 +18,8 @@ returns-clause-both g c =
     let place : c.min-self-inside.result ≡ min s.to (1 + above_place c.args.key.now s.list) = omega arith in
     rw (← c.self.view_is) (keeps_lower_edge c.args.key.now s c.min-self-inside.result place)
 
-pub returns-clause-deals : goal.returns-clause-deals
-returns-clause-deals g c = span_left (record { list = c.self.inside.block.now; from = c.self.inside.from; to = c.min-self-inside.result })
+pub returns-clause-yields : goal.returns-clause-yields
+returns-clause-yields g c = span_left (record { list = c.self.inside.block.now; from = c.self.inside.from; to = c.min-self-inside.result })
 
 pub returns-clause-left : goal.returns-clause-left
 returns-clause-left g c = left_any (record { list = c.self.inside.block.now; from = c.self.inside.from; to = c.min-self-inside.result }) (omega (arith, c.self.invariant, c.min-self-inside.ensures))

@@ -4,24 +4,24 @@ use Rattle.std.proofs.Common.{◌≡◌, inl, inr, refl, sym, ◌∙◌, ap, sub
 use Rattle.std.proofs.Common.{List, [], ◌∷◌, ◌++◌}
 use Rattle.std.specs.Prelude.{IfOk, Option, Some, None, Result, Ok, Err}
 use Rattle.sst_entries.specs.Entry.{Entry}
-use Rattle.sst_entries.specs.Stream.{CanDeal, Deals, answer_stops, but_first, first, nowhere}
+use Rattle.sst_entries.specs.Stream.{CanYield, YieldsExactly, answer_stops, but_first, first, nowhere}
 use Rattle.sst_entries.specs.Stream.{ok_results}
 use Rattle.sst_entries.specs.declared.error.Error.{Error}
 use Rattle.sst_entries.specs.declared.error.Error.TheVariants.{OutOfMemory}
-use Rattle.sst_entries.proofs.StreamLemmas.{deals_by}
+use Rattle.sst_entries.proofs.StreamLemmas.{yields_by}
 use Rattle.lsm_sorted.specs.merge.Ends.{R}
 use Rattle.lsm_sorted.specs.declared.compaction.Rules.{Rules}
 use Rattle.std.proofs.lemmas.List.{append-nil}
 use Rattle.lsm_sorted.specs.Compaction.{Judged, Verdict, asked, keep, reported}
 use Rattle.lsm_sorted.specs.Compacting.{SaysOf}
 use Rattle.lsm_sorted.specs.Outlook.{results_in}
-use Rattle.lsm_sorted.specs.lending.LentFaults.{AlwaysTells, FilterSays, PassesAll, PassesAllOr}
+use Rattle.lsm_sorted.specs.lending.LentFaults.{AlwaysReports, FilterSays, PassesAll, PassesAllOr}
 use Rattle.lsm_sorted.specs.lending.LentFaults.{StaysOver, StaysOverOr}
 use Rattle.lsm_sorted.specs.lending.LentCompaction.{AdvancesCompacted, CompactsLent}
 use Rattle.lsm_sorted.specs.lending.LentCompaction.{CompactsLentResults}
-use Rattle.lsm_sorted.specs.lending.LentCompaction.{DealsCompactedEntries, EndsAtNone}
+use Rattle.lsm_sorted.specs.lending.LentCompaction.{YieldsCompactedEntries, EndsAtNone}
 use Rattle.lsm_sorted.specs.lending.LentCompaction.{MayLendCompacted}
-use Rattle.lsm_sorted.specs.lending.LentCompaction.{DealsCompactedResults, WillCompact, fresh_of}
+use Rattle.lsm_sorted.specs.lending.LentCompaction.{YieldsCompactedResults, WillCompact, fresh_of}
 use Rattle.lsm_sorted.specs.lending.LentCompaction.{hidden_in, hidden_key, lender, lent_outs}
 use Rattle.lsm_sorted.specs.lending.LentCompaction.{is_entry, lent_callback, lent_compacted}
 use Rattle.lsm_sorted.specs.lending.LentCompaction.{lent_filter}
@@ -34,8 +34,8 @@ use Rattle.lsm_sorted.proofs.CompactionHeads.{looked_next}
 use Rattle.lsm_sorted.proofs.CompactionCalls.{can_compacted}
 use Rattle.lsm_sorted.proofs.CompactionFaults.{compaction_passes, compaction_stays}
 use Rattle.lsm_sorted.proofs.LendingCompactionRuns.{compacts_lent, compacts_lent_results}
-use Rattle.lsm_sorted.proofs.LendingCompactionRuns.{dealt_parts, ends_empty, nothing_past}
-use Rattle.lsm_sorted.proofs.LendingCompactionRuns.{told_calm}
+use Rattle.lsm_sorted.proofs.LendingCompactionRuns.{yielded_parts, ends_empty, nothing_past}
+use Rattle.lsm_sorted.proofs.LendingCompactionRuns.{reported_calm}
 use Rattle.lsm_sorted.proofs.KeepsAllLemmas.{TakesAny, compacts_all, keeps_all, takes_all}
 
 -- ---- what it deals
@@ -90,7 +90,7 @@ module _ {S F C A : Type 0} (advances : S → Option R → S → Type 0) (can : 
       pub memory : stops OutOfMemory ≡ true
       pub live : s.is_over ≡ false
       pub rest : List R
-      pub has : Deals (answer_stops stops) advances nowhere s.source rest
+      pub has : YieldsExactly (answer_stops stops) advances nowhere s.source rest
       pub is : ys ≡ outs_at s rest
 
     gives_first : (s : LendingCompaction S F C A) (ys : List R) (r : Option R) (t : LendingCompaction S F C A) → Leaves s ys → Next s r t
@@ -99,8 +99,8 @@ module _ {S F C A : Type 0} (advances : S → Option R → S → Type 0) (can : 
         let call = step.live leaves.live in elim call.step.told [
           | inl passing ↦
               let answers = call.step.answers in
-              let calm = told_calm (FilterSays (KeepsAll {F = F})) stops r answers passing.0 fine in
-              let parts = dealt_parts advances stops answers s.source t.source leaves.rest
+              let calm = reported_calm (FilterSays (KeepsAll {F = F})) stops r answers passing.0 fine in
+              let parts = yielded_parts advances stops answers s.source t.source leaves.rest
               leaves.has call.step.gave calm in
               let more : List R = outs_at t parts.rest in
               let will = call.step.does nothing_later passing.1 parts.rest more t.filter t.callback
@@ -144,9 +144,9 @@ module _ {S F C A : Type 0} (advances : S → Option R → S → Type 0) (can : 
 
   module _ (source : S) (rules : Rules) (f : F) (c : C) (s : LendingCompaction S F C A)
       (fresh : s ≡ fresh_of source rules f c s) where
-    pub deals_results : DealsCompactedResults advances source Next s rules
-    deals_results = record {
-      deals = λ stops xs memory has. deals_by (answer_stops stops) Next nowhere (Leaves stops)
+    pub yields_results : YieldsCompactedResults advances source Next s rules
+    yields_results = record {
+      yields = λ stops xs memory has. yields_by (answer_stops stops) Next nowhere (Leaves stops)
           (gives_first stops) (λ t ys r u leaves step fine. absurd step) s (lent_outs rules xs)
           (subst (λ (t : LendingCompaction S F C A). Leaves stops t (lent_outs rules xs)) (sym fresh) (record {
             memory = memory;
@@ -157,10 +157,10 @@ module _ {S F C A : Type 0} (advances : S → Option R → S → Type 0) (can : 
           }));
     }
 
-    pub deals_entries : DealsCompactedEntries advances source Next s rules
-    deals_entries = record {
-      deals = λ stops xs memory has. subst (Deals (answer_stops stops) Next nowhere s)
-          (lent_kept rules xs) (deals_results.deals stops (ok_results xs) memory has);
+    pub yields_entries : YieldsCompactedEntries advances source Next s rules
+    yields_entries = record {
+      yields = λ stops xs memory has. subst (YieldsExactly (answer_stops stops) Next nowhere s)
+          (lent_kept rules xs) (yields_results.yields stops (ok_results xs) memory has);
     }
 
 -- ---- the errors that it passes on
@@ -202,8 +202,8 @@ pub always_by : {S T : Type 0} (Law Then : List (Option R) → List (List (Optio
     (advances : S → Option R → S → Type 0) (source : S) (source_of : T → S)
     (next : T → Option R → T → Type 0) (t : T)
     → ((rs : List (Option R)) (calls : List (List (Option R))) → Law rs calls → Then rs calls)
-    → AlwaysTells Law advances source source_of next t
-    → AlwaysTells Then advances source source_of next t
+    → AlwaysReports Law advances source source_of next t
+    → AlwaysReports Then advances source source_of next t
 always_by Law Then advances source source_of next t follows always = record {
   of = λ rs u each. let all = always.of rs u each in (all.0, all.1, follows rs all.0 all.2);
 }
@@ -240,22 +240,22 @@ module _ {F C : Type 0} (gives : F → Entry → Result Verdict Error → F → 
       (compacts_lent_results gives gets advances lent can (fresh_of source rules f c s) refl refl
       refl)
 
-  pub fresh_passes : AlwaysTells (PassesAllOr (FilterSays gives)) advances source lender Run s
+  pub fresh_passes : AlwaysReports (PassesAllOr (FilterSays gives)) advances source lender Run s
   fresh_passes = subst (λ (t : LendingCompaction S F C A).
-      AlwaysTells (PassesAllOr (FilterSays gives)) advances source lender Run t) (sym fresh)
+      AlwaysReports (PassesAllOr (FilterSays gives)) advances source lender Run t) (sym fresh)
       (compaction_passes gives gets advances lent can (fresh_of source rules f c s) refl)
 
-  pub fresh_stays : AlwaysTells (StaysOverOr (FilterSays gives)) advances source lender Run s
+  pub fresh_stays : AlwaysReports (StaysOverOr (FilterSays gives)) advances source lender Run s
   fresh_stays = subst (λ (t : LendingCompaction S F C A).
-      AlwaysTells (StaysOverOr (FilterSays gives)) advances source lender Run t) (sym fresh)
+      AlwaysReports (StaysOverOr (FilterSays gives)) advances source lender Run t) (sym fresh)
       (compaction_stays gives gets advances lent can (fresh_of source rules f c s) refl)
 
-  pub fresh_may : CanDeal advances nowhere can can source → MayLendCompacted advances can s
+  pub fresh_may : CanYield advances nowhere can can source → MayLendCompacted advances can s
   fresh_may may = subst (λ (t : LendingCompaction S F C A). MayLendCompacted advances can t)
       (sym fresh) may
 
-  pub fresh_can : CanDeal advances nowhere can can source
-      → CanDeal Run nowhere (MayLendCompacted advances can) (MayLendCompacted advances can) s
+  pub fresh_can : CanYield advances nowhere can can source
+      → CanYield Run nowhere (MayLendCompacted advances can) (MayLendCompacted advances can) s
   fresh_can may = can_compacted gives gets advances lent can s (fresh_may may)
 
 module _ {S F C A : Type 0} (advances : S → Option R → S → Type 0) (lent : S → Option Entry)
@@ -264,12 +264,12 @@ module _ {S F C A : Type 0} (advances : S → Option R → S → Type 0) (lent :
   abbrev Next' : LendingCompaction S F C A → Option R → LendingCompaction S F C A → Type 0
   Next' = AdvancesCompacted advances lent can (KeepsAll {F = F}) (TakesAny {C = C})
 
-  pub fresh_faults : AlwaysTells PassesAll advances source lender Next' s
+  pub fresh_faults : AlwaysReports PassesAll advances source lender Next' s
   fresh_faults = always_by (PassesAllOr (FilterSays (KeepsAll {F = F}))) PassesAll advances source
       lender Next' s (passes_all (FilterSays (KeepsAll {F = F})) says_none)
       (fresh_passes KeepsAll TakesAny advances lent can source rules f c s fresh)
 
-  pub fresh_over : AlwaysTells StaysOver advances source lender Next' s
+  pub fresh_over : AlwaysReports StaysOver advances source lender Next' s
   fresh_over = always_by (StaysOverOr (FilterSays (KeepsAll {F = F}))) StaysOver advances source
       lender Next' s (stays_over (FilterSays (KeepsAll {F = F})) says_none)
       (fresh_stays KeepsAll TakesAny advances lent can source rules f c s fresh)

@@ -3,7 +3,7 @@ use Rattle.std.specs.Prelude.{◌≡◌, List, [], ◌∷◌, map, Option, Some,
 use Rattle.sst_entries.specs.declared.error.Error.{Error}
 use Rattle.sst_entries.specs.declared.stream.Direction.{Direction}
 use Rattle.sst_entries.specs.Error.{is_memory}
-use Rattle.sst_entries.specs.Stream.{deal, answer_stops, CanDeal, EndsAtError, NoneStops, Runs}
+use Rattle.sst_entries.specs.Stream.{yield_each, answer_stops, CanYield, EndsAtError, NoneStops, Runs}
 
 -- Results up to and with the first error, then `None`.
 abbrev pub ended_at_error : {X : Type 0} → List (Option (Result X Error))
@@ -15,10 +15,10 @@ ended_at_error (Some (Err e) ∷ rs) = Some (Err e) ∷ map (λ _. None) rs
 
 -- Except for `OutOfMemory`, the results at any ends are those of `deal` up to the first error.
 -- Calls are always allowed, and after any error each returns `None`.
-pub record DealsEnding {S X : Type 0} (front back : S → Option (Result X Error) → S → Type 0)
+pub record YieldsEnding {S X : Type 0} (front back : S → Option (Result X Error) → S → Type 0)
     (may may_back : S → Type 0) (s : S) (xs : List (Result X Error)) : Type 0 where
   pub answers : (ends : List Direction) (rs : List (Option (Result X Error))) (t : S)
       → Runs front back s ends rs t → NoneStops (answer_stops is_memory) rs
-      → rs ≡ ended_at_error (deal xs ends)
-  pub can : CanDeal front back may may_back s
+      → rs ≡ ended_at_error (yield_each xs ends)
+  pub can : CanYield front back may may_back s
   pub ends : EndsAtError front back s

@@ -7,19 +7,19 @@ use Rattle.std.specs.Vec.{vec_capacity}
 use Rattle.std.specs.Ordering.{is_gt}
 use Rattle.std.proofs.lemmas.List.Elements.{All-nil}
 use Rattle.sst_entries.specs.Entry.{Entry}
-use Rattle.sst_entries.specs.Stream.{CanDeal, Deals, EndAtError, EndsAtError, Runs, answer_stops}
+use Rattle.sst_entries.specs.Stream.{CanYield, YieldsExactly, EndAtError, EndsAtError, Runs, answer_stops}
 use Rattle.sst_entries.specs.Stream.{nowhere, ok_results}
 use Rattle.sst_entries.specs.declared.error.Error.{Error}
 use Rattle.sst_entries.specs.declared.stream.Direction.{Direction}
 use Rattle.sst_entries.specs.declared.stream.Direction.TheVariants.{Front, Back}
-use Rattle.sst_entries.proofs.StreamLemmas.{can_by, deals_by}
+use Rattle.sst_entries.proofs.StreamLemmas.{can_by, yields_by}
 use Rattle.lsm_sorted.specs.declared.lending_merger.LendingMerger.{LendingMerger}
 use Rattle.lsm_sorted.specs.merge.Ends.{R}
 use Rattle.lsm_sorted.specs.merge.InPlace.{Placed, places_of, put_in_place, sort_places, all_placed}
 use Rattle.lsm_sorted.specs.merge.InPlace.{up_to_error, merge_of}
 use Rattle.lsm_sorted.specs.lending.Lent.{AdvancesLent, LendsNoMore, LeavesLent, LeavesIf, MayLend}
 use Rattle.lsm_sorted.specs.lending.Lent.{IsHead, IsQueue, Rests, lent_at, queued, source_of}
-use Rattle.lsm_sorted.specs.merge.MergeLaws.{DealSorted, DealsInPlace, DealsMerged}
+use Rattle.lsm_sorted.specs.merge.MergeLaws.{YieldSorted, YieldsInPlace, YieldsMerged}
 use Rattle.lsm_sorted.specs.merge.Union.{item_cmp, entries_among, errors_among, all_entries}
 use Rattle.lsm_sorted.specs.merge.Union.{all_errors}
 use Rattle.lsm_sorted.specs.merge.Union.{insert_sorted, sort_entries, union_of}
@@ -70,10 +70,10 @@ sort_entries_in_place [] = refl
 sort_entries_in_place (x ∷ xs) = ap (put_in_place (in_place x)) (sort_entries_in_place xs)
     ∙ put_entry x (sort_entries xs)
 
-no_error_told : (xs : List Entry)
+no_error_result : (xs : List Entry)
     → up_to_error (map (λ (p : Placed). p.is) (map in_place xs)) ≡ ok_results xs
-no_error_told [] = refl
-no_error_told (x ∷ xs) = ap (λ (rs : List R). Ok x ∷ rs) (no_error_told xs)
+no_error_result [] = refl
+no_error_result (x ∷ xs) = ap (λ (rs : List R). Ok x ∷ rs) (no_error_result xs)
 
 -- without errors all entries are dealt
 pub merge_entries : (lists : List (List R)) → all_errors lists ≡ []
@@ -83,15 +83,15 @@ merge_entries lists none =
     (all_in_place lists none)
     ∙ ap (λ (ps : List Placed). up_to_error (map (λ (p : Placed). p.is) ps))
     (sort_entries_in_place (all_entries lists))
-    ∙ no_error_told (union_of lists)
+    ∙ no_error_result (union_of lists)
 
 -- ---- whole runs
 
 zip_rests : {S : Type 0} (advances : S → Option R → S → Type 0) (stops : Error → Bool)
     (ss : List S) (lists : List (List R))
-    → AllZip (Deals (answer_stops stops) advances nowhere) ss lists
+    → AllZip (YieldsExactly (answer_stops stops) advances nowhere) ss lists
     → (length lists ≡ length ss) × ((i : ℕ) (s : S) → i < length ss
-    → Deals (answer_stops stops) advances nowhere (slice_index_or ss i s)
+    → YieldsExactly (answer_stops stops) advances nowhere (slice_index_or ss i s)
     (slice_index_or lists i []))
 zip_rests advances stops [] [] h = (refl, λ i s lt. absurd (omega (arith, lt)))
 zip_rests advances stops [] (rs ∷ lists) h = absurd h
@@ -101,9 +101,9 @@ zip_rests {S = S} advances stops (s ∷ ss) (rs ∷ lists) h =
     (ap suc more.0, λ i d lt. each more.1 i d lt)
   where
     each : ((i : ℕ) (s : S) → i < length ss
-        → Deals (answer_stops stops) advances nowhere (slice_index_or ss i s)
+        → YieldsExactly (answer_stops stops) advances nowhere (slice_index_or ss i s)
         (slice_index_or lists i [])) → (i : ℕ) (d : S) → i < length (s ∷ ss)
-        → Deals (answer_stops stops) advances nowhere (slice_index_or (s ∷ ss) i d)
+        → YieldsExactly (answer_stops stops) advances nowhere (slice_index_or (s ∷ ss) i d)
         (slice_index_or (rs ∷ lists) i [])
     each more zero d lt = h.0
     each more (suc i) d lt = more i d (omega (arith, lt))
@@ -123,10 +123,10 @@ module _ {S A : Type 0} (advances : S → Option R → S → Type 0) (can : S �
   module _ (its : List S) (m : LendingMerger S A) (sources : m.sources.items ≡ its)
       (empty : m.queue.items ≡ []) (fresh : m.is_started ≡ false) where
     starts : (stops : Error → Bool) (lists : List (List R))
-        → DealSorted advances nowhere stops its lists
+        → YieldSorted advances nowhere stops its lists
         → LeavesLent stops advances lent m (merge_of lists)
     starts stops lists sorted =
-        let rests = zip_rests advances stops its lists sorted.deal in
+        let rests = zip_rests advances stops its lists sorted.yield_each in
         record {
           parts = subst (λ (b : Bool). LeavesIf stops advances lent b m (merge_of lists))
               (sym fresh) (
@@ -138,24 +138,24 @@ module _ {S A : Type 0} (advances : S → Option R → S → Type 0) (can : S �
               );
         }
 
-    pub lent_in_place : DealsInPlace advances nowhere its Adv nowhere m
+    pub lent_in_place : YieldsInPlace advances nowhere its Adv nowhere m
     lent_in_place = record {
-      deals = λ stops lists sorted. deals_by (answer_stops stops) Adv nowhere
+      yields = λ stops lists sorted. yields_by (answer_stops stops) Adv nowhere
           (LeavesLent stops advances lent) (λ s xs r t has step fine. step.gives stops xs has fine)
           (λ s xs r t has step fine. absurd step) m (merge_of lists) (starts stops lists sorted);
     }
 
-    pub lent_merged : DealsMerged advances nowhere its Adv nowhere m
+    pub lent_merged : YieldsMerged advances nowhere its Adv nowhere m
     lent_merged = record {
-      deals = λ stops lists sorted none. subst (Deals (answer_stops stops) Adv nowhere m)
-          (merge_entries lists none) (lent_in_place.deals stops lists sorted);
+      yields = λ stops lists sorted none. subst (YieldsExactly (answer_stops stops) Adv nowhere m)
+          (merge_entries lists none) (lent_in_place.yields stops lists sorted);
     }
 
-    pub lent_may : length its ≤ vec_capacity m.queue → All (CanDeal advances nowhere can can) its
+    pub lent_may : length its ≤ vec_capacity m.queue → All (CanYield advances nowhere can can) its
         → MayLend advances can lent m
     lent_may room all = record {
       ready = record {
-        sources = subst (All (CanDeal advances nowhere can can)) (sym sources) all;
+        sources = subst (All (CanYield advances nowhere can can)) (sym sources) all;
         known = subst (All (λ q. q < length m.sources.items)) (sym none)
             (All-nil (λ q. q < length m.sources.items));
         room = subst (λ (ss : List S). length ss ≤ vec_capacity m.queue) (sym sources) room;
@@ -170,7 +170,7 @@ module _ {S A : Type 0} (advances : S → Option R → S → Type 0) (can : S �
         none = ap (map source_of) empty
 
   pub lent_can : (m : LendingMerger S A) → MayLend advances can lent m
-      → CanDeal Adv nowhere (MayLend advances can lent) (MayLend advances can lent) m
+      → CanYield Adv nowhere (MayLend advances can lent) (MayLend advances can lent) m
   lent_can m may = can_by Adv nowhere (MayLend advances can lent) (MayLend advances can lent)
       (MayLend advances can lent) (λ s m. (m, m)) (λ s r t m step. step.may)
       (λ s r t m step. absurd step) m may

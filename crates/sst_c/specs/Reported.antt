@@ -12,7 +12,7 @@ use Rattle.lsm_readers.specs.point.Table.{OpenTable}
 use Rattle.lsm_runs.specs.RunPlaces.{placed_in_runs}
 use Rattle.lsm_runs.specs.declared.lent_gets.RunPlace.{RunPlace}
 use Rattle.sst_c.specs.Newest.{newest_lent}
-use Rattle.sst_c.specs.declared.entries.EntryTold.{EntryTold}
+use Rattle.sst_c.specs.declared.entries.EntryReport.{EntryReport}
 use Rattle.sst_c.specs.declared.held.FoundEntry.{FoundEntry}
 use Rattle.sst_c.specs.declared.held.FoundEntry.TheVariants.{InRuns, InTable, Kept, Lent}
 use Rattle.sst_c.specs.declared.held.Held.{Held}
@@ -20,7 +20,7 @@ use Rattle.sst_c.specs.declared.held.What.{What}
 use Rattle.sst_c.specs.declared.held.What.TheVariants.{Range, Runs, RunsScan, Scan, Table}
 
 -- an entry's kind, number and lengths, or zeros where there is none
-abbrev pub entry_facts : Option Entry → EntryTold
+abbrev pub entry_facts : Option Entry → EntryReport
 entry_facts None = record { kind = 0; seqno = 0; key_len = 0; value_len = 0 }
 entry_facts (Some e) = record {
   kind = 1 + tag_of e.kind;

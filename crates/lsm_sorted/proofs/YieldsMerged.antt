@@ -8,19 +8,19 @@ use Rattle.std.specs.Iterator.{Count, IsFinite}
 use Rattle.std.proofs.lemmas.List.{append-nil, length-map}
 use Rattle.std.proofs.lemmas.List.Elements.{recursion_from_All, All-from_recursion, All-nil}
 use Rattle.sst_entries.specs.Entry.{Entry}
-use Rattle.sst_entries.specs.Stream.{Deals, CanDeal, answer_stops, NoneStops, Runs, first}
-use Rattle.sst_entries.specs.Stream.{but_first, last, but_last, deal, ok_results, front_of, back_of}
+use Rattle.sst_entries.specs.Stream.{YieldsExactly, CanYield, answer_stops, NoneStops, Runs, first}
+use Rattle.sst_entries.specs.Stream.{but_first, last, but_last, yield_each, ok_results, front_of, back_of}
 use Rattle.sst_entries.specs.Stream.{EndAtError, EndsAtError}
 use Rattle.sst_entries.specs.declared.error.Error.{Error}
 use Rattle.sst_entries.specs.declared.stream.Direction.{Direction}
 use Rattle.sst_entries.specs.declared.stream.Direction.TheVariants.{Front, Back}
-use Rattle.sst_entries.proofs.StreamLemmas.{deals_by, map_reverse}
+use Rattle.sst_entries.proofs.StreamLemmas.{yields_by, map_reverse}
 use Rattle.lsm_sorted.specs.declared.heap.ends.Ends.{Ends}
 use Rattle.lsm_sorted.specs.declared.merge.HeapItem.{HeapItem}
 use Rattle.lsm_sorted.specs.declared.merge.Merger.{Merger}
 use Rattle.lsm_sorted.specs.merge.Ends.{R, Left, Goes, new_ends}
 use Rattle.lsm_sorted.specs.merge.Union.{Ascends, entries_among, all_errors, union_of}
-use Rattle.lsm_sorted.specs.merge.Merge.{entry_of, is_ready, MayMerge, Follows, DealsUntil, held_of}
+use Rattle.lsm_sorted.specs.merge.Merge.{entry_of, is_ready, MayMerge, Follows, YieldsUntil, held_of}
 use Rattle.lsm_sorted.proofs.Kept.{count_of, Ready, LeavesIf, Kept, whole, taken, HeapHolds, Stands}
 use Rattle.lsm_sorted.proofs.Kept.{Leaves, MergeAnswer, Merges}
 use Rattle.lsm_sorted.proofs.RoomLemmas.{may_merge}
@@ -56,7 +56,7 @@ module _ {S A : Type 0} (front back : S → Option R → S → Type 0) (m : Merg
     (sources : m.sources.items ≡ map new_ends its) (empty : m.heap.items ≡ [])
     (no_front : m.front_ready ≡ false) (no_back : m.back_ready ≡ false) where
   zip_fresh : (stops : Error → Bool) (ss : List S) (lists : List (List R))
-      → AllZip (Deals (answer_stops stops) front back) ss lists
+      → AllZip (YieldsExactly (answer_stops stops) front back) ss lists
       → AllZip (λ s k. Left stops front back s k.rest) (map new_ends ss) (map untouched lists)
   zip_fresh stops [] [] h = tt
   zip_fresh stops [] (rs ∷ lists) h = absurd h
@@ -65,7 +65,7 @@ module _ {S A : Type 0} (front back : S → Option R → S → Type 0) (m : Merg
 
   -- nothing is held yet
   pub new_merging : (stops : Error → Bool) (lists : List (List R))
-      → AllZip (Deals (answer_stops stops) front back) its lists
+      → AllZip (YieldsExactly (answer_stops stops) front back) its lists
       → AllByRecursion (λ rs. Ascends (entries_among rs)) lists
       → Stands stops front back m (map untouched lists)
       × ((b : Direction) → Ready (is_ready b m) b (map untouched lists))
@@ -90,7 +90,7 @@ module _ {S A : Type 0} (front back : S → Option R → S → Type 0) (m : Merg
 
   module _ (fine : m.failed ≡ false) where
     pub new_leaves : (stops : Error → Bool) (lists : List (List R))
-        → AllZip (Deals (answer_stops stops) front back) its lists
+        → AllZip (YieldsExactly (answer_stops stops) front back) its lists
         → AllByRecursion (λ rs. Ascends (entries_among rs)) lists
         → Leaves stops front back m (union_of lists) (all_errors lists)
     new_leaves stops lists zip up =
@@ -107,19 +107,19 @@ module _ {S A : Type 0} (front back : S → Option R → S → Type 0) (m : Merg
         }
 
     module _ (can can_back : S → Type 0) (left : S → Count) where
-      all_fresh : (ss : List S) → AllByRecursion (CanDeal front back can can_back) ss
+      all_fresh : (ss : List S) → AllByRecursion (CanYield front back can can_back) ss
           → AllByRecursion (λ s. IsFinite (left s)) ss
           → AllByRecursion (Goes front back can can_back left) (map new_ends ss)
       all_fresh [] c f = tt
       all_fresh (s ∷ ss) c f = (record { ready = (c.0, f.0) }, all_fresh ss c.1 f.1)
 
       pub new_may : length its + length its ≤ m.heap.room
-          → All (CanDeal front back can can_back) its → All (λ s. IsFinite (left s)) its
+          → All (CanYield front back can can_back) its → All (λ s. IsFinite (left s)) its
           → MayMerge front back can can_back left m
       new_may space c ends = may_merge front back can can_back left m fine (record {
         sources = subst (All (Goes front back can can_back left)) (sym sources)
             (All-from_recursion (Goes front back can can_back left) (map new_ends its)
-            (all_fresh its (recursion_from_All (CanDeal front back can can_back) its c)
+            (all_fresh its (recursion_from_All (CanYield front back can can_back) its c)
             (recursion_from_All (λ s. IsFinite (left s)) its ends)));
         known = subst (All (λ h. h.source < length m.sources.items)) (sym empty)
             (All-nil (λ h. h.source < length m.sources.items));
@@ -156,33 +156,33 @@ module _ {T : Type 0} (May Ended : T → Type 0)
   Behind = Merges May Ended Has back_of
 
   module _ (stops : Error → Bool) where
-    abbrev Dealt : T → List R → Type 0
-    Dealt t rs = (xs : List Entry) × (rs ≡ ok_results xs) × Has stops t xs []
+    abbrev Yielded : T → List R → Type 0
+    Yielded t rs = (xs : List Entry) × (rs ≡ ok_results xs) × Has stops t xs []
 
     -- without errors to come, one call gives the entry of its end
-    one_dealt : (step : Option Entry × List Entry) (told : Option R) (others : List R)
+    one_yielded : (step : Option Entry × List Entry) (told : Option R) (others : List R)
         → told ≡ option_map (λ x. Ok x) step.0 → others ≡ ok_results step.1
         → (step.0 ≡ None → step.1 ≡ []) → (r : Option R) (t : T)
-        → MergeAnswer (Has stops) step [] r t → (r ≡ told) × Dealt t others
-    one_dealt step told others tells leaves ends None t a = (
+        → MergeAnswer (Has stops) step [] r t → (r ≡ told) × Yielded t others
+    one_yielded step told others tells leaves ends None t a = (
       sym (tells ∙ ap (option_map (λ x. Ok x)) a.0),
       ([], leaves ∙ ap ok_results (ends a.0), a.2),
     )
-    one_dealt step told others tells leaves ends (Some (Ok x)) t a =
+    one_yielded step told others tells leaves ends (Some (Ok x)) t a =
         (sym (tells ∙ ap (option_map (λ y. Ok y)) a.0), (step.1, leaves, a.1))
-    one_dealt step told others tells leaves ends (Some (Err e)) t a = absurd (omega (arith, a.0.1))
+    one_yielded step told others tells leaves ends (Some (Err e)) t a = absurd (omega (arith, a.0.1))
 
     none_left : (xs : List Entry) → first xs ≡ None → but_first xs ≡ []
     none_left [] e = refl
     none_left (x ∷ xs) e = absurd cc
 
-    pub deals_merged : (s : T) (xs : List Entry) (errors : List Error) → errors ≡ []
-        → Has stops s xs errors → Deals (answer_stops stops) Forth Behind s (ok_results xs)
-    deals_merged s xs errors none has = deals_by (answer_stops stops) Forth Behind Dealt
-        (λ s rs r t was step fine. one_dealt (front_of was.0) (first rs) (but_first rs)
+    pub yields_merged : (s : T) (xs : List Entry) (errors : List Error) → errors ≡ []
+        → Has stops s xs errors → YieldsExactly (answer_stops stops) Forth Behind s (ok_results xs)
+    yields_merged s xs errors none has = yields_by (answer_stops stops) Forth Behind Yielded
+        (λ s rs r t was step fine. one_yielded (front_of was.0) (first rs) (but_first rs)
         (ap first was.1 ∙ all_first was.0) (ap but_first was.1 ∙ all_but_first was.0)
         (none_left was.0) r t (step.gives stops was.0 [] was.2 fine))
-        (λ s rs r t was step fine. one_dealt (back_of was.0) (last rs) (but_last rs)
+        (λ s rs r t was step fine. one_yielded (back_of was.0) (last rs) (but_last rs)
         (ap last was.1 ∙ all_last was.0) (ap but_last was.1 ∙ all_but_last was.0)
         (λ e. ap reverse (none_left (reverse was.0) e)) r t
         (step.gives stops was.0 [] was.2 fine))
@@ -232,29 +232,29 @@ module _ {T : Type 0} (May Ended : T → Type 0)
 
     follows : (errors : List Error) (ends : List Direction) (rs : List (Option R)) (s t : T)
         (xs : List Entry) → Has stops s xs errors → Runs Forth Behind s ends rs t
-        → NoneStops (answer_stops stops) rs → Follows errors (deal (ok_results xs) ends) rs
+        → NoneStops (answer_stops stops) rs → Follows errors (yield_each (ok_results xs) ends) rs
     follows errors [] [] s t xs has runs fine = refl
     follows errors [] (r ∷ rs) s t xs has runs fine = absurd runs
     follows errors (e ∷ ends) [] s t xs has runs fine = absurd runs
     follows errors (Front ∷ ends) (r ∷ rs) s t xs has runs fine =
         one_followed errors (front_of xs) (first (ok_results xs))
-        (deal (but_first (ok_results xs)) ends) (all_first xs) (none_left xs) r rs runs.0
+        (yield_each (but_first (ok_results xs)) ends) (all_first xs) (none_left xs) r rs runs.0
         (runs.1.gives stops xs errors has fine.0)
-        (λ h. subst (λ (qs : List R). Follows errors (deal qs ends) rs) (sym (all_but_first xs))
+        (λ h. subst (λ (qs : List R). Follows errors (yield_each qs ends) rs) (sym (all_but_first xs))
         (follows errors ends rs runs.0 t (but_first xs) h runs.2 fine.1))
         (λ h. nothing_more ends rs runs.0 t h runs.2 fine.1)
     follows errors (Back ∷ ends) (r ∷ rs) s t xs has runs fine =
         one_followed errors (back_of xs) (last (ok_results xs))
-        (deal (but_last (ok_results xs)) ends) (all_last xs)
+        (yield_each (but_last (ok_results xs)) ends) (all_last xs)
         (λ e. ap reverse (none_left (reverse xs) e)) r rs runs.0
         (runs.1.gives stops xs errors has fine.0)
-        (λ h. subst (λ (qs : List R). Follows errors (deal qs ends) rs) (sym (all_but_last xs))
+        (λ h. subst (λ (qs : List R). Follows errors (yield_each qs ends) rs) (sym (all_but_last xs))
         (follows errors ends rs runs.0 t (but_last xs) h runs.2 fine.1))
         (λ h. nothing_more ends rs runs.0 t h runs.2 fine.1)
 
-    pub deals_until : (s : T) (xs : List Entry) (errors : List Error) → Has stops s xs errors
-        → DealsUntil stops Forth Behind s xs errors
-    deals_until s xs errors has = record {
+    pub yields_until : (s : T) (xs : List Entry) (errors : List Error) → Has stops s xs errors
+        → YieldsUntil stops Forth Behind s xs errors
+    yields_until s xs errors has = record {
       answers =
           λ ends rs t runs fine. follows errors ends rs s t xs has runs fine;
     }
