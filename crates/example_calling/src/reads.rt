@@ -40,7 +40,7 @@ pub(crate) fn read_runs<A: Allocator + Clone>(
         RunsHoldLists (map arc_value runs.now) lists → IfErr result (λ e. e ≡ OutOfMemory) }
     // For any tables in runs in order, the point read returns the result of reading these. Except
     // for `OutOfMemory`, so is the error.
-    ensures told { AllByRecursion (IsInOrder range_of) (map arc_value runs.now) →
+    ensures returned { AllByRecursion (IsInOrder range_of) (map arc_value runs.now) →
         IfOk result (λ read. runs_result key.now seqno None (map arc_value runs.now) ≡ Ok read.0) }
     ensures fails { AllByRecursion (IsInOrder range_of) (map arc_value runs.now) →
         IfErr result (λ e. Fails e (runs_result key.now seqno None (map arc_value runs.now))) }
@@ -85,7 +85,7 @@ pub fn read_run<A: Allocator + Clone>(
         IfErr result (λ e. e ≡ OutOfMemory) }
     // For any tables in a run in order, the point read returns the result of reading these. Except
     // for `OutOfMemory`, so is the error.
-    ensures told { IsInOrder range_of run →
+    ensures returned { IsInOrder range_of run →
         IfOk result (λ read. runs_result key.now seqno None (run ∷ []) ≡ Ok read.0) }
     ensures fails { IsInOrder range_of run →
         IfErr result (λ e. Fails e (runs_result key.now seqno None (run ∷ []))) }

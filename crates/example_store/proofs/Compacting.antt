@@ -37,40 +37,40 @@ replaced rules lists made strict is = record {
 }
 
 module _ (s t : Holding) (ws : List Entry) (rules : Rules) (sound : IsStore s) where
-  strict_lists : (told : IsReported s ws) → IsStrict (union_in told.lists)
-  strict_lists told = subst (λ (ls : List (List (List Entry))). IsStrict (union_in ls))
-      (one_way s.runs sound.runs.able.lists told.lists sound.runs.able.hold told.hold)
+  strict_lists : (returned : IsReported s ws) → IsStrict (union_in returned.lists)
+  strict_lists returned = subst (λ (ls : List (List (List Entry))). IsStrict (union_in ls))
+      (one_way s.runs sound.runs.able.lists returned.lists sound.runs.able.hold returned.hold)
       sound.runs.able.writable.strict
 
-  pub reports_compacted : (told : IsReported s ws) → HaveAll (kept_in rules told.lists) t.runs
+  pub reports_compacted : (returned : IsReported s ws) → HaveAll (kept_in rules returned.lists) t.runs
       → t.recent ≡ s.recent → t.next ≡ s.next → s.oldest ≤ t.oldest → rules.watermark ≤ t.oldest
       → IsReported t ws
-  reports_compacted told have recent next later kept = record {
-    story = subst (λ (n : ℕ). IsStory n ws) (sym next) told.story;
+  reports_compacted returned have recent next later kept = record {
+    story = subst (λ (n : ℕ). IsStory n ws) (sym next) returned.story;
     lists = have.lists;
     hold = have.hold;
     same = λ key bound reads.
         ap (λ (xs : List Entry). seen (xs ++ union_in have.lists) key bound) recent
-        ∙ seen_behind key bound s.recent (union_in have.lists) (union_in told.lists)
-        (points rules told.lists [] told.lists have.lists
-        (replaced rules told.lists have.lists (strict_lists told) have.whole) reads_alike_of_part
+        ∙ seen_behind key bound s.recent (union_in have.lists) (union_in returned.lists)
+        (points rules returned.lists [] returned.lists have.lists
+        (replaced rules returned.lists have.lists (strict_lists returned) have.whole) reads_alike_of_part
         key bound (omega (arith, kept, reads)))
-        ∙ told.same key bound (omega (arith, later, reads));
+        ∙ returned.same key bound (omega (arith, later, reads));
   }
 
 -- ---- packing
 
-pub reports_packed : (s t : Holding) (ws : List Entry) → (told : IsReported s ws)
-    → HoldUnion t.runs (union_in told.lists) → t.recent ≡ s.recent → t.next ≡ s.next
+pub reports_packed : (s t : Holding) (ws : List Entry) → (returned : IsReported s ws)
+    → HoldUnion t.runs (union_in returned.lists) → t.recent ≡ s.recent → t.next ≡ s.next
     → t.oldest ≡ s.oldest → IsReported t ws
-reports_packed s t ws told has recent next oldest = record {
-  story = subst (λ (n : ℕ). IsStory n ws) (sym next) told.story;
+reports_packed s t ws returned has recent next oldest = record {
+  story = subst (λ (n : ℕ). IsStory n ws) (sym next) returned.story;
   lists = has.lists;
   hold = has.hold;
   same = λ key bound reads.
       ap (λ (xs : List Entry). seen (xs ++ union_in has.lists) key bound) recent
       ∙ ap (λ (xs : List Entry). seen (s.recent ++ xs) key bound) has.union
-      ∙ told.same key bound (omega (arith, oldest, reads));
+      ∙ returned.same key bound (omega (arith, oldest, reads));
 }
 
 -- packed runs have the same tables

@@ -36,14 +36,14 @@ pub names_unopened : (next : ℕ) (bytes : List ℕ) (run place : ℕ) (e : Erro
     → (is_memory e ≡ false → recovered_result bytes 0 true true ≡ Err e)
     → ((es : List Entry) → StoresList bytes es → is_memory e ≡ true)
     → NamesFile next bytes run place r
-names_unopened next bytes run place e r memory other told opens =
+names_unopened next bytes run place e r memory other returned opens =
     elim (cases_Bool (is_memory e)) [
       | inl wants ↦ subst (NamesFile next bytes run place) (sym (memory wants)) tt
       | inr fine ↦ subst (NamesFile next bytes run place) (sym (other fine)) (
         refl,
         refl,
         record {
-          refused = told fine;
+          refused = returned fine;
           none = λ es stored. let wrong : true ≡ false = sym (opens es stored) ∙ fine in absurd cc;
         },
       )

@@ -73,13 +73,13 @@ module _ (n m : ℕ) where
       → AllByRecursion (IsOwnRun n) s.runs → AllByRecursion (IsOwnRun m) t.runs
       → bytes_by_run s.runs ≡ bytes_by_run t.runs → s.recent ≡ t.recent → s.next ≡ t.next
       → s.oldest ≡ t.oldest → IsReported t ws
-  reports_alike s t ws told own other same recent next oldest = record {
-    story = subst (λ (k : ℕ). IsStory k ws) next told.story;
-    lists = told.lists;
-    hold = held_alike s.runs t.runs told.lists same own other told.hold;
+  reports_alike s t ws returned own other same recent next oldest = record {
+    story = subst (λ (k : ℕ). IsStory k ws) next returned.story;
+    lists = returned.lists;
+    hold = held_alike s.runs t.runs returned.lists same own other returned.hold;
     same = λ key bound reads.
-        ap (λ (xs : List Entry). seen (xs ++ union_in told.lists) key bound) (sym recent)
-        ∙ told.same key bound (omega (arith, oldest, reads));
+        ap (λ (xs : List Entry). seen (xs ++ union_in returned.lists) key bound) (sym recent)
+        ∙ returned.same key bound (omega (arith, oldest, reads));
   }
 
 -- ---- one more of a list
@@ -223,7 +223,7 @@ own_table n t es opened unlifted stored some high none = record {
 -- bytes that store a list are refused for want of memory alone
 pub stored_opens : (bytes : List ℕ) (es : List Entry) → StoresList bytes es
     → (e : Error) → (is_memory e ≡ false → fits_result es 0 ≡ Err e) → is_memory e ≡ true
-stored_opens bytes es stored e told =
+stored_opens bytes es stored e returned =
     elim (cases_Bool (is_memory e)) [
       | inl memory ↦ memory
       | inr other ↦ absurd (fits other)
@@ -234,5 +234,5 @@ stored_opens bytes es stored e told =
         let low : ltb (2 ^ 64 - 1) (highest_seqno es + 0) ≡ false =
         le-ltb _ _ (omega (arith, small_numbers es stored.numbers)) in
         let fine : fits_result es 0 ≡ Ok tt = rw low refl in
-        let no : Ok tt ≡ Err e = sym fine ∙ told other in
+        let no : Ok tt ≡ Err e = sym fine ∙ returned other in
         cc

@@ -195,34 +195,34 @@ pub reports_part : (s t : Holding) (ws : List Entry) (from to watermark : ℕ)
     → HaveAll (kept_in (rules_by watermark false false) ps) made)
     → t.runs ≡ front_runs from to s.runs ++ (made ++ drop to s.runs) → t.recent ≡ s.recent
     → t.next ≡ s.next → s.oldest ≤ t.oldest → watermark ≤ t.oldest → IsReported t ws
-reports_part s t ws from to watermark made sound told kept runs recent next later above =
+reports_part s t ws from to watermark made sound returned kept runs recent next later above =
     let front = front_runs from to s.runs in
     let part = part_runs from to s.runs in
     let behind = drop to s.runs in
     let whole = three_parts from to s.runs in
     let own = (own_parts s.flushed front part behind
     (subst (AllByRecursion (IsOwnRun s.flushed)) whole sound.runs.own)).1 in
-    let parts = parts_held s.flushed watermark front part behind made told.lists
-    (subst (λ (rs : List (List OpenTable)). RunsHoldLists rs told.lists) whole told.hold) in
+    let parts = parts_held s.flushed watermark front part behind made returned.lists
+    (subst (λ (rs : List (List OpenTable)). RunsHoldLists rs returned.lists) whole returned.hold) in
     let has = kept parts.ps parts.in_part in
-    let strict : IsStrict (union_in told.lists) =
+    let strict : IsStrict (union_in returned.lists) =
     subst (λ (ls : List (List (List Entry))). IsStrict (union_in ls))
-    (one_way s.runs sound.runs.able.lists told.lists sound.runs.able.hold told.hold)
+    (one_way s.runs sound.runs.able.lists returned.lists sound.runs.able.hold returned.hold)
     sound.runs.able.writable.strict in
     record {
-      story = subst (λ (n : ℕ). IsStory n ws) (sym next) told.story;
+      story = subst (λ (n : ℕ). IsStory n ws) (sym next) returned.story;
       lists = parts.fs ++ (has.lists ++ parts.bs);
       hold = subst (λ (rs : List (List OpenTable)). RunsHoldLists rs
           (parts.fs ++ (has.lists ++ parts.bs))) (sym runs)
-          (part_holds s.flushed watermark front part behind made told.lists parts own strict has);
+          (part_holds s.flushed watermark front part behind made returned.lists parts own strict has);
       same = λ key bound reads.
           ap (λ (xs : List Entry).
           seen (xs ++ union_in (parts.fs ++ (has.lists ++ parts.bs))) key bound) recent
           ∙ seen_behind key bound s.recent (union_in (parts.fs ++ (has.lists ++ parts.bs)))
-          (union_in told.lists)
-          (part_seen s.flushed watermark front part behind made told.lists parts own strict has
+          (union_in returned.lists)
+          (part_seen s.flushed watermark front part behind made returned.lists parts own strict has
           key bound (omega (arith, above, reads)))
-          ∙ told.same key bound (omega (arith, later, reads));
+          ∙ returned.same key bound (omega (arith, later, reads));
     }
 
 -- the runs may be compacted again

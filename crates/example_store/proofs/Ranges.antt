@@ -121,24 +121,24 @@ module _ (key : List ℕ) (bound : ℕ) where
 -- ---- ranges of a store
 
 pub range_results : (s : Holding) (ws : List Entry) (low high : Bound (List ℕ)) (below : ℕ)
-    → IsStore s → IsStrict s.recent → (told : IsReported s ws) → s.oldest ≤ below
+    → IsStore s → IsStrict s.recent → (returned : IsReported s ws) → s.oldest ≤ below
     → all_shown (newest (numbered_below below (within low high
-    (union_in (map single (s.recent ∷ []) ++ told.lists)))))
+    (union_in (map single (s.recent ∷ []) ++ returned.lists)))))
     ≡ all_shown (newest (numbered_below below (within low high (sort_entries ws))))
-range_results s ws low high below sound strict told kept =
-    shown_alike below low high s.oldest kept ((s.recent ∷ []) ∷ told.lists) ws (λ key bound reads.
-    ap shown (read_more s.recent (s.recent ∷ []) (append-nil s.recent) told.lists s.flushed s.next
-    sound.recent (low_lists s ws sound told) strict key bound)
-    ∙ told.same key bound reads
-    ∙ sym (ap shown (sorted_story key bound s.next ws told.story)))
+range_results s ws low high below sound strict returned kept =
+    shown_alike below low high s.oldest kept ((s.recent ∷ []) ∷ returned.lists) ws (λ key bound reads.
+    ap shown (read_more s.recent (s.recent ∷ []) (append-nil s.recent) returned.lists s.flushed s.next
+    sound.recent (low_lists s ws sound returned) strict key bound)
+    ∙ returned.same key bound reads
+    ∙ sym (ap shown (sorted_story key bound s.next ws returned.story)))
 
 -- a stream that deals a list of which this holds
-pub dealt_result : {S : Type 0} (front back : S → Option (Result Entry Error) → S → Type 0)
+pub yielded_result : {S : Type 0} (front back : S → Option (Result Entry Error) → S → Type 0)
     (Q : List Entry → Type 0) (r : Result S Error) (es : List Entry)
     → IfOk r (YieldsList front back es) → Q es
     → IfOk r (λ s. (xs : List Entry) × YieldsList front back xs s × Q xs)
-dealt_result front back Q (Ok s) es yields holds = (es, yields, holds)
-dealt_result front back Q (Err e) es yields holds = tt
+yielded_result front back Q (Ok s) es yields holds = (es, yields, holds)
+yielded_result front back Q (Err e) es yields holds = tt
 
 -- so of the same list, written otherwise
 pub yielded_as : {S : Type 0} (front back : S → Option (Result Entry Error) → S → Type 0)

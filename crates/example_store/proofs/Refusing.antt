@@ -10,12 +10,12 @@ use Rattle.lsm_tables.specs.Words.{number_fault, tables_fault}
 use Rattle.lsm_tables.proofs.TableLaws.{of_cut_unlifted, small_numbers}
 
 -- a refusal that is passed on, memory aside
-pub passed_on : {X : Type 0} (r : Result X Error) (e : Error) (told : Option Error)
-    → IsErrAnd r (λ y. y ≡ e) → (is_memory e ≡ false → told ≡ Some e)
-    → IfErr r (λ y. is_memory y ≡ false → told ≡ Some y)
-passed_on (Ok x) e told is fault = tt
-passed_on (Err y) e told is fault =
-    subst (λ (z : Error). is_memory z ≡ false → told ≡ Some z) (sym is) fault
+pub passed_on : {X : Type 0} (r : Result X Error) (e : Error) (returned : Option Error)
+    → IsErrAnd r (λ y. y ≡ e) → (is_memory e ≡ false → returned ≡ Some e)
+    → IfErr r (λ y. is_memory y ≡ false → returned ≡ Some y)
+passed_on (Ok x) e returned is fault = tt
+passed_on (Err y) e returned is fault =
+    subst (λ (z : Error). is_memory z ≡ false → returned ≡ Some z) (sym is) fault
 
 number_fits : (es : List Entry) → IsWritable es → number_fault es 0 ≡ None
 number_fits es p =
@@ -47,9 +47,9 @@ pub shared_list : {X : Type 0} (f : X → List OpenTable) (es : List Entry) (o :
     (r : Option (List OpenTable)) → option_map f o ≡ r
     → MatchOption r (es ≡ []) (λ run. HasList es run)
     → MatchOption o (es ≡ []) (λ x. HasList es (f x))
-shared_list {X} f es o r same told =
+shared_list {X} f es o r same returned =
     own o (subst (λ (p : Option (List OpenTable)). MatchOption p (es ≡ []) (λ run. HasList es run))
-    (sym same) told)
+    (sym same) returned)
   where
     own : (o : Option X) → MatchOption (option_map f o) (es ≡ []) (λ run. HasList es run)
         → MatchOption o (es ≡ []) (λ x. HasList es (f x))
@@ -58,8 +58,8 @@ shared_list {X} f es o r same told =
 
 pub shared_own : {X : Type 0} (f : X → List OpenTable) (P : List OpenTable → Type 0) (o : Option X)
     (r : Option (List OpenTable)) → option_map f o ≡ r → IfSome r P → IfSome o (λ x. P (f x))
-shared_own {X} f P o r same told = own o (subst (λ (p : Option (List OpenTable)). IfSome p P)
-    (sym same) told)
+shared_own {X} f P o r same returned = own o (subst (λ (p : Option (List OpenTable)). IfSome p P)
+    (sym same) returned)
   where
     own : (o : Option X) → IfSome (option_map f o) P → IfSome o (λ x. P (f x))
     own None h = h

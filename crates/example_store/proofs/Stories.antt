@@ -174,16 +174,16 @@ all_older from n es h = all_more (IsOwn n) (λ (e : Entry). e.seqno < n) (λ e o
 pub reports_more : (s t : Holding) (e : Entry) (ws : List Entry) → IsReported s ws
     → IsPut e s.recent t.recent → e.seqno ≡ s.next → t.next ≡ s.next + 1 → t.runs ≡ s.runs
     → t.oldest ≡ s.oldest → IsReported t (e ∷ ws)
-reports_more s t e ws told put number next runs oldest = record {
+reports_more s t e ws returned put number next runs oldest = record {
   story = (
     omega (arith, number, next),
     story_later s.next e.seqno ws (omega (arith, number))
-        told.story,
+        returned.story,
   );
-  lists = told.lists;
-  hold = subst (λ (rs : List (List OpenTable)). RunsHoldLists rs told.lists) (sym runs) told.hold;
-  same = λ key bound reads. seen_put key bound e s.recent t.recent (union_in told.lists) ws put
-      (told.same key bound (omega (arith, oldest, reads)));
+  lists = returned.lists;
+  hold = subst (λ (rs : List (List OpenTable)). RunsHoldLists rs returned.lists) (sym runs) returned.hold;
+  same = λ key bound reads. seen_put key bound e s.recent t.recent (union_in returned.lists) ws put
+      (returned.same key bound (omega (arith, oldest, reads)));
 }
 
 pub numbered_more : (from next later : ℕ) (e : Entry) (old new : List Entry) → IsPut e old new
@@ -230,35 +230,35 @@ able_flushed s run sound strict has own =
     }
 
 -- the lists of the runs are numbered below what is in no table
-pub low_lists : (s : Holding) (ws : List Entry) → IsStore s → (told : IsReported s ws)
-    → AllByRecursion (λ (e : Entry). e.seqno < s.flushed) (union_in told.lists)
-low_lists s ws sound told = low_union s.flushed s.runs sound.runs.own told.lists told.hold
+pub low_lists : (s : Holding) (ws : List Entry) → IsStore s → (returned : IsReported s ws)
+    → AllByRecursion (λ (e : Entry). e.seqno < s.flushed) (union_in returned.lists)
+low_lists s ws sound returned = low_union s.flushed s.runs sound.runs.own returned.lists returned.hold
 
 pub reports_flushed : (s t : Holding) (run : List OpenTable) (ws : List Entry) → IsStore s
     → IsStrict s.recent → HasList s.recent run → IsReported s ws → t.recent ≡ []
     → t.runs ≡ run ∷ s.runs → t.next ≡ s.next → t.oldest ≡ s.oldest → IsReported t ws
-reports_flushed s t run ws sound strict has told none runs next oldest = record {
-  story = subst (λ (n : ℕ). IsStory n ws) (sym next) told.story;
-  lists = has.lists ∷ told.lists;
-  hold = subst (λ (rs : List (List OpenTable)). RunsHoldLists rs (has.lists ∷ told.lists))
-      (sym runs) ((has.order, has.hold), told.hold);
+reports_flushed s t run ws sound strict has returned none runs next oldest = record {
+  story = subst (λ (n : ℕ). IsStory n ws) (sym next) returned.story;
+  lists = has.lists ∷ returned.lists;
+  hold = subst (λ (rs : List (List OpenTable)). RunsHoldLists rs (has.lists ∷ returned.lists))
+      (sym runs) ((has.order, has.hold), returned.hold);
   same = λ key bound reads.
-      ap (λ (xs : List Entry). seen (xs ++ union_in (has.lists ∷ told.lists)) key bound) none
-      ∙ ap shown (read_more s.recent has.lists has.whole told.lists s.flushed s.next sound.recent
-      (low_lists s ws sound told) strict key bound)
-      ∙ told.same key bound (omega (arith, oldest, reads));
+      ap (λ (xs : List Entry). seen (xs ++ union_in (has.lists ∷ returned.lists)) key bound) none
+      ∙ ap shown (read_more s.recent has.lists has.whole returned.lists s.flushed s.next sound.recent
+      (low_lists s ws sound returned) strict key bound)
+      ∙ returned.same key bound (omega (arith, oldest, reads));
 }
 
 -- nothing was written to a table
 pub reports_still : (s t : Holding) (ws : List Entry) → IsReported s ws → t.recent ≡ s.recent
     → t.runs ≡ s.runs → t.next ≡ s.next → t.oldest ≡ s.oldest → IsReported t ws
-reports_still s t ws told recent runs next oldest = record {
-  story = subst (λ (n : ℕ). IsStory n ws) (sym next) told.story;
-  lists = told.lists;
-  hold = subst (λ (rs : List (List OpenTable)). RunsHoldLists rs told.lists) (sym runs) told.hold;
+reports_still s t ws returned recent runs next oldest = record {
+  story = subst (λ (n : ℕ). IsStory n ws) (sym next) returned.story;
+  lists = returned.lists;
+  hold = subst (λ (rs : List (List OpenTable)). RunsHoldLists rs returned.lists) (sym runs) returned.hold;
   same = λ key bound reads.
-      ap (λ (xs : List Entry). seen (xs ++ union_in told.lists) key bound) recent
-      ∙ told.same key bound (omega (arith, oldest, reads));
+      ap (λ (xs : List Entry). seen (xs ++ union_in returned.lists) key bound) recent
+      ∙ returned.same key bound (omega (arith, oldest, reads));
 }
 
 -- ---- a new store

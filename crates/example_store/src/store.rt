@@ -327,7 +327,7 @@ impl<A: Allocator + Clone> Store<A> {
     /// [`Error::OutOfMemory`] only.
     pub fn get(&self, key: &[u8], snapshot: SeqNo) -> Result<Option<Slice<A>>, Error>
         // At a snapshot that is kept, it is the value in the history of writes.
-        ensures told { (ws : List spec.Entry) → spec.IsReported self.now ws →
+        ensures returned { (ws : List spec.Entry) → spec.IsReported self.now ws →
             self.now.oldest ≤ snapshot →
             IfOk result (λ value. value ≡ spec.value_in ws key.now snapshot) }
         // At any snapshot, it is the value in the entries of the memtable and of the tables' lists.

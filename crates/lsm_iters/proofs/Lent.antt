@@ -157,13 +157,13 @@ module _ {A : Type 0} (at : Direction) where
 fits_by : {X : Type 0} (past : Bool) (k m : ℕ) (x : X)
     → ◌≡◌ {A = Result ℕ Error} (Ok m) (if past then Err SeqNoOverflow else Ok k)
     → (past ≡ false) × (◌≡◌ {A = Result X Error} (if past then Err SeqNoOverflow else Ok x) (Ok x))
-fits_by true k m x told = absurd cc
-fits_by false k m x told = (refl, refl)
+fits_by true k m x returned = absurd cc
+fits_by false k m x returned = (refl, refl)
 
 pub number_fits : (g m : ℕ) (e : Entry) → Ok m ≡ global_seqno_result g e.seqno
     → (e.seqno + g < 2 ^ 64) × (lifted_result g e ≡ Ok (lifted g e))
-number_fits g m e told =
-    let fits = fits_by (nat_lt (2 ^ 64 - 1) (e.seqno + g)) (e.seqno + g) m (lifted g e) told in
+number_fits g m e returned =
+    let fits = fits_by (nat_lt (2 ^ 64 - 1) (e.seqno + g)) (e.seqno + g) m (lifted g e) returned in
     (omega (arith, ltb-false (2 ^ 64 - 1) (e.seqno + g) fits.0), fits.1)
 
 -- ---- the range

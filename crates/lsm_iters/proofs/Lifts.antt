@@ -9,22 +9,22 @@ use Rattle.lsm_iters.specs.Lift.{lifted, lifted_result, global_seqno_result}
 reported_err : (past : Bool) (k : ℕ) (x : Entry) (f : Error)
     → Err f ≡ (if past then Err SeqNoOverflow else Ok k)
     → (if past then Err SeqNoOverflow else Ok x) ≡ Err f
-reported_err true k x f told = cc
-reported_err false k x f told = absurd cc
+reported_err true k x f returned = cc
+reported_err false k x f returned = absurd cc
 
 reported_ok : (past : Bool) (k m : ℕ) (x : Entry) → Ok m ≡ (if past then Err SeqNoOverflow else Ok k)
     → (if past then Err SeqNoOverflow else Ok (record x { seqno = k }))
     ≡ Ok (record x { seqno = m })
-reported_ok true k m x told = absurd cc
-reported_ok false k m x told = let same : m ≡ k = cc in
+reported_ok true k m x returned = absurd cc
+reported_ok false k m x returned = let same : m ≡ k = cc in
     ap (λ (n : ℕ). Ok (record x { seqno = n })) (sym same)
 
 pub lift_refused : (g n : ℕ) (e : Entry) (f : Error) → n ≡ e.seqno → Err f ≡ global_seqno_result g n
     → lifted_result g e ≡ Err f
-lift_refused g n e f same told = reported_err (nat_lt (2 ^ 64 - 1) (e.seqno + g)) (e.seqno + g)
-    (lifted g e) f (told ∙ ap (global_seqno_result g) same)
+lift_refused g n e f same returned = reported_err (nat_lt (2 ^ 64 - 1) (e.seqno + g)) (e.seqno + g)
+    (lifted g e) f (returned ∙ ap (global_seqno_result g) same)
 
 pub lift_fits : (g n m : ℕ) (e : Entry) → n ≡ e.seqno → Ok m ≡ global_seqno_result g n
     → lifted_result g e ≡ Ok (record e { seqno = m })
-lift_fits g n m e same told = reported_ok (nat_lt (2 ^ 64 - 1) (e.seqno + g)) (e.seqno + g) m e
-    (told ∙ ap (global_seqno_result g) same)
+lift_fits g n m e same returned = reported_ok (nat_lt (2 ^ 64 - 1) (e.seqno + g)) (e.seqno + g) m e
+    (returned ∙ ap (global_seqno_result g) same)

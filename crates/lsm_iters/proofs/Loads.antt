@@ -31,11 +31,11 @@ module _ (kind : BlockType) where
       → OfKind kind (checked_payload v checksum kind payload)
   unfolding checked_payload
   checked_of_kind v checksum payload =
-      let told : Result Loaded Error = Ok (record
+      let returned : Result Loaded Error = Ok (record
       { version = v; kind = kind; payload = payload }) in
       let fault = grammar_fault v kind payload in
-      past_test (not (fnv1a payload == checksum)) ChecksumMismatch (unless fault told)
-      (past_fault fault told refl)
+      past_test (not (fnv1a payload == checksum)) ChecksumMismatch (unless fault returned)
+      (past_fault fault returned refl)
 
   pub load_of_kind : (body : List ℕ) (offset size : ℕ)
       → OfKind kind (load_result body offset size kind)

@@ -79,7 +79,7 @@ module _ {A : Type 0} (at : Direction) (s m : Blocks A) (is : m ≡ record s { h
       (sym last) (record {
         named = named_in s.of (Some (Ok h));
         names = names (Some (Ok h)) step;
-        told = subst (λ (b : Bounded). ReportsOf cursor_remains (Some (block_named b (Ok h))) (Some r))
+        returned = subst (λ (b : Bounded). ReportsOf cursor_remains (Some (block_named b (Ok h))) (Some r))
             same_of (reports_block m.of h r ok err);
         loads = omega (arith, none_own r, step.loads.within);
         first = λ f early. refused_first r f (first f
@@ -99,7 +99,7 @@ module _ {A : Type 0} (at : Direction) (s m : Blocks A) (is : m ≡ record s { h
   index_failed e step = record {
     named = named_in s.of (Some (Err e));
     names = names (Some (Err e)) step;
-    told = refl;
+    returned = refl;
     loads = omega (arith, step.loads.within);
     first = λ f early. let wrong : None ≡ Some f = early in absurd cc;
     kept = record {
@@ -117,7 +117,7 @@ module _ {A : Type 0} (at : Direction) (s m : Blocks A) (is : m ≡ record s { h
   none_named step = record {
     named = None;
     names = names None step;
-    told = refl;
+    returned = refl;
     loads = omega (arith, step.loads.within);
     first = λ f early. let wrong : None ≡ Some f = early in absurd cc;
     kept = record {

@@ -49,13 +49,13 @@ pub demand_first : (of : End) (end : List Handle → Option Handle × List Handl
     ≡ block_between s.body s.lower s.upper s.place
     → FaultsFirst {X = List Handle} (Ok hs) (block_early s.body s.place) → PartGives end hs r ts
     → OnDemandGives of s r (record s { part = Some ts; opened = o })
-demand_first of end carries s hs ts r o none counted told early gives =
+demand_first of end carries s hs ts r o none counted returned early gives =
     let t : OnDemand = record s { part = Some ts; opened = o } in
     let one : demands s.part ≡ 1 = ap demands none in
     record {
       gives = record {
         answer = at_part of end carries (on_demand_left s) (on_demand_left t) hs ts r
-            (ap (demanded s) none ∙ sym told) refl refl gives;
+            (ap (demanded s) none ∙ sym returned) refl refl gives;
         ends = part_ends end (on_demand_left t) hs ts r refl refl gives;
         index = refl;
         loads = record { count = 1; counts = counted; within = omega (arith, one) };
@@ -73,12 +73,12 @@ pub demand_fault : (of : End) → ((e : Error) → (of (Err e ∷ [])).0 ≡ Som
     → Err e ∷ [] ≡ block_between s.body s.lower s.upper s.place)
     → FaultsFirst {X = List Handle} (Err e) (block_early s.body s.place)
     → OnDemandGives of s (Some (Err e)) (record s { part = Some []; opened = o })
-demand_fault of alone s e o none counted told early =
+demand_fault of alone s e o none counted returned early =
     let one : demands s.part ≡ 1 = ap demands none in
     record {
       gives = record {
         answer = (
-          λ fine. ap (λ (rs : List R). (of rs).0) (ap (demanded s) none ∙ sym (told fine))
+          λ fine. ap (λ (rs : List R). (of rs).0) (ap (demanded s) none ∙ sym (returned fine))
               ∙ alone e,
           λ over. omega (arith, over.loads, one),
         );

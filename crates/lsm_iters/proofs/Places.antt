@@ -17,7 +17,7 @@ place_front s None p is at some = let wrong : None ≡ Some p = at in absurd cc
 place_front s (Some h) p is at some =
     let gives = gives_front s h some is in
     record {
-      told = sym at ∙ ap (option_map place_of) (sym gives.answer.0);
+      returned = sym at ∙ ap (option_map place_of) (sym gives.answer.0);
       rest =
           gives.answer.1;
       list = gives.list;
@@ -30,7 +30,7 @@ place_back s None p is at some = let wrong : None ≡ Some p = at in absurd cc
 place_back s (Some h) p is at some =
     let gives = gives_back s h some is in
     record {
-      told = sym at ∙ ap (option_map place_of) (sym gives.answer.0);
+      returned = sym at ∙ ap (option_map place_of) (sym gives.answer.0);
       rest =
           gives.answer.1;
       list = gives.list;
@@ -40,7 +40,7 @@ pub no_place_front : (s : Span Handle) → s.to ≤ s.from → PlaceGives front_
 no_place_front s none =
     let empty = left_empty s none in
     record {
-      told = sym (ap (λ (hs : List Handle). option_map place_of (first hs)) empty);
+      returned = sym (ap (λ (hs : List Handle). option_map place_of (first hs)) empty);
       rest = empty ∙ sym (ap but_first empty);
       list = refl;
     }
@@ -49,7 +49,7 @@ pub no_place_back : (s : Span Handle) → s.to ≤ s.from → PlaceGives back_of
 no_place_back s none =
     let empty = left_empty s none in
     record {
-      told = sym (ap (λ (hs : List Handle). option_map place_of (last hs)) empty);
+      returned = sym (ap (λ (hs : List Handle). option_map place_of (last hs)) empty);
       rest = empty ∙ sym (ap but_last empty);
       list = refl;
     }

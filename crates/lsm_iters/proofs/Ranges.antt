@@ -72,7 +72,7 @@ unless_opened false l = refl
 module _ {A : Type 0} where
   to_come_is : (u : Range A) → u.handles.sought ≡ true → to_come u ≡ coming u
   to_come_is u sought = if_true u.handles.sought (coming u)
-      ((left_in u.handles).index.told (lower_edge u.of.low) (upper_edge u.of.high)) sought
+      ((left_in u.handles).index.returned (lower_edge u.of.low) (upper_edge u.of.high)) sought
 
   index_is : (u : Range A) → u.handles.sought ≡ true → index_to_come u ≡ (left_in u.handles).loads
   index_is u sought = if_true u.handles.sought (left_in u.handles).loads

@@ -300,7 +300,7 @@ module _ {P T X : Type 0} (left : T → Remains X) (coming : P → Coming X)
   pub record Enters (u : P) (part : T) (t : P) : Type 0 where
     pub load : Loading X
     pub takes : taken_at at (coming u).parts ≡ (Some (Ok load), (coming t).parts)
-    pub told : (left part).results ≡ load.results
+    pub returned : (left part).results ≡ load.results
     pub fine : load.early ≡ None
     pub loads : (left part).loads + (coming t).loads ≤ (coming u).loads
     pub kept : keeps u (Some (Ok load)) t
@@ -310,12 +310,12 @@ module _ {P T X : Type 0} (left : T → Remains X) (coming : P → Coming X)
       → ((f : Error) → early_named named ≡ Some f
       → ◌≡◌ {A = Option (Result T Error)} (Some (Ok part)) (Some (Err f)))
       → (left part).loads + (coming t).loads ≤ (coming u).loads → keeps u named t → Enters u part t
-  enters_by u part t None names told first few keep = absurd cc
-  enters_by u part t (Some (Err e)) names told first few keep = absurd cc
-  enters_by u part t (Some (Ok load)) names told first few keep = record {
+  enters_by u part t None names returned first few keep = absurd cc
+  enters_by u part t (Some (Err e)) names returned first few keep = absurd cc
+  enters_by u part t (Some (Ok load)) names returned first few keep = record {
     load = load;
     takes = names;
-    told = told;
+    returned = returned;
     fine = no_fault load.early (λ f early. let wrong : ◌≡◌ {A = Option (Result T Error)}
         (Some (Ok part)) (Some (Err f)) = first f early in absurd cc);
     loads = few;
@@ -324,7 +324,7 @@ module _ {P T X : Type 0} (left : T → Remains X) (coming : P → Coming X)
 
   pub enters_of : (u : P) (part : T) (t : P) → LoadGives left coming keeps at u (Some (Ok part)) t
       → Enters u part t
-  enters_of u part t gives = enters_by u part t gives.named gives.names gives.told gives.first
+  enters_of u part t gives = enters_by u part t gives.named gives.names gives.returned gives.first
       gives.loads gives.kept
 
   pub advance : (s u v : Walk P T) (part : T) → Reached s u → near_results left coming at u ≡ []
@@ -336,7 +336,7 @@ module _ {P T X : Type 0} (left : T → Remains X) (coming : P → Coming X)
       let load : Loading X = enters.load in
       let shorter : length us ≡ suc (length vs) = shortens at us vs (Ok load) enters.takes in
       let near_is : near_results left coming at v ≡ load.results =
-      ap (λ (o : Option T). (remains_in left o).results) put ∙ enters.told in
+      ap (λ (o : Option T). (remains_in left o).results) put ∙ enters.returned in
       let seen_is : seen_from at us ≡ Ok load ∷ seen_from at vs =
       seen_split at us vs (Ok load) enters.takes in
       let fewer : needed_at left coming at u ≡ suc (needed_at left coming at v) =
@@ -401,7 +401,7 @@ module _ {P T X : Type 0} (left : T → Remains X) (coming : P → Coming X)
   -- it could not be loaded
   pub record Faults (u : P) (e : Error) (t : P) : Type 0 where
     pub place : Result (Loading X) Error
-    pub told : is_memory e ≡ false → ((taken_at at (coming u).parts).0 ≡ Some place)
+    pub returned : is_memory e ≡ false → ((taken_at at (coming u).parts).0 ≡ Some place)
         × (results_of place ≡ Err e ∷ [])
     pub some : IsDone (coming u) → ⊥
     pub kept : keeps u (Some place) t
@@ -419,15 +419,15 @@ module _ {P T X : Type 0} (left : T → Remains X) (coming : P → Coming X)
       → ((f : Error) → early_named named ≡ Some f
       → ◌≡◌ {A = Option (Result T Error)} (Some (Err e)) (Some (Err f))) → keeps u named t
       → Faults u e t
-  faults_by u e t None names told first keep = absurd cc
-  faults_by u e t (Some (Err f)) names told first keep =
+  faults_by u e t None names returned first keep = absurd cc
+  faults_by u e t (Some (Err f)) names returned first keep =
       let us : List (Result (Loading X) Error) = (coming u).parts in
       let same : e ≡ f = cc in
       let here : is_memory e ≡ false → (taken_at at us).0 ≡ Some (Err f) =
       λ fine. names.0 (subst (λ (x : Error). is_memory x ≡ false) same fine) in
       record {
         place = Err f;
-        told = λ fine. (here fine, ap (λ (x : Error). Err x ∷ []) (sym same));
+        returned = λ fine. (here fine, ap (λ (x : Error). Err x ∷ []) (sym same));
         some = names.1;
         kept = keep;
         blocks = 0;
@@ -438,7 +438,7 @@ module _ {P T X : Type 0} (left : T → Remains X) (coming : P → Coming X)
             (whole_end at us (Err f) (here fine))));
         first = λ g early all. absurd (omega (arith, all, early_needs (seen_from at us) g early));
       }
-  faults_by u e t (Some (Ok load)) names told first keep =
+  faults_by u e t (Some (Ok load)) names returned first keep =
       let us : List (Result (Loading X) Error) = (coming u).parts in
       let ts : List (Result (Loading X) Error) = (coming t).parts in
       let shorter : length us ≡ suc (length ts) = shortens at us ts (Ok load) names in
@@ -448,10 +448,10 @@ module _ {P T X : Type 0} (left : T → Remains X) (coming : P → Coming X)
       (needed (seen_from at ts))) = ap needed seen_is in
       record {
         place = Ok load;
-        told = λ fine. (
+        returned = λ fine. (
           ap (λ (p : Option (Result (Loading X) Error)
               × List (Result (Loading X) Error)). p.0) names,
-          sym (told fine),
+          sym (returned fine),
         );
         some = λ done. absurd (omega (arith, shorter, ap length done.parts));
         kept = keep;
@@ -460,7 +460,7 @@ module _ {P T X : Type 0} (left : T → Remains X) (coming : P → Coming X)
         within = omega (arith, shorter);
         most = omega (arith, needs);
         exact = λ fine. sym (needs ∙ ap (λ (rs : List (Result X Error)). suc
-            (none_behind rs (needed (seen_from at ts)))) (sym (told fine)));
+            (none_behind rs (needed (seen_from at ts)))) (sym (returned fine)));
         first = λ f early all.
             own_fault load.early (early_behind load.results (early_among (seen_from at ts)))
             (none_behind load.results (needed (seen_from at ts))) e f
@@ -472,7 +472,7 @@ module _ {P T X : Type 0} (left : T → Remains X) (coming : P → Coming X)
 
   pub faults_of : (u : P) (e : Error) (t : P) → LoadGives left coming keeps at u (Some (Err e)) t
       → Faults u e t
-  faults_of u e t gives = faults_by u e t gives.named gives.names gives.told gives.first gives.kept
+  faults_of u e t gives = faults_by u e t gives.named gives.names gives.returned gives.first gives.kept
 
   -- none is to come
   pub record Rests (u t : P) : Type 0 where
@@ -483,12 +483,12 @@ module _ {P T X : Type 0} (left : T → Remains X) (coming : P → Coming X)
   rests_by : (u t : P) (named : Option (Result (Loading X) Error))
       → Names at (coming u) named (coming t) → ReportsOf {T = T} left named None → keeps u named t
       → Rests u t
-  rests_by u t None names told keep = record { none = names.0; done = names.1; kept = keep }
-  rests_by u t (Some (Err e)) names told keep = absurd cc
-  rests_by u t (Some (Ok load)) names told keep = absurd told
+  rests_by u t None names returned keep = record { none = names.0; done = names.1; kept = keep }
+  rests_by u t (Some (Err e)) names returned keep = absurd cc
+  rests_by u t (Some (Ok load)) names returned keep = absurd returned
 
   pub rests_of : (u t : P) → LoadGives left coming keeps at u None t → Rests u t
-  rests_of u t gives = rests_by u t gives.named gives.names gives.told gives.kept
+  rests_of u t gives = rests_by u t gives.named gives.names gives.returned gives.kept
 
   -- ---- the answers
 
@@ -580,13 +580,13 @@ module _ {P T X : Type 0} (left : T → Remains X) (coming : P → Coming X)
       record {
         answer = (
           λ fine.
-              let told = faults.told fine in
+              let returned = faults.returned fine in
               let others = (taken_at at us).1 in
               ap (λ (rs : List (Result X Error)). (taken_at at rs).0) was
               ∙ first_joined at (all_results us) zs (Err e)
               (ap (λ (rs : List (Result X Error)). (taken_at at rs).0)
-              (rows_split at us others faults.place (whole_end at us faults.place told.0)
-              ∙ ap (λ (rs : List (Result X Error)). laid_from at rs (all_results others)) told.1)
+              (rows_split at us others faults.place (whole_end at us faults.place returned.0)
+              ∙ ap (λ (rs : List (Result X Error)). laid_from at rs (all_results others)) returned.1)
               ∙ first_joined at (Err e ∷ []) (all_results others) (Err e) (first_alone at (Err e))),
           λ over. faults.some (reached.over (all_over left coming at s over)).done,
         );

@@ -54,8 +54,8 @@ record Found (o : Option Handle) (place : Place) : Type 0 where
   pub at : place_of top ≡ place
 
 found : (o : Option Handle) (place : Place) → Some place ≡ option_map place_of o → Found o place
-found None place told = absurd cc
-found (Some h) place told = record {
+found None place returned = absurd cc
+found (Some h) place returned = record {
   top = h;
   here = refl;
   at = let same : place ≡ place_of h =
@@ -63,8 +63,8 @@ found (Some h) place told = record {
 }
 
 not_found : (o : Option Handle) → None ≡ option_map place_of o → o ≡ None
-not_found None told = refl
-not_found (Some h) told = absurd cc
+not_found None returned = refl
+not_found (Some h) returned = absurd cc
 
 reports_part : {A : Type 0} (p : Partitions A) (top : Handle) (r : Result (Span Handle) Error)
     → IfOk r (λ hs. ok_results (rest_in hs) ≡ block_between (body_of p.source) p.edges.0 p.edges.1
@@ -85,15 +85,15 @@ module _ {A : Type 0} (at : Direction) (s : Partitions A) (tops : Span Handle)
       → FaultsFirst r (block_early (body_of s.source) place) → opened ≡ with_index_loads 1 s.opened
       → LoadGives span_remains coming_partitions KeepsPartitions at s (Some r)
       (record s { tops = tops; opened = opened })
-  part_taken opened place r told ok err first counts =
-      let x = found (taken_at at (rest_in s.tops)).0 place told in
+  part_taken opened place r returned ok err first counts =
+      let x = found (taken_at at (rest_in s.tops)).0 place returned in
       let takes : taken_at at (rest_in s.tops) ≡ (Some x.top, rest_in tops) =
       whole_end at (rest_in s.tops) x.top x.here ∙ ap (λ (hs : List Handle). (Some x.top, hs))
       (sym rest) in
       record {
         named = Some (part_named s x.top);
         names = map_taken (part_named s) at (rest_in s.tops) (rest_in tops) x.top takes;
-        told = reports_part s x.top r
+        returned = reports_part s x.top r
             (subst (λ (p : Place). IfOk r (λ hs. ok_results (rest_in hs)
             ≡ block_between (body_of s.source) s.edges.0 s.edges.1 p)) (sym x.at) ok)
             (subst (λ (p : Place). IfErr r (λ e. is_memory e ≡ false
@@ -114,9 +114,9 @@ module _ {A : Type 0} (at : Direction) (s : Partitions A) (tops : Span Handle)
   pub no_part : None ≡ option_map place_of (taken_at at (rest_in s.tops)).0
       → LoadGives {T = Span Handle} span_remains coming_partitions KeepsPartitions at s None
       (record s { tops = tops })
-  no_part told =
+  no_part returned =
       let none : rest_in s.tops ≡ [] = none_taken at (rest_in s.tops)
-      (not_found (taken_at at (rest_in s.tops)).0 told) in
+      (not_found (taken_at at (rest_in s.tops)).0 returned) in
       let left : rest_in tops ≡ [] = rest ∙ ap (λ (hs : List Handle). (taken_at at hs).1) none
       ∙ nothing_behind at in
       record {
@@ -126,7 +126,7 @@ module _ {A : Type 0} (at : Direction) (s : Partitions A) (tops : Span Handle)
           record
               { parts = ap (map (part_named s)) left; loads = refl },
         );
-        told = refl;
+        returned = refl;
         loads = omega arith;
         first = λ f early. let wrong : None ≡ Some f = early in absurd cc;
         kept = record { body = refl; list = list; counts = refl; names = (none, left) };

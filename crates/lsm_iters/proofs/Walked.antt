@@ -45,36 +45,36 @@ use Rattle.lsm_iters.proofs.Ranges.{data_more, front_starts, gives_all, left_row
 
 -- ---- results with their numbers lifted
 
-abbrev told : ℕ → R → R
-told g (Ok e) = lifted_result g e
-told g (Err e) = Err e
+abbrev returned : ℕ → R → R
+returned g (Ok e) = lifted_result g e
+returned g (Err e) = Err e
 
-reported_ok : (g : ℕ) (es : List Entry) → map (told g) (ok_results es) ≡ lift_results g es
+reported_ok : (g : ℕ) (es : List Entry) → map (returned g) (ok_results es) ≡ lift_results g es
 reported_ok g [] = refl
 reported_ok g (e ∷ es) = ap (λ (rs : List R). lifted_result g e ∷ rs) (reported_ok g es)
 
 reported_stored : (b : Bounded) (block : Result Loaded Error)
-    → map (told b.global_seqno) (stored_in b block) ≡ rows_in b block
+    → map (returned b.global_seqno) (stored_in b block) ≡ rows_in b block
 reported_stored b (Ok block) = reported_ok b.global_seqno _
 reported_stored b (Err e) = refl
 
-reported_named : (b : Bounded) (x : H) → map (told b.global_seqno) (results_of (block_named b x))
+reported_named : (b : Bounded) (x : H) → map (returned b.global_seqno) (results_of (block_named b x))
     ≡ handle_rows b x
 reported_named b (Ok h) = reported_stored b (load_result b.body h.offset h.size Data)
 reported_named b (Err e) = refl
 
-reported_rows : (b : Bounded) (hs : List H) → map (told b.global_seqno)
+reported_rows : (b : Bounded) (hs : List H) → map (returned b.global_seqno)
     (all_results (map (block_named b) hs)) ≡ rows b hs
 reported_rows b [] = refl
 reported_rows b (x ∷ hs) =
-    map-append (told b.global_seqno) (results_of (block_named b x))
+    map-append (returned b.global_seqno) (results_of (block_named b x))
     (all_results (map (block_named b) hs))
-    ∙ ap (λ (rs : List R). rs ++ map (told b.global_seqno) (all_results (map (block_named b) hs)))
+    ∙ ap (λ (rs : List R). rs ++ map (returned b.global_seqno) (all_results (map (block_named b) hs)))
     (reported_named b x)
     ∙ ap (λ (rs : List R). handle_rows b x ++ rs) (reported_rows b hs)
 
 reported_part : (g : ℕ) (o : Option Cursor)
-    → map (told g) (remains_in cursor_remains o).results ≡ lift_results g (behind_in o)
+    → map (returned g) (remains_in cursor_remains o).results ≡ lift_results g (behind_in o)
 reported_part g None = refl
 reported_part g (Some c) = reported_ok g _
 
@@ -83,7 +83,7 @@ reported_part g (Some c) = reported_ok g _
 same_needs : (b : Bounded) (h : Handle) (n : ℕ)
     → none_behind (stored_rows b h) n ≡ none_behind (block_rows b h) n
 same_needs b h n =
-    sym (behind_map (told b.global_seqno) (stored_rows b h) n)
+    sym (behind_map (returned b.global_seqno) (stored_rows b h) n)
     ∙ ap (λ (rs : List R). none_behind rs n) (reported_stored b (load_result b.body h.offset h.size Data))
 
 needs_is : (b : Bounded) (hs : List H) → needed (map (block_named b) hs) ≡ blocks_needed b hs
@@ -96,7 +96,7 @@ needs_is b (Err e ∷ hs) = refl
 same_early : (b : Bounded) (h : Handle) (o : Option Error)
     → early_behind (stored_rows b h) o ≡ early_behind (block_rows b h) o
 same_early b h o =
-    sym (early_map (told b.global_seqno) (stored_rows b h) o)
+    sym (early_map (returned b.global_seqno) (stored_rows b h) o)
     ∙ ap (λ (rs : List R). early_behind rs o) (reported_stored b
     (load_result b.body h.offset h.size Data))
 
@@ -169,11 +169,11 @@ module _ {A : Type 0} (k : Option Entry) where
   abbrev handles_in : W A → List H
   handles_in w = (left_in w.parts.handles).results
 
-  reported_left : (w : W A) → map (told w.parts.of.global_seqno) (left_of_walk w).results
+  reported_left : (w : W A) → map (returned w.parts.of.global_seqno) (left_of_walk w).results
       ≡ left_rows (range_lending w k)
   reported_left w =
       let b : Bounded = w.parts.of in
-      let f = told b.global_seqno in
+      let f = returned b.global_seqno in
       let fs : List R = (remains_in cursor_remains w.front).results in
       let ms : List R = all_results (map (block_named b) (handles_in w)) in
       let bs : List R = (remains_in cursor_remains w.back).results in
@@ -248,7 +248,7 @@ module _ {A : Type 0} (k : Option Entry) where
   over_range at v l over =
       let parts = (all_over cursor_remains coming_blocks at v over).done in
       record {
-        rows = sym (reported_left v) ∙ ap (map (told v.parts.of.global_seqno)) over.results;
+        rows = sym (reported_left v) ∙ ap (map (returned v.parts.of.global_seqno)) over.results;
         index = record {
           results = map_none (block_named v.parts.of)
               (handles_in v) parts.parts;
@@ -258,7 +258,7 @@ module _ {A : Type 0} (k : Option Entry) where
 
   over_walk : (w : W A) → IsOver (range_lending w k) → IsWalkOver (left_of_walk w)
   over_walk w over = record {
-    results = map_none (told w.parts.of.global_seqno) (left_of_walk w).results
+    results = map_none (returned w.parts.of.global_seqno) (left_of_walk w).results
         (reported_left w ∙ over.rows);
     loads = omega (
       arith,
@@ -282,21 +282,21 @@ module _ {A : Type 0} (k : Option Entry) where
       → StepAnswers at (left_of_walk w) r (left_of_walk v) → v.parts.of ≡ w.parts.of
       → From (taken_at at) (range_lending w k) (lifted_answer w.parts.of.global_seqno r) (range_lending v l)
   from_walk at w v None l gives same = (
-    sym (reported_left w) ∙ ap (map (told w.parts.of.global_seqno)) gives.0,
+    sym (reported_left w) ∙ ap (map (returned w.parts.of.global_seqno)) gives.0,
     over_range at v l gives.1,
   )
   from_walk at w v (Some (Ok e)) l gives same =
       let g : ℕ = w.parts.of.global_seqno in
-      let rest : map (told g) (left_of_walk v).results ≡ left_rows (range_lending v k) =
-      ap (λ (b : Bounded). map (told b.global_seqno) (left_of_walk v).results) (sym same)
+      let rest : map (returned g) (left_of_walk v).results ≡ left_rows (range_lending v k) =
+      ap (λ (b : Bounded). map (returned b.global_seqno) (left_of_walk v).results) (sym same)
       ∙ reported_left v in
       from_item at (range_lending w k) (range_lending v l) (lifted_result g e)
       (ap (taken_at at) (sym (reported_left w))
-      ∙ map_taken (told g) at (left_of_walk w).results (left_of_walk v).results (Ok e) gives
+      ∙ map_taken (returned g) at (left_of_walk w).results (left_of_walk v).results (Ok e) gives
       ∙ ap (λ (rs : List R). (Some (lifted_result g e), rs)) rest)
   from_walk at w v (Some (Err e)) l gives same = (
     λ fine. ap (λ (rs : List R). (taken_at at rs).0) (sym (reported_left w))
-        ∙ map_first (told w.parts.of.global_seqno) at (left_of_walk w).results (Err e)
+        ∙ map_first (returned w.parts.of.global_seqno) at (left_of_walk w).results (Err e)
         (gives.0 fine),
     λ over. gives.1 (over_walk w over),
   )

@@ -68,7 +68,7 @@ with_sought sought s = record s { handles = record s.handles { sought = sought }
 -- The handles of the unloaded blocks; before the first step, those between the bounds' edges.
 abbrev pub to_seek : {A : Type 0} → Handles A → Option (List ℕ × ℕ) → Option (List ℕ)
     → List (Result Handle Error)
-to_seek h low high = if h.sought then (left_in h).results else (left_in h).index.told low high
+to_seek h low high = if h.sought then (left_in h).results else (left_in h).index.returned low high
 
 abbrev pub to_come : {A : Type 0} → Range A → List (Result Handle Error)
 to_come s = to_seek s.handles (lower_edge s.of.low) (upper_edge s.of.high)

@@ -21,8 +21,8 @@ use Rattle.lsm_readers.proofs.ReadLaws.{one_load, refusal, result}
 use Rattle.lsm_readers.proofs.Recovered.{first_from}
 use Rattle.lsm_readers.proofs.Steps.{passes_fault}
 
-mapped : {X Y : Type 0} (f : X → Y) (told : Result X Error)
-    → result_map f told ≡ (told >>= λ x. Ok (f x))
+mapped : {X Y : Type 0} (f : X → Y) (returned : Result X Error)
+    → result_map f returned ≡ (returned >>= λ x. Ok (f x))
 mapped f (Ok x) = refl
 mapped f (Err e) = refl
 
@@ -32,17 +32,17 @@ pub asked : {X : Type 0} (f : Loaded → X) (body : List ℕ) (place : Place) (k
     → Gives (λ (x : X). x) r (result_map f (load_result body place.offset place.size kind))
     → FaultsFirst r (place_fault body place.offset place.size kind)
     → DoesRead r (read_map f (block_read body place kind)) o o'
-asked {X} f body place kind o o' r counted told first = record {
-  told = subst (λ (t : Result X Error). Gives (λ (x : X). x) r t)
-      (mapped f (load_result body place.offset place.size kind)) told;
+asked {X} f body place kind o o' r counted returned first = record {
+  returned = subst (λ (t : Result X Error). Gives (λ (x : X). x) r t)
+      (mapped f (load_result body place.offset place.size kind)) returned;
   early = first;
   opens = one_load r kind o o' counted;
   calm = λ none. absurd cc;
 }
 
 -- a match in a block has a number below the bound
-pub match_below : (told : Result Loaded Error) (key : List ℕ) (bound : ℕ) (e : Entry)
-    → result_map (point_of key bound) told ≡ Ok (Some e) → e.seqno < bound
+pub match_below : (returned : Result Loaded Error) (key : List ℕ) (bound : ℕ) (e : Entry)
+    → result_map (point_of key bound) returned ≡ Ok (Some e) → e.seqno < bound
 match_below (Ok b) key bound e is =
     let found : point (entries_of b) key bound ≡ Some e = cc in
     point_below (entries_of b) key bound e found
@@ -50,13 +50,13 @@ match_below (Err f) key bound e is = absurd cc
 
 -- ---- a match whose number is lifted
 
-map_fails : {X Y Z : Type 0} (f : X → Y) (h : X → Z) (told : Result X Error) (e : Error)
-    → result_map f told ≡ Err e → result_map h told ≡ Err e
+map_fails : {X Y Z : Type 0} (f : X → Y) (h : X → Z) (returned : Result X Error) (e : Error)
+    → result_map f returned ≡ Err e → result_map h returned ≡ Err e
 map_fails f h (Ok x) e is = absurd cc
 map_fails f h (Err d) e is = cc
 
-map_goes : {X Y Z : Type 0} (f : X → Y) (h : Y → Z) (told : Result X Error) (y : Y)
-    → result_map f told ≡ Ok y → result_map (λ x. h (f x)) told ≡ Ok (h y)
+map_goes : {X Y Z : Type 0} (f : X → Y) (h : Y → Z) (returned : Result X Error) (y : Y)
+    → result_map f returned ≡ Ok y → result_map (λ x. h (f x)) returned ≡ Ok (h y)
 map_goes {Y = Y} f h (Ok x) y is = let same : f x ≡ y = cc in ap (λ (z : Y). result (h z)) same
 map_goes f h (Err e) y is = absurd cc
 
@@ -70,10 +70,10 @@ module _ (body : List ℕ) (g : ℕ) (key : List ℕ) (n : ℕ) (place : Place) 
       → FaultsFirst (refusal (Option Entry) e) (place_fault body place.offset place.size Data)
       → DoesRead r (match_at body g key n place) o o'
   match_fails e r is fails first =
-      let told = load_result body place.offset place.size Data in
+      let returned = load_result body place.offset place.size Data in
       asked lifted_point body place Data o o' r counted
-      (passes_fault (λ (x : Option Entry). x) r (result_map lifted_point told) e is
-      (λ memory. map_fails (point_of key n) lifted_point told e (fails memory)))
+      (passes_fault (λ (x : Option Entry). x) r (result_map lifted_point returned) e is
+      (λ memory. map_fails (point_of key n) lifted_point returned e (fails memory)))
       (first_from r e (place_fault body place.offset place.size Data) is first)
 
   pub match_goes : (found : Option Entry) → result_map (point_of key n)
@@ -87,10 +87,10 @@ module _ (body : List ℕ) (g : ℕ) (key : List ℕ) (n : ℕ) (place : Place) 
       first
 
 -- it fits with a number added that fits with the bound
-pub lift_fits : (told : Result Loaded Error) (key : List ℕ) (bound add : ℕ) (found : Option Entry)
-    → bound + add < 2 ^ 64 → result_map (point_of key bound) told ≡ Ok found
+pub lift_fits : (returned : Result Loaded Error) (key : List ℕ) (bound add : ℕ) (found : Option Entry)
+    → bound + add < 2 ^ 64 → result_map (point_of key bound) returned ≡ Ok found
     → IfSome found (λ e. e.seqno + add < 2 ^ 64)
-lift_fits told key bound add None fits is = tt
-lift_fits told key bound add (Some e) fits is =
-    let below : e.seqno < bound = match_below told key bound e is in
+lift_fits returned key bound add None fits is = tt
+lift_fits returned key bound add (Some e) fits is =
+    let below : e.seqno < bound = match_below returned key bound e is in
     omega (arith, below, fits)

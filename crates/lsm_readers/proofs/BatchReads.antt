@@ -24,7 +24,7 @@ use Rattle.lsm_readers.proofs.ReadLaws.{result}
 
 -- ---- a block that was loaded
 
-no_fault : (b : Loaded) (told : Option Error) → FaultsFirst (result b) told → told ≡ None
+no_fault : (b : Loaded) (returned : Option Error) → FaultsFirst (result b) returned → returned ≡ None
 no_fault b None first = refl
 no_fault b (Some e) first = absurd (let wrong : Some e ≡ None = first e refl in cc)
 
@@ -32,15 +32,15 @@ pub is_loaded : (body : List ℕ) (place : Place) (kind : BlockType) (b : Loaded
     → load_result body place.offset place.size kind ≡ Ok b
     → FaultsFirst (result b) (place_fault body place.offset place.size kind)
     → IsLoaded body place kind b
-is_loaded body place kind b told first = record
-    { told = told; early = no_fault b (place_fault body place.offset place.size kind) first }
+is_loaded body place kind b returned first = record
+    { returned = returned; early = no_fault b (place_fault body place.offset place.size kind) first }
 
 -- it says its kind itself
 pub kept_as : (body : List ℕ) (place : Place) (kind : BlockType) (b : Loaded)
     → IsLoaded body place kind b → IsLoaded body place b.kind b
 kept_as body place kind b is =
     subst (λ (k : BlockType). IsLoaded body place k b)
-    (sym (load_kind body place.offset place.size kind b is.told)) is
+    (sym (load_kind body place.offset place.size kind b is.returned)) is
 
 -- ---- answers that are known
 
@@ -63,13 +63,13 @@ module _ {X Y : Type 0} (f : X → Result (Option Y) Error) (queries : List X) w
         record {
           found_len = length-set found i y ∙ are.found_len;
           done_len = are.done_len;
-          told = λ k q marked here. elim (cases_eq k i) [
+          returned = λ k q marked here. elim (cases_eq k i) [
             | inl same ↦
                 let put : get_or (set found i y) k None ≡ y =
                 ap (λ (n : ℕ). get_or (set found i y) n None) same
                 ∙ get_or-set_same found i y None inside in
                 ap f (same_element queries i k x q less same at here) ∙ is ∙ ap answered (sym put)
-            | inr other ↦ are.told k q marked here ∙ ap answered
+            | inr other ↦ are.returned k q marked here ∙ ap answered
                 (sym (get_or-set_other found i k y None other))
           ];
         }
@@ -87,15 +87,15 @@ module _ {X Y : Type 0} (f : X → Result (Option Y) Error) (queries : List X) w
     one_known marked before =
         let inside : i < length found = omega (arith, less, are.found_len) in
         one_more f queries i x (take i found) (get_or found i None) less at before
-        (are.told i x marked at) ∙ ap answered (sym (take_more found i None inside))
+        (are.returned i x marked at) ∙ ap answered (sym (take_more found i None inside))
 
 -- ---- a read whose handle was found before
 
 pub lookup_result : (body : List ℕ) (g : ℕ) (parts : Parts) (key : List ℕ) (bound low : ℕ)
     (handle : Option Place) → low ≡ bound - g
-    → (admitted_handle body parts key (bound - g)).told ≡ Ok handle
-    → (answer body g parts key bound).told ≡ (match_in body g key low handle).told
+    → (admitted_handle body parts key (bound - g)).returned ≡ Ok handle
+    → (answer body g parts key bound).returned ≡ (match_in body g key low handle).returned
 unfolding answer
 lookup_result body g parts key bound low handle lowered is =
-    ap (λ (r : Result (Option Place) Error). r >>= λ x. (match_in body g key (bound - g) x).told) is
-    ∙ ap (λ (n : ℕ). (match_in body g key n handle).told) (sym lowered)
+    ap (λ (r : Result (Option Place) Error). r >>= λ x. (match_in body g key (bound - g) x).returned) is
+    ∙ ap (λ (n : ℕ). (match_in body g key n handle).returned) (sym lowered)

@@ -10,20 +10,20 @@ use Rattle.sst_entries.specs.Point.{point}
 use Rattle.sst_entries.proofs.Refusals.{memory_is}
 use Rattle.lsm_readers.specs.point.Answer.{lift}
 
-pub value_is : (told : Option Entry) (r : Result (Option Entry) Error)
-    → Gives (λ (x : Option Entry). x) r (Ok told) → IfOk r (λ x. x ≡ told)
-value_is told (Ok x) h = cc
-value_is told (Err e) h = tt
+pub value_is : (returned : Option Entry) (r : Result (Option Entry) Error)
+    → Gives (λ (x : Option Entry). x) r (Ok returned) → IfOk r (λ x. x ≡ returned)
+value_is returned (Ok x) h = cc
+value_is returned (Err e) h = tt
 
-only_memory : (b : Bool) (told : Option Entry) (e : Error)
-    → (b ≡ false → Ok told ≡ Err e) → b ≡ true
-only_memory true told e h = refl
-only_memory false told e h = absurd (let wrong : Ok told ≡ Err e = h refl in cc)
+only_memory : (b : Bool) (returned : Option Entry) (e : Error)
+    → (b ≡ false → Ok returned ≡ Err e) → b ≡ true
+only_memory true returned e h = refl
+only_memory false returned e h = absurd (let wrong : Ok returned ≡ Err e = h refl in cc)
 
-pub memory_alone : (told : Option Entry) (r : Result (Option Entry) Error)
-    → Gives (λ (x : Option Entry). x) r (Ok told) → IfErr r (λ e. e ≡ OutOfMemory)
-memory_alone told (Ok x) h = tt
-memory_alone told (Err e) h = memory_is e (only_memory (is_memory e) told e h)
+pub memory_alone : (returned : Option Entry) (r : Result (Option Entry) Error)
+    → Gives (λ (x : Option Entry). x) r (Ok returned) → IfErr r (λ e. e ≡ OutOfMemory)
+memory_alone returned (Ok x) h = tt
+memory_alone returned (Err e) h = memory_is e (only_memory (is_memory e) returned e h)
 
 -- with no number added a list stays as it is
 pub lift_zero : (es : List Entry) → lift es 0 ≡ es

@@ -198,10 +198,10 @@ answer_few r body g parts key bound old new opens =
     let low = bound - g in
     let first = admission body parts key low in
     let handles = admitted_handle body parts key low in
-    few parts first.loads (loads_behind first.told (handle_for body parts key low))
-    (loads_behind handles.told (match_in body g key low)) opens.made old new
+    few parts first.loads (loads_behind first.returned (handle_for body parts key low))
+    (loads_behind handles.returned (match_in body g key low)) opens.made old new
     (low_up body parts key (ltb parts.facts.seqno_min low))
-    (behind_up Index (most_index_loads parts.pinned.index) first.told
+    (behind_up Index (most_index_loads parts.pinned.index) first.returned
     (handle_for body parts key low) (handle_up body parts key low))
-    (behind_up Data 1 handles.told (match_in body g key low) (match_up body g key low))
+    (behind_up Data 1 handles.returned (match_in body g key low) (match_up body g key low))
     opens.counts

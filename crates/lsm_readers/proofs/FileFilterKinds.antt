@@ -167,7 +167,7 @@ module _ (v : TableVersion) (policy : BloomConstructionPolicy) (es : List Entry)
 -- ---- what stays loaded of it, and what it answers
 
 by_part : (body key : List ℕ) (o : Option Handle)
-    → (part_admits body (hash_of key) (option_map place_of o)).told ≡ part_read_results body key o
+    → (part_admits body (hash_of key) (option_map place_of o)).returned ≡ part_read_results body key o
 by_part body key None = refl
 by_part body key (Some top) = refl
 
@@ -196,9 +196,9 @@ module _ (v : TableVersion) (policy : BloomConstructionPolicy) (es : List Entry)
         size =
             length (handles_block v tops);
       } in
-      let told = handles_at body lie tops (filter_top_loads v policy es keys f fs for size are
+      let returned = handles_at body lie tops (filter_top_loads v policy es keys f fs for size are
       strict at pre post body from fits lies fit within) in
-      rw (place, told) refl
+      rw (place, returned) refl
 
   -- and a full filter, where it is to
   pub filter_here : (k : FilterKind) (keys : List (List (List ℕ))) (fs : List BloomFilter)
@@ -249,7 +249,7 @@ module _ (v : TableVersion) (policy : BloomConstructionPolicy) (es : List Entry)
       → body ≡ pre ++ (bytes_in (filter_sections k v at keys fs) ++ post)
       → place ≡ place_from at (filter_sections k v at keys fs) FilterSection → (key : List ℕ)
       → Asked (filter_admits body (filter_tops_said k at keys fs) (filter_said k fs pin) place key
-      (hash_of key)).told (keys_of es) key
+      (hash_of key)).returned (keys_of es) key
   filter_answers FullFilter keys [] place true are for fits lies is key =
       rw is (all_admitted (keys_of es) key)
   filter_answers FullFilter keys [] place false are for fits lies is key =
@@ -269,6 +269,6 @@ module _ (v : TableVersion) (policy : BloomConstructionPolicy) (es : List Entry)
       rw is (all_admitted (keys_of es) key)
   filter_answers (PartitionedFilter size) keys (f ∷ fs) place pin are for fits lies is key =
       let o = find (reaches key (2 ^ 64 - 1)) (tops_from at (filter_partitions keys (f ∷ fs))) in
-      subst (λ (told : Result Bool Error). Asked told (keys_of es) key) (sym (by_part body key o))
+      subst (λ (returned : Result Bool Error). Asked returned (keys_of es) key) (sym (by_part body key o))
       (filter_parts_asked v policy es keys f fs for size are strict at pre post body from fits
       lies key)

@@ -87,9 +87,9 @@ abbrev pub says : List ℕ → Loaded → Bool
 says key b = admits (filter_in b.payload) (hash_of key)
 
 -- an answer, and where it is no, the key is none of the keys
-pub record Asked (told : Result Bool Error) (keys : List (List ℕ)) (key : List ℕ) : Type 0 where
+pub record Asked (returned : Result Bool Error) (keys : List (List ℕ)) (key : List ℕ) : Type 0 where
   pub answer : Bool
-  pub reported_is : told ≡ Ok answer
+  pub reported_is : returned ≡ Ok answer
   pub no : answer ≡ false → has_key key keys ≡ false
 
 pub no_key : (policy : BloomConstructionPolicy) (keys : List (List ℕ)) (f : BloomFilter)

@@ -157,13 +157,13 @@ module _ (v : TableVersion) (at : ℕ) (hs : List Handle) (parts : List (List Ha
       → regions.tli ≡ top_place k v at hs parts
       → index_result body regions pin ≡ Ok (index_said k v at hs parts pin)
   index_here FullIndex regions true are fits within lies absent place =
-      let told = handles_at body (top_place FullIndex v at hs parts) hs (full_loads fits lies) in
-      rw (absent, place, told) refl
+      let returned = handles_at body (top_place FullIndex v at hs parts) hs (full_loads fits lies) in
+      rw (absent, place, returned) refl
   index_here FullIndex regions false are fits within lies absent place = rw absent refl
   index_here (PartitionedIndex size) regions pin are fits within lies there place =
-      let told = handles_at body (top_place (PartitionedIndex size) v at hs parts)
+      let returned = handles_at body (top_place (PartitionedIndex size) v at hs parts)
       (index_tops v at parts) (top_level_loads size are fits lies within) in
-      rw (there, place, told) refl
+      rw (there, place, returned) refl
 
   -- it has the handles, in one block or in partitions
   pub index_has : (k : IndexKind) (regions : ParsedRegions) → AreIndexParts k hs parts
@@ -173,15 +173,15 @@ module _ (v : TableVersion) (at : ℕ) (hs : List Handle) (parts : List (List Ha
       → regions.index ≡ place_from at (index_sections k v at hs parts) IndexSection
       → regions.tli ≡ top_place k v at hs parts → IndexHas body regions.index regions.tli hs
   index_has FullIndex regions are fits within lies absent place =
-      let told = handles_at body (top_place FullIndex v at hs parts) hs (full_loads fits lies) in
+      let returned = handles_at body (top_place FullIndex v at hs parts) hs (full_loads fits lies) in
       subst (λ (o : Option Place). IndexHas body o regions.tli hs) (sym absent)
-      (subst (λ (p : Place). handles_result body p ≡ Ok hs) (sym place) told)
+      (subst (λ (p : Place). handles_result body p ≡ Ok hs) (sym place) returned)
   index_has (PartitionedIndex size) regions are fits within lies there place =
       let lie : Place = top_place (PartitionedIndex size) v at hs parts in
       let here : HasPartitions body lie hs = record {
         tops = index_tops v at parts;
         parts = parts;
-        told = handles_at body lie (index_tops v at parts)
+        returned = handles_at body lie (index_tops v at parts)
             (top_level_loads size are fits lies within);
         named = partitions_named size are fits lies;
         whole = are.whole;

@@ -207,10 +207,10 @@ module _ (v : TableVersion) (label : Label) (options : Options) (spills : List �
       ]
 
   module _ (g : ℕ) (pin_filter pin_index : Bool) (parts : Parts)
-      (told : recovered_result (finished (written v label options c)) g pin_filter pin_index
+      (returned : recovered_result (finished (written v label options c)) g pin_filter pin_index
       ≡ Ok parts) where
     the_steps : Steps the_bytes g pin_filter pin_index parts
-    the_steps = steps the_bytes g pin_filter pin_index parts told
+    the_steps = steps the_bytes g pin_filter pin_index parts returned
 
     regions_are : parts.regions ≡ regions
     regions_are = ok_same (places_result the_bytes) parts.regions regions
@@ -273,16 +273,16 @@ module _ (stored : List ℕ) (es : List Entry) (t : IsTable stored es)
       → recovered_result stored g pin_filter pin_index ≡ Ok parts
       → recovered_result (finished (written t.version t.label t.options c)) g pin_filter pin_index
       ≡ Ok parts
-  reported_file g pin_filter pin_index parts told =
-      subst (λ (b : List ℕ). recovered_result b g pin_filter pin_index ≡ Ok parts) t.file.are told
+  reported_file g pin_filter pin_index parts returned =
+      subst (λ (b : List ℕ). recovered_result b g pin_filter pin_index ≡ Ok parts) t.file.are returned
 
   -- what is recovered is what the list says
   pub table_parts : (g : ℕ) (pin_filter pin_index : Bool) (parts : Parts)
       → recovered_result stored g pin_filter pin_index ≡ Ok parts
       → parts ≡ parts_said t pin_filter pin_index
-  table_parts g pin_filter pin_index parts told =
+  table_parts g pin_filter pin_index parts returned =
       parts_are t.version t.label t.options t.spills es c t.file.is t.fits t.strict short_file g
-      pin_filter pin_index parts (reported_file g pin_filter pin_index parts told)
+      pin_filter pin_index parts (reported_file g pin_filter pin_index parts returned)
       ∙ by_list pin_filter pin_index
 
   -- what opening it tells

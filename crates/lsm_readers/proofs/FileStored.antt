@@ -57,9 +57,9 @@ is_true true h = refl
 is_true false h = absurd (h refl)
 
 -- a key that is one of some keys is admitted
-admitted : (told : Result Bool Error) (keys : List (List ℕ)) (key : List ℕ) → Asked told keys key
-    → has_key key keys ≡ true → told ≡ Ok true
-admitted told keys key a has = a.reported_is ∙ ap (λ (b : Bool). Ok b)
+admitted : (returned : Result Bool Error) (keys : List (List ℕ)) (key : List ℕ) → Asked returned keys key
+    → has_key key keys ≡ true → returned ≡ Ok true
+admitted returned keys key a has = a.reported_is ∙ ap (λ (b : Bool). Ok b)
     (is_true a.answer (λ denied. apart (has_key key keys) has (a.no denied)))
 
 -- a filter that is not to stay loaded does not
@@ -112,10 +112,10 @@ module _ (v : TableVersion) (label : Label) (options : Options) (spills : List �
       (filter_start v label options spills es c is fits strict short) c.keys c.filters
 
   asked : (key : List ℕ) → Asked (filter_admits body tops None regions.filter key
-      (hash_of key)).told (keys_of es) key
+      (hash_of key)).returned (keys_of es) key
   asked key =
       subst (λ (f : Option BloomFilter). Asked (filter_admits body tops f regions.filter key
-      (hash_of key)).told (keys_of es) key) (unpinned options.filter_kind c.filters)
+      (hash_of key)).returned (keys_of es) key) (unpinned options.filter_kind c.filters)
       (filter_answers v options.bloom_policy es (filter_start v label options spills es c is fits
       strict short) (before_filter v label options spills es c is fits strict short)
       (behind_filter v label options spills es c is fits strict short) body refl
@@ -128,7 +128,7 @@ module _ (v : TableVersion) (label : Label) (options : Options) (spills : List �
   filter : FilterHas body regions.filter_tli regions.filter (keys_of es)
   filter = record {
     tops = tops;
-    told = tops_reported_here v label options spills es c is fits strict short;
+    returned = tops_reported_here v label options spills es c is fits strict short;
     loads = filters_load v options.bloom_policy es (filter_start v label options spills es c is fits
         strict short) (before_filter v label options spills es c is fits strict short)
         (behind_filter v label options spills es c is fits strict short) body refl
@@ -138,7 +138,7 @@ module _ (v : TableVersion) (label : Label) (options : Options) (spills : List �
         (filter_lies v label options spills es c is fits strict short)
         (filter_place v label options spills es c is fits strict short);
     admits = all_keys (Admits body tops regions.filter) (keys_of es) (keys_of es)
-        (λ key has. admitted (filter_admits body tops None regions.filter key (hash_of key)).told
+        (λ key has. admitted (filter_admits body tops None regions.filter key (hash_of key)).returned
         (keys_of es) key (asked key) has) (λ key has. has);
   }
 
@@ -203,5 +203,5 @@ open_stores t held es file =
     (file.file).content file.file.is file.fits file.strict
     (short_file t.bytes es file held.short) t.global_seqno pins.pin_filter pins.pin_index t.parts
     (reported_file t.bytes es file held.short t.global_seqno pins.pin_filter pins.pin_index t.parts
-    pins.told) in
+    pins.returned) in
     table_stores t.bytes es file one held.short

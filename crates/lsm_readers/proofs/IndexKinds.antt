@@ -45,10 +45,10 @@ kind_of_result body tli false false index h = ap kind_kept (made volatile index 
 -- what stays loaded of a table that was opened with some pins
 pub opened_kind : (t : OpenTable) (pin_filter pin_index : Bool) → OpenedWith t pin_filter pin_index
     → kind_kept t.parts.pinned.index ≡ kind_for (is_some t.parts.regions.index) pin_index
-opened_kind t pin_filter pin_index told =
+opened_kind t pin_filter pin_index returned =
     let body = body_of t.bytes in
     let regions = t.parts.regions in
-    let all = steps t.bytes t.global_seqno pin_filter pin_index t.parts told in
+    let all = steps t.bytes t.global_seqno pin_filter pin_index t.parts returned in
     let pins = pinned_steps body regions pin_filter pin_index t.parts.pinned all.pinned in
     kind_of_result body regions.tli (is_some regions.index) pin_index t.parts.pinned.index pins.index
 

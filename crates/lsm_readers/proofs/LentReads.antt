@@ -29,17 +29,17 @@ module _ (bytes : List ℕ) (found : Result (Option EntryPlace) Error)
     (same : result_map (option_map entry_of_ref) lent
     ≡ result_map (option_map (entry_placed bytes)) found) where
   -- what is borrowed answers as its place
-  pub lent_gives : (told : Result (Option Entry) Error)
-      → Gives (option_map (entry_placed bytes)) found told
-      → Gives (option_map entry_of_ref) lent told
-  lent_gives told h = gives_seen (option_map entry_of_ref) lent told
-      (subst (λ (r : Result (Option Entry) Error). Gives (λ (x : Option Entry). x) r told)
-      (sym same) (gives_by (option_map (entry_placed bytes)) found told h))
+  pub lent_gives : (returned : Result (Option Entry) Error)
+      → Gives (option_map (entry_placed bytes)) found returned
+      → Gives (option_map entry_of_ref) lent returned
+  lent_gives returned h = gives_seen (option_map entry_of_ref) lent returned
+      (subst (λ (r : Result (Option Entry) Error). Gives (λ (x : Option Entry). x) r returned)
+      (sym same) (gives_by (option_map (entry_placed bytes)) found returned h))
 
   pub lent_does : (read : Read (Option Entry)) (o o' : Opened)
-      → Gives (option_map (entry_placed bytes)) found read.told → FaultsFirst found read.early
+      → Gives (option_map (entry_placed bytes)) found read.returned → FaultsFirst found read.early
       → Opens found read.loads o o' → (read.loads ≡ [] → IsOk found)
       → DoesRead (result_map (option_map entry_of_ref) lent) read o o'
-  lent_does read o o' told first opens calm =
+  lent_does read o o' returned first opens calm =
       subst (λ (r : Result (Option Entry) Error). DoesRead r read o o') (sym same)
-      (does_by (option_map (entry_placed bytes)) found read o o' told first opens calm)
+      (does_by (option_map (entry_placed bytes)) found read o o' returned first opens calm)

@@ -26,12 +26,12 @@ same_number a b near = elim (cases_lt a b) [
 ]
 
 module _ (body : List ℕ) (at size : ℕ) (kind : BlockType) (b : Loaded)
-    (told : load_result body at size kind ≡ Ok b) where
+    (returned : load_result body at size kind ≡ Ok b) where
   abbrev head : List ℕ
   head = slice_range body at (at + 24)
 
   not_refused : (e : Error) → load_result body at size kind ≡ Err e → ⊥
-  not_refused e fault = absurd (let wrong : Err e ≡ Ok b = sym fault ∙ told in cc)
+  not_refused e fault = absurd (let wrong : Err e ≡ Ok b = sym fault ∙ returned in cc)
 
   long : 24 ≤ size
   long = elim (cases_lt size 24) [
@@ -66,7 +66,7 @@ module _ (body : List ℕ) (at size : ℕ) (kind : BlockType) (b : Loaded)
   payload = slice_range body (at + 24) (at + size)
 
   checked : checked_payload (version_in head) (stored_checksum head) kind payload ≡ Ok b
-  checked = sym (load_checked body at size kind long within fine same whole) ∙ told
+  checked = sym (load_checked body at size kind long within fine same whole) ∙ returned
 
   pub at_position : load_at_result body at kind ≡ Ok b
   at_position =

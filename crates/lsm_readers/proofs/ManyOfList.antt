@@ -15,8 +15,8 @@ pub many_of_list : {A : Type 0} (t : OpenTable) (held : IsOpen t) (es : List Ent
     → StoresList t.bytes es → (queries : List (Query A))
     → many_results t queries ≡ Ok (map (λ q. point (lift es t.global_seqno) q.key q.seqno) queries)
 many_of_list {A} t held es is queries =
-    let told = held.recovered in
+    let returned = held.recovered in
     all_answered (found_result t) (λ (q : Query A). point (lift es t.global_seqno) q.key q.seqno)
-    (λ q. stored_answers t.bytes es is t.global_seqno told.pin_filter told.pin_index t.parts
-    told.told q.key q.seqno)
+    (λ q. stored_answers t.bytes es is t.global_seqno returned.pin_filter returned.pin_index t.parts
+    returned.returned q.key q.seqno)
     queries

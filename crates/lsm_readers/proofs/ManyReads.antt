@@ -33,7 +33,7 @@ module _ {X Y : Type 0} (f : X → Result Y Error) where
   more_of (z ∷ zs) (suc i) x ys y less is before here =
       let first = bind_ok (f z) (behind (take i zs)) ys before in
       let rest = bind_ok (answers_to f (take i zs)) (λ us. Ok (first.0 ∷ us)) ys first.2 in
-      let same : first.0 ∷ rest.0 ≡ ys = let told = rest.2 in cc in
+      let same : first.0 ∷ rest.0 ≡ ys = let returned = rest.2 in cc in
       let more = more_of zs i x rest.0 y (omega (arith, less)) is rest.1 here in
       subst (λ (us : List Y). answers_to f (z ∷ take (suc i) zs) ≡ Ok (us ++ y ∷ [])) same
       (first_ok z (take (suc i) zs) first.0 first.1

@@ -100,12 +100,12 @@ module _ (v : TableVersion) (label : Label) (options : Options) (cs : List (List
   pub interval_read : (said : Facts) → facts_result es ≡ Ok said
       → options.index_block_restart_interval ≡ 1
   unfolding facts_result
-  interval_read said told = elim (cases_Bool (options.index_block_restart_interval == 1)) [
+  interval_read said returned = elim (cases_Bool (options.index_block_restart_interval == 1)) [
     | inl one ↦ eqb-true _ _ one
     | inr other ↦
         let refused : facts_result es ≡ Err UnsupportedIndexInterval =
         rw (version_read, kinds_refused other) refl in
-        let no : Err UnsupportedIndexInterval ≡ Ok said = sym refused ∙ told in
+        let no : Err UnsupportedIndexInterval ≡ Ok said = sym refused ∙ returned in
         absurd cc
   ]
 

@@ -21,7 +21,7 @@ pub names_blocks : (t : OpenTable) → IsOpen t → (es : List Entry) (s : Store
     → NamesBlocksOf s (table_index t)
 names_blocks t held es s lower upper =
     stored_index t.bytes es s t.global_seqno held.recovered.pin_filter held.recovered.pin_index
-    t.parts held.recovered.told lower upper
+    t.parts held.recovered.returned lower upper
 
 same_blocks : (a b : List ℕ) (es : List Entry) (t : IsTable a es) (u : IsTable b es)
     → AreCutAlike t u → (t.file).content.blocks ≡ (u.file).content.blocks

@@ -152,19 +152,19 @@ module _ (p : Handle → Bool) (edge : IsEdge p) where
         λ hit rest. some_pass top x xs rest ends hit;
   }
 
-  tells : (body : List ℕ) (last : Option Entry) (tops : List Handle) (parts : List (List Handle))
+  states : (body : List ℕ) (last : Option Entry) (tops : List Handle) (parts : List (List Handle))
       → AllZip (NamesPart body) tops parts → IsStrictAfter last (map end_of (joined_parts parts))
       → AllReport p tops parts
-  tells body last [] [] named strict = tt
-  tells body last [] (part ∷ parts) named strict = absurd named
-  tells body last (top ∷ tops) [] named strict = absurd named
-  tells body last (top ∷ tops) ([] ∷ ps) named strict = absurd (omega (arith, (named.0).some))
-  tells body last (top ∷ tops) ((x ∷ xs) ∷ ps) named strict =
+  states body last [] [] named strict = tt
+  states body last [] (part ∷ parts) named strict = absurd named
+  states body last (top ∷ tops) [] named strict = absurd named
+  states body last (top ∷ tops) ([] ∷ ps) named strict = absurd (omega (arith, (named.0).some))
+  states body last (top ∷ tops) ((x ∷ xs) ∷ ps) named strict =
       let part = x ∷ xs in
       let whole = split last part ps strict in (
         tell last top x xs (part_end body top x xs named.0)
             (strict_front last (map end_of part) (map end_of (joined_parts ps)) whole),
-        tells body (last_of last (map end_of part)) tops ps named.1
+        states body (last_of last (map end_of part)) tops ps named.1
             (strict_back last (map end_of part) (map end_of (joined_parts ps)) whole),
       )
 
@@ -173,15 +173,15 @@ module _ (p : Handle → Bool) (edge : IsEdge p) where
 block_has : (r : Result Loaded Error) (hs : List Handle) (lo : Option (List ℕ × ℕ))
     (hi : Option (List ℕ)) → (r >>= λ b. Ok (handles_of b)) ≡ Ok hs
     → between lo hi r ≡ ok_results (window hs lo hi)
-block_has (Ok b) hs lo hi told = let same : handles_of b ≡ hs = cc in
+block_has (Ok b) hs lo hi returned = let same : handles_of b ≡ hs = cc in
     ap (λ (xs : List Handle). ok_results (window xs lo hi)) same
-block_has (Err e) hs lo hi told = absurd cc
+block_has (Err e) hs lo hi returned = absurd cc
 
 pub between_here : (body : List ℕ) (place : Place) (hs : List Handle) (lo : Option (List ℕ × ℕ))
     (hi : Option (List ℕ)) → handles_result body place ≡ Ok hs
     → block_between body lo hi place ≡ ok_results (window hs lo hi)
-between_here body place hs lo hi told =
-    block_has (load_result body place.offset place.size Index) hs lo hi told
+between_here body place hs lo hi returned =
+    block_has (load_result body place.offset place.size Index) hs lo hi returned
 
 module _ (body : List ℕ) (tops : List Handle) (parts : List (List Handle))
     (named : AllZip (NamesPart body) tops parts) (strict : AreStrictHandles (joined_parts parts))
@@ -208,8 +208,8 @@ module _ (body : List ℕ) (tops : List Handle) (parts : List (List Handle))
   parts_window =
       ap (flat_map results) (window_is tops lo hi)
       ∙ parts_cut (from_test lo) (to_test hi) result results tops parts
-      (tells (from_test lo) (from_is_edge lo) body None tops parts named strict)
-      (tells (to_test hi) (to_is_edge hi) body None tops parts named strict)
+      (states (from_test lo) (from_is_edge lo) body None tops parts named strict)
+      (states (to_test hi) (to_is_edge hi) body None tops parts named strict)
       (cuts tops parts named)
       (rises (from_test lo) (from_is_edge lo) None (joined_parts parts) strict)
       ∙ ap (map result) (sym (window_is (joined_parts parts) lo hi))

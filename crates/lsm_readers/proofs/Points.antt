@@ -89,11 +89,11 @@ answer_none body g parts key bound n lowered o o' does =
 
 -- the handle was read by a source of its own, which counted nothing before
 pub handle_begun : (bytes source : List ℕ) (parts : Parts) (key : List ℕ) (n : ℕ)
-    (h told : Result (Option Place) Error) (start new end : Opened) → source ≡ bytes
-    → start ≡ none_opened → end ≡ new → h ≡ told
+    (h returned : Result (Option Place) Error) (start new end : Opened) → source ≡ bytes
+    → start ≡ none_opened → end ≡ new → h ≡ returned
     → DoesRead h (admitted_handle (body_of source) parts key n) start new
-    → DoesRead told (admitted_handle (body_of bytes) parts key n) none_opened end
-handle_begun bytes source parts key n h told start new end same none counts is does =
+    → DoesRead returned (admitted_handle (body_of bytes) parts key n) none_opened end
+handle_begun bytes source parts key n h returned start new end same none counts is does =
     let read = λ (b : List ℕ). admitted_handle (body_of b) parts key n in
     let here = subst (λ (b : List ℕ). DoesRead h (read b) start new) same does in
     let begun = subst (λ (o : Opened). DoesRead h (read bytes) o new) none here in

@@ -54,7 +54,7 @@ opened_more (k ∷ ks) ls o = opened_more ks ls (with_load k o)
 
 pub does_known : {X : Type 0} (x : X) (o : Opened) → DoesRead (Ok x) (known x) o o
 does_known x o = record {
-  told = refl;
+  returned = refl;
   early = λ e h. absurd cc;
   opens = no_loads (Ok x) o;
   calm =
@@ -62,9 +62,9 @@ does_known x o = record {
 }
 
 -- nothing was told before memory was taken
-none_result : {X Y : Type 0} (x : X) (s : Result Y Error) (told : Option Error)
-    → FaultsFirst (result x) told → FaultsFirst s told
-none_result x s told first = λ e h. absurd (let wrong : Some e ≡ None = first e h in cc)
+none_result : {X Y : Type 0} (x : X) (s : Result Y Error) (returned : Option Error)
+    → FaultsFirst (result x) returned → FaultsFirst s returned
+none_result x s returned first = λ e h. absurd (let wrong : Some e ≡ None = first e h in cc)
 
 -- ---- one read behind another
 
@@ -111,19 +111,19 @@ pub then_goes : {X Y : Type 0} (first : Read X) (next : X → Read Y) (x : X) (s
     (o o' o'' : Opened) → DoesRead (result x) first o o' → DoesRead s (next x) o' o''
     → DoesRead s (read_then first next) o o''
 then_goes {X} {Y} first next x s o o' o'' a b =
-    let told : first.told ≡ Ok x = a.told in
-    let loads : loads_behind first.told next ≡ (next x).loads =
-    ap (λ (t : Result X Error). loads_behind t next) told in
-    let early : early_then first.told next ≡ (next x).early =
-    ap (λ (t : Result X Error). early_then t next) told in
+    let returned : first.returned ≡ Ok x = a.returned in
+    let loads : loads_behind first.returned next ≡ (next x).loads =
+    ap (λ (t : Result X Error). loads_behind t next) returned in
+    let early : early_then first.returned next ≡ (next x).early =
+    ap (λ (t : Result X Error). early_then t next) returned in
     record {
-      told = subst (λ (t : Result X Error). Gives (λ (y : Y). y) s (t >>= λ x. (next x).told))
-          (sym told) b.told;
-      early = early_goes x s first.loads first.early (early_then first.told next) a.early
+      returned = subst (λ (t : Result X Error). Gives (λ (y : Y). y) s (t >>= λ x. (next x).returned))
+          (sym returned) b.returned;
+      early = early_goes x s first.loads first.early (early_then first.returned next) a.early
           (subst (FaultsFirst s) (sym early) b.early);
-      opens = opens_goes x s first.loads (loads_behind first.told next) o o' o'' a.opens
+      opens = opens_goes x s first.loads (loads_behind first.returned next) o o' o'' a.opens
           (subst (λ (l : List BlockType). Opens s l o' o'') (sym loads) b.opens);
-      calm = calm_front s first.loads (loads_behind first.told next)
+      calm = calm_front s first.loads (loads_behind first.returned next)
           (subst (λ (l : List BlockType). l ≡ [] → IsOk s) (sym loads) b.calm);
     }
 
@@ -145,8 +145,8 @@ memory_same e (Ok y) is = absurd is
 memory_same e (Err d) is = ap is_memory is
 
 -- nothing is read behind a fault
-behind_fails : {X Y : Type 0} (told : Result X Error) (next : X → Read Y) (e : Error) → told ≡ Err e
-    → loads_behind told next ≡ []
+behind_fails : {X Y : Type 0} (returned : Result X Error) (next : X → Read Y) (e : Error) → returned ≡ Err e
+    → loads_behind returned next ≡ []
 behind_fails (Ok x) next e is = absurd cc
 behind_fails (Err d) next e is = refl
 
@@ -172,14 +172,14 @@ pub then_fails : {X Y : Type 0} (first : Read X) (next : X → Read Y) (e : Erro
     → IsErrAnd s (λ y. y ≡ e) → DoesRead s (read_then first next) o o'
 then_fails {X} {Y} first next e s o o' a is =
     let some = some_loads X e first.loads a.calm in
-    let ls = loads_behind first.told next in
+    let ls = loads_behind first.returned next in
     record {
-      told = passes_fault (λ (y : Y). y) s (first.told >>= λ x. (next x).told) e is
-          (fails_here first.told (λ x. (next x).told) e a.told);
+      returned = passes_fault (λ (y : Y). y) s (first.returned >>= λ x. (next x).returned) e is
+          (fails_here first.returned (λ x. (next x).returned) e a.returned);
       early = early_fails X e s first.loads first.early
-          (early_then first.told next) some is a.early;
+          (early_then first.returned next) some is a.early;
       opens = opens_fails X e s first.loads ls o o' is some
-          (λ memory. behind_fails first.told next e (a.told memory)) a.opens;
+          (λ memory. behind_fails first.returned next e (a.returned memory)) a.opens;
       calm = λ none. absurd (let sum = length-append first.loads ls in
           let zero : length (first.loads ++ ls) ≡ 0 = ap length none in
           omega (arith, sum, some, zero));

@@ -26,33 +26,33 @@ module _ {X Y : Type 0} (f : X → Y) where
   err_seen (Ok x) e is = absurd is
   err_seen (Err d) e is = is
 
-  pub gives_seen : (r : Result X Error) (told : Result Y Error)
-      → Gives (λ (y : Y). y) (result_map f r) told → Gives f r told
-  gives_seen (Ok x) told h = h
-  gives_seen (Err e) told h = h
+  pub gives_seen : (r : Result X Error) (returned : Result Y Error)
+      → Gives (λ (y : Y). y) (result_map f r) returned → Gives f r returned
+  gives_seen (Ok x) returned h = h
+  gives_seen (Err e) returned h = h
 
-  pub gives_by : (r : Result X Error) (told : Result Y Error) → Gives f r told
-      → Gives (λ (y : Y). y) (result_map f r) told
-  gives_by (Ok x) told h = h
-  gives_by (Err e) told h = h
+  pub gives_by : (r : Result X Error) (returned : Result Y Error) → Gives f r returned
+      → Gives (λ (y : Y). y) (result_map f r) returned
+  gives_by (Ok x) returned h = h
+  gives_by (Err e) returned h = h
 
-  refuses_seen : (r : Result X Error) (told : Option Error) → Refuses (result_map f r) told
-      → Refuses r told
-  refuses_seen (Ok x) told h = h
-  refuses_seen (Err e) told h = h
+  refuses_seen : (r : Result X Error) (returned : Option Error) → Refuses (result_map f r) returned
+      → Refuses r returned
+  refuses_seen (Ok x) returned h = h
+  refuses_seen (Err e) returned h = h
 
-  refuses_by : (r : Result X Error) (told : Option Error) → Refuses r told
-      → Refuses (result_map f r) told
-  refuses_by (Ok x) told h = h
-  refuses_by (Err e) told h = h
+  refuses_by : (r : Result X Error) (returned : Option Error) → Refuses r returned
+      → Refuses (result_map f r) returned
+  refuses_by (Ok x) returned h = h
+  refuses_by (Err e) returned h = h
 
-  pub first_seen : (r : Result X Error) (told : Option Error) → FaultsFirst (result_map f r) told
-      → FaultsFirst r told
-  first_seen r told first = λ e is. refuses_seen r (Some e) (first e is)
+  pub first_seen : (r : Result X Error) (returned : Option Error) → FaultsFirst (result_map f r) returned
+      → FaultsFirst r returned
+  first_seen r returned first = λ e is. refuses_seen r (Some e) (first e is)
 
-  first_by : (r : Result X Error) (told : Option Error) → FaultsFirst r told
-      → FaultsFirst (result_map f r) told
-  first_by r told first = λ e is. refuses_by r (Some e) (first e is)
+  first_by : (r : Result X Error) (returned : Option Error) → FaultsFirst r returned
+      → FaultsFirst (result_map f r) returned
+  first_by r returned first = λ e is. refuses_by r (Some e) (first e is)
 
   pub ok_seen : (r : Result X Error) → IsOk (result_map f r) → IsOk r
   ok_seen (Ok x) h = refl
@@ -87,11 +87,11 @@ module _ {X Y : Type 0} (f : X → Y) where
   }
 
   -- a call that answers what the view of its value says does the read, seen by the view
-  pub does_by : (r : Result X Error) (read : Read Y) (o o' : Opened) → Gives f r read.told
+  pub does_by : (r : Result X Error) (read : Read Y) (o o' : Opened) → Gives f r read.returned
       → FaultsFirst r read.early → Opens r read.loads o o' → (read.loads ≡ [] → IsOk r)
       → DoesRead (result_map f r) read o o'
-  does_by r read o o' told first opens calm = record {
-    told = gives_by r read.told told;
+  does_by r read o o' returned first opens calm = record {
+    returned = gives_by r read.returned returned;
     early = first_by r read.early first;
     opens = opens_by r read.loads o o' opens;
     calm = λ none. ok_by r (calm none);

@@ -87,24 +87,24 @@ pub steps : (bytes : List ℕ) (g : ℕ) (pin_filter pin_index : Bool) (parts : 
     → Steps bytes g pin_filter pin_index parts
 unfolding parts_result
 steps bytes g pin_filter pin_index parts h =
-    let told = unless_ok (trailer_fault bytes) (parts_result bytes g pin_filter pin_index) parts h in
+    let returned = unless_ok (trailer_fault bytes) (parts_result bytes g pin_filter pin_index) parts h in
     let body = body_of bytes in
     let pinned_in : ParsedRegions → Result Pinned Error =
     λ regions. pinned_result body regions pin_filter pin_index in
     let r = bind_ok (places_result bytes) (λ regions. meta_result body regions.metadata >>= λ facts.
     facts_fitting facts g >>= λ facts. pinned_in regions >>= λ pinned. Ok
-    (made regions facts pinned)) parts told in
+    (made regions facts pinned)) parts returned in
     let m = bind_ok (meta_result body (r.0).metadata)
     (λ facts. facts_fitting facts g >>= λ facts. pinned_in r.0 >>= λ pinned. Ok
     (made r.0 facts pinned)) parts r.2 in
     let n = bind_ok (facts_fitting m.0 g) (λ facts. pinned_in r.0 >>= λ pinned. Ok
     (made r.0 facts pinned)) parts m.2 in
     let i = bind_ok (pinned_in r.0) (λ pinned. Ok (made r.0 n.0 pinned)) parts n.2 in
-    steps_of bytes g pin_filter pin_index parts r.0 m.0 n.0 i.0 told r.1 m.1 n.1 i.1 cc
+    steps_of bytes g pin_filter pin_index parts r.0 m.0 n.0 i.0 returned r.1 m.1 n.1 i.1 cc
 
 pub recovered_steps : (t : OpenTable) (is : IsRecovered t)
     → Steps t.bytes t.global_seqno is.pin_filter is.pin_index t.parts
-recovered_steps t is = steps t.bytes t.global_seqno is.pin_filter is.pin_index t.parts is.told
+recovered_steps t is = steps t.bytes t.global_seqno is.pin_filter is.pin_index t.parts is.returned
 
 pub highest_fits : (t : OpenTable) → IsRecovered t
     → t.parts.facts.seqno_max + t.global_seqno < 2 ^ 64
@@ -140,10 +140,10 @@ pinned_steps body regions pin_filter pin_index pinned h =
 
 -- opening what has no fault in its trailer tells what its parts tell
 pub opening_result : (bytes source : List ℕ) (g : ℕ) (pin_filter pin_index : Bool)
-    (told : Result Parts Error) → trailer_fault bytes ≡ None → source ≡ bytes
-    → parts_result source g pin_filter pin_index ≡ told
-    → recovered_result bytes g pin_filter pin_index ≡ told
-opening_result bytes source g pin_filter pin_index told none same parts =
+    (returned : Result Parts Error) → trailer_fault bytes ≡ None → source ≡ bytes
+    → parts_result source g pin_filter pin_index ≡ returned
+    → recovered_result bytes g pin_filter pin_index ≡ returned
+opening_result bytes source g pin_filter pin_index returned none same parts =
     ap (λ (o : Option Error). unless o (parts_result bytes g pin_filter pin_index)) none
     ∙ ap (λ (b : List ℕ). parts_result b g pin_filter pin_index) (sym same) ∙ parts
 
@@ -157,12 +157,12 @@ opening_fails bytes g pin_filter pin_index e fault memory =
 pub is_open : (t : OpenTable) (bytes : List ℕ) (g : ℕ) (pin_filter pin_index : Bool)
     → t.bytes ≡ bytes → t.global_seqno ≡ g → length bytes < 2 ^ 63
     → recovered_result bytes g pin_filter pin_index ≡ Ok t.parts → IsOpen t
-is_open t bytes g pin_filter pin_index same number short told = record {
+is_open t bytes g pin_filter pin_index same number short returned = record {
   recovered = record {
     pin_filter = pin_filter;
     pin_index = pin_index;
-    told = ap (λ (b : List ℕ). recovered_result b t.global_seqno pin_filter pin_index) same
-        ∙ ap (λ (n : ℕ). recovered_result bytes n pin_filter pin_index) number ∙ told;
+    returned = ap (λ (b : List ℕ). recovered_result b t.global_seqno pin_filter pin_index) same
+        ∙ ap (λ (n : ℕ). recovered_result bytes n pin_filter pin_index) number ∙ returned;
   };
   short = subst (λ (b : List ℕ). length b < 2 ^ 63) (sym same) short;
 }
@@ -178,15 +178,15 @@ range_is t h =
 -- ---- what is refused before memory is taken
 
 -- a call passed on a refusal that came first
-pub first_from : {X : Type 0} (r : Result X Error) (e : Error) (told : Option Error)
-    → IsErrAnd r (λ y. y ≡ e) → ((f : Error) → told ≡ Some f → Some f ≡ Some e) → FaultsFirst r told
-first_from (Ok x) e told is first = absurd is
-first_from (Err d) e told is first = λ f h. first f h ∙ ap (λ (y : Error). Some y) (sym is)
+pub first_from : {X : Type 0} (r : Result X Error) (e : Error) (returned : Option Error)
+    → IsErrAnd r (λ y. y ≡ e) → ((f : Error) → returned ≡ Some f → Some f ≡ Some e) → FaultsFirst r returned
+first_from (Ok x) e returned is first = absurd is
+first_from (Err d) e returned is first = λ f h. first f h ∙ ap (λ (y : Error). Some y) (sym is)
 
 -- nothing is told
-pub first_none : {X : Type 0} (r : Result X Error) (told : Option Error)
-    → ((f : Error) → told ≡ Some f → Some f ≡ None) → FaultsFirst r told
-first_none r told none = λ f h. absurd (let no : Some f ≡ None = none f h in cc)
+pub first_none : {X : Type 0} (r : Result X Error) (returned : Option Error)
+    → ((f : Error) → returned ≡ Some f → Some f ≡ None) → FaultsFirst r returned
+first_none r returned none = λ f h. absurd (let no : Some f ≡ None = none f h in cc)
 
 -- the trailer, then the rest
 pub trailer_first : {X : Type 0} (r : Result X Error) (bytes : List ℕ) (e : Error)

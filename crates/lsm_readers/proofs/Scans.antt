@@ -193,9 +193,9 @@ needs_first u n none some = rw (none, some) refl
 needs_next : (u : Scan) (n : ℕ) (es : List Entry) (next : ℕ) → u.entries ≡ [] → u.blocks ≡ suc n
     → block_result u.body u.position ≡ Ok (es, next)
     → loads_of u ≡ suc (unless_left es (loads_from u.body next n))
-needs_next u n es next none some told =
+needs_next u n es next none some returned =
     needs_first u n none some ∙ ap (λ (r : Result (List Entry × ℕ) Error). suc
-    (scan_loads_behind r (λ next. loads_from u.body next n))) told
+    (scan_loads_behind r (λ next. loads_from u.body next n))) returned
 
 abbrev loaded : Result (Unit {0}) Error
 loaded = Ok tt
@@ -215,18 +215,18 @@ none_stood s u (inr none) _ = none
 pub reached_next : (s u : Scan) (es : List Entry) (next : ℕ) → Reached s u → u.entries ≡ []
     → 0 < u.blocks → block_result u.body u.position ≡ Ok (es, next)
     → FaultsFirst loaded (position_fault u.body u.position Data) → Reached s (moved u es next)
-reached_next s u es next reached none some told ahead =
+reached_next s u es next reached none some returned ahead =
     let n = u.blocks - 1 in
     let k : u.blocks ≡ suc n = omega (arith, some) in
     record {
-      left = sym (next_is u n none k ∙ ap (next_left u.body u.global_seqno n) told) ∙ reached.left;
+      left = sym (next_is u n none k ∙ ap (next_left u.body u.global_seqno n) returned) ∙ reached.left;
       start = inr (no_fault s u reached.start ahead);
       stands = inr (none_stood s u reached.stands none);
       ended = λ e. absurd (omega (arith, some, (reached.ended e).1));
       count = suc reached.count;
       counts = ap (with_load Data) reached.counts;
       falls = omega (arith, reached.falls, some);
-      needs = omega (arith, reached.needs, needs_next u n es next none k told);
+      needs = omega (arith, reached.needs, needs_next u n es next none k returned);
     }
 
 -- ---- the answers
@@ -281,12 +281,12 @@ LendsThere s r = (x : Entry) (xs : List Entry) → s.entries ≡ x ∷ xs
 there_entry : (s u : Scan) (e : Entry) (es : List Entry) (r : R)
     → (unlent s ≡ unlent u) ⊎ (s.entries ≡ []) → u.entries ≡ e ∷ es
     → lifted_result u.global_seqno e ≡ r → LendsThere s (Some r)
-there_entry s u e es r (inl same) some told x xs stands =
+there_entry s u e es r (inl same) some returned x xs stands =
     let one : e ≡ x = head_eq (sym some ∙ sym (ap (λ (v : Scan). v.entries) same) ∙ stands) in
-    ap (λ (y : R). Some y) (sym told
+    ap (λ (y : R). Some y) (sym returned
     ∙ ap (λ (g : ℕ). lifted_result g e) (sym (ap (λ (v : Scan). v.global_seqno) same))
     ∙ ap (lifted_result s.global_seqno) one)
-there_entry s u e es r (inr none) some told x xs stands =
+there_entry s u e es r (inr none) some returned x xs stands =
     absurd (let wrong : [] ≡ x ∷ xs = sym none ∙ stands in cc)
 
 there_none : (s u : Scan) (r : Option R) → (unlent s ≡ unlent u) ⊎ (s.entries ≡ [])
@@ -296,19 +296,19 @@ there_none s u r stood none x xs stands =
 
 -- its number comes before any want of memory
 lifts_there : (s : Scan) (r : Option R) → LendsThere s r → FaultsAtEntry s r
-lifts_there s r there x xs stands f told = there x xs stands ∙ ap (λ (y : R). Some y) told
+lifts_there s r there x xs stands f returned = there x xs stands ∙ ap (λ (y : R). Some y) returned
 
 entry_ok : (s u : Scan) (e : Entry) (es : List Entry) (x : Entry) → Reached s u → u.entries ≡ e ∷ es
     → lifted_result u.global_seqno e ≡ Ok x
     → ScansLent s (Some (Ok x)) (record u { lent = Some x; entries = es })
-entry_ok s u e es x reached some told =
+entry_ok s u e es x reached some returned =
     let t = record u { lent = Some x; entries = es } in
     let left : scan_left u ≡ Ok x ∷ scan_left t =
     ap (λ (ys : List Entry). entries_from u.body u.global_seqno ys u.position u.blocks) some
     ∙ entry_left u.body u.global_seqno e es u.position u.blocks
     ∙ ap (λ (r : R). first_entry r (entries_from u.body u.global_seqno es u.position u.blocks))
-    told in
-    let there = there_entry s u e es (Ok x) reached.stands some told in
+    returned in
+    let there = there_entry s u e es (Ok x) reached.stands some returned in
     record {
       next = record {
         answers = answers_from s u t (Some (Ok x)) reached (gave_entry u t x left);
@@ -329,13 +329,13 @@ entry_ok s u e es x reached some told =
 entry_err : (s u : Scan) (e : Entry) (es : List Entry) (fault : Error) → Reached s u
     → u.entries ≡ e ∷ es → lifted_result u.global_seqno e ≡ Err fault
     → ScansLent s (Some (Err fault)) (ended u)
-entry_err s u e es fault reached some told =
+entry_err s u e es fault reached some returned =
     let left = λ (m : is_memory fault ≡ false). ap
     (λ (ys : List Entry). entries_from u.body u.global_seqno ys u.position u.blocks) some
     ∙ entry_left u.body u.global_seqno e es u.position u.blocks
     ∙ ap (λ (r : R). first_entry r (entries_from u.body u.global_seqno es u.position u.blocks))
-    told in
-    let there = there_entry s u e es (Err fault) reached.stands some told in
+    returned in
+    let there = there_entry s u e es (Err fault) reached.stands some returned in
     record {
       next = record {
         answers = answers_from s u (ended u) (Some (Err fault)) reached
@@ -358,10 +358,10 @@ entry_err s u e es fault reached some told =
 abbrev Lends : Scan → Result Bool Error × Scan → Type 0
 Lends s p = ScansLent s (came p.0 p.1.lent) p.1
 
-lends_result : (s u : Scan) (e : Entry) (es : List Entry) (told : R) → Reached s u
-    → u.entries ≡ e ∷ es → lifted_result u.global_seqno e ≡ told → Lends s (lend_first u es told)
-lends_result s u e es (Ok x) reached some told = entry_ok s u e es x reached some told
-lends_result s u e es (Err fault) reached some told = entry_err s u e es fault reached some told
+lends_result : (s u : Scan) (e : Entry) (es : List Entry) (returned : R) → Reached s u
+    → u.entries ≡ e ∷ es → lifted_result u.global_seqno e ≡ returned → Lends s (lend_first u es returned)
+lends_result s u e es (Ok x) reached some returned = entry_ok s u e es x reached some returned
+lends_result s u e es (Err fault) reached some returned = entry_err s u e es fault reached some returned
 
 pub scans_entry : (s u t : Scan) (r : Result Bool Error) → Reached s u
     → (r, t) ≡ lend_next u u.entries → (r ≡ Ok false → ⊥) → ScansLent s (came r t.lent) t
@@ -388,19 +388,19 @@ fault_is (Err f) e h = let same : f ≡ e = cc in ap (λ (x : Error). Err x) sam
 
 one_load : (u : Scan) (n : ℕ) {e : Error} → block_result u.body u.position ≡ Err e
     → scan_loads_behind (block_result u.body u.position) (λ next. loads_from u.body next n) ≡ 0
-one_load u n told = ap (λ (r : Result (List Entry × ℕ) Error). scan_loads_behind r
-    (λ next. loads_from u.body next n)) told
+one_load u n returned = ap (λ (r : Result (List Entry × ℕ) Error). scan_loads_behind r
+    (λ next. loads_from u.body next n)) returned
 
 pub scans_fault : (s u t : Scan) (e : Error) → Reached s u → u.entries ≡ [] → 0 < u.blocks
     → (is_memory e ≡ false → fault_of (block_result u.body u.position) ≡ Some e)
     → FaultsFirst (refused e) (position_fault u.body u.position Data) → t ≡ halted u
     → ScansLent s (Some (Err e)) t
-scans_fault s u t e reached none some told ahead is =
+scans_fault s u t e reached none some returned ahead is =
     let n = u.blocks - 1 in
     let k : u.blocks ≡ suc n = omega (arith, some) in
     let left = λ (m : is_memory e ≡ false). next_is u n none k
     ∙ ap (next_left u.body u.global_seqno n) (fault_is (block_result u.body u.position) e
-    (told m)) in
+    (returned m)) in
     let there = there_none s u (Some (Err e)) reached.stands none in
     let step : ScansLent s (Some (Err e)) (halted u) = record {
       next = record {
@@ -417,7 +417,7 @@ scans_fault s u t e reached none some told ahead is =
           reached.needs,
           needs_first u n none k,
           one_load u n
-              (fault_is (block_result u.body u.position) e (told m)),
+              (fault_is (block_result u.body u.position) e (returned m)),
         );
         most = omega (arith, reached.needs, needs_first u n none k);
         some = λ _. omega arith;
@@ -449,18 +449,18 @@ pub at_end : (s u t : Scan) (r : Result Bool Error) → Reached s u → (r, t) �
     → r ≡ Ok false → AtEnd s t
 at_end s u t r reached is none = by u.entries refl is
   where
-    told : (es : List Entry) (one : R) → (r, t) ≡ lend_first u es one → AtEnd s t
-    told es (Ok x) is =
+    returned : (es : List Entry) (one : R) → (r, t) ≡ lend_first u es one → AtEnd s t
+    returned es (Ok x) is =
         let wrong : Ok true ≡ Ok false = sym (ap (λ (p : Result Bool Error × Scan). p.0) is)
         ∙ none in absurd cc
-    told es (Err f) is =
+    returned es (Err f) is =
         let wrong : Err f ≡ Ok false = sym (ap (λ (p : Result Bool Error × Scan). p.0) is)
         ∙ none in absurd cc
 
     by : (es : List Entry) → u.entries ≡ es → (r, t) ≡ lend_next u es → AtEnd s t
     by [] stands is = subst (AtEnd s) (sym (ap (λ (p : Result Bool Error × Scan). p.1) is))
         (record { reached = still_reached s u reached; none = stands; lent = refl })
-    by (e ∷ es) stands is = told es (lifted_result u.global_seqno e) is
+    by (e ∷ es) stands is = returned es (lifted_result u.global_seqno e) is
 
 not_some : (n : ℕ) → (0 < n → ⊥) → n ≡ 0
 not_some zero h = refl
@@ -509,8 +509,8 @@ scans_refused s u t x step is =
       ends = (refl, refl);
       early = λ none more e fault.
           let wrong : Some (Ok x) ≡ Some (Err e) = step.early none more e fault in absurd cc;
-      lifts = λ e es some f told.
-          let wrong : Some (Ok x) ≡ Some (Err f) = step.lifts e es some f told in absurd cc;
+      lifts = λ e es some f returned.
+          let wrong : Some (Ok x) ≡ Some (Err f) = step.lifts e es some f returned in absurd cc;
       count = step.count;
       counts = step.counts;
       within = step.within;
@@ -635,10 +635,10 @@ lent_falls s t (Some r) step = scan_falls s t r step.next
 pub first_left : (body : List ℕ) (g count : ℕ) (es : List Entry) (next : ℕ)
     → block_result body 0 ≡ Ok (es, next) → scan_results body count g
     ≡ entries_from body g es next (count - 1)
-first_left body g count es next told =
+first_left body g count es next returned =
     let k : max 1 count ≡ suc (count - 1) = omega arith in
     ap (entries_from body g [] 0) k ∙ block_left body g 0 (count - 1)
-    ∙ ap (next_left body g (count - 1)) told
+    ∙ ap (next_left body g (count - 1)) returned
 
 -- it could not be read
 pub fault_left : (body : List ℕ) (g count : ℕ) (e : Error)

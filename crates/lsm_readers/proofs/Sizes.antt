@@ -30,10 +30,10 @@ most = 2 ^ 64 - 1
 
 -- the sizes of handles that are told, added to a size
 abbrev pub added : ℕ → Result (List Handle) Error → Result ℕ Error
-added n told = told >>= λ hs. Ok (min (n + size_of hs) most)
+added n returned = returned >>= λ hs. Ok (min (n + size_of hs) most)
 
-pub added_none : (told : Result (List Handle) Error)
-    → added 0 told ≡ (told >>= λ hs. Ok (min (size_of hs) most))
+pub added_none : (returned : Result (List Handle) Error)
+    → added 0 returned ≡ (returned >>= λ hs. Ok (min (size_of hs) most))
 added_none (Ok hs) =
     let same : 0 + size_of hs ≡ size_of hs = omega arith in
     ap (λ (n : ℕ). Ok (min n most)) same
@@ -42,8 +42,8 @@ added_none (Err e) = refl
 capped : (n h s top : ℕ) → min (n + (h + s)) top ≡ min (min (n + h) top + s) top
 capped n h s top = omega arith
 
-one_more : (n : ℕ) (h : Handle) (told : Result (List Handle) Error)
-    → added n (told >>= λ hs. Ok (h ∷ hs)) ≡ added (min (n + h.size) most) told
+one_more : (n : ℕ) (h : Handle) (returned : Result (List Handle) Error)
+    → added n (returned >>= λ hs. Ok (h ∷ hs)) ≡ added (min (n + h.size) most) returned
 one_more n h (Ok hs) =
     ap (λ (m : ℕ). Ok (min (n + m) most)) (sum_by-cons (λ (x : Handle). x.size) h hs)
     ∙ ap (λ (m : ℕ). Ok m) (capped n h.size (size_of hs) most)
@@ -99,7 +99,7 @@ module _ (n : ℕ) (s : Left) (t : Left) where
 yielded_all : (hs : List Handle) → yielded (ok_results hs) ≡ Ok hs
 yielded_all [] = refl
 yielded_all (h ∷ hs) =
-    ap (λ (told : Result (List Handle) Error). told >>= λ xs. Ok (h ∷ xs)) (yielded_all hs)
+    ap (λ (returned : Result (List Handle) Error). returned >>= λ xs. Ok (h ∷ xs)) (yielded_all hs)
 
 -- a part of some handles takes no more than all of them
 abbrev TakesLess : List Handle → List Handle → Type 0
@@ -181,20 +181,20 @@ module _ (t : OpenTable) (held : IsOpen t) (es : List Entry) (stored : StoresLis
       let hs = window stored.handles (lower_edge low) (upper_edge high) in
       let same : min (size_of hs) most ≡ size_of hs = omega (arith, within_most, fits) in
       ap sizes_result (stored_index t.bytes es stored t.global_seqno held.recovered.pin_filter
-      held.recovered.pin_index t.parts held.recovered.told (lower_edge low) (upper_edge high))
-      ∙ ap (λ (told : Result (List Handle) Error). told >>= λ xs. Ok (min (size_of xs) most))
+      held.recovered.pin_index t.parts held.recovered.returned (lower_edge low) (upper_edge high))
+      ∙ ap (λ (returned : Result (List Handle) Error). returned >>= λ xs. Ok (min (size_of xs) most))
       (yielded_all hs)
       ∙ ap (λ (n : ℕ). Ok n) same
 
   -- ---- by what an iterator of the index deals
 
   module _ (rs : List R) (index : Index) (r : Result ℕ Error)
-      (between : rs ≡ index.told (lower_edge low) (upper_edge high)) (same : index ≡ table_index t)
+      (between : rs ≡ index.returned (lower_edge low) (upper_edge high)) (same : index ≡ table_index t)
       (gives : Gives (λ (x : ℕ). x) r (sizes_result rs)) where
     gives_size : Gives (λ (x : ℕ). x) r (Ok (size_within stored low high))
-    gives_size = subst (λ (told : Result ℕ Error). Gives (λ (x : ℕ). x) r told)
+    gives_size = subst (λ (returned : Result ℕ Error). Gives (λ (x : ℕ). x) r returned)
         (ap sizes_result between
-        ∙ ap (λ (i : Index). sizes_result (i.told (lower_edge low) (upper_edge high))) same
+        ∙ ap (λ (i : Index). sizes_result (i.returned (lower_edge low) (upper_edge high))) same
         ∙ stored_result) gives
 
     pub size_is : IfOk r (λ x. x ≡ size_within stored low high)

@@ -10,8 +10,8 @@ use Rattle.lsm_readers.specs.point.Read.{◌>>=◌}
 
 -- a step that told a value
 pub goes_on : {A B : Type 0} (r : Result A Error) (f : A → Result B Error) (x : A)
-    (told : Result B Error) → r ≡ Ok x → f x ≡ told → (r >>= f) ≡ told
-goes_on {A = A} r f x told step rest = ap (λ (q : Result A Error). q >>= f) step ∙ rest
+    (returned : Result B Error) → r ≡ Ok x → f x ≡ returned → (r >>= f) ≡ returned
+goes_on {A = A} r f x returned step rest = ap (λ (q : Result A Error). q >>= f) step ∙ rest
 
 -- the step that refused, and one before it
 pub fails_here : {A B : Type 0} (r : Result A Error) (f : A → Result B Error) (e : Error)
@@ -24,18 +24,18 @@ fails_later {A = A} r f x e step fails memory = ap (λ (q : Result A Error). q >
     ∙ fails memory
 
 -- a call that passed a fault on
-pub passes_fault : {X Y : Type 0} (view : X → Y) (r : Result X Error) (told : Result Y Error)
-    (e : Error) → IsErrAnd r (λ y. y ≡ e) → Fails e told → Gives view r told
-passes_fault view r told e is fails =
+pub passes_fault : {X Y : Type 0} (view : X → Y) (r : Result X Error) (returned : Result Y Error)
+    (e : Error) → IsErrAnd r (λ y. y ≡ e) → Fails e returned → Gives view r returned
+passes_fault view r returned e is fails =
     let p = err_from_is_err_and r is in
     rw (p.1, p.2) fails
 
 -- two steps that one call took
 pub both_on : {A B C : Type 0} (r : Result A Error) (f : A → Result C Error)
-    (h : C → Result B Error) (x : C) (told : Result B Error) → (r >>= f) ≡ Ok x → h x ≡ told
-    → (r >>= λ a. f a >>= h) ≡ told
-both_on (Ok a) f h x told step rest = goes_on (f a) h x told step rest
-both_on (Err e) f h x told step rest = absurd cc
+    (h : C → Result B Error) (x : C) (returned : Result B Error) → (r >>= f) ≡ Ok x → h x ≡ returned
+    → (r >>= λ a. f a >>= h) ≡ returned
+both_on (Ok a) f h x returned step rest = goes_on (f a) h x returned step rest
+both_on (Err e) f h x returned step rest = absurd cc
 
 abbrev pub refused : (A : Type 0) → Error → Result A Error
 refused A e = Err e
@@ -93,34 +93,34 @@ beside_fault first (Err d) e is = cc
 
 -- what the call gave, and the fault that it passed on
 pub beside_gives : {X Y Z : Type 0} (view : Y → Z) (first : X) (second : Result Y Error)
-    (told : Result Z Error) (x : X) (y : Y) → Gives view second told
+    (returned : Result Z Error) (x : X) (y : Y) → Gives view second returned
     → MatchResult second (λ z. paired {E = Error} x y ≡ paired first z)
-    (λ d. paired x y ≡ unpaired d) → told ≡ Ok (view y)
-beside_gives {Y = Y} view first second told x y gives is =
-    subst (λ (r : Result Y Error). Gives view r told) (beside_second first second x y is) gives
+    (λ d. paired x y ≡ unpaired d) → returned ≡ Ok (view y)
+beside_gives {Y = Y} view first second returned x y gives is =
+    subst (λ (r : Result Y Error). Gives view r returned) (beside_second first second x y is) gives
 
 pub beside_fails : {X Y Z : Type 0} (view : Y → Z) (first : X) (second : Result Y Error)
-    (told : Result Z Error) (e : Error) → Gives view second told
+    (returned : Result Z Error) (e : Error) → Gives view second returned
     → MatchResult second (λ z. unpaired e ≡ paired first z)
-    (λ d. unpaired {X = X} {Y = Y} e ≡ unpaired d) → Fails e told
-beside_fails {Y = Y} view first second told e gives is =
-    subst (λ (r : Result Y Error). Gives view r told) (beside_fault first second e is) gives
+    (λ d. unpaired {X = X} {Y = Y} e ≡ unpaired d) → Fails e returned
+beside_fails {Y = Y} view first second returned e gives is =
+    subst (λ (r : Result Y Error). Gives view r returned) (beside_fault first second e is) gives
 
 -- what it refuses first
-pub beside_early : {X Y : Type 0} (first : X) (second : Result Y Error) (told : Option Error)
-    (e : Error) → FaultsFirst second told
+pub beside_early : {X Y : Type 0} (first : X) (second : Result Y Error) (returned : Option Error)
+    (e : Error) → FaultsFirst second returned
     → MatchResult second (λ z. unpaired e ≡ paired first z)
-    (λ d. unpaired {X = X} {Y = Y} e ≡ unpaired d) → (f : Error) → told ≡ Some f
+    (λ d. unpaired {X = X} {Y = Y} e ≡ unpaired d) → (f : Error) → returned ≡ Some f
     → Some f ≡ Some e
-beside_early {Y = Y} first second told e early is =
-    subst (λ (r : Result Y Error). FaultsFirst r told) (beside_fault first second e is) early
+beside_early {Y = Y} first second returned e early is =
+    subst (λ (r : Result Y Error). FaultsFirst r returned) (beside_fault first second e is) early
 
-pub beside_none : {X Y : Type 0} (first : X) (second : Result Y Error) (told : Option Error) (x : X)
-    (y : Y) → FaultsFirst second told
+pub beside_none : {X Y : Type 0} (first : X) (second : Result Y Error) (returned : Option Error) (x : X)
+    (y : Y) → FaultsFirst second returned
     → MatchResult second (λ z. paired {E = Error} x y ≡ paired first z)
-    (λ d. paired x y ≡ unpaired d) → (f : Error) → told ≡ Some f → Some f ≡ None
-beside_none {Y = Y} first second told x y early is =
-    subst (λ (r : Result Y Error). FaultsFirst r told) (beside_second first second x y is) early
+    (λ d. paired x y ≡ unpaired d) → (f : Error) → returned ≡ Some f → Some f ≡ None
+beside_none {Y = Y} first second returned x y early is =
+    subst (λ (r : Result Y Error). FaultsFirst r returned) (beside_second first second x y is) early
 
 -- what the call says of its answer
 pub beside_is : {X Y E : Type 0} (P : Y → Type 0) (Q : E → Type 0) (first : X) (second : Result Y E)
@@ -145,25 +145,25 @@ same_value x y is = cc
 
 module _ {X Y : Type 0} (at : Y → X) where
   pub shared_gives : {Z : Type 0} (view : X → Z) (value : Result X Error) (r : Result Y Error)
-      (told : Result Z Error) → IfOk r (λ y. value ≡ Ok (at y))
-      → IfErr r (λ e. MatchResult value (λ _. e ≡ OutOfMemory) (λ f. e ≡ f)) → Gives view value told
-      → Gives (λ y. view (at y)) r told
-  shared_gives view (Ok x) (Ok y) told ok err gives = gives
+      (returned : Result Z Error) → IfOk r (λ y. value ≡ Ok (at y))
+      → IfErr r (λ e. MatchResult value (λ _. e ≡ OutOfMemory) (λ f. e ≡ f)) → Gives view value returned
+      → Gives (λ y. view (at y)) r returned
+  shared_gives view (Ok x) (Ok y) returned ok err gives = gives
       ∙ ap (λ (z : X). answered {E = Error} (view z)) (same_value x (at y) ok)
-  shared_gives view (Err f) (Ok y) told ok err gives = absurd cc
-  shared_gives view (Ok x) (Err e) told ok err gives = λ memory. let wrong : true ≡ false =
+  shared_gives view (Err f) (Ok y) returned ok err gives = absurd cc
+  shared_gives view (Ok x) (Err e) returned ok err gives = λ memory. let wrong : true ≡ false =
       ap is_memory (sym err) ∙ memory in absurd cc
-  shared_gives view (Err f) (Err e) told ok err gives = rw err gives
+  shared_gives view (Err f) (Err e) returned ok err gives = rw err gives
 
-  pub shared_early : (value : Result X Error) (r : Result Y Error) (told : Option Error)
+  pub shared_early : (value : Result X Error) (r : Result Y Error) (returned : Option Error)
       → IfOk r (λ y. value ≡ Ok (at y)) → IfErr r
-      (λ e. MatchResult value (λ _. e ≡ OutOfMemory) (λ f. e ≡ f)) → FaultsFirst value told
-      → FaultsFirst r told
-  shared_early (Ok x) (Ok y) told ok err first = first
-  shared_early (Err f) (Ok y) told ok err first = absurd cc
-  shared_early (Ok x) (Err e) told ok err first =
+      (λ e. MatchResult value (λ _. e ≡ OutOfMemory) (λ f. e ≡ f)) → FaultsFirst value returned
+      → FaultsFirst r returned
+  shared_early (Ok x) (Ok y) returned ok err first = first
+  shared_early (Err f) (Ok y) returned ok err first = absurd cc
+  shared_early (Ok x) (Err e) returned ok err first =
       λ f h. absurd (let no : Some f ≡ None = first f h in cc)
-  shared_early (Err f) (Err e) told ok err first = rw err first
+  shared_early (Err f) (Err e) returned ok err first = rw err first
 
   pub shared_has : (P : X → Type 0) (value : Result X Error) (r : Result Y Error)
       → IfOk r (λ y. value ≡ Ok (at y)) → IfOk value P → IfOk r (λ y. P (at y))

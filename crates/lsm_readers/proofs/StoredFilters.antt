@@ -49,13 +49,13 @@ all_keys P keys (k ∷ ks) each within = (
 -- ---- an answer
 
 -- a read of a filter tells an answer
-record Answers (told : Result Bool Error) : Type 0 where
+record Answers (returned : Result Bool Error) : Type 0 where
   answer : Bool
-  is : told ≡ Ok answer
+  is : returned ≡ Ok answer
 
 module _ (body key : List ℕ) where
   block_answers : (place : Place) → LoadsAs body place Filter
-      → Answers (block_admits body (hash_of key) place).told
+      → Answers (block_admits body (hash_of key) place).returned
   block_answers place l = record {
     answer = admits (filter_in (l.block).payload) (hash_of key);
     is = ap (λ (r : Result Loaded Error). r >>= λ b. Ok (admits (filter_in b.payload)
@@ -63,14 +63,14 @@ module _ (body key : List ℕ) where
   }
 
   by_first : (top : Handle) (o : Option Handle) (b : Bool) → LoadsAs body (place_of top) Filter
-      → Answers (part_admits body (hash_of key) (option_map place_of o)).told
-      → Answers (part_admits body (hash_of key) (option_map place_of (cond b (Some top) o))).told
+      → Answers (part_admits body (hash_of key) (option_map place_of o)).returned
+      → Answers (part_admits body (hash_of key) (option_map place_of (cond b (Some top) o))).returned
   by_first top o true l more = block_answers (place_of top) l
   by_first top o false l more = more
 
   part_answers : (p : Handle → Bool) (tops : List Handle)
       → AllByRecursion (λ (top : Handle). LoadsAs body (place_of top) Filter) tops
-      → Answers (part_admits body (hash_of key) (option_map place_of (find p tops))).told
+      → Answers (part_admits body (hash_of key) (option_map place_of (find p tops))).returned
   part_answers p [] loads = record { answer = false; is = refl }
   part_answers p (top ∷ tops) loads = by_first top (find p tops) (p top) loads.0
       (part_answers p tops loads.1)
@@ -78,7 +78,7 @@ module _ (body key : List ℕ) where
   -- each read loads what it asks
   filter_answers : (tops : Option (List Handle)) (place : Option Place)
       → FiltersLoad body tops place → Answers (filter_admits body tops None place key
-      (hash_of key)).told
+      (hash_of key)).returned
   filter_answers (Some tops) place loads = part_answers (reaches key (2 ^ 64 - 1)) tops loads
   filter_answers None (Some place) loads = block_answers place loads
   filter_answers None None loads = record { answer = true; is = refl }
@@ -87,22 +87,22 @@ module _ (body key : List ℕ) where
   by_load : (f : BloomFilter) (r : Result Loaded Error)
       → (r >>= λ b. Ok (Some (filter_in b.payload))) ≡ Ok (Some f)
       → (r >>= λ b. Ok (admits (filter_in b.payload) (hash_of key))) ≡ Ok (admits f (hash_of key))
-  by_load f (Ok b) told =
+  by_load f (Ok b) returned =
       let some : Some (filter_in b.payload) ≡ Some f = cc in
       let same : filter_in b.payload ≡ f = cc in
       ap (λ (x : BloomFilter). Ok (admits x (hash_of key))) same
-  by_load f (Err e) told = absurd cc
+  by_load f (Err e) returned = absurd cc
 
   pinned_same : (tops : Option (List Handle)) (filter : Option BloomFilter)
       (place : Option Place) (pin : Bool) → filter_result body (cond pin place None) ≡ Ok filter
-      → (filter_admits body tops filter place key (hash_of key)).told
-      ≡ (filter_admits body tops None place key (hash_of key)).told
-  pinned_same (Some tops) filter place pin told = refl
-  pinned_same None None place pin told = refl
-  pinned_same None (Some f) place false told = absurd cc
-  pinned_same None (Some f) None true told = absurd cc
-  pinned_same None (Some f) (Some p) true told =
-      sym (by_load f (load_result body p.offset p.size Filter) told)
+      → (filter_admits body tops filter place key (hash_of key)).returned
+      ≡ (filter_admits body tops None place key (hash_of key)).returned
+  pinned_same (Some tops) filter place pin returned = refl
+  pinned_same None None place pin returned = refl
+  pinned_same None (Some f) place false returned = absurd cc
+  pinned_same None (Some f) None true returned = absurd cc
+  pinned_same None (Some f) (Some p) true returned =
+      sym (by_load f (load_result body p.offset p.size Filter) returned)
 
 module _ (body : List ℕ) (filter_tli place : Option Place) (keys : List (List ℕ))
     (has : FilterHas body filter_tli place keys) where
@@ -110,20 +110,20 @@ module _ (body : List ℕ) (filter_tli place : Option Place) (keys : List (List 
   pub filter_asked : (tops : Option (List Handle)) (filter : Option BloomFilter) (pin : Bool)
       → tops_result body filter_tli ≡ Ok tops → filter_result body (cond pin place None) ≡ Ok filter
       → (key : List ℕ)
-      → Asked (filter_admits body tops filter place key (hash_of key)).told keys key
-  filter_asked tops filter pin told pinned key =
-      let same : tops ≡ has.tops = ok_same (tops_result body filter_tli) tops has.tops told has.told
+      → Asked (filter_admits body tops filter place key (hash_of key)).returned keys key
+  filter_asked tops filter pin returned pinned key =
+      let same : tops ≡ has.tops = ok_same (tops_result body filter_tli) tops has.tops returned has.returned
       in
       let unpinned = filter_answers body key has.tops place has.loads in
       record {
         answer = unpinned.answer;
         reported_is = pinned_same body key tops filter place pin pinned
             ∙ ap (λ (ts : Option (List Handle)). (filter_admits body ts None place key
-            (hash_of key)).told) same ∙ unpinned.is;
+            (hash_of key)).returned) same ∙ unpinned.is;
         no = λ denied. is_false (has_key key keys) (λ there.
             let yes = of_key key (Admits body has.tops place) keys has.admits there in
             apart unpinned.answer (ok_same (filter_admits body has.tops None place key
-            (hash_of key)).told unpinned.answer true unpinned.is yes) denied);
+            (hash_of key)).returned unpinned.answer true unpinned.is yes) denied);
       }
 
 loads_opens : (body : List ℕ) (place : Option Place) → FiltersLoad body None place
@@ -141,6 +141,6 @@ pub filter_opens : (body : List ℕ) (filter_tli place : Option Place) (keys : L
 filter_opens body filter_tli place keys false has = (None, refl)
 filter_opens body (Some tli) place keys true has = (None, refl)
 filter_opens body None place keys true has =
-    let none : has.tops ≡ None = ok_same (tops_result body None) has.tops None has.told refl in
+    let none : has.tops ≡ None = ok_same (tops_result body None) has.tops None has.returned refl in
     loads_opens body place (subst (λ (ts : Option (List Handle)). FiltersLoad body ts place) none
     has.loads)

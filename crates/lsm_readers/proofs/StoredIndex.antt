@@ -34,16 +34,16 @@ use Rattle.lsm_readers.proofs.Recovered.{ok_same}
 
 found_in : {X : Type 0} (r : Result Loaded Error) (hs : List Handle) (f : List Handle → X)
     → (r >>= λ b. Ok (handles_of b)) ≡ Ok hs → (r >>= λ b. Ok (f (handles_of b))) ≡ Ok (f hs)
-found_in (Ok b) hs f told = let same : handles_of b ≡ hs = cc in
+found_in (Ok b) hs f returned = let same : handles_of b ≡ hs = cc in
     ap (λ (xs : List Handle). Ok (f xs)) same
-found_in (Err e) hs f told = absurd cc
+found_in (Err e) hs f returned = absurd cc
 
 finds_here : (body : List ℕ) (place : Place) (hs : List Handle) (key : List ℕ) (bound : ℕ)
     → handles_result body place ≡ Ok hs
-    → (handle_in_block body key bound place).told ≡ Ok (place_in hs key bound)
-finds_here body place hs key bound told =
+    → (handle_in_block body key bound place).returned ≡ Ok (place_in hs key bound)
+finds_here body place hs key bound returned =
     found_in (load_result body place.offset place.size Index) hs
-    (λ (xs : List Handle). place_in xs key bound) told
+    (λ (xs : List Handle). place_in xs key bound) returned
 
 -- ---- what the partition answers that a top level names
 
@@ -58,7 +58,7 @@ top_reaches body top part key bound n =
 module _ (body : List ℕ) (key : List ℕ) (bound : ℕ) where
   -- a handle is found through a top level
   abbrev Finds : Option Handle → List Handle → Type 0
-  Finds o hs = (handle_in_part body key bound (option_map place_of o)).told
+  Finds o hs = (handle_in_part body key bound (option_map place_of o)).returned
       ≡ Ok (place_in hs key bound)
 
   decided : (last : Option Entry) (top x : Handle) (xs rest : List Handle) (o : Option Handle)
@@ -97,18 +97,18 @@ module _ (body : List ℕ) (key : List ℕ) (bound : ℕ) where
 pub record ReportsHandles (body : List ℕ) (tli : Place) (hs : List Handle) (index : PinnedIndex)
     : Type 0 where
   pub finds : (key : List ℕ) (bound : ℕ)
-      → (handle_by body index tli key bound).told ≡ Ok (place_in hs key bound)
+      → (handle_by body index tli key bound).returned ≡ Ok (place_in hs key bound)
   pub windows : (lo : Option (List ℕ × ℕ)) (hi : Option (List ℕ))
-      → (index_over body index tli).told lo hi ≡ ok_results (window hs lo hi)
+      → (index_over body index tli).returned lo hi ≡ ok_results (window hs lo hi)
 
 module _ (body : List ℕ) (tli : Place) (hs : List Handle) (strict : AreStrictHandles hs) where
   full_reports : ReportsHandles body tli hs (full hs)
   full_reports = record { finds = λ key bound. refl; windows = λ lo hi. refl }
 
   volatile_reports : handles_result body tli ≡ Ok hs → ReportsHandles body tli hs volatile
-  volatile_reports told = record {
-    finds = λ key bound. finds_here body tli hs key bound told;
-    windows = λ lo hi. between_here body tli hs lo hi told;
+  volatile_reports returned = record {
+    finds = λ key bound. finds_here body tli hs key bound returned;
+    windows = λ lo hi. between_here body tli hs lo hi returned;
   }
 
   parts_report : (p : HasPartitions body tli hs) → ReportsHandles body tli hs (two_level p.tops)
@@ -125,26 +125,26 @@ module _ (body : List ℕ) (tli : Place) (hs : List Handle) (strict : AreStrictH
   module _ (index : PinnedIndex) where
     kept : (r : Result (List Handle) Error) (made : List Handle → PinnedIndex) (xs : List Handle)
         → r ≡ Ok xs → (r >>= λ ys. Ok (made ys)) ≡ Ok index → made xs ≡ index
-    kept r made xs is told = ok_same (r >>= λ ys. Ok (made ys)) (made xs) index
-        (ap (λ (s : Result (List Handle) Error). s >>= λ ys. Ok (made ys)) is) told
+    kept r made xs is returned = ok_same (r >>= λ ys. Ok (made ys)) (made xs) index
+        (ap (λ (s : Result (List Handle) Error). s >>= λ ys. Ok (made ys)) is) returned
 
-    tells : (section : Option Place) (pin : Bool) → IndexHas body section tli hs
+    states : (section : Option Place) (pin : Bool) → IndexHas body section tli hs
         → cond (is_some section) (handles_result body tli >>= λ tops. Ok (two_level tops))
         (cond pin (handles_result body tli >>= λ handles. Ok (full handles)) (Ok volatile))
         ≡ Ok index → ReportsHandles body tli hs index
-    tells None true has told = subst (ReportsHandles body tli hs)
-        (kept (handles_result body tli) (λ xs. full xs) hs has told) full_reports
-    tells None false has told = let same : volatile ≡ index = cc in
+    states None true has returned = subst (ReportsHandles body tli hs)
+        (kept (handles_result body tli) (λ xs. full xs) hs has returned) full_reports
+    states None false has returned = let same : volatile ≡ index = cc in
         subst (ReportsHandles body tli hs) same (volatile_reports has)
-    tells (Some place) pin has told = subst (ReportsHandles body tli hs)
-        (kept (handles_result body tli) (λ xs. two_level xs) has.tops has.told told) (parts_report has)
+    states (Some place) pin has returned = subst (ReportsHandles body tli hs)
+        (kept (handles_result body tli) (λ xs. two_level xs) has.tops has.returned returned) (parts_report has)
 
 -- whatever stays loaded of an index that has some handles, it tells them
 pub index_reports : (body : List ℕ) (regions : ParsedRegions) (pin : Bool) (index : PinnedIndex)
     (hs : List Handle) → AreStrictHandles hs → IndexHas body regions.index regions.tli hs
     → index_result body regions pin ≡ Ok index → ReportsHandles body regions.tli hs index
-index_reports body regions pin index hs strict has told =
-    tells body regions.tli hs strict index regions.index pin has told
+index_reports body regions pin index hs strict has returned =
+    states body regions.tli hs strict index regions.index pin has returned
 
 -- and it loads
 pub index_opens : (body : List ℕ) (regions : ParsedRegions) (pin : Bool) (hs : List Handle)
@@ -165,5 +165,5 @@ index_opens body regions pin hs has = opens regions.index pin has
     opens None false has = (volatile, refl)
     opens (Some place) pin has = (
       two_level has.tops,
-      goes (handles_result body regions.tli) (λ xs. two_level xs) has.tops has.told,
+      goes (handles_result body regions.tli) (λ xs. two_level xs) has.tops has.returned,
     )

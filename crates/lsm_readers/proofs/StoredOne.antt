@@ -45,7 +45,7 @@ module _ (body : List ℕ) where
       → IndexHas body section tli hs → IndexHas body section tli ks → hs ≡ ks
   index_one None tli hs ks a b = ok_same (handles_result body tli) hs ks a b
   index_one (Some section) tli hs ks a b =
-      let tops = ok_same (handles_result body tli) a.tops b.tops a.told b.told in
+      let tops = ok_same (handles_result body tli) a.tops b.tops a.returned b.returned in
       let named = subst (λ (ts : List Handle). AllZip (NamesPart body) ts a.parts) tops a.named in
       sym a.whole
       ∙ ap joined_parts (zip_one (NamesPart body) part_one b.tops a.parts b.parts named b.named)

@@ -88,7 +88,7 @@ module _ (bytes : List ℕ) (es : List Entry) (t : StoresList bytes es) where
       let filter = filter_opens body t.regions.filter_tli t.regions.filter (keys_of es) pin_filter
       t.filter in (
         record { index = index.0; filter_tops = (t.filter).tops; filter = filter.0 },
-        rw (index.1, (t.filter).told, filter.1) refl,
+        rw (index.1, (t.filter).returned, filter.1) refl,
       )
 
   abbrev parts_for : Bool → Bool → Parts
@@ -118,20 +118,20 @@ module _ (bytes : List ℕ) (es : List Entry) (t : StoresList bytes es) where
       → Gives (nothing {X = X}) r (fits_result es g)
   opens_by view r g pin_filter pin_index gives =
       by_number view r (is_large g) (parts_for pin_filter pin_index)
-      (subst (λ (told : Result Parts Error). Gives view r told) (recovers g pin_filter pin_index)
+      (subst (λ (returned : Result Parts Error). Gives view r returned) (recovers g pin_filter pin_index)
       gives)
 
   pub stored_fits : (g : ℕ) (pin_filter pin_index : Bool) (parts : Parts)
       → recovered_result bytes g pin_filter pin_index ≡ Ok parts → fits_result es g ≡ Ok tt
-  stored_fits g pin_filter pin_index parts told =
-      opens_by (λ (p : Parts). p) (Ok parts) g pin_filter pin_index told
+  stored_fits g pin_filter pin_index parts returned =
+      opens_by (λ (p : Parts). p) (Ok parts) g pin_filter pin_index returned
 
   -- ---- what was recovered
 
   module _ (g : ℕ) (pin_filter pin_index : Bool) (parts : Parts)
-      (told : recovered_result bytes g pin_filter pin_index ≡ Ok parts) where
+      (returned : recovered_result bytes g pin_filter pin_index ≡ Ok parts) where
     the_steps : Steps bytes g pin_filter pin_index parts
-    the_steps = steps bytes g pin_filter pin_index parts told
+    the_steps = steps bytes g pin_filter pin_index parts returned
 
     pins : PinnedSteps body parts.regions pin_filter pin_index parts.pinned
     pins = pinned_steps body parts.regions pin_filter pin_index parts.pinned (the_steps.pinned)
@@ -174,7 +174,7 @@ module _ (bytes : List ℕ) (es : List Entry) (t : StoresList bytes es) where
         r.filter_tli r.filter (keys_of es)) regions_are t.filter)
 
     asks : (key : List ℕ) → Asked (filter_admits body parts.pinned.filter_tops
-        parts.pinned.filter parts.regions.filter key (hash_of key)).told
+        parts.pinned.filter parts.regions.filter key (hash_of key)).returned
         (keys_of (joined t.blocks)) key
     asks key = filter_asked body parts.regions.filter_tli parts.regions.filter
         (keys_of (joined t.blocks)) filter_has parts.pinned.filter_tops parts.pinned.filter
@@ -182,9 +182,9 @@ module _ (bytes : List ℕ) (es : List Entry) (t : StoresList bytes es) where
 
     -- a point read answers the first match in the list
     pub stored_answers : (key : List ℕ) (bound : ℕ)
-        → (answer body g parts key bound).told ≡ Ok (point (lift es g) key bound)
+        → (answer body g parts key bound).returned ≡ Ok (point (lift es g) key bound)
     stored_answers key bound =
-        subst (λ (xs : List Entry). (answer body g parts key bound).told
+        subst (λ (xs : List Entry). (answer body g parts key bound).returned
         ≡ Ok (point (lift xs g) key bound)) t.whole
         (reads_first body g parts t.handles t.blocks t.named line index asks
         (bears_out.seqno_min ∙ ap lowest_seqno (sym t.whole)) key bound)
@@ -219,12 +219,12 @@ module _ (bytes : List ℕ) (es : List Entry) (t : StoresList bytes es) where
 
     -- the index has the windows of the handles
     pub stored_index : (lo : Option (List ℕ × ℕ)) (hi : Option (List ℕ))
-        → (index_over body parts.pinned.index parts.regions.tli).told lo hi
+        → (index_over body parts.pinned.index parts.regions.tli).returned lo hi
         ≡ ok_results (window t.handles lo hi)
     stored_index lo hi = index.windows lo hi
 
     pub stored_blocks : (lo : Option (List ℕ × ℕ)) (hi : Option (List ℕ))
-        → length ((index_over body parts.pinned.index parts.regions.tli).told lo hi)
+        → length ((index_over body parts.pinned.index parts.regions.tli).returned lo hi)
         ≡ length (window t.handles lo hi)
     stored_blocks lo hi = ap length (stored_index lo hi)
         ∙ length-map (window t.handles lo hi) (λ (h : Handle). Ok h)
@@ -232,7 +232,7 @@ module _ (bytes : List ℕ) (es : List Entry) (t : StoresList bytes es) where
     -- the entries within bounds are those of the list
     pub stored_rows : (low high : Bound (List ℕ)) → rows
         (record { body = body; global_seqno = g; low = low; high = high })
-        ((index_over body parts.pinned.index parts.regions.tli).told (lower_edge low)
+        ((index_over body parts.pinned.index parts.regions.tli).returned (lower_edge low)
         (upper_edge high)) ≡ ok_results (within low high (lift es g))
     stored_rows low high =
         let b : Bounded = record { body = body; global_seqno = g; low = low; high = high } in

@@ -81,7 +81,7 @@ module _ (body : List ℕ) (g : ℕ) (key : List ℕ) (low : ℕ) where
 
   -- the read of one chunk by its handle
   chunk_result : (h : Handle) (c : List Entry) → NamesChunk body h c
-      → (match_at body g key low (place_of h)).told ≡ found c
+      → (match_at body g key low (place_of h)).returned ≡ found c
   unfolding point
   chunk_result h c n = ap (λ (r : Result Loaded Error). r
       >>= λ b. Ok (option_map (lifted g) (point (entries_of b) key low))) n.loads
@@ -89,7 +89,7 @@ module _ (body : List ℕ) (g : ℕ) (key : List ℕ) (low : ℕ) where
 
   -- a read that rests on the chunk of a handle, if there is one
   abbrev Reads : Option Handle → List Entry → Type 0
-  Reads o es = (match_in body g key low (option_map place_of o)).told ≡ found es
+  Reads o es = (match_in body g key low (option_map place_of o)).returned ≡ found es
 
   decided : (last : Option Entry) (h : Handle) (x : Entry) (xs rest : List Entry)
       (o : Option Handle) → NamesChunk body h (x ∷ xs) → IsStrictAfter last ((x ∷ xs) ++ rest)
@@ -118,7 +118,7 @@ module _ (body : List ℕ) (g : ℕ) (key : List ℕ) (low : ℕ) where
 
   -- no entry of a list has the key
   none_found : (es : List Entry) → find (is_hit key low) es ≡ None
-      → (match_in body g key low None).told ≡ found es
+      → (match_in body g key low None).returned ≡ found es
   none_found es none = rw none refl
 
 -- ---- a read that asks the filter, then the index, then a data block
@@ -127,18 +127,18 @@ module _ (body : List ℕ) (g : ℕ) (parts : Parts) (hs : List Handle) (cs : Li
     (named : AllZip (NamesChunk body) hs cs) (strict : IsStrict (joined cs))
     (index : ReportsHandles body parts.regions.tli hs parts.pinned.index)
     (asks : (key : List ℕ) → Asked (filter_admits body parts.pinned.filter_tops
-    parts.pinned.filter parts.regions.filter key (hash_of key)).told (keys_of (joined cs)) key)
+    parts.pinned.filter parts.regions.filter key (hash_of key)).returned (keys_of (joined cs)) key)
     (lowest : parts.facts.seqno_min ≡ lowest_seqno (joined cs)) where
   abbrev es : List Entry
   es = joined cs
 
   module _ (key : List ℕ) (low : ℕ) where
     abbrev rest : Result (Option Place) Error → Result (Option Entry) Error
-    rest told = told >>= λ place. (match_in body g key low place).told
+    rest returned = returned >>= λ place. (match_in body g key low place).returned
 
     -- behind a yes the index is asked, and behind a no there is nothing
     behind_answer : (answer : Bool) → (asks key).answer ≡ answer
-        → rest (handle_for body parts key low answer).told ≡ found body g key low es
+        → rest (handle_for body parts key low answer).returned ≡ found body g key low es
     behind_answer true admitted = ap rest (index.finds key low)
         ∙ chunks_read body g key low None hs cs named strict
     behind_answer false denied = none_found body g key low es
@@ -147,12 +147,12 @@ module _ (body : List ℕ) (g : ℕ) (parts : Parts) (hs : List Handle) (cs : Li
     low_or_read : (high : Bool) → ltb parts.facts.seqno_min low ≡ high
         → (read_then (read_then (cond high (filter_admits body parts.pinned.filter_tops
         parts.pinned.filter parts.regions.filter key (hash_of key)) (known false))
-        (handle_for body parts key low)) (match_in body g key low)).told
+        (handle_for body parts key low)) (match_in body g key low)).returned
         ≡ found body g key low es
     low_or_read false e = none_found body g key low es (none_low es key low
         (subst (λ (n : ℕ). low ≤ n) lowest (ltb-false _ _ e)))
     low_or_read true e =
-        ap (λ (r : Result Bool Error). rest (r >>= λ b. (handle_for body parts key low b).told))
+        ap (λ (r : Result Bool Error). rest (r >>= λ b. (handle_for body parts key low b).returned))
         (asks key).reported_is ∙ behind_answer (asks key).answer refl
 
   lifted_point : (key : List ℕ) (bound : ℕ) → point (lift es g) key bound
@@ -162,7 +162,7 @@ module _ (body : List ℕ) (g : ℕ) (parts : Parts) (hs : List Handle) (cs : Li
 
   -- a point read answers the first match, its number with the global number added
   pub reads_first : (key : List ℕ) (bound : ℕ)
-      → (answer body g parts key bound).told ≡ Ok (point (lift es g) key bound)
+      → (answer body g parts key bound).returned ≡ Ok (point (lift es g) key bound)
   unfolding answer
   reads_first key bound =
       low_or_read key (bound - g) (ltb parts.facts.seqno_min (bound - g)) refl

@@ -125,23 +125,23 @@ module _ (body : List ℕ) (g : ℕ) (low high : Bound (List ℕ)) where
   abbrev row : Handle → List (Result Entry Error)
   row h = block_rows bounded h
 
-  abbrev told : List Entry → List (Result Entry Error)
-  told es = lift_results g (within low high es)
+  abbrev returned : List Entry → List (Result Entry Error)
+  returned es = lift_results g (within low high es)
 
   -- a handle has the rows of its chunk
-  row_is : (h : Handle) (c : List Entry) → NamesChunk body h c → row h ≡ told c
-  row_is h c n = ap (λ (r : Result Loaded Error). rows_in bounded r) n.loads ∙ ap told n.entries
+  row_is : (h : Handle) (c : List Entry) → NamesChunk body h c → row h ≡ returned c
+  row_is h c n = ap (λ (r : Result Loaded Error). rows_in bounded r) n.loads ∙ ap returned n.entries
 
   -- those of all are those of the list
   rows_whole : (hs : List Handle) (cs : List (List Entry)) → AllZip (NamesChunk body) hs cs
-      → flat_map row hs ≡ told (joined cs)
+      → flat_map row hs ≡ returned (joined cs)
   rows_whole [] [] named = refl
   rows_whole [] (c ∷ cs) named = absurd named
   rows_whole (h ∷ hs) [] named = absurd named
   rows_whole (h ∷ hs) (c ∷ cs) named =
       let p = λ (e : Entry). is_from low e.user_key && is_to high e.user_key in
       ap (λ (rs : List (Result Entry Error)). rs ++ flat_map row hs) (row_is h c named.0)
-      ∙ ap (λ (rs : List (Result Entry Error)). told c ++ rs) (rows_whole hs cs named.1)
+      ∙ ap (λ (rs : List (Result Entry Error)). returned c ++ rs) (rows_whole hs cs named.1)
       ∙ sym (map-append (lifted_result g) (filter p c) (filter p (joined cs)))
       ∙ ap (lift_results g) (sym (filter-append p c (joined cs)))
 
@@ -236,8 +236,8 @@ rows_ok b (h ∷ hs) = ap (λ (rs : List (Result Entry Error)). block_rows b h +
 list_step : (b : Bool) (r : Result Entry Error) (e : Entry) (xs : List Entry) (ys : List Entry)
     (g : ℕ) → r ≡ Ok e → lift_results g xs ≡ ok_results ys → (x : Entry) → lifted_result g x ≡ r
     → lift_results g (cond b (x ∷ xs) xs) ≡ ok_results (cond b (e ∷ ys) ys)
-list_step true r e xs ys g is more x told = rw (told ∙ is, more) refl
-list_step false r e xs ys g is more x told = more
+list_step true r e xs ys g is more x returned = rw (returned ∙ is, more) refl
+list_step false r e xs ys g is more x returned = more
 
 list_rows : (g : ℕ) (low high : Bound (List ℕ)) (es : List Entry) → highest_seqno es + g < 2 ^ 64
     → lift_results g (within low high es) ≡ ok_results (within low high (lift es g))

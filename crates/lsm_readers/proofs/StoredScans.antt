@@ -109,9 +109,9 @@ memory_or : (e : Error) (b : Bool) → is_memory e ≡ b → (is_memory e ≡ fa
 memory_or e true m h = memory_is e m
 memory_or e false m h = absurd (let no = h m in cc)
 
-memory_alone : (told : Result Loaded Error) (b : Loaded) (e : Error) → told ≡ Ok b
-    → (is_memory e ≡ false → fault_of told ≡ Some e) → e ≡ OutOfMemory
-memory_alone told b e ok h = memory_or e (is_memory e) refl (λ m. sym (ap fault_of ok) ∙ h m)
+memory_alone : (returned : Result Loaded Error) (b : Loaded) (e : Error) → returned ≡ Ok b
+    → (is_memory e ≡ false → fault_of returned ≡ Some e) → e ≡ OutOfMemory
+memory_alone returned b e ok h = memory_or e (is_memory e) refl (λ m. sym (ap fault_of ok) ∙ h m)
 
 -- ---- what a scan of a list answers
 

@@ -175,16 +175,16 @@ module _ {A : Type 0} where
 
 module _ {A : Type 0} (t : OpenTable) (low high : Bound (List ℕ)) (s : Range A)
     (is : IsRangeOf t low high s) where
-  abbrev told : List (Result Handle Error)
-  told = (table_index t).told (lower_edge low) (upper_edge high)
+  abbrev returned : List (Result Handle Error)
+  returned = (table_index t).returned (lower_edge low) (upper_edge high)
 
-  pub come : to_come s ≡ told
+  pub come : to_come s ≡ returned
   come =
       if_false s.handles.sought (left_in s.handles).results
-      ((left_in s.handles).index.told (lower_edge s.of.low) (upper_edge s.of.high)) is.unsought
-      ∙ ap (λ (b : Bounded). (left_in s.handles).index.told (lower_edge b.low) (upper_edge b.high))
+      ((left_in s.handles).index.returned (lower_edge s.of.low) (upper_edge s.of.high)) is.unsought
+      ∙ ap (λ (b : Bounded). (left_in s.handles).index.returned (lower_edge b.low) (upper_edge b.high))
       is.of
-      ∙ ap (λ i. i.told (lower_edge low) (upper_edge high)) is.index
+      ∙ ap (λ i. i.returned (lower_edge low) (upper_edge high)) is.index
 
   pub index_come : index_to_come s ≡ index_within t low high
   index_come =
@@ -215,7 +215,7 @@ module _ {A : Type 0} (t : OpenTable) (low high : Bound (List ℕ)) (s : Range A
   table_lends = subst (λ (xs : List R). YieldsEnding RangeLends back_gives (λ _. Unit {0})
       (λ _. Unit {0}) s xs) left_is (lending_yields s)
 
-  loads_few : (blocks : ℕ) → length told ≡ blocks
+  loads_few : (blocks : ℕ) → length returned ≡ blocks
       → LoadsAtMost gives back_gives blocks (index_within t low high) s
   loads_few blocks many ends rs u runs =
       let index = index_within t low high in
@@ -244,7 +244,7 @@ module _ {A : Type 0} (t : OpenTable) (low high : Bound (List ℕ)) (s : Range A
     pub list_yields : YieldsWithin gives back_gives low high es t.global_seqno s
     list_yields stops memory =
         let of_list = stored_rows t.bytes es stored t.global_seqno held.recovered.pin_filter
-        held.recovered.pin_index t.parts held.recovered.told low high in
+        held.recovered.pin_index t.parts held.recovered.returned low high in
         let yields = subst (λ (xs : List R). YieldsEnding gives back_gives (λ _. Unit {0})
         (λ _. Unit {0}) s xs) of_list table_yields in
         yields_values gives back_gives (λ _. Unit {0}) (λ _. Unit {0}) s
@@ -260,7 +260,7 @@ module _ {A : Type 0} (t : OpenTable) (low high : Bound (List ℕ)) (s : Range A
         (index_within t low high) s
     list_loads =
         loads_few (blocks_within stored low high) (stored_blocks t.bytes es stored t.global_seqno
-        held.recovered.pin_filter held.recovered.pin_index t.parts held.recovered.told
+        held.recovered.pin_filter held.recovered.pin_index t.parts held.recovered.returned
         (lower_edge low) (upper_edge high))
 
     pub list_lends_few : LoadsAtMost RangeLends back_gives (blocks_within stored low high)

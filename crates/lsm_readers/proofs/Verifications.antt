@@ -36,14 +36,14 @@ at_some P (Some y) x p is = let same : y ≡ x = cc in subst P same p
 -- ---- refusals
 
 -- a call that passed a refusal on
-pub refuses : {X Y : Type 0} (r : Result X VerifyError) (e : VerifyError) (told : Result Y Finding)
-    → IsErrAnd r (λ y. y ≡ e) → Misses e told → IfErr r (λ y. Misses y told)
-refuses r e told is misses = let p = err_from_is_err_and r is in rw (p.1, p.2) misses
+pub refuses : {X Y : Type 0} (r : Result X VerifyError) (e : VerifyError) (returned : Result Y Finding)
+    → IsErrAnd r (λ y. y ≡ e) → Misses e returned → IfErr r (λ y. Misses y returned)
+refuses r e returned is misses = let p = err_from_is_err_and r is in rw (p.1, p.2) misses
 
 -- what is missed of a value is missed where nothing is kept of it
-pub misses_passed : {X : Type 0} (e : VerifyError) (told : Result X Finding) → Misses e told
-    → Misses e (passed told)
-misses_passed e told misses = λ f found. ap passed (misses f found)
+pub misses_passed : {X : Type 0} (e : VerifyError) (returned : Result X Finding) → Misses e returned
+    → Misses e (passed returned)
+misses_passed e returned misses = λ f found. ap passed (misses f found)
 
 -- what the first of some data blocks is refused for is what is found next
 pub next_block : (body : List ℕ) (parts : Parts) (left : Unread) (hs tops : List Handle)
@@ -179,10 +179,10 @@ module _ (body : List ℕ) (parts : Parts) where
         ∙ sym (ap (λ (r : Result (List Handle) Finding). r >>= λ hs.
         named_found body parts left parts.regions.index hs) is));
     steps =
-        let told = ap (named_steps body parts.regions.index) is
+        let returned = ap (named_steps body parts.regions.index) is
         ∙ ap (λ (k : Option Place). named_steps body k (Ok hs)) kind
         ∙ named_count index hs in
-        omega (arith, told);
+        omega (arith, returned);
     reads = (
       hs,
       is,
@@ -275,8 +275,8 @@ module _ (body : List ℕ) (parts : Parts) where
         ∙ ap (λ (r : Result (List Handle) Finding). r >>= λ hs. blocks_found body parts left hs)
         is));
     steps =
-        let told = ap count_told (handles_of_result top hs is) in
-        omega (arith, told);
+        let returned = ap count_told (handles_of_result top hs is) in
+        omega (arith, returned);
     reads = (hs, is, refl, refl);
     sizes = omega arith;
   }

@@ -56,18 +56,18 @@ module _ (section : SectionName) (h : Handle) where
   last_ok : (before : Option Entry) (es : List Entry) (u : Unit {0}) → 0 < length es
       → last_named section h (last_of before es) ≡ Ok u → NamesLast h es
   unfolding last_of
-  last_ok before [] u some told = absurd (omega arith)
-  last_ok before (e ∷ es) u some told =
+  last_ok before [] u some returned = absurd (omega arith)
+  last_ok before (e ∷ es) u some returned =
       let is = end_ok section h (last_entry (e ∷ es)) u
-      (ap (last_named section h) (sym (last_some e es)) ∙ told) in
+      (ap (last_named section h) (sym (last_some e es)) ∙ returned) in
       record { some = some; end_key = is.0; seqno = is.1 }
 
 -- nothing stands before a block that has no entry
 last_none : (section : SectionName) (h : Handle) (es : List Entry) (u : Unit {0})
     → last_named section h (last_of None es) ≡ Ok u → 0 < length es
 unfolding last_of
-last_none section h [] u told = absurd cc
-last_none section h (e ∷ es) u told = omega arith
+last_none section h [] u returned = absurd cc
+last_none section h (e ∷ es) u returned = omega arith
 
 -- ---- a data block
 
@@ -75,8 +75,8 @@ module _ (body : List ℕ) (h : Handle) where
   chunk_ok : (c : List Entry) → chunk_found body (place_of h) ≡ Ok c
       → (block : Loaded) × (load_result body h.offset h.size Data ≡ Ok block)
       × (entries_of block ≡ c) × (0 < length c)
-  chunk_ok c told =
-      let b = then_ok _ _ c told in
+  chunk_ok c returned =
+      let b = then_ok _ _ c returned in
       let s = some_ok h.offset (entries_of b.0) c b.2 in (
         b.0,
         located_ok _ h.offset _ b.0 b.1,
@@ -98,8 +98,8 @@ module _ (meta size : ℕ) (old : Counts) where
   count_ok : (new : Counts) → block_spent meta size old ≡ Ok new → (blocks : ℕ) × (rest : ℕ)
       × (new ≡ less blocks rest) × (old.blocks ≡ 1 + blocks) × (old.size ≡ size + rest)
   unfolding block_spent
-  count_ok new told =
-      let b = then_ok _ _ new told in
+  count_ok new returned =
+      let b = then_ok _ _ new returned in
       let s = then_ok _ _ new b.2 in
       let same : less b.0 s.0 ≡ new = cc in
       let fewer = spent_ok meta _ old.blocks 1 b.0 b.1 in
@@ -197,9 +197,9 @@ module _ (body : List ℕ) (parts : Parts) where
   block_ok : (old : Unread) (h : Handle) (new : Unread) → IsPart old
       → block_found body parts old h ≡ Ok new → ReadsBlock old h new
   unfolding block_found counted_found contents_found
-  block_ok old h new fits told =
+  block_ok old h new fits returned =
       let meta = parts.regions.metadata.offset in
-      let n = then_ok _ _ new told in
+      let n = then_ok _ _ new returned in
       let p = then_ok _ _ n.0 n.1 in
       let c = then_ok _ _ new n.2 in
       let e = then_ok _ _ new c.2 in
@@ -246,9 +246,9 @@ module _ (body : List ℕ) (parts : Parts) where
   pub size_less : (old : Unread) (h : Handle) (new : Unread)
       → block_found body parts old h ≡ Ok new → old.counts.size ≡ h.size + new.counts.size
   unfolding block_found counted_found contents_found
-  size_less old h new told =
+  size_less old h new returned =
       let meta = parts.regions.metadata.offset in
-      let n = then_ok (counted_found parts old.counts (place_of h)) (behind_counts old h) new told
+      let n = then_ok (counted_found parts old.counts (place_of h)) (behind_counts old h) new returned
       in
       let p = then_ok (place_found (position old) h.offset)
       (λ _. block_spent meta h.size old.counts) n.0 n.1 in
@@ -342,12 +342,12 @@ module _ (body : List ℕ) (parts : Parts) where
       → blocks_found body parts old hs ≡ Ok mid
       → (IsPart mid → Blocks mid rest new) → Blocks old (hs ++ rest) new
   unfolding blocks_found
-  blocks_read old [] rest mid new fits told more =
+  blocks_read old [] rest mid new fits returned more =
       let same : old ≡ mid = cc in
       subst (λ (l : Unread). Blocks l rest new) (sym same)
       (more (subst IsPart same fits))
-  blocks_read old (h ∷ hs) rest mid new fits told more =
-      let one = then_ok _ _ mid told in
+  blocks_read old (h ∷ hs) rest mid new fits returned more =
+      let one = then_ok _ _ mid returned in
       let is = block_ok old h one.0 fits one.1 in
       blocks_more old h (hs ++ rest) one.0 new fits is
       (blocks_read one.0 hs rest mid new (left_part old h one.0 fits is) one.2 more)
@@ -368,11 +368,11 @@ module _ (body : List ℕ) (parts : Parts) where
   part_named : (top : Handle) (hs : List Handle) (u : Unit {0})
       → handles_found body section.Index (place_of top) ≡ Ok hs → top_named top hs ≡ Ok u
       → NamesPart body top hs
-  part_named top hs u told named =
+  part_named top hs u returned named =
       let some = last_none _ top (map end_of hs) u named in
       let is = last_ok _ top None (map end_of hs) u some named in
       record {
-        handles = located_ok _ top.offset _ hs told;
+        handles = located_ok _ top.offset _ hs returned;
         some = mapped hs some;
         end_key = is.end_key;
         seqno = is.seqno;
@@ -385,8 +385,8 @@ module _ (body : List ℕ) (parts : Parts) where
   part_ok : (old : Unread) (top : Handle) (mid : Unread) → part_found body parts old top ≡ Ok mid
       → (hs : List Handle) × NamesPart body top hs × (blocks_found body parts old hs ≡ Ok mid)
   unfolding part_found
-  part_ok old top mid told =
-      let l = then_ok _ _ mid told in
+  part_ok old top mid returned =
+      let l = then_ok _ _ mid returned in
       let t = then_ok _ _ mid l.2 in
       (l.0, part_named top l.0 t.0 l.1 t.1, t.2)
 
@@ -394,10 +394,10 @@ module _ (body : List ℕ) (parts : Parts) where
       hs
       → blocks_found body parts old hs ≡ Ok mid → part_found body parts old top ≡ Ok mid
   unfolding part_found
-  part_goes old top hs mid n told =
+  part_goes old top hs mid n returned =
       then_goes _ _ hs mid (located_goes _ top.offset _ hs n.handles)
       (then_goes _ _ tt mid (last_goes _ top None (map end_of hs)
-      (record { some = mapped hs n.some; end_key = n.end_key; seqno = n.seqno })) told)
+      (record { some = mapped hs n.some; end_key = n.end_key; seqno = n.seqno })) returned)
     where
       mapped : (hs : List Handle) → 0 < length hs → 0 < length (map end_of hs)
       mapped [] some = some
@@ -406,9 +406,9 @@ module _ (body : List ℕ) (parts : Parts) where
   left_fits : (old : Unread) (hs : List Handle) (mid : Unread) → IsPart old
       → blocks_found body parts old hs ≡ Ok mid → IsPart mid
   unfolding blocks_found
-  left_fits old [] mid fits told = let same : old ≡ mid = cc in subst IsPart same fits
-  left_fits old (h ∷ hs) mid fits told =
-      let one = then_ok _ _ mid told in
+  left_fits old [] mid fits returned = let same : old ≡ mid = cc in subst IsPart same fits
+  left_fits old (h ∷ hs) mid fits returned =
+      let one = then_ok _ _ mid returned in
       left_fits one.0 hs mid (left_part old h one.0 fits (block_ok old h one.0 fits one.1)) one.2
 
   -- the partitions of some handles of a top level
@@ -420,15 +420,15 @@ module _ (body : List ℕ) (parts : Parts) where
   parts_ok : (old : Unread) (tops : List Handle) (new : Unread) → IsPart old
       → parts_found body parts old tops ≡ Ok new → ReadsParts old tops new
   unfolding parts_found
-  parts_ok old [] new fits told =
+  parts_ok old [] new fits returned =
       let same : old ≡ new = cc in
       record {
         pieces = [];
         named = tt;
         reads = subst (Blocks old []) same (blocks_none old fits);
       }
-  parts_ok old (top ∷ tops) new fits told =
-      let one = then_ok _ _ new told in
+  parts_ok old (top ∷ tops) new fits returned =
+      let one = then_ok _ _ new returned in
       let is = part_ok old top one.0 one.1 in
       let rest = parts_ok one.0 tops new (left_fits old is.0 one.0 fits is.2) one.2 in
       record {
@@ -466,16 +466,16 @@ module _ (body : List ℕ) (parts : Parts) where
       → named_found body parts old section hs ≡ Ok new
       → (handles : List Handle) × IndexHas body section parts.regions.tli handles
       × Blocks old handles new
-  named_ok None old hs new fits told found = (
+  named_ok None old hs new fits returned found = (
     hs,
-    told,
+    returned,
     subst (λ (xs : List Handle). Blocks old xs new) (append-nil hs)
         (blocks_read old hs [] new new fits found (blocks_none new)),
   )
-  named_ok (Some place) old hs new fits told found =
+  named_ok (Some place) old hs new fits returned found =
       let p = parts_ok old hs new fits found in (
         joined_parts p.pieces,
-        record { tops = hs; parts = p.pieces; told = told; named = p.named; whole = refl },
+        record { tops = hs; parts = p.pieces; returned = returned; named = p.named; whole = refl },
         p.reads,
       )
 
@@ -484,8 +484,8 @@ module _ (body : List ℕ) (parts : Parts) where
   unfolding index_found
   index_ok old new fits found =
       let hs = then_ok _ _ new found in
-      let told = located_ok _ _ (handles_result body parts.regions.tli) hs.0 hs.1 in
-      let is = named_ok parts.regions.index old hs.0 new fits told hs.2 in
+      let returned = located_ok _ _ (handles_result body parts.regions.tli) hs.0 hs.1 in
+      let is = named_ok parts.regions.index old hs.0 new fits returned hs.2 in
       record { handles = is.0; index = is.1; reads = is.2 }
 
   named_go : (section : Option Place) (old : Unread) (handles : List Handle) (new : Unread)
@@ -500,7 +500,7 @@ module _ (body : List ℕ) (parts : Parts) where
   named_go (Some place) old handles new fits has reads =
       let all = parts_go old has.tops has.parts new fits has.named
       (subst (λ (xs : List Handle). Blocks old xs new) (sym has.whole) reads) in
-      (has.tops, has.told, all.0, all.1, all.2, all.3)
+      (has.tops, has.returned, all.0, all.1, all.2, all.3)
 
   pub index_go : (old : Unread) (handles : List Handle) (new : Unread) → IsPart old
       → IndexHas body parts.regions.index parts.regions.tli handles
@@ -547,9 +547,9 @@ module _ (body : List ℕ) (parts : Parts) where
     blocks_err : (old : Unread) (hs : List Handle) → IsPart old → Leads old hs
         → blocks_found body parts old hs ≡ Err f → IsFirstFinding body parts f
     unfolding blocks_found
-    blocks_err old [] fits leads told = absurd cc
-    blocks_err old (h ∷ hs) fits leads told =
-        elim (then_err (block_found body parts old h) (λ l. blocks_found body parts l hs) f told) [
+    blocks_err old [] fits leads returned = absurd cc
+    blocks_err old (h ∷ hs) fits leads returned =
+        elim (then_err (block_found body parts old h) (λ l. blocks_found body parts l hs) f returned) [
           | inl here ↦ (let front = leads [] h hs old refl (blocks_none old fits) in
               in_block filters front.0 old h front.1 front.2 here)
           | inr more ↦ (let is = block_ok old h more.0 fits more.1 in
@@ -578,13 +578,13 @@ module _ (body : List ℕ) (parts : Parts) where
       part_err : (old : Unread) (top : Handle) → IsPart old → LeadsPart old top
           → part_found body parts old top ≡ Err f → IsFirstFinding body parts f
       unfolding part_found
-      part_err old top fits leads told =
+      part_err old top fits leads returned =
           let front = leads.0 in
           let comes = comes_part front top leads.1 in
           let read = subst (λ (xs : List Handle). Blocks start xs old) (append-nil front)
           (leads.2 [] old (blocks_none old fits)) in
           elim (then_err (handles_found body section.Index (place_of top))
-          (λ hs. top_named top hs >>= λ _. blocks_found body parts old hs) f told) [
+          (λ hs. top_named top hs >>= λ _. blocks_found body parts old hs) f returned) [
             | inl here ↦ in_part filters front old top comes read
                 (ap (λ (r : Result (List Handle) Finding). r >>= top_named top) here)
             | inr more ↦ elim (then_err (top_named top more.0)
@@ -612,10 +612,10 @@ module _ (body : List ℕ) (parts : Parts) where
       parts_err : (old : Unread) (tops : List Handle) → IsPart old → LeadsParts old tops
           → parts_found body parts old tops ≡ Err f → IsFirstFinding body parts f
       unfolding parts_found
-      parts_err old [] fits leads told = absurd cc
-      parts_err old (top ∷ tops) fits leads told =
+      parts_err old [] fits leads returned = absurd cc
+      parts_err old (top ∷ tops) fits leads returned =
           let more_parts : Unread → Result Unread Finding = λ l. parts_found body parts l tops in
-          elim (then_err (part_found body parts old top) more_parts f told) [
+          elim (then_err (part_found body parts old top) more_parts f returned) [
             | inl here ↦ part_err old top fits (leads [] [] top tops refl tt) here
             | inr more ↦ (let is = part_ok old top more.0 more.1 in
                 parts_err more.0 tops (left_fits old is.0 more.0 fits is.2)
@@ -635,32 +635,32 @@ module _ (body : List ℕ) (parts : Parts) where
     named_err : (section : Option Place) (hs : List Handle) → parts.regions.index ≡ section
         → handles_result body parts.regions.tli ≡ Ok hs → IsPart start
         → named_found body parts start section hs ≡ Err f → IsFirstFinding body parts f
-    named_err None hs kind index fits told = blocks_err start hs fits (λ mid h others end at r. (
+    named_err None hs kind index fits returned = blocks_err start hs fits (λ mid h others end at r. (
       mid,
       subst (λ (s : Option Place). BlockComes body s parts.regions.tli mid h) (sym kind)
           (others, index ∙ ap (λ (xs : List Handle). Ok xs) at),
       r,
-    )) told
-    named_err (Some place) hs kind index fits told =
+    )) returned
+    named_err (Some place) hs kind index fits returned =
         parts_err (place, kind) start hs fits (λ mid ps top others at named. (
           joined_parts ps,
           record {
             tops = mid;
             others = others;
             parts = ps;
-            told = index ∙ ap (λ (xs : List Handle). Ok xs) at;
+            returned = index ∙ ap (λ (xs : List Handle). Ok xs) at;
             named = named;
             whole = refl;
           },
           λ rest end r. r,
-        )) told
+        )) returned
 
     pub index_err : IsPart start → index_found body parts start ≡ Err f
         → IsFirstFinding body parts f
     unfolding index_found
-    index_err fits told =
+    index_err fits returned =
         elim (then_err (handles_found body section.Tli parts.regions.tli)
-        (named_found body parts start parts.regions.index) f told) [
+        (named_found body parts start parts.regions.index) f returned) [
           | inl here ↦ in_index filters here
           | inr more ↦ named_err parts.regions.index more.0 refl
               (located_ok _ _ (handles_result body parts.regions.tli) more.0 more.1) fits more.2

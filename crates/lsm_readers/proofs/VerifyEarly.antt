@@ -217,28 +217,28 @@ some_place (top ∷ tops) i place here none = absurd cc
 -- ---- tests that take no memory
 
 -- a test that found something
-pub or_first : {X : Type 0} (told : Result X Finding) (behind : Option Finding) (e : VerifyError)
-    → Misses e told → is_found e ≡ true → (f : Finding) → found_or told behind ≡ Some f
+pub or_first : {X : Type 0} (returned : Result X Finding) (behind : Option Finding) (e : VerifyError)
+    → Misses e returned → is_found e ≡ true → (f : Finding) → found_or returned behind ≡ Some f
     → e ≡ Found f
-or_first told behind OutOfMemory misses calm f h = absurd cc
-or_first {X} told behind (Found g) misses calm f h =
-    let is : found_or told behind ≡ Some g =
+or_first returned behind OutOfMemory misses calm f h = absurd cc
+or_first {X} returned behind (Found g) misses calm f h =
+    let is : found_or returned behind ≡ Some g =
     ap (λ (r : Result X Finding). found_or r behind) (misses g refl) in
     let both : Some g ≡ Some f = sym is ∙ h in
     let same : g ≡ f = cc in
     ap (λ (x : Finding). Found x) same
 
 -- a test that found nothing
-pub or_behind : {X : Type 0} (told : Result X Finding) (behind : Option Finding) (x : X)
-    → told ≡ Ok x → found_or told behind ≡ behind
-or_behind {X} told behind x is = ap (λ (r : Result X Finding). found_or r behind) is
+pub or_behind : {X : Type 0} (returned : Result X Finding) (behind : Option Finding) (x : X)
+    → returned ≡ Ok x → found_or returned behind ≡ behind
+or_behind {X} returned behind x is = ap (λ (r : Result X Finding). found_or r behind) is
 
 -- the last test of all
-pub or_last : {X Y : Type 0} (view : X → Y) (r : Result X VerifyError) (told : Result Y Finding)
-    → Finds view r told → IfErr r (λ e. is_found e ≡ true) → FindsFirst r (found_or told None)
-or_last view (Ok x) told tells calm = λ f h.
-    absurd (let no : None ≡ Some f = sym (or_behind told None (view x) tells) ∙ h in cc)
-or_last view (Err e) told tells calm = or_first told None e tells calm
+pub or_last : {X Y : Type 0} (view : X → Y) (r : Result X VerifyError) (returned : Result Y Finding)
+    → Finds view r returned → IfErr r (λ e. is_found e ≡ true) → FindsFirst r (found_or returned None)
+or_last view (Ok x) returned states calm = λ f h.
+    absurd (let no : None ≡ Some f = sym (or_behind returned None (view x) states) ∙ h in cc)
+or_last view (Err e) returned states calm = or_first returned None e states calm
 
 -- ---- a step
 

@@ -272,8 +272,8 @@ module _ (body : List ℕ) (parts : Parts) (at : ℕ) where
       let one = then_ok _ _ mid h in
       let is = entry_ok old e one.0 one.1 in
       let s = (is.2).spends in
-      let told = subst (λ (l : Unread). entries_found body parts at l c ≡ Ok mid) is.1 one.2 in
-      let rest = entries_low (behind e is.0) c mid told (omega (arith, s.lowest)) in
+      let returned = subst (λ (l : Unread). entries_found body parts at l c ≡ Ok mid) is.1 one.2 in
+      let rest = entries_low (behind e is.0) c mid returned (omega (arith, s.lowest)) in
       (rest.0, rest.1 ∙ s.blocks, rest.2 ∙ s.size, rest.3)
 
   -- the sizes of data blocks stay
@@ -287,8 +287,8 @@ module _ (body : List ℕ) (parts : Parts) (at : ℕ) where
       let one = then_ok _ _ mid h in
       let is = entry_ok old e one.0 one.1 in
       let s = (is.2).spends in
-      let told = subst (λ (l : Unread). entries_found body parts at l c ≡ Ok mid) is.1 one.2 in
-      size_stays (behind e is.0) c mid told ∙ s.size
+      let returned = subst (λ (l : Unread). entries_found body parts at l c ≡ Ok mid) is.1 one.2 in
+      size_stays (behind e is.0) c mid returned ∙ s.size
 
   pub entries_read : (old : Unread) (c rest : List Entry) (mid new : Unread)
       → entries_found body parts at old c ≡ Ok mid → Reads body parts mid rest new

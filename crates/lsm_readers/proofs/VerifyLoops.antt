@@ -39,17 +39,17 @@ drop_at {X} xs i x here =
 -- ---- refusals
 
 -- want of memory misses anything
-pub wanted : {Y : Type 0} (e : VerifyError) (told : Result Y Finding) → e ≡ OutOfMemory
-    → Misses e told
-wanted e told is = λ f found. absurd (let no : OutOfMemory ≡ Found f = sym is ∙ found in cc)
+pub wanted : {Y : Type 0} (e : VerifyError) (returned : Result Y Finding) → e ≡ OutOfMemory
+    → Misses e returned
+wanted e returned is = λ f found. absurd (let no : OutOfMemory ≡ Found f = sym is ∙ found in cc)
 
 -- what is found is what is told
-pub finds_it : {Y : Type 0} (e : VerifyError) (g : Finding) (told : Result Y Finding)
-    → e ≡ Found g → told ≡ Err g → Misses e told
-finds_it e g told is tells = λ f found.
+pub finds_it : {Y : Type 0} (e : VerifyError) (g : Finding) (returned : Result Y Finding)
+    → e ≡ Found g → returned ≡ Err g → Misses e returned
+finds_it e g returned is states = λ f found.
     let both : Found g ≡ Found f = sym is ∙ found in
     let same : g ≡ f = cc in
-    tells ∙ ap (λ (x : Finding). Err x) same
+    states ∙ ap (λ (x : Finding). Err x) same
 
 -- a step that is refused, and one before it
 pub misses_here : {A B : Type 0} (e : VerifyError) (r : Result A Finding)
@@ -63,9 +63,9 @@ misses_later {A = A} e r f x is misses = λ g found. ap (λ (q : Result A Findin
     ∙ misses g found
 
 -- a call that passed a refusal on
-pub passes : {X Y : Type 0} (view : X → Y) (r : Result X VerifyError) (told : Result Y Finding)
-    (e : VerifyError) → IsErrAnd r (λ y. y ≡ e) → Misses e told → Finds view r told
-passes view r told e is misses = let p = err_from_is_err_and r is in rw (p.1, p.2) misses
+pub passes : {X Y : Type 0} (view : X → Y) (r : Result X VerifyError) (returned : Result Y Finding)
+    (e : VerifyError) → IsErrAnd r (λ y. y ≡ e) → Misses e returned → Finds view r returned
+passes view r returned e is misses = let p = err_from_is_err_and r is in rw (p.1, p.2) misses
 
 abbrev fault_by : SectionName → ℕ → Error → Bool → VerifyError
 fault_by section offset error memory =
@@ -73,15 +73,15 @@ fault_by section offset error memory =
 
 -- the refusal of a load at a place
 pub misses_at : {X : Type 0} (section : SectionName) (offset : ℕ) (error : Error) (e : VerifyError)
-    (told : Result X Error) → e ≡ load_refusal section offset error → Fails error told
-    → Misses e (located section offset told)
-misses_at {X} section offset error e told is fails = go (is_memory error) refl
+    (returned : Result X Error) → e ≡ load_refusal section offset error → Fails error returned
+    → Misses e (located section offset returned)
+misses_at {X} section offset error e returned is fails = go (is_memory error) refl
   where
-    go : (b : Bool) → is_memory error ≡ b → Misses e (located section offset told)
-    go true memory = wanted e (located section offset told)
+    go : (b : Bool) → is_memory error ≡ b → Misses e (located section offset returned)
+    go true memory = wanted e (located section offset returned)
         (is ∙ ap (fault_by section offset error) memory)
     go false memory = finds_it e (finding section offset (Unloaded error))
-        (located section offset told) (is ∙ ap (fault_by section offset error) memory)
+        (located section offset returned) (is ∙ ap (fault_by section offset error) memory)
         (ap (λ (r : Result X Error). located section offset r) (fails memory))
 
 -- ---- one step after another

@@ -116,26 +116,26 @@ module _ (body : List ℕ) (parts : Parts) (counts : Counts) (place : Place) whe
 -- ---- what is found of a partition
 
 module _ (body : List ℕ) (top : Handle) where
-  abbrev told : Result (List Handle) Finding
-  told = handles_found body section.Index (place_of top)
+  abbrev returned : Result (List Handle) Finding
+  returned = handles_found body section.Index (place_of top)
 
   abbrev behind_handles : List Handle → Result (List Handle) Finding
   behind_handles hs = top_named top hs >>= λ _. answer hs
 
-  pub handles_misses : (e : VerifyError) → Misses e told → Misses e (partition_found body top)
+  pub handles_misses : (e : VerifyError) → Misses e returned → Misses e (partition_found body top)
   unfolding partition_found
-  handles_misses e misses = misses_here e told behind_handles misses
+  handles_misses e misses = misses_here e returned behind_handles misses
 
-  pub top_misses : (hs : List Handle) (e : VerifyError) → told ≡ Ok hs
+  pub top_misses : (hs : List Handle) (e : VerifyError) → returned ≡ Ok hs
       → Misses e (top_named top hs) → Misses e (partition_found body top)
   unfolding partition_found
   top_misses hs e is misses =
-      misses_later e told behind_handles hs is
+      misses_later e returned behind_handles hs is
       (misses_here e (top_named top hs) (λ _. answer hs) misses)
 
-  pub top_goes : (hs : List Handle) → told ≡ Ok hs → top_named top hs ≡ Ok tt
+  pub top_goes : (hs : List Handle) → returned ≡ Ok hs → top_named top hs ≡ Ok tt
       → partition_found body top ≡ Ok hs
   unfolding partition_found
   top_goes hs is named =
-      then_goes told behind_handles hs hs is
+      then_goes returned behind_handles hs hs is
       (then_goes (top_named top hs) (λ _. answer hs) tt hs named refl)

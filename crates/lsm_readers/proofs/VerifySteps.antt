@@ -71,7 +71,7 @@ module _ (meta : ℕ) (item : ItemName) (left by rest : ℕ) where
       go true is h = absurd (let no = rw is at h in cc)
       go false is h =
           let le : by ≤ left = ltb-false left by is in
-          let told = rw is at h in
+          let returned = rw is at h in
           let same : left - by ≡ rest = cc in
           omega arith
 
@@ -166,17 +166,17 @@ some_goes at (e ∷ es) some = refl
 module _ (section : SectionName) (h : Handle) (e : Entry) where
   pub end_ok : (u : Unit {0}) → end_named section h e.user_key e.seqno ≡ Ok u
       → (h.end_key ≡ e.user_key) × (h.seqno ≡ e.seqno)
-  end_ok u told = go (same_key h.end_key e.user_key) refl told
+  end_ok u returned = go (same_key h.end_key e.user_key) refl returned
     where
       go : (b : Bool) → same_key h.end_key e.user_key ≡ b
           → end_named section h e.user_key e.seqno ≡ Ok u
           → (h.end_key ≡ e.user_key) × (h.seqno ≡ e.seqno)
-      go true is told = (
+      go true is returned = (
         same_is _ _ is,
         eqb-true h.seqno e.seqno
-            (tested_ok (h.seqno == e.seqno) _ u (rw is at told)),
+            (tested_ok (h.seqno == e.seqno) _ u (rw is at returned)),
       )
-      go false is told = absurd (let no = rw is at told in cc)
+      go false is returned = absurd (let no = rw is at returned in cc)
 
   pub end_goes : h.end_key ≡ e.user_key → h.seqno ≡ e.seqno
       → end_named section h e.user_key e.seqno ≡ Ok tt

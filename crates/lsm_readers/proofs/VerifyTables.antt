@@ -35,10 +35,10 @@ use Rattle.lsm_readers.proofs.VerifyEnd.{NothingLeft, counts_go, counts_ok, filt
 use Rattle.lsm_readers.proofs.VerifyEnd.{lowest_within, range_go, range_ok}
 use Rattle.lsm_readers.proofs.VerifySteps.{then_err, then_goes, then_ok, reported_is}
 
-no_fault : {A : Type 0} (fault : Option Error) (told : Result A Error) (x : A)
-    → unless fault told ≡ Ok x → fault ≡ None
-no_fault None told x is = refl
-no_fault (Some e) told x is = absurd cc
+no_fault : {A : Type 0} (fault : Option Error) (returned : Result A Error) (x : A)
+    → unless fault returned ≡ Ok x → fault ≡ None
+no_fault None returned x is = refl
+no_fault (Some e) returned x is = absurd cc
 
 unread_fits : (body : List ℕ) (parts : Parts) → IsPart body parts (unread_of parts.facts)
 unread_fits body parts = record { lowest = omega arith; size = omega arith }
@@ -47,11 +47,11 @@ unread_fits body parts = record { lowest = omega arith; size = omega arith }
 first : (body : List ℕ) (parts : Parts) (f : Finding) → table_found body parts ≡ Err f
     → IsFirstFinding body parts f
 unfolding table_found all_found
-first body parts f told =
+first body parts f returned =
     let start = unread_of parts.facts in
     let fits = unread_fits body parts in
     elim (then_err (filters_found body parts)
-    (λ _. all_found body parts >>= λ _. Ok (verified_of parts.facts)) f told) [
+    (λ _. all_found body parts >>= λ _. Ok (verified_of parts.facts)) f returned) [
       | inl here ↦ in_filter here
       | inr more ↦ elim (then_err (all_found body parts) (λ _. Ok (verified_of parts.facts)) f
           more.2) [
@@ -108,7 +108,7 @@ module _ (t : OpenTable) (open_table : IsOpen t) where
       let items : parts.facts.item_count ≡ length es = omega (arith, s.items, none.items) in (
         es,
         record {
-          trailer = no_fault (trailer_fault t.bytes) _ parts (open_table.recovered).told;
+          trailer = no_fault (trailer_fault t.bytes) _ parts (open_table.recovered).returned;
           regions = parts.regions;
           places = the_steps.regions;
           facts = parts.facts;
@@ -121,7 +121,7 @@ module _ (t : OpenTable) (open_table : IsOpen t) where
           index = read.index;
           filter = record {
             tops = parts.pinned.filter_tops;
-            told = pins.filter_tops;
+            returned = pins.filter_tops;
             loads = filters_ok body parts.pinned.filter_tops parts.regions.filter f.0 f.1;
             admits = r.admits;
           };
@@ -168,7 +168,7 @@ module _ (t : OpenTable) (open_table : IsOpen t) where
 
     tops_are : filter.tops ≡ parts.pinned.filter_tops
     tops_are = ok_same (tops_result body parts.regions.filter_tli) filter.tops
-        parts.pinned.filter_tops filter.told pins.filter_tops
+        parts.pinned.filter_tops filter.returned pins.filter_tops
 
     -- nothing is left behind the list
     abbrev ended : Unread
@@ -264,21 +264,21 @@ pub all_valid : (t : OpenTable) → IsOpen t → (r : Result Verified VerifyErro
     → Finds (λ (v : Verified). v) r (table_found (body_of t.bytes) t.parts)
     → IfOk r (λ v. (es : List Entry) × (s : StoresList t.bytes es) × (v.item_count ≡ length es)
     × (v.data_block_count ≡ length s.handles))
-all_valid t open_table (Ok v) told = sound t open_table v told
-all_valid t open_table (Err e) told = tt
+all_valid t open_table (Ok v) returned = sound t open_table v returned
+all_valid t open_table (Err e) returned = tt
 
 pub all_complete : (t : OpenTable) → IsOpen t → (r : Result Verified VerifyError)
     → Finds (λ (v : Verified). v) r (table_found (body_of t.bytes) t.parts) → (es : List Entry)
     → StoresList t.bytes es → IfErr r (λ e. e ≡ OutOfMemory)
-all_complete t open_table (Ok v) told es s = tt
-all_complete t open_table (Err OutOfMemory) told es s = refl
-all_complete t open_table (Err (Found f)) told es s =
+all_complete t open_table (Ok v) returned es s = tt
+all_complete t open_table (Err OutOfMemory) returned es s = refl
+all_complete t open_table (Err (Found f)) returned es s =
     let is = complete t open_table es s in
-    let no : Ok (verified_of t.parts.facts) ≡ Err f = sym is ∙ told f refl in
+    let no : Ok (verified_of t.parts.facts) ≡ Err f = sym is ∙ returned f refl in
     absurd cc
 
 pub all_first : (t : OpenTable) (r : Result Verified VerifyError)
     → Finds (λ (v : Verified). v) r (table_found (body_of t.bytes) t.parts)
     → IfErr r (λ e. (f : Finding) → e ≡ Found f → IsFirstFinding (body_of t.bytes) t.parts f)
-all_first t (Ok v) told = tt
-all_first t (Err e) told = λ f is. first (body_of t.bytes) t.parts f (told f is)
+all_first t (Ok v) returned = tt
+all_first t (Err e) returned = λ f is. first (body_of t.bytes) t.parts f (returned f is)

@@ -145,29 +145,29 @@ module _ {A B : Type 0} (p q : A → Bool) (f : A → B) (R : A → List B) wher
 
   passed : (tops : List A) (parts : List (List A)) → AllReport p tops parts → AllCut tops parts
       → AllByRecursion (λ t. p t ≡ false → R t ≡ []) tops
-  passed [] [] told cuts = tt
-  passed (t ∷ ts) (xs ∷ ps) told cuts =
+  passed [] [] returned cuts = tt
+  passed (t ∷ ts) (xs ∷ ps) returned cuts =
       let none : p t ≡ false → R t ≡ [] = λ early. cuts.0
       ∙ ap (map f) (from_none p (up_to_first q xs)
-      (all_to (λ (x : A). p x ≡ false) q xs ((told.0).none early))) in
-      (none, passed ts ps told.1 cuts.1)
-  passed [] (xs ∷ ps) told cuts = absurd told
-  passed (t ∷ ts) [] told cuts = absurd told
+      (all_to (λ (x : A). p x ≡ false) q xs ((returned.0).none early))) in
+      (none, passed ts ps returned.1 cuts.1)
+  passed [] (xs ∷ ps) returned cuts = absurd returned
+  passed (t ∷ ts) [] returned cuts = absurd returned
 
   up_to : (tops : List A) (parts : List (List A)) → AllReport q tops parts → AllCut tops parts
       → Rises p (joined_parts parts) → flat_map R (up_to_first q tops)
       ≡ map f (cut (joined_parts parts))
-  up_to [] [] told cuts rises = refl
-  up_to (t ∷ ts) (xs ∷ ps) told cuts rises =
+  up_to [] [] returned cuts rises = refl
+  up_to (t ∷ ts) (xs ∷ ps) returned cuts rises =
       let others = flat_map R (up_to_first q ts) in
       elim (q t) as (λ b. q t ≡ b → flat_map R (up_to_first q (t ∷ ts))
       ≡ map f (cut (joined_parts (xs ∷ ps)))) [
         | true ↦ λ last.
             ap (flat_map R) (to_here q t ts last) ∙ append-nil (R t) ∙ cuts.0
             ∙ ap (λ (ys : List A). map f (from_first p ys))
-            (sym ((told.0).some last (joined_parts ps)))
+            (sym ((returned.0).some last (joined_parts ps)))
         | false ↦ λ more.
-            let none = (told.0).none more in
+            let none = (returned.0).none more in
             let whole = to_none q xs (joined_parts ps) none in
             let line : Rises p (xs ++ up_to_first q (joined_parts ps)) =
             subst (λ (ys : List A). Rises p ys) whole
@@ -176,13 +176,13 @@ module _ {A B : Type 0} (p q : A → Bool) (f : A → B) (R : A → List B) wher
             ∙ ap (λ (ys : List B). ys ++ others) cuts.0
             ∙ ap (λ (ys : List A). map f (from_first p ys) ++ others) (to_whole q xs none)
             ∙ ap (λ (ys : List B). map f (from_first p xs) ++ ys)
-            (up_to ts ps told.1 cuts.1 (rises_behind p xs (joined_parts ps) rises))
+            (up_to ts ps returned.1 cuts.1 (rises_behind p xs (joined_parts ps) rises))
             ∙ sym (map-append f (from_first p xs) (cut (joined_parts ps)))
             ∙ ap (map f) (sym (from_split p xs (up_to_first q (joined_parts ps)) line))
             ∙ ap (λ (ys : List A). map f (from_first p ys)) (sym whole)
       ] refl
-  up_to [] (xs ∷ ps) told cuts rises = absurd told
-  up_to (t ∷ ts) [] told cuts rises = absurd told
+  up_to [] (xs ∷ ps) returned cuts rises = absurd returned
+  up_to (t ∷ ts) [] returned cuts rises = absurd returned
 
   -- the windows of the parts that a window of the tops names are the window of all
   pub parts_cut : (tops : List A) (parts : List (List A)) → AllReport p tops parts

@@ -18,7 +18,7 @@ table_index t = index_over (body_of t.bytes) t.parts.pinned.index t.parts.region
 -- Between any two edges, an index has the stored table's data block handles, and no error.
 abbrev pub NamesBlocksOf : {bytes : List ℕ} {es : List Entry} → StoresList bytes es → Index → Type 0
 NamesBlocksOf t index = (lower : Option (List ℕ × ℕ)) (upper : Option (List ℕ)) →
-    index.told lower upper ≡ ok_results (window t.handles lower upper)
+    index.returned lower upper ≡ ok_results (window t.handles lower upper)
 
 -- A written table's bytes store its list, with the handles of the data blocks as they were written.
 abbrev pub StoresItsBlocks : {bytes : List ℕ} {es : List Entry} → IsTable bytes es → Type 0
@@ -36,4 +36,4 @@ pub record AreCutAlike {a b : List ℕ} {es : List Entry} (t : IsTable a es) (u 
 -- Two indexes have the same results between any two edges.
 abbrev pub ReadAlike : Index → Index → Type 0
 ReadAlike one other = (lower : Option (List ℕ × ℕ)) (upper : Option (List ℕ)) →
-    one.told lower upper ≡ other.told lower upper
+    one.returned lower upper ≡ other.returned lower upper

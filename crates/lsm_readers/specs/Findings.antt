@@ -71,7 +71,7 @@ pub record ComesBehindParts (body : List ℕ) (place : Place) (front : List Hand
   pub tops : List Handle
   pub others : List Handle
   pub parts : List (List Handle)
-  pub told : handles_result body place ≡ Ok (tops ++ top ∷ others)
+  pub returned : handles_result body place ≡ Ok (tops ++ top ∷ others)
   pub named : AllZip (NamesPart body) tops parts
   pub whole : joined_parts parts ≡ front
 

@@ -34,7 +34,7 @@ bounded t low high = record {
 -- block that cannot be loaded contributes its error.
 abbrev pub range_results : OpenTable → Bound (List ℕ) → Bound (List ℕ) → List (Result Entry Error)
 range_results t low high =
-    rows (bounded t low high) ((table_index t).told (lower_edge low) (upper_edge high))
+    rows (bounded t low high) ((table_index t).returned (lower_edge low) (upper_edge high))
 
 -- A range iterator before its first step: nothing was sought or loaded.
 pub record IsRangeOf {A : Type 0} (t : OpenTable) (low high : Bound (List ℕ)) (s : Range A)

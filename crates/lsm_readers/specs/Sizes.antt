@@ -27,7 +27,7 @@ sizes_result rs = yielded rs >>= λ hs. Ok (min (size_of hs) (2 ^ 64 - 1))
 
 -- The total size of the blocks that a table's index has between two bounds' edges.
 abbrev pub size_result : OpenTable → Bound (List ℕ) → Bound (List ℕ) → Result ℕ Error
-size_result t low high = sizes_result ((table_index t).told (lower_edge low) (upper_edge high))
+size_result t low high = sizes_result ((table_index t).returned (lower_edge low) (upper_edge high))
 
 -- The total size of the data blocks that two bounds need, which `blocks_within` counts.
 abbrev pub size_within : {bytes : List ℕ} {es : List Entry} → StoresList bytes es

@@ -58,7 +58,7 @@ pub record NamesPart (body : List ℕ) (top : Handle) (part : List Handle) : Typ
 pub record HasPartitions (body : List ℕ) (place : Place) (hs : List Handle) : Type 0 where
   pub tops : List Handle
   pub parts : List (List Handle)
-  pub told : handles_result body place ≡ Ok tops
+  pub returned : handles_result body place ≡ Ok tops
   pub named : AllZip (NamesPart body) tops parts
   pub whole : joined_parts parts ≡ hs
 
@@ -84,13 +84,13 @@ FiltersLoad body None None = Unit {0}
 -- The filter, loaded for each read, does not exclude a key.
 abbrev pub Admits : List ℕ → Option (List Handle) → Option Place → List ℕ → Type 0
 Admits body tops place key =
-    (filter_admits body tops None place key (hash_of key)).told ≡ Ok true
+    (filter_admits body tops None place key (hash_of key)).returned ≡ Ok true
 
 -- The filter's top level and all its blocks load, and it excludes none of these keys.
 pub record FilterHas (body : List ℕ) (filter_tli place : Option Place) (keys : List (List ℕ))
     : Type 0 where
   pub tops : Option (List Handle)
-  pub told : tops_result body filter_tli ≡ Ok tops
+  pub returned : tops_result body filter_tli ≡ Ok tops
   pub loads : FiltersLoad body tops place
   pub admits : AllByRecursion (Admits body tops place) keys
 

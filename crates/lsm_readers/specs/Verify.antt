@@ -42,7 +42,7 @@ finding section offset fault = record { section = section; offset = offset; faul
 
 -- An error is `OutOfMemory`, or the finding of this result.
 abbrev pub Misses : {Y : Type 0} → VerifyError → Result Y Finding → Type 0
-Misses e told = (f : Finding) → e ≡ Found f → told ≡ Err f
+Misses e returned = (f : Finding) → e ≡ Found f → returned ≡ Err f
 
 -- An error is a finding, not `OutOfMemory`.
 abbrev pub is_found : VerifyError → Bool
@@ -51,8 +51,8 @@ is_found (Found f) = true
 
 -- Except for `OutOfMemory`, a call returns this result, its value seen through a view.
 abbrev pub Finds : {X Y : Type 0} → (X → Y) → Result X VerifyError → Result Y Finding → Type 0
-Finds view (Ok x) told = told ≡ Ok (view x)
-Finds view (Err e) told = Misses e told
+Finds view (Ok x) returned = returned ≡ Ok (view x)
+Finds view (Err e) returned = Misses e returned
 
 -- The error of a failed load: `OutOfMemory`, or a finding at its offset.
 abbrev pub load_refusal : SectionName → ℕ → Error → VerifyError
@@ -115,7 +115,7 @@ first_found parts None e = tested (same_key parts.facts.key_range.min e.user_key
 -- Whether the filter admits a key, by its blocks in the bytes.
 abbrev pub admitted : List ℕ → Parts → List ℕ → Result Bool Error
 admitted body parts key = (filter_admits body parts.pinned.filter_tops None parts.regions.filter key
-    (hash_of key)).told
+    (hash_of key)).returned
 
 abbrev pub asked_found : ℕ → Result Bool Error → Result (Unit {0}) Finding
 asked_found at (Ok admits) = tested admits (finding section.Data at fault.Denied)

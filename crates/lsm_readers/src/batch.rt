@@ -107,9 +107,9 @@ fn answer_lookup<S: LoadBlocks>(
     handle: Option<BlockHandle>,
 ) -> Result<Option<InternalValue<S::Alloc>>, Error>
     requires { let low = query.now.seqno - inner.now.global_seqno in
-        (admitted_handle (S.body source.old) (parts_of inner.now) query.now.key low).told
+        (admitted_handle (S.body source.old) (parts_of inner.now) query.now.key low).returned
         ≡ Ok handle }
-    ensures told { let parts = parts_of inner.now in
+    ensures returned { let parts = parts_of inner.now in
         Gives (λ (found : Option Entry). found) result
         (query_result (S.body source.old) inner.now.global_seqno parts query.now) }
     ensures body { S.body source.new ≡ S.body source.old }
@@ -191,11 +191,11 @@ pub(crate) fn read_lookups<S: LoadBlocks>(
     requires lookups { let parts = parts_of inner.now in
         All (IsLookup (S.body source.old) inner.now.global_seqno parts queries.now) lookups.now }
     requires found { let parts = parts_of inner.now in
-        let told = query_result (S.body source.old) inner.now.global_seqno parts in
-        AreFound told queries.now batch.old.found.items batch.old.done.items }
+        let returned = query_result (S.body source.old) inner.now.global_seqno parts in
+        AreFound returned queries.now batch.old.found.items batch.old.done.items }
     ensures found { let parts = parts_of inner.now in
-        let told = query_result (S.body source.old) inner.now.global_seqno parts in
-        AreFound told queries.now batch.new.found.items batch.new.done.items }
+        let returned = query_result (S.body source.old) inner.now.global_seqno parts in
+        AreFound returned queries.now batch.new.found.items batch.new.done.items }
     ensures body { S.body source.new ≡ S.body source.old }
 {
     for (index, lookup) in lookups.iter().enumerate() {

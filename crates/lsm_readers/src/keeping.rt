@@ -140,7 +140,7 @@ fn load_kept<A: Allocator + Clone>(
     kind: BlockType,
 ) -> Result<Block<A>, Error>
     requires kept { KeepsOf (body_of source.now) kept.old }
-    ensures told { let body = body_of source.now in
+    ensures returned { let body = body_of source.now in
         Gives (λ (b : Loaded). b) result
         (load_result body handle.now.offset handle.now.size kind) }
     ensures first { let body = body_of source.now in

@@ -29,7 +29,7 @@ fn get_one<A: Allocator + Clone>(
     inner: &Inner<A>,
     query: &Query<A>,
 ) -> Result<Option<InternalValue<A>>, Error>
-    ensures told { let parts = parts_of inner.now in
+    ensures returned { let parts = parts_of inner.now in
         Gives (λ (found : Option Entry). found) result
         (query_result (body_of blocks.now) inner.now.global_seqno parts query.now) }
 {
@@ -53,11 +53,11 @@ fn read_ahead<A: Allocator + Clone>(
     requires lookups { let parts = parts_of inner.now in
         All (IsLookup (body_of blocks.now) inner.now.global_seqno parts queries.now) lookups.now }
     requires found { let parts = parts_of inner.now in
-        let told = query_result (body_of blocks.now) inner.now.global_seqno parts in
-        AreFound told queries.now batch.old.found.items batch.old.done.items }
+        let returned = query_result (body_of blocks.now) inner.now.global_seqno parts in
+        AreFound returned queries.now batch.old.found.items batch.old.done.items }
     ensures found { let parts = parts_of inner.now in
-        let told = query_result (body_of blocks.now) inner.now.global_seqno parts in
-        AreFound told queries.now batch.new.found.items batch.new.done.items }
+        let returned = query_result (body_of blocks.now) inner.now.global_seqno parts in
+        AreFound returned queries.now batch.new.found.items batch.new.done.items }
 {
     let mut named = Vec::with_capacity(blocks.allocator().clone()?, AHEAD)?;
     let mut from = 0;
@@ -84,11 +84,11 @@ fn read_ordered<A: Allocator + Clone>(
 ) -> Result<(), AllocError>
     requires source { body_of source.old.0 ≡ body_of blocks.now }
     requires found { let parts = parts_of inner.now in
-        let told = query_result (body_of blocks.now) inner.now.global_seqno parts in
-        AreFound told queries.now batch.old.found.items batch.old.done.items }
+        let returned = query_result (body_of blocks.now) inner.now.global_seqno parts in
+        AreFound returned queries.now batch.old.found.items batch.old.done.items }
     ensures found { let parts = parts_of inner.now in
-        let told = query_result (body_of blocks.now) inner.now.global_seqno parts in
-        AreFound told queries.now batch.new.found.items batch.new.done.items }
+        let returned = query_result (body_of blocks.now) inner.now.global_seqno parts in
+        AreFound returned queries.now batch.new.found.items batch.new.done.items }
 {
     let lookups = find_lookups(source, inner, queries, order, blocks.allocator().clone()?)?;
     read_ahead(blocks, inner, source, queries, &lookups, batch)
@@ -103,11 +103,11 @@ fn read_batch<A: Allocator + Clone>(
     batch: &mut Batch<A>,
 ) -> Result<(), AllocError>
     requires found { let parts = parts_of inner.now in
-        let told = query_result (body_of blocks.now) inner.now.global_seqno parts in
-        AreFound told queries.now batch.old.found.items batch.old.done.items }
+        let returned = query_result (body_of blocks.now) inner.now.global_seqno parts in
+        AreFound returned queries.now batch.old.found.items batch.old.done.items }
     ensures found { let parts = parts_of inner.now in
-        let told = query_result (body_of blocks.now) inner.now.global_seqno parts in
-        AreFound told queries.now batch.new.found.items batch.new.done.items }
+        let returned = query_result (body_of blocks.now) inner.now.global_seqno parts in
+        AreFound returned queries.now batch.new.found.items batch.new.done.items }
 {
     if queries.len() < 2 {
         // A single query has no neighbour to share a load with.
@@ -133,11 +133,11 @@ fn read_rest<A: Allocator + Clone>(
     batch: Batch<A>,
 ) -> Result<Vec<Option<InternalValue<A>>, A>, Error>
     requires { let parts = parts_of inner.now in
-        let told = query_result (body_of blocks.now) inner.now.global_seqno parts in
-        AreFound told queries.now batch.found.items batch.done.items }
+        let returned = query_result (body_of blocks.now) inner.now.global_seqno parts in
+        AreFound returned queries.now batch.found.items batch.done.items }
     ensures { let parts = parts_of inner.now in
-        let told = query_result (body_of blocks.now) inner.now.global_seqno parts in
-        Gives (λ found. found.items) result (answers_to told queries.now) }
+        let returned = query_result (body_of blocks.now) inner.now.global_seqno parts in
+        Gives (λ found. found.items) result (answers_to returned queries.now) }
 {
     let Batch { mut found, done } = batch;
     for (at, query) in queries.iter().enumerate() {
@@ -166,9 +166,9 @@ pub fn many_in<A: Allocator + Clone>(
     inner: &Inner<A>,
     queries: &[Query<A>],
 ) -> Result<Vec<Option<InternalValue<A>>, A>, Error>
-    ensures told { let parts = parts_of inner.now in
-        let told = query_result (body_of blocks.now) inner.now.global_seqno parts in
-        Gives (λ found. found.items) result (answers_to told queries.now) }
+    ensures returned { let parts = parts_of inner.now in
+        let returned = query_result (body_of blocks.now) inner.now.global_seqno parts in
+        Gives (λ found. found.items) result (answers_to returned queries.now) }
     // Without queries it fails only if a clone of the allocator does.
     ensures calm { queries.now ≡ [] → ((alloc : A) → A.is_infallible alloc) → IsOk result }
 {

@@ -336,7 +336,7 @@ impl<A: Allocator + Clone> ParsedMeta<A> {
         source: &BlockSource<A>,
         handle: &BlockHandle,
     ) -> Result<ParsedMeta<A>, Error>
-        ensures told { Gives facts_of result (meta_result (body_of source.now) handle.now) }
+        ensures returned { Gives facts_of result (meta_result (body_of source.now) handle.now) }
         ensures early { let body = body_of source.now in
             FaultsFirst result (place_fault body handle.now.offset handle.now.size Meta) }
     {
@@ -360,7 +360,7 @@ pub fn load_item<A: Allocator + Clone>(
     handle: &BlockHandle,
     name: ItemName,
 ) -> Result<Slice<A>, Error>
-    ensures told { Gives (λ (v : List ℕ). v) result
+    ensures returned { Gives (λ (v : List ℕ). v) result
         (meta_item_result (body_of source.now) handle.now name) }
     ensures early { let body = body_of source.now in
         FaultsFirst result (place_fault body handle.now.offset handle.now.size Meta) }

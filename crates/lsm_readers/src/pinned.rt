@@ -37,7 +37,7 @@ pub fn load_handles<A: Allocator + Clone>(
     source: &BlockSource<A>,
     handle: &BlockHandle,
 ) -> Result<IndexBlock<A>, Error>
-    ensures told { Gives (λ (handles : List Handle). handles) result
+    ensures returned { Gives (λ (handles : List Handle). handles) result
         (handles_result (body_of source.now) handle.now) }
     ensures early { let body = body_of source.now in
         FaultsFirst result (place_fault body handle.now.offset handle.now.size Index) }

@@ -162,9 +162,9 @@ pub fn point_in<S: LoadBlocks>(
     key_hash: u64,
 ) -> Result<Option<InternalValue<S::Alloc>>, Error>
     requires { key_hash ≡ hash_of key.now }
-    ensures told { let parts = parts_of inner.now in
+    ensures returned { let parts = parts_of inner.now in
         let read = answer (S.body source.old) inner.now.global_seqno parts key.now seqno in
-        Gives (λ (found : Option Entry). found) result read.told }
+        Gives (λ (found : Option Entry). found) result read.returned }
     // A fault that is found before any allocation takes precedence over `OutOfMemory`.
     ensures early { let parts = parts_of inner.now in
         let read = answer (S.body source.old) inner.now.global_seqno parts key.now seqno in
@@ -282,9 +282,9 @@ pub fn place_in<A: Allocator + Clone>(
     key_hash: u64,
 ) -> (Result<Option<EntryPlace>, Error>, Opened)
     requires { key_hash ≡ hash_of key.now }
-    ensures told { let parts = parts_of inner.now in
+    ensures returned { let parts = parts_of inner.now in
         let read = answer (body_of source.now) inner.now.global_seqno parts key.now seqno in
-        Gives (option_map (entry_placed source.now)) result.0 read.told }
+        Gives (option_map (entry_placed source.now)) result.0 read.returned }
     ensures early { let parts = parts_of inner.now in
         let read = answer (body_of source.now) inner.now.global_seqno parts key.now seqno in
         FaultsFirst result.0 read.early }

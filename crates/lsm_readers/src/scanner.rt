@@ -76,7 +76,7 @@ fn block_at<A: Allocator + Clone>(
     position: u64,
     opened: &mut Opened,
 ) -> Result<(DataBlock<A>, u64), Error>
-    ensures told { let block = block_result (body_of source.now) position in
+    ensures returned { let block = block_result (body_of source.now) position in
         Gives (λ (x : List Entry × ℕ). x) result block }
     ensures early { FaultsFirst result (position_fault (body_of source.now) position Data) }
     ensures counted { opened.new ≡ with_load Data opened.old }

@@ -198,7 +198,7 @@ fn load_pinned<A: Allocator + Clone>(
 /// Fails with [`Error::GlobalSeqNoTooLarge`] if the highest seqno plus the global seqno exceeds
 /// `u64::MAX`.
 fn test_number<A: Allocator>(metadata: &ParsedMeta<A>, global_seqno: SeqNo) -> Result<(), Error>
-    ensures told { let facts = facts_of metadata.now in
+    ensures returned { let facts = facts_of metadata.now in
         Gives (λ (_ : _). facts) result (facts_fitting facts global_seqno) }
     ensures alone { IfErr result (λ e. e ≡ GlobalSeqNoTooLarge) }
 {
@@ -215,7 +215,7 @@ fn fitting_metadata<A: Allocator + Clone>(
     handle: &BlockHandle,
     global_seqno: SeqNo,
 ) -> Result<ParsedMeta<A>, Error>
-    ensures told { let facts = fitting_result (body_of source.now) handle.now global_seqno in
+    ensures returned { let facts = fitting_result (body_of source.now) handle.now global_seqno in
         Gives facts_of result facts }
     ensures early { let body = body_of source.now in
         FaultsFirst result (place_fault body handle.now.offset handle.now.size Meta) }
@@ -252,7 +252,7 @@ fn recover_inner<A: Allocator + Clone>(
     pin_filter: bool,
     pin_index: bool,
 ) -> Result<Inner<A>, Error>
-    ensures told { Gives parts_of result
+    ensures returned { Gives parts_of result
         (parts_result source.now global_seqno pin_filter pin_index) }
     ensures early { FaultsFirst result (early_in (body_of source.now) (places_result source.now)) }
     ensures number { IfOk result (λ inner. inner.global_seqno ≡ global_seqno) }
@@ -320,7 +320,7 @@ impl<A: Allocator + Clone> Table<A> {
         pin_filter: bool,
         pin_index: bool,
     ) -> Result<Table<A>, Error>
-        ensures told { Gives (λ (t : OpenTable). t.parts) result
+        ensures returned { Gives (λ (t : OpenTable). t.parts) result
             (recovered_result bytes global_seqno pin_filter pin_index) }
         // A fault that is found before any allocation takes precedence over `OutOfMemory`.
         ensures early { FaultsFirst result (early_fault bytes) }
@@ -370,8 +370,8 @@ impl<A: Allocator + Clone> Table<A> {
         key_hash: u64,
     ) -> (Result<Option<InternalValue<A>>, Error>, Opened)
         requires { key_hash ≡ hash_of key.now }
-        ensures told { Gives (λ (found : Option Entry). found) result.0
-            (table_answer self.now key.now seqno).told }
+        ensures returned { Gives (λ (found : Option Entry). found) result.0
+            (table_answer self.now key.now seqno).returned }
         // A fault that is found before any allocation takes precedence over `OutOfMemory`.
         ensures early { FaultsFirst result.0 (table_answer self.now key.now seqno).early }
         // If no block is loaded, the read does not fail.
@@ -409,8 +409,8 @@ impl<A: Allocator + Clone> Table<A> {
         key_hash: u64,
     ) -> Result<Option<InternalValue<A>>, Error>
         requires { key_hash ≡ hash_of key.now }
-        ensures told { Gives (λ (found : Option Entry). found) result
-            (table_answer self.now key.now seqno).told }
+        ensures returned { Gives (λ (found : Option Entry). found) result
+            (table_answer self.now key.now seqno).returned }
         ensures early { FaultsFirst result (table_answer self.now key.now seqno).early }
         ensures calm { (table_answer self.now key.now seqno).loads ≡ [] → IsOk result }
         ensures recovered { IsRecovered self.now }

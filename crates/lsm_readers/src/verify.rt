@@ -137,7 +137,7 @@ fn unloaded(section: SectionName, offset: u64, error: Error) -> VerifyError
 pub(crate) fn test_checksum(bytes: &[u8], checksum: Checksum) -> Result<(), VerifyError>
     ensures same { IfOk result (λ _. fnv1a bytes.now ≡ checksum.0) }
     ensures other { IfErr result (λ e. fnv1a bytes.now ≢ checksum.0) }
-    ensures told { IfErr result (λ e. e ≡ Found other_checksum) }
+    ensures returned { IfErr result (λ e. e ≡ Found other_checksum) }
 {
     if u128::from(hash(bytes)) == checksum.0 {
         Ok(())
@@ -172,7 +172,7 @@ fn read_all<A: Allocator + Clone>(
     source: &BlockSource<A>,
     inner: &Inner<A>,
 ) -> Result<(), VerifyError>
-    ensures told { Finds (λ (_ : _). tt) result
+    ensures returned { Finds (λ (_ : _). tt) result
         (all_found (body_of source.now) (parts_of inner.now)) }
     // A fault that is found before any allocation takes precedence over `OutOfMemory`.
     ensures early { let tli = (parts_of inner.now).regions.tli in
@@ -190,7 +190,7 @@ pub(crate) fn verify_table<A: Allocator + Clone>(
     source: &BlockSource<A>,
     inner: &Inner<A>,
 ) -> Result<Verified, VerifyError>
-    ensures told { Finds (λ (v : Verification). v) result
+    ensures returned { Finds (λ (v : Verification). v) result
         (table_found (body_of source.now) (parts_of inner.now)) }
     // A fault that is found before any allocation takes precedence over `OutOfMemory`.
     ensures early { FindsFirst result (table_early (body_of source.now) (parts_of inner.now)) }

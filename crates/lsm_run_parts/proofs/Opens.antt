@@ -129,7 +129,7 @@ module _ (span : RunSpan) (ts : List OpenTable) (lo hi : ℕ) (less : lo < hi)
       record {
         named = Some (table_named part);
         names = map_taken table_named at before behind part t.takes;
-        told = reader_left part x reader;
+        returned = reader_left part x reader;
         loads = omega (
           arith,
           reader_loads part x reader,
@@ -157,7 +157,7 @@ module _ (span : RunSpan) (ts : List OpenTable) (lo hi : ℕ) (less : lo < hi)
               (ap (λ (x : Option Part × List Part). x.0) t.takes),
           record { parts = refl; loads = refl },
         );
-        told = refl;
+        returned = refl;
         loads = omega arith;
         first = λ f early. let wrong : None ≡ Some f = early in absurd cc;
         kept = omega arith;

@@ -24,7 +24,7 @@ part_read_results p = range_results p.table p.low p.high
 
 -- the number of handles of data blocks that its index has between the bounds' edges
 abbrev pub handles_within : Part → ℕ
-handles_within p = length ((table_index p.table).told (lower_edge p.low) (upper_edge p.high))
+handles_within p = length ((table_index p.table).returned (lower_edge p.low) (upper_edge p.high))
 
 -- a bound on the loads of its reader: of data blocks and of its index, the search for the edges
 -- included

@@ -56,7 +56,7 @@ held_numbers t es h =
     let pins = h.opened.recovered in
     let highest : t.parts.facts.seqno_max ≡ highest_seqno h.stored =
     (bears_out t.bytes h.stored h.table t.global_seqno pins.pin_filter pins.pin_index t.parts
-    pins.told).seqno_max in
+    pins.returned).seqno_max in
     subst (λ (xs : List Entry). AllByRecursion (λ (e : Entry). e.seqno ≤ highest_number t) xs)
     (sym h.lifted_is)
     (lift_numbers h.stored t.global_seqno t.parts.facts.seqno_max (omega (arith, highest)))
@@ -78,11 +78,11 @@ module _ (key : List ℕ) (bound : ℕ) where
   -- it tells an answer that is as good as the first match in its lists
   abbrev ReportsOf : Option Entry → List OpenTable → Option Entry → Type 0
   ReportsOf found ts own = (next : Option Entry)
-      × ((run_read_behind key bound found ts).told ≡ Ok next)
+      × ((run_read_behind key bound found ts).returned ≡ Ok next)
       × (leading_of found next ≡ leading_of found own)
 
   abbrev told_by : Option Entry → Option OpenTable → Result (Option Entry) Error
-  told_by found o = (table_read key bound (worth_asking found o)).told
+  told_by found o = (table_read key bound (worth_asking found o)).returned
 
   run_reports : (found : Option Entry) (ts : List OpenTable) (ls : List (List Entry))
       → HoldLists ts ls → are_in_order (ranges_of ts) ≡ true → IsOfKey key bound found
@@ -106,13 +106,13 @@ module _ (key : List ℕ) (bound : ℕ) where
             elim (cases_Bool (is_older found t)) [
               | inl older ↦ (
                 None,
-                there ∙ ap (λ (o : Option OpenTable). (table_read key bound o).told)
+                there ∙ ap (λ (o : Option OpenTable). (table_read key bound o).returned)
                     (not_asked found t older),
                 older_has found t es h.0 is older ∙ ap (leading_of found) (sym own),
               )
               | inr other ↦ (
                 point es key bound,
-                there ∙ ap (λ (o : Option OpenTable). (table_read key bound o).told)
+                there ∙ ap (λ (o : Option OpenTable). (table_read key bound o).returned)
                     (asked found t other) ∙ held_answer key bound t es h.0,
                 ap (leading_of found) (sym own),
               )
@@ -130,12 +130,12 @@ module _ (key : List ℕ) (bound : ℕ) where
 
   -- ---- several runs
 
-  abbrev told : Option Entry → List (List OpenTable) → Result (Option Entry) Error
-  told found runs = (runs_read_by_age key bound found runs).told
+  abbrev returned : Option Entry → List (List OpenTable) → Result (Option Entry) Error
+  returned found runs = (runs_read_by_age key bound found runs).returned
 
   pub age_point : (found : Option Entry) (runs : List (List OpenTable))
       (lists : List (List (List Entry))) → RunsHoldLists runs lists → IsOfKey key bound found
-      → told found runs ≡ Ok (leading_of found (point (union_in lists) key bound))
+      → returned found runs ≡ Ok (leading_of found (point (union_in lists) key bound))
   unfolding point
   age_point found [] [] h is = ap (λ (o : Option Entry). Ok o) (sym (leading_last found))
   age_point found [] (ls ∷ lists) h is = absurd h
@@ -149,9 +149,9 @@ module _ (key : List ℕ) (bound : ℕ) where
       ap (λ (es : List Entry). point es key bound) (union_more key bound ls lists)
       ∙ leading_sorted key bound (joined ls) (behind key bound lists)
       (ascends_of (joined ls) (run_strict ts ls h.0.1 order)) in
-      ap (λ (r : Result (Option Entry) Error). r >>= λ next. told (leading_of found next) runs)
+      ap (λ (r : Result (Option Entry) Error). r >>= λ next. returned (leading_of found next) runs)
       one.1
-      ∙ ap (λ (o : Option Entry). told o runs) one.2
+      ∙ ap (λ (o : Option Entry). returned o runs) one.2
       ∙ age_point (leading_of found own) runs lists h.1
       (leading_of_key key bound found own is (point_of_key key bound (joined ls)))
       ∙ ap (λ (o : Option Entry). Ok o) (leading_assoc found own (point (union_in lists) key bound)

@@ -183,8 +183,8 @@ fits_behind label target es xs run ids cut is first fits =
 
 first_result : (x y z : Option Error) (e : Error) → y ≡ None → option_or x y ≡ Some e
     → option_or x z ≡ Some e
-first_result None y z e none told = absurd (let wrong : None ≡ Some e = sym none ∙ told in cc)
-first_result (Some a) y z e none told = told
+first_result None y z e none returned = absurd (let wrong : None ≡ Some e = sym none ∙ returned in cc)
+first_result (Some a) y z e none returned = returned
 
 no_tables : (size target : ℕ) (tables : List (List Entry)) → AreTables size target [] tables
     → tables ≡ []
@@ -206,10 +206,10 @@ module _ (ids : Option ℕ) (target moment : ℕ) (es : List Entry) (from_1 : id
   pub first_refused : (e : Error) (tables : List (List Entry)) (left : List Entry)
       → highest_seqno es + 0 < 2 ^ 64 → chain_fault ids target moment es 0 ≡ Some e
       → both_fault target es tables left ≡ Some e
-  first_refused e tables left small told =
+  first_refused e tables left small returned =
       first_result (tables_fault (Some 1) target 0 es) (number_fault es 0)
       (tables_fault (ids_behind (Some 1) target (length tables)) target 0 left) e
-      (small_number es 0 small) (sym first_is ∙ told)
+      (small_number es 0 small) (sym first_is ∙ returned)
 
   first_taken : chain_fault ids target moment es 0 ≡ None → tables_fault (Some 1) target 0 es ≡ None
   first_taken fine = left_none (tables_fault (Some 1) target 0 es) (number_fault es 0)

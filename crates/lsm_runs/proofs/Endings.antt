@@ -29,7 +29,7 @@ pub record Ended {S O A : Type 0} (gives : S → Option R → S → Type 0)
     (q : O) (out : Result (CompactionOutcome A) Error) : Type 0 where
   pub written : IfOk out (λ r. IsWritten gives w s says o r u q)
   pub made : IfOk out (HasMade w)
-  pub told : IfOk out (λ r. WasNotified says w r o q)
+  pub returned : IfOk out (λ r. WasNotified says w r o q)
   pub refused : IfErr out (λ e. RefusesWritten gives w s says o e q)
 
 module _ {S O : Type 0} (gives : S → Option R → S → Type 0)
@@ -53,15 +53,15 @@ module _ {S O : Type 0} (gives : S → Option R → S → Type 0)
         led = wrote.led;
         gave = wrote.gave;
         ends = (wrote.ends, none, made);
-        told = wrote.told;
+        returned = wrote.returned;
       };
       made = record { list = all_written m; writable = list.taken.writable; written = made };
-      told = record {
+      returned = record {
         tables = made.lists;
         finished = made.finished;
-        told = subst (λ (ts : List (List Entry)). GoesOnAt says o (told_of (but_last ts)) q)
+        returned = subst (λ (ts : List (List Entry)). GoesOnAt says o (told_of (but_last ts)) q)
             (one_cut_law w.present.options.data_block_size w.target (all_written m)
-            wrote.told.tables made.lists wrote.told.cut made.cut) wrote.told.told;
+            wrote.returned.tables made.lists wrote.returned.cut made.cut) wrote.returned.returned;
       };
       refused = tt;
     }
@@ -70,14 +70,14 @@ module _ {S O : Type 0} (gives : S → Option R → S → Type 0)
     at_end (Err e) list made fault wrote = record {
       written = tt;
       made = tt;
-      told = tt;
+      returned = tt;
       refused = record {
         list = all_written m;
         taken = list.taken;
         led = wrote.led;
         gave = wrote.gave;
         fails = λ fine. inr (record { then = u; ended = wrote.ends; fault = fault fine });
-        told = wrote.told;
+        returned = wrote.returned;
       };
     }
 
@@ -102,10 +102,10 @@ module _ {S O : Type 0} (gives : S → Option R → S → Type 0)
             led = wrote.led;
             gave = wrote.gave;
             ends = wrote.ends;
-            told = wrote.told;
+            returned = wrote.returned;
           };
           made = tt;
-          told = (all_written m, wrote.told);
+          returned = (all_written m, wrote.returned);
           refused = tt;
         })
     ends_so fresh next (Ok AtStop) out tables fails disorder stop passed list wrote refuses =
@@ -116,12 +116,12 @@ module _ {S O : Type 0} (gives : S → Option R → S → Type 0)
             led = wrote.led;
             gave = wrote.gave;
             ends = wrote.ends;
-            told = wrote.told;
+            returned = wrote.returned;
           };
           made = tt;
-          told = (all_written m, wrote.told);
+          returned = (all_written m, wrote.returned);
           refused = tt;
         })
     ends_so fresh next (Err e) out tables fails disorder stop passed list wrote refuses =
         subst EndsSo (sym (passed e refl))
-        (record { written = tt; made = tt; told = tt; refused = refuses })
+        (record { written = tt; made = tt; returned = tt; refused = refuses })

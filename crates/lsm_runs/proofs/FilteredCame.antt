@@ -105,20 +105,20 @@ module _ {S F C : Type 0} (next : S → Option R → S → Type 0)
                 h.ends.1,
                 h.ends.2,
               );
-              told = h.told;
+              returned = h.returned;
             }
             by_outcome OutOfOrder u q h = record {
               kept = h.list;
               taken = h.taken;
               came = (h.ends.0, given_next h.list h.led u h.ends.0 h.gave h.ends.1, h.ends.2);
-              told = h.told;
+              returned = h.returned;
             }
             by_outcome Stopped u q h = record {
               kept = h.list;
               taken = h.taken;
               came = given_by h.list u (subst (λ (v : S). Yields next s (ok_results h.list) v) h.ends
                   h.gave);
-              told = h.told;
+              returned = h.returned;
             }
 
         module _ (q : O) (e : Error) (h : RefusesWritten next w s says o e q) where
@@ -143,7 +143,7 @@ module _ {S F C : Type 0} (next : S → Option R → S → Type 0)
                 end.fault,
               )
             ];
-            told = h.told;
+            returned = h.returned;
           }
 
 -- what came of a list that can be written: its entries come in order
@@ -232,7 +232,7 @@ came_memory gives gets rules f c xs w says o e memory = record {
   callback = c;
   given = record { filter = f; part = part_none gives gets rules f c xs };
   fails = λ fine. let both : true ≡ false = sym memory ∙ fine in absurd cc;
-  told = reported_nothing says w o;
+  returned = reported_nothing says w o;
 }
 
 pub came_none : {F C O X : Type 0} (gives : F → Entry → Result Verdict Error → F → Type 0)
@@ -265,10 +265,10 @@ match_err P Q (Ok x) e is h = absurd is
 match_err P Q (Err y) e is h = subst Q (sym is) h
 
 -- an `OutOfMemory` where there is no fault
-pub memory_faults : {X : Type 0} (r : Result X Error) (told : Option Error) → told ≡ None
-    → IfErr r (λ e. e ≡ OutOfMemory) → Faults r told
-memory_faults (Ok x) told none memory = none
-memory_faults (Err e) told none memory = λ fine.
+pub memory_faults : {X : Type 0} (r : Result X Error) (returned : Option Error) → returned ≡ None
+    → IfErr r (λ e. e ≡ OutOfMemory) → Faults r returned
+memory_faults (Ok x) returned none memory = none
+memory_faults (Err e) returned none memory = λ fine.
     let both : true ≡ false = sym (ap is_memory memory) ∙ fine in absurd cc
 
 -- a refusal for want of memory is no fault

@@ -54,7 +54,7 @@ held_table g es t some opened table number =
       opened = opened;
       stores = stores;
       range = range_is t pins ∙ (bears_out t.bytes es stores t.global_seqno pins.pin_filter
-          pins.pin_index t.parts pins.told).key_range;
+          pins.pin_index t.parts pins.returned).key_range;
       number_is = number;
     }
 

@@ -158,17 +158,17 @@ module _ (label : Label) (options : Options) (es : List Entry) (id sum : ℕ) (b
   pub opened_fits : (parts : Parts) → recovered_result own g pin_filter pin_index ≡ Ok parts
       → (options.index_block_restart_interval ≡ 1 → number_fault es g ≡ None)
       → opens_fault options es g ≡ None
-  opened_fits parts told fits = by_interval options.index_block_restart_interval
+  opened_fits parts returned fits = by_interval options.index_block_restart_interval
       (λ one. opens_one options es g one ∙ fits one)
-      (λ other. let no : Ok parts ≡ Err UnsupportedIndexInterval = sym told ∙ other_result other in
+      (λ other. let no : Ok parts ≡ Err UnsupportedIndexInterval = sym returned ∙ other_result other in
       absurd cc)
 
   -- it was refused
   pub refused_so : (e : Error) → recovered_result own g pin_filter pin_index ≡ Err e
       → (options.index_block_restart_interval ≡ 1 → number_fault es g ≡ Some e)
       → opens_fault options es g ≡ Some e
-  refused_so e told passes = by_interval options.index_block_restart_interval
+  refused_so e returned passes = by_interval options.index_block_restart_interval
       (λ one. opens_one options es g one ∙ passes one)
-      (λ other. let both : Err e ≡ Err UnsupportedIndexInterval = sym told ∙ other_result other in
+      (λ other. let both : Err e ≡ Err UnsupportedIndexInterval = sym returned ∙ other_result other in
       let is : e ≡ UnsupportedIndexInterval = cc in
       opens_other options es g f.some other ∙ sym (ap (λ (x : Error). Some x) is))

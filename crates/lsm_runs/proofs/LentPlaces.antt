@@ -141,10 +141,10 @@ module _ {A : Type 0} (bound : ℕ) where
       → LendsResults next (newest_results (merge_of
       (map (below_results bound) (runs_results_within low high runs)))) t
   newest_places next t low high runs ss below are spans up law stops memory =
-      let told = map (below_results bound) (runs_results_within low high runs) in
-      law.places stops told memory (record {
+      let returned = map (below_results bound) (runs_results_within low high runs) in
+      law.places stops returned memory (record {
         yield_each = subst (λ (bs : List (Below (RunRange A))). AllZip
-            (YieldsExactly (answer_stops stops) Below_lends nowhere) bs told) (sym are)
+            (YieldsExactly (answer_stops stops) Below_lends nowhere) bs returned) (sym are)
             (each_lends stops memory ss (spans_within low high runs) spans);
         ascend = below_ascend bound (runs_results_within low high runs) up;
       })

@@ -48,7 +48,7 @@ module _ {A : Type 0} where
       step.there (ap (λ (u : Range A). u.handles.sought) same ∙ stands.sought) stands.entry
       (ap (λ (u : Range A). first u.front) same ∙ ap first stands.front)
       ∙ ap (λ (u : Range A). Some (lifted_result u.of.global_seqno stands.entry)) same
-      ∙ ap (λ (y : R). Some y) (sym stands.told)
+      ∙ ap (λ (y : R). Some y) (sym stands.returned)
 
   pub reader_lends : (s : Range A) (r : Option R) (t : Range A) → RangeLends s r t
       → ReaderLends (Some s) r (Some t)

@@ -156,11 +156,11 @@ pub newest_below : {S T : Type 0} (bound : ℕ) (advances : S → Option R → S
     → LendsNewest (LendsBelow advances can left) below next t
     → YieldsList next nowhere (newest (numbered_below bound es)) t
 newest_below {S} bound advances can left next t sources found es below are is d law =
-    let told = newest_lent (LendsBelow advances can left) next t (map (below_of bound) sources)
+    let returned = newest_lent (LendsBelow advances can left) next t (map (below_of bound) sources)
     (map (numbered_below bound) found) (together_below bound advances can left sources found d)
     (subst (λ (xs : List (Below S)). LendsNewest (LendsBelow advances can left) xs next t) are law)
     in
     subst (λ (us : List Entry). YieldsList next nowhere (newest us) t)
     (ap sort_entries (sym (numbered_joined bound found))
     ∙ sym (filter_sorted (λ (e : Entry). nat_lt e.seqno bound) (joined found))
-    ∙ ap (numbered_below bound) is) told
+    ∙ ap (numbered_below bound) is) returned

@@ -83,7 +83,7 @@ module _ {O : Type 0} (says : O → CompactionProgress → Bool → O → Type 0
   -- an observer that goes on was told of the finished tables
   pub reported_on : (m n : TablesWriting) (o r q : O) → GoesOnAt says o (told_of m.tables) r
       → NotifiesNext says m n r true q → GoesOnAt says o (told_of n.tables) q
-  reported_on m n o r q went told = elim told [
+  reported_on m n o r q went returned = elim returned [
     | inl same ↦ subst (λ (ts : List (List Entry)). GoesOnAt says o (told_of ts) q) (sym same.0)
         (subst (λ (x : O). GoesOnAt says o (told_of m.tables) x) same.2 went)
     | inr more ↦
@@ -98,7 +98,7 @@ module _ {O : Type 0} (says : O → CompactionProgress → Bool → O → Type 0
 
   pub reported_stop : (m n : TablesWriting) (o r q : O) → GoesOnAt says o (told_of m.tables) r
       → NotifiesNext says m n r false q → StopsAtLast says o (told_of n.tables) q
-  reported_stop m n o r q went told = elim told [
+  reported_stop m n o r q went returned = elim returned [
     | inl same ↦ let no : false ≡ true = same.1 in absurd cc
     | inr more ↦
         let t = more.0 in
@@ -271,7 +271,7 @@ module _ (m n : TablesWriting) (e : Entry) (progress : CompactionProgress)
       → j ≡ min (progress.tables + 1) (2 ^ 64 - 1)
       → says o (record { tables = j; entries = progress.entries }) goes q
       → NotifiesNext says m n o goes q
-  reported_more_tables {O} says o q goes t j more len on told =
+  reported_more_tables {O} says o q goes t j more len on returned =
       let same : counts j progress.entries ≡ progress_at n.tables =
       same_counts j progress.entries (steps_count (length n.tables))
       (steps_count (length (joined n.tables)))
@@ -279,7 +279,7 @@ module _ (m n : TablesWriting) (e : Entry) (progress : CompactionProgress)
       ∙ counts_on (length m.tables) (length n.tables)
       (ap length more ∙ length-append m.tables (t ∷ [])))
       (entries_now ∙ ap steps_count (sym len)) in
-      inr (t, more, subst (λ (p : CompactionProgress). says o p goes q) same told)
+      inr (t, more, subst (λ (p : CompactionProgress). says o p goes q) same returned)
 
 -- ---- the tables, as they are cut
 
@@ -442,7 +442,7 @@ module _ {S O : Type 0} (next : S → Option R → S → Type 0)
     pub taking : Taking w m
     pub cut : CutSoFar m
     pub counted : IsCounted progress m
-    pub told : GoesOnAt says o (told_of m.tables) q
+    pub returned : GoesOnAt says o (told_of m.tables) q
     pub gave : Yields next s (ok_results (all_written m)) t
 
   module _ (m : TablesWriting) (t u : S) (progress : CompactionProgress) (q : O)
@@ -496,19 +496,19 @@ module _ {S O : Type 0} (next : S → Option R → S → Type 0)
       reported_of_part = record {
         tables = tables_of m;
         cut = cut_by m h.since h.cut;
-        told = subst (λ (ts : List (List Entry)). GoesOnAt says o (told_of ts) q)
-            (sym (all_but_present m h.cut.begun)) h.told;
+        returned = subst (λ (ts : List (List Entry)). GoesOnAt says o (told_of ts) q)
+            (sym (all_but_present m h.cut.begun)) h.returned;
       }
 
       -- the observer stops it
       pub reported_stopped : (e : Entry) (n : TablesWriting) (r : O) → n ≡ took m e → Since w n
           → CutSoFar n → NotifiesNext says m n q false r → StoppedAt says w (all_written n) o r
-      reported_stopped e n r is since cut told = record {
+      reported_stopped e n r is since cut returned = record {
         tables = n.tables;
         next = e;
         cut = subst (λ (ts : List (List Entry)). AreTables w.present.options.data_block_size
-            w.target (all_written n) ts) (stopped_alone e n r is told) (cut_by n since cut);
-        told = reported_stop says m n o q r h.told told;
+            w.target (all_written n) ts) (stopped_alone e n r is returned) (cut_by n since cut);
+        returned = reported_stop says m n o q r h.returned returned;
       }
         where
           stopped_alone : (x : Entry) (k : TablesWriting) (p : O) → k ≡ took m x
@@ -529,7 +529,7 @@ module _ {S O : Type 0} (next : S → Option R → S → Type 0)
         led = t;
         gave = h.gave;
         fails = fails;
-        told = reported_of_part;
+        returned = reported_of_part;
       }
 
 -- before anything is written
@@ -545,7 +545,7 @@ observing_none next says w s o fresh =
       counted = same_counts 0 0 (steps_count (length w.tables)) (steps_count (length (all_written w)))
           (sym (ap (λ (ts : List (List Entry)). steps_count (length ts)) fresh.0))
           (sym (ap (λ (es : List Entry). steps_count (length es)) none));
-      told = subst (λ (ts : List (List Entry)). GoesOnAt says o (told_of ts) o) (sym fresh.0) refl;
+      returned = subst (λ (ts : List (List Entry)). GoesOnAt says o (told_of ts) o) (sym fresh.0) refl;
       gave = subst (λ (es : List Entry). Yields next s (ok_results es) s) (sym none) refl;
     }
 
@@ -558,12 +558,12 @@ pub observing_more : {S O : Type 0} (next : S → Option R → S → Type 0)
     → may_be_written (all_written m) e.user_key e.seqno ≡ true → IsCounted more n
     → NotifiesNext says m n q true r → Observing next says w s o n u more r
 observing_more next says w s o m n t u progress more q r e fresh h step is fine listed may counted
-    told = record {
+    returned = record {
       since = subst (Since w) (sym is) (since_more w m fresh e h.since fine);
       taking = taking_more w m n e h.taking is fine listed may;
       cut = subst CutSoFar (sym is) (cut_so_more m e h.cut);
       counted = counted;
-      told = reported_on says m n o q r h.told told;
+      returned = reported_on says m n o q r h.returned returned;
       gave = gave_more next says w s o m t u progress q h e n listed step;
     }
 
@@ -573,5 +573,5 @@ pub reported_nothing : {O : Type 0} (says : O → CompactionProgress → Bool �
 reported_nothing says w o = record {
   tables = [];
   cut = record { whole = refl; each = tt };
-  told = refl;
+  returned = refl;
 }

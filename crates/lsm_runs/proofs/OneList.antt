@@ -50,5 +50,5 @@ one_way (ts ∷ runs) (ls ∷ lists) (ms ∷ others) h k =
 pub beside_ok : {T U : Type 0} (P : T → Type 0) (Q : U → Type 0) (x : T) (second : Result U Error)
     (r : Result (T × U) Error) → MatchResult second (λ y. r ≡ Ok (x, y)) (λ e. r ≡ Err e) → P x
     → IfOk second Q → IfOk r (λ both. P both.0 × Q both.1)
-beside_ok P Q x (Ok y) r told p q = rw told (p, q)
-beside_ok P Q x (Err e) r told p q = rw told tt
+beside_ok P Q x (Ok y) r returned p q = rw returned (p, q)
+beside_ok P Q x (Err e) r returned p q = rw returned tt

@@ -27,14 +27,14 @@ use Rattle.lsm_runs.proofs.RunReads.{found_is}
 
 fine_by : (large : Bool) (p q : Parts) → cond large (Err GlobalSeqNoTooLarge) (Ok p) ≡ Ok q
     → cond large (Some GlobalSeqNoTooLarge) None ≡ None
-fine_by true p q told = absurd cc
-fine_by false p q told = refl
+fine_by true p q returned = absurd cc
+fine_by false p q returned = refl
 
 fault_by : (large : Bool) (p : Parts) (e : Error)
     → cond large (Err GlobalSeqNoTooLarge) (Ok p) ≡ Err e
     → cond large (Some GlobalSeqNoTooLarge) None ≡ Some e
-fault_by true p e told = cc
-fault_by false p e told = absurd cc
+fault_by true p e returned = cc
+fault_by false p e returned = absurd cc
 
 pub or_fine : (a b : Option Error) → a ≡ None → b ≡ None → option_or a b ≡ None
 or_fine None b p q = q
@@ -61,27 +61,27 @@ module _ (label : Label) (es : List Entry) (g : ℕ) where
   module _ (bytes : List ℕ) (t : IsTable bytes es) (written : list_fault label es ≡ None) where
     pub opens : (parts : Parts) → list_result t g true true ≡ Ok parts
         → opening_fault label es g ≡ None
-    opens parts told = or_fine (list_fault label es) (number_fault es g) written
-        (fine_by (ltb (2 ^ 64 - 1) (highest_seqno es + g)) (parts_said t true true) parts told)
+    opens parts returned = or_fine (list_fault label es) (number_fault es g) written
+        (fine_by (ltb (2 ^ 64 - 1) (highest_seqno es + g)) (parts_said t true true) parts returned)
 
     pub unopened : (e : Error) → list_result t g true true ≡ Err e → opening_fault label es g ≡ Some e
-    unopened e told = or_second (list_fault label es) (number_fault es g) e written
-        (fault_by (ltb (2 ^ 64 - 1) (highest_seqno es + g)) (parts_said t true true) e told)
+    unopened e returned = or_second (list_fault label es) (number_fault es g) e written
+        (fault_by (ltb (2 ^ 64 - 1) (highest_seqno es + g)) (parts_said t true true) e returned)
 
 parts_by : (large : Bool) (p q : Parts) → cond large (Err GlobalSeqNoTooLarge) (Ok p) ≡ Ok q → q ≡ p
-parts_by true p q told = absurd cc
-parts_by false p q told = cc
+parts_by true p q returned = absurd cc
+parts_by false p q returned = cc
 
 -- what was opened
 pub opened : (label : Label) (es : List Entry) (g id sum : ℕ) (bytes : List ℕ) (t : OpenTable)
     (f : IsTableOf label es id sum bytes) → t.bytes ≡ bytes → t.global_seqno ≡ g → t.tree_id ≡ 0
     → t.checksum ≡ sum → list_result f.table g true true ≡ Ok t.parts → IsOpened label es g t
-opened label es g id sum bytes t f same number tree check told =
+opened label es g id sum bytes t f same number tree check returned =
     let P : List ℕ → Type 0 = λ b. (x : IsTable b es) × (x.label ≡ label)
     × (x.options ≡ default_options) × (x.version ≡ V4) × (x.spills ≡ [])
     × (t.parts ≡ parts_said x true true) in
     let parts = parts_by (ltb (2 ^ 64 - 1) (highest_seqno es + g))
-    (parts_said f.table true true) t.parts told in
+    (parts_said f.table true true) t.parts returned in
     let table : P t.bytes = subst P (sym same) (
       f.table,
       f.label_is,
@@ -108,12 +108,12 @@ opened label es g id sum bytes t f same number tree check told =
 
 -- reading a list is refused for want of memory alone
 pub read_alone : {X : Type 0} (found : X) (e : Error) → (is_memory e ≡ false → Ok found ≡ Err e)
-    → (told : Option Error) → is_memory e ≡ false → told ≡ Some e
-read_alone {X} found e fails told memory = absurd (let no : Ok found ≡ Err e = fails memory in cc)
+    → (returned : Option Error) → is_memory e ≡ false → returned ≡ Some e
+read_alone {X} found e fails returned memory = absurd (let no : Ok found ≡ Err e = fails memory in cc)
 
-pub scan_alone : (es : List Entry) (e : Error) (told : Option Error) → (es ≡ [] → ⊥)
-    → (0 < length es → e ≡ OutOfMemory) → is_memory e ≡ false → told ≡ Some e
-scan_alone es e told some alone memory =
+pub scan_alone : (es : List Entry) (e : Error) (returned : Option Error) → (es ≡ [] → ⊥)
+    → (0 < length es → e ≡ OutOfMemory) → is_memory e ≡ false → returned ≡ Some e
+scan_alone es e returned some alone memory =
     let is : true ≡ false = sym (subst (λ (x : Error). is_memory x ≡ true)
     (sym (alone (some_length es some))) refl) ∙ memory in
     absurd cc
@@ -127,9 +127,9 @@ pub reads : (es : List Entry) (g n : ℕ) (key : List ℕ) (bound : ℕ) (found 
     → ((stops : Error → Bool) → stops OutOfMemory ≡ true
     → YieldsExactly (answer_stops stops) ScansNext nowhere s (ok_results (lift es n)))
     → ReadsList es g key bound found s
-reads es g n key bound found s number told yields = record {
+reads es g n key bound found s number returned yields = record {
   point_is = subst (λ (k : ℕ). found ≡ point (lift es k) key bound) number
-      (value_of (point (lift es n) key bound) found told);
+      (value_of (point (lift es n) key bound) found returned);
   scan_is = λ stops memory. subst (λ (k : ℕ). YieldsExactly (answer_stops stops) ScansNext nowhere s
       (ok_results (lift es k))) number (yields stops memory);
 }

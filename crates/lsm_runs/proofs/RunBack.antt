@@ -64,13 +64,13 @@ reported_alone found e h = elim (cases_Bool (is_memory e)) [
 
 -- ---- any tables
 
-pub fails_refusal : {X Y : Type 0} (r : Result X Error) (e : Error) (told : Result Y Error)
-    → IsErrAnd r (λ y. y ≡ e) → Fails e told → IfErr r (λ x. Fails x told)
-fails_refusal (Ok x) e told is fails = tt
-fails_refusal (Err y) e told is fails = subst (λ (x : Error). Fails x told) (sym is) fails
+pub fails_refusal : {X Y : Type 0} (r : Result X Error) (e : Error) (returned : Result Y Error)
+    → IsErrAnd r (λ y. y ≡ e) → Fails e returned → IfErr r (λ x. Fails x returned)
+fails_refusal (Ok x) e returned is fails = tt
+fails_refusal (Err y) e returned is fails = subst (λ (x : Error). Fails x returned) (sym is) fails
 
-pub memory_fails : {X Y : Type 0} (r : Result X Error) (e : Error) (told : Result Y Error)
-    → IsErrAnd r (λ y. y ≡ e) → e ≡ OutOfMemory → IfErr r (λ x. Fails x told)
-memory_fails r e told is memory = fails_refusal r e told is
+pub memory_fails : {X Y : Type 0} (r : Result X Error) (e : Error) (returned : Result Y Error)
+    → IsErrAnd r (λ y. y ≡ e) → e ≡ OutOfMemory → IfErr r (λ x. Fails x returned)
+memory_fails r e returned is memory = fails_refusal r e returned is
     (λ fine. absurd (let both : is_memory e ≡ true = ap is_memory memory in let no : false ≡ true =
     sym fine ∙ both in cc))

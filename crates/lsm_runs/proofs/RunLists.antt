@@ -50,8 +50,8 @@ module _ {A : Type 0} (low high : Bound (List ℕ)) (ts : List OpenTable) (ends 
       → found ≡ Some others
       → OpensAtMost (RunGives front_of front_tables) (RunGives back_of back_tables)
       (others.1 + 1 - others.0) s
-  few_found found others told same =
-      let one : Some ends ≡ Some others = sym told ∙ same in
+  few_found found others returned same =
+      let one : Some ends ≡ Some others = sym returned ∙ same in
       let are : ends ≡ others = cc in
       subst (λ (e : ℕ × ℕ). OpensAtMost (RunGives front_of front_tables)
       (RunGives back_of back_tables) (e.1 + 1 - e.0) s) are
@@ -66,9 +66,9 @@ module _ {A : Type 0} (low high : Bound (List ℕ)) (ts : List OpenTable) (ends 
 -- what is left, where it is a list
 left_yields : {A : Type 0} (s : RunRange A) (es : List Entry) → run_left s ≡ ok_results es
     → YieldsList (RunGives front_of front_tables) (RunGives back_of back_tables) es s
-left_yields s es told stops memory =
+left_yields s es returned stops memory =
     let yields = subst (λ (xs : List R). YieldsEnding (RunGives front_of front_tables)
-    (RunGives back_of back_tables) (λ _. Unit {0}) (λ _. Unit {0}) s xs) told (run_yields s) in
+    (RunGives back_of back_tables) (λ _. Unit {0}) (λ _. Unit {0}) s xs) returned (run_yields s) in
     yields_values (RunGives front_of front_tables) (RunGives back_of back_tables) (λ _. Unit {0})
     (λ _. Unit {0}) s es yields stops memory
 

@@ -165,16 +165,16 @@ one_of P a b c (inr is) here there = subst (λ (o : Option _). IfSome o P) (sym 
 module _ (entry : RunPlace → Option Entry) (found : Result (Option RunPlace) Error)
     (lent : Result (Option EntryRef) Error)
     (same : result_map (option_map entry_of_ref) lent ≡ result_map (option_and_then entry) found) where
-  pub lent_gives : (told : Result (Option Entry) Error) → Gives (option_and_then entry) found told
-      → Gives (option_map entry_of_ref) lent told
-  lent_gives told h = gives_seen (option_map entry_of_ref) lent told
-      (subst (λ (r : Result (Option Entry) Error). Gives (λ (x : Option Entry). x) r told)
-      (sym same) (gives_by (option_and_then entry) found told h))
+  pub lent_gives : (returned : Result (Option Entry) Error) → Gives (option_and_then entry) found returned
+      → Gives (option_map entry_of_ref) lent returned
+  lent_gives returned h = gives_seen (option_map entry_of_ref) lent returned
+      (subst (λ (r : Result (Option Entry) Error). Gives (λ (x : Option Entry). x) r returned)
+      (sym same) (gives_by (option_and_then entry) found returned h))
 
   pub lent_does : (read : Read (Option Entry)) (o o' : Opened)
-      → Gives (option_and_then entry) found read.told → FaultsFirst found read.early
+      → Gives (option_and_then entry) found read.returned → FaultsFirst found read.early
       → Opens found read.loads o o' → (read.loads ≡ [] → IsOk found)
       → DoesRead (result_map (option_map entry_of_ref) lent) read o o'
-  lent_does read o o' told first opens calm =
+  lent_does read o o' returned first opens calm =
       subst (λ (r : Result (Option Entry) Error). DoesRead r read o o') (sym same)
-      (does_by (option_and_then entry) found read o o' told first opens calm)
+      (does_by (option_and_then entry) found read o o' returned first opens calm)

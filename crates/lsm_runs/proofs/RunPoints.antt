@@ -89,18 +89,18 @@ module _ (key : List ℕ) (bound : ℕ) where
 
   -- the table answers the first match in its list
   pub held_answer : (t : OpenTable) (es : List Entry) → HoldsList t es
-      → (table_answer t key bound).told ≡ Ok (point es key bound)
+      → (table_answer t key bound).returned ≡ Ok (point es key bound)
   held_answer t es h =
       let pins = h.opened.recovered in
       stored_answers t.bytes h.stored h.table t.global_seqno pins.pin_filter pins.pin_index t.parts
-      pins.told key bound
+      pins.returned key bound
       ∙ ap (λ (xs : List Entry). Ok (point xs key bound)) (sym h.lifted_is)
 
   abbrev by_first : OpenTable → List OpenTable → Bool → Result (Option Entry) Error
-  by_first t ts b = (table_read key bound (cond b (Some t) (table_of_key range_of key ts))).told
+  by_first t ts b = (table_read key bound (cond b (Some t) (table_of_key range_of key ts))).returned
 
   run_point : (ts : List OpenTable) (ls : List (List Entry)) → HoldLists ts ls
-      → are_in_order (ranges_of ts) ≡ true → (run_read key bound ts).told
+      → are_in_order (ranges_of ts) ≡ true → (run_read key bound ts).returned
       ≡ Ok (point (joined ls) key bound)
   unfolding point
   run_point [] [] h order = refl

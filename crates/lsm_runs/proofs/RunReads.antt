@@ -112,7 +112,7 @@ counted_on : {X : Type 0} (r : Result X Error) (read : Read X) (old own : Opened
 counted_on r read old own small d =
     let made = take d.opens.made read.loads in
     record {
-      told = d.told;
+      returned = d.returned;
       early = d.early;
       opens = record {
         made = d.opens.made;

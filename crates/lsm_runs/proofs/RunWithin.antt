@@ -49,7 +49,7 @@ held_keys t es h =
     let pins = h.opened.recovered in
     let ends : range_of t ≡ ends_of h.stored =
     range_is t pins ∙ (bears_out t.bytes h.stored h.table t.global_seqno pins.pin_filter
-    pins.pin_index t.parts pins.told).key_range in
+    pins.pin_index t.parts pins.returned).key_range in
     let stored : Keys (range_of t) h.stored = subst (λ (r : Interval). Keys r h.stored) (sym ends)
     (keys_within h.stored h.table.strict) in
     subst (λ (xs : List Entry). Keys (range_of t) xs) (sym h.lifted_is)
@@ -60,7 +60,7 @@ pub held_result : (t : OpenTable) (es : List Entry) → HoldsList t es → (low 
 held_result t es h low high =
     let pins = h.opened.recovered in
     stored_rows t.bytes h.stored h.table t.global_seqno pins.pin_filter pins.pin_index t.parts
-    pins.told low high
+    pins.returned low high
     ∙ ap (λ (xs : List Entry). ok_results (within low high xs)) (sym h.lifted_is)
 
 module _ (low high : Bound (List ℕ)) where

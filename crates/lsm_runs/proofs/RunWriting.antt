@@ -93,11 +93,11 @@ module _ (es : List Entry) (g : ℕ) (bytes : List ℕ) (t : IsTable bytes es) w
 
     pub fits_by : (parts : Parts) → list_result t g pin_filter pin_index ≡ Ok parts
         → number_fault es g ≡ None
-    fits_by parts told = global_seqno_result ∙ ap fault_of told
+    fits_by parts returned = global_seqno_result ∙ ap fault_of returned
 
     pub passes_by : (e : Error) → list_result t g pin_filter pin_index ≡ Err e
         → number_fault es g ≡ Some e
-    passes_by e told = global_seqno_result ∙ ap fault_of told
+    passes_by e returned = global_seqno_result ∙ ap fault_of returned
 
   pub number_fits : (parts : Parts) → list_result t g true true ≡ Ok parts → number_fault es g ≡ None
   number_fits = fits_by true true

@@ -367,15 +367,15 @@ passed_on P (Ok x) e same holds = absurd same
 passed_on P (Err f) e same holds = subst P (sym same) holds
 
 pub fault_passed : {X : Type 0} (r : Result X Error) (e : Error) → IsErrAnd r (λ y. y ≡ e)
-    → (told : Option Error) → (is_memory e ≡ false → told ≡ Some e) → Faults r told
-fault_passed (Ok x) e same told faults = absurd same
-fault_passed (Err f) e same told faults = subst (λ (g : Error). is_memory g ≡ false → told ≡ Some g)
+    → (returned : Option Error) → (is_memory e ≡ false → returned ≡ Some e) → Faults r returned
+fault_passed (Ok x) e same returned faults = absurd same
+fault_passed (Err f) e same returned faults = subst (λ (g : Error). is_memory g ≡ false → returned ≡ Some g)
     (sym same) faults
 
 pub first_passed : {X : Type 0} (r : Result X Error) (e : Error) → IsErrAnd r (λ y. y ≡ e)
-    → (told : Option Error) → ((g : Error) → told ≡ Some g → Some g ≡ Some e) → FaultsFirst r told
-first_passed (Ok x) e same told early = absurd same
-first_passed (Err f) e same told early = λ g there. early g there
+    → (returned : Option Error) → ((g : Error) → returned ≡ Some g → Some g ≡ Some e) → FaultsFirst r returned
+first_passed (Ok x) e same returned early = absurd same
+first_passed (Err f) e same returned early = λ g there. early g there
     ∙ ap (λ (h : Error). Some h) (sym same)
 
 -- the tables' lists, where each has an entry
@@ -391,7 +391,7 @@ held_scan t es h some =
           h.stored (lifted t.global_seqno),
     ) in
     stored_scan t.bytes h.stored h.table t.global_seqno pins.pin_filter pins.pin_index t.parts
-    pins.told stored ∙ ap ok_results (sym h.lifted_is)
+    pins.returned stored ∙ ap ok_results (sym h.lifted_is)
 
 pub held_scans : (ts : List OpenTable) (ls : List (List Entry)) → HoldLists ts ls
     → AllByRecursion (λ (es : List Entry). 0 < length es) ls

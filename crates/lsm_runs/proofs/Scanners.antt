@@ -59,13 +59,13 @@ pub scan_wants : {X : Type 0} (ts : List OpenTable) (ls : List (List Entry)) →
     → HaveEntries ls → (r : Result X Error)
     → IfErr r (λ e. is_memory e ≡ false → first (tables_scan ts) ≡ Some (Err e))
     → IfErr r (λ e. e ≡ OutOfMemory)
-scan_wants ts ls h some (Ok x) told = tt
-scan_wants {X} ts ls h some (Err e) told =
+scan_wants ts ls h some (Ok x) returned = tt
+scan_wants {X} ts ls h some (Err e) returned =
     let left : tables_scan ts ≡ ok_results (joined ls) =
     ap (λ (rs : List R). up_to_error rs) (held_scans ts ls h some.1) ∙ all_values (joined ls) in
     let refusal : Result X Error = Err e in
     memory_alone refusal None refl (λ fine. absurd
-    (fault_first (joined ls) e (ap first (sym left) ∙ told fine)))
+    (fault_first (joined ls) e (ap first (sym left) ∙ returned fine)))
 
 -- a scan may always be asked
 pub scan_asked : (s : RunScan) → CanYield RunScansNext nowhere (λ _. Unit {0}) (λ _. Unit {0}) s

@@ -76,12 +76,12 @@ pub list_ends : (w : TablesWriting) (es : List Entry) (m : TablesWriting) → To
 list_ends w es m h = ends_all w es h.taken.none ∙ ap run_fault (sym h.is)
 
 -- a refusal that is passed on
-pub err_fault : {X : Type 0} (r : Result X Error) (f : Error) (told : Option Error)
-    → IsErrAnd r (λ y. y ≡ f) → (is_memory f ≡ false → told ≡ Some f)
-    → IfErr r (λ e. is_memory e ≡ false → told ≡ Some e)
-err_fault (Ok x) f told is h = tt
-err_fault (Err y) f told is h =
-    subst (λ (e : Error). is_memory e ≡ false → told ≡ Some e) (sym is) h
+pub err_fault : {X : Type 0} (r : Result X Error) (f : Error) (returned : Option Error)
+    → IsErrAnd r (λ y. y ≡ f) → (is_memory f ≡ false → returned ≡ Some f)
+    → IfErr r (λ e. is_memory e ≡ false → returned ≡ Some e)
+err_fault (Ok x) f returned is h = tt
+err_fault (Err y) f returned is h =
+    subst (λ (e : Error). is_memory e ≡ false → returned ≡ Some e) (sym is) h
 
 -- what holds where a call answers holds once it did
 pub on_ok : {P X : Type 0} (r : Result X Error) (x : X) → r ≡ Ok x → OnOk r P → P

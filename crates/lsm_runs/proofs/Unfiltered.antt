@@ -105,7 +105,7 @@ pub through_kept : {A O : Type 0} (w : TablesWriting) (o q : O) (outcome : Compa
     → WasNotified (GoesOn {O = O}) w outcome o q → GoesThrough outcome
 through_kept w o q (Tables tables left) h = tt
 through_kept w o q OutOfOrder h = tt
-through_kept w o q Stopped h = never h.1.told.stopped
+through_kept w o q Stopped h = never h.1.returned.stopped
 
 -- ---- so what is given is what the rules keep
 
@@ -180,7 +180,7 @@ module _ {F C : Type 0} (gets : C → Entry → C → Type 0) (rules : Rules) (f
           taken = h.taken;
           follows = h.came.2;
         }
-    came_kept Stopped d h = never h.told.told.stopped
+    came_kept Stopped d h = never h.returned.returned.stopped
 
     pub until_kept : (e : Error)
         → CameUntil (KeepsAll {F = F}) gets rules f c xs w (GoesOn {O = O}) o e q

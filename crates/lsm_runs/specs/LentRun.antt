@@ -23,7 +23,7 @@ pub record Stands {A : Type 0} (reader : Option (Range A)) (x : Result Entry Err
   pub entry : Entry
   pub others : List Entry
   pub front : range.front ≡ entry ∷ others
-  pub told : x ≡ lifted_result range.of.global_seqno entry
+  pub returned : x ≡ lifted_result range.of.global_seqno entry
 
 -- one step of it; an entry in a loaded block is yielded even when out of memory
 pub record ReaderLends {A : Type 0} (s : Option (Range A)) (r : Option (Result Entry Error))

@@ -38,7 +38,7 @@ runs_read key bound found runs = runs_read_by (λ _ tables. run_read key bound t
 -- the result of it
 abbrev pub runs_result : List ℕ → ℕ → Option Entry → List (List OpenTable)
     → Result (Option Entry) Error
-runs_result key bound found runs = (runs_read key bound found runs).told
+runs_result key bound found runs = (runs_read key bound found runs).returned
 
 -- a table's highest seqno, with the global seqno applied
 abbrev pub highest_number : OpenTable → ℕ

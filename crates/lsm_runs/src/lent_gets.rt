@@ -143,7 +143,7 @@ pub fn place_in_runs_counted<A: Allocator + Clone>(
 ) -> (Result<Option<RunPlace>, Error>, Opened)
     // For runs in order, it is the result of reading the runs' tables, whatever their bytes, except
     // for `OutOfMemory`.
-    ensures told { spec.AllByRecursion (spec.IsInOrder spec.range_of)
+    ensures returned { spec.AllByRecursion (spec.IsInOrder spec.range_of)
         (map spec.arc_value runs.now) →
         spec.Gives (spec.option_and_then (spec.placed_in_runs (map spec.arc_value runs.now)))
         result.0 (spec.runs_result key.now seqno None (map spec.arc_value runs.now)) }
@@ -180,9 +180,9 @@ pub fn place_in_runs_counted<A: Allocator + Clone>(
     let mut opened = Opened::none();
     let key_hash = Table::<A>::key_hash(key);
     for (number, run) in runs.iter().enumerate() {
-        let (told, loads) = place_in_run(run, number, key, seqno, key_hash);
+        let (returned, loads) = place_in_run(run, number, key, seqno, key_hash);
         opened = together(opened, loads);
-        match told {
+        match returned {
             Ok(next) => found = leading_place(runs, found, next),
             Err(error) => return (Err(error), opened),
         }
@@ -204,7 +204,7 @@ pub fn place_in_runs<A: Allocator + Clone>(
 ) -> Result<Option<RunPlace>, Error>
     // For runs in order, it is the result of reading the runs' tables, whatever their bytes, except
     // for `OutOfMemory`.
-    ensures told { spec.AllByRecursion (spec.IsInOrder spec.range_of)
+    ensures returned { spec.AllByRecursion (spec.IsInOrder spec.range_of)
         (map spec.arc_value runs.now) →
         spec.Gives (spec.option_and_then (spec.placed_in_runs (map spec.arc_value runs.now))) result
         (spec.runs_result key.now seqno None (map spec.arc_value runs.now)) }
@@ -258,7 +258,7 @@ pub fn get_runs_ref_counted<'a, A: Allocator + Clone>(
 ) -> (Result<Option<EntryRef<'a>>, Error>, Opened)
     // For runs in order, it is the result of reading the runs' tables, whatever their bytes, except
     // for `OutOfMemory`.
-    ensures told { spec.AllByRecursion (spec.IsInOrder spec.range_of)
+    ensures returned { spec.AllByRecursion (spec.IsInOrder spec.range_of)
         (map spec.arc_value runs.now) → spec.Gives (spec.option_map spec.entry_of_ref) result.0
         (spec.runs_result key.now seqno None (map spec.arc_value runs.now)) }
     // For tables of lists, it is the first match in the sorted entries of all lists, global seqnos
@@ -306,7 +306,7 @@ pub fn get_runs_ref<'a, A: Allocator + Clone>(
 ) -> Result<Option<EntryRef<'a>>, Error>
     // For runs in order, it is the result of reading the runs' tables, whatever their bytes, except
     // for `OutOfMemory`.
-    ensures told { spec.AllByRecursion (spec.IsInOrder spec.range_of)
+    ensures returned { spec.AllByRecursion (spec.IsInOrder spec.range_of)
         (map spec.arc_value runs.now) → spec.Gives (spec.option_map spec.entry_of_ref) result
         (spec.runs_result key.now seqno None (map spec.arc_value runs.now)) }
     // For tables of lists, it is the first match in the sorted entries of all lists, global seqnos

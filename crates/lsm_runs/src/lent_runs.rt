@@ -75,10 +75,10 @@ pub fn lend_runs_at<A: Allocator + Clone>(
     // in order up to each run's first error. It lends the newest of these results below `seqno`,
     // merged up to the first error, which comes last.
     ensures places { let advances = ⟦<LentNewestOfRunsAt<A> as Lending>⟧.advances in
-        let told = spec.runs_results_within range.0 range.1 (map spec.arc_value runs.now) in
+        let returned = spec.runs_results_within range.0 range.1 (map spec.arc_value runs.now) in
         spec.AllByRecursion (spec.IsInOrder spec.range_of) (map spec.arc_value runs.now) →
-        spec.AllByRecursion (λ rs. spec.Ascends (spec.entries_among rs)) told →
-        let found = spec.newest_results (spec.merge_of (map (spec.below_results seqno) told)) in
+        spec.AllByRecursion (λ rs. spec.Ascends (spec.entries_among rs)) returned →
+        let found = spec.newest_results (spec.merge_of (map (spec.below_results seqno) returned)) in
         IfOk result (spec.LendsResults advances found) }
     // It may be called any number of times, whatever the tables' bytes.
     ensures can { IfOk result (spec.CanYield ⟦<LentNewestOfRunsAt<A> as Lending>⟧.advances

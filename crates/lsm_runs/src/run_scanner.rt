@@ -136,7 +136,7 @@ impl<A: Allocator + Clone> RunScanner<A> {
             slice_get tables (spec.ends_given tables span).0 ≡ Some t →
             spec.FaultsFirst result (spec.early_scan_fault t) }
         // Except for `OutOfMemory`, the error is the first result of the scans.
-        ensures told { let tables = spec.arc_value run in
+        ensures returned { let tables = spec.arc_value run in
             let left = spec.tables_scan
             (spec.tables_between tables (spec.ends_given tables span)) in
             IfErr result (λ e. spec.is_memory e ≡ false → spec.first left ≡ Some (Err e)) }

@@ -327,7 +327,7 @@ pub fn get_runs_counted<A: Allocator + Clone>(
 ) -> (Result<Option<InternalValue<A>>, Error>, Opened)
     // For runs in order, it is the result of reading the runs' tables, whatever their bytes, except
     // for `OutOfMemory`.
-    ensures told { spec.AllByRecursion (spec.IsInOrder spec.range_of)
+    ensures returned { spec.AllByRecursion (spec.IsInOrder spec.range_of)
         (map spec.arc_value runs.now) → spec.Gives (λ (x : Option spec.Entry). x) result.0
         (spec.runs_result key.now seqno None (map spec.arc_value runs.now)) }
     // For tables of lists, it is the first match in the sorted entries of all lists, global seqnos
@@ -360,9 +360,9 @@ pub fn get_runs_counted<A: Allocator + Clone>(
     let mut opened = Opened::none();
     let key_hash = Table::<A>::key_hash(key);
     for run in runs {
-        let (told, loads) = get_run_counted(run, key, seqno, key_hash);
+        let (returned, loads) = get_run_counted(run, key, seqno, key_hash);
         opened = together(opened, loads);
-        match told {
+        match returned {
             Ok(next) => found = leading(found, next),
             Err(error) => return (Err(error), opened),
         }
@@ -384,7 +384,7 @@ pub fn get_runs<A: Allocator + Clone>(
 ) -> Result<Option<InternalValue<A>>, Error>
     // For runs in order, it is the result of reading the runs' tables, whatever their bytes, except
     // for `OutOfMemory`.
-    ensures told { spec.AllByRecursion (spec.IsInOrder spec.range_of)
+    ensures returned { spec.AllByRecursion (spec.IsInOrder spec.range_of)
         (map spec.arc_value runs.now) → spec.Gives (λ (x : Option spec.Entry). x) result
         (spec.runs_result key.now seqno None (map spec.arc_value runs.now)) }
     // For tables of lists, it is the first match in the sorted entries of all lists, global seqnos
@@ -419,10 +419,10 @@ pub fn get_runs_by_age_counted<A: Allocator + Clone>(
 ) -> (Result<Option<InternalValue<A>>, Error>, Opened)
     // For runs in order, it is the result of reading the tables that are not skipped, whatever
     // their bytes, except for `OutOfMemory`.
-    ensures told { spec.AllByRecursion (spec.IsInOrder spec.range_of)
+    ensures returned { spec.AllByRecursion (spec.IsInOrder spec.range_of)
         (map spec.arc_value runs.now) →
         let read = spec.runs_read_by_age key.now seqno None (map spec.arc_value runs.now) in
-        spec.Gives (λ (x : Option spec.Entry). x) result.0 read.told }
+        spec.Gives (λ (x : Option spec.Entry). x) result.0 read.returned }
     // For tables of lists, it is the first match in the sorted entries of all lists, global seqnos
     // applied.
     ensures list { (lists : List (List (List spec.Entry))) →
@@ -454,9 +454,9 @@ pub fn get_runs_by_age_counted<A: Allocator + Clone>(
     let mut loads = Opened::none();
     let key_hash = Table::<A>::key_hash(key);
     for run in runs {
-        let (told, more) = get_run_behind_counted(run, key, seqno, key_hash, &best);
+        let (returned, more) = get_run_behind_counted(run, key, seqno, key_hash, &best);
         loads = together(loads, more);
-        match told {
+        match returned {
             Ok(next) => best = leading(best, next),
             Err(error) => return (Err(error), loads),
         }
@@ -480,10 +480,10 @@ pub fn get_runs_by_age<A: Allocator + Clone>(
 ) -> Result<Option<InternalValue<A>>, Error>
     // For runs in order, it is the result of reading the tables that are not skipped, whatever
     // their bytes, except for `OutOfMemory`.
-    ensures told { spec.AllByRecursion (spec.IsInOrder spec.range_of)
+    ensures returned { spec.AllByRecursion (spec.IsInOrder spec.range_of)
         (map spec.arc_value runs.now) →
         let read = spec.runs_read_by_age key.now seqno None (map spec.arc_value runs.now) in
-        spec.Gives (λ (x : Option spec.Entry). x) result read.told }
+        spec.Gives (λ (x : Option spec.Entry). x) result read.returned }
     // For tables of lists, it is the first match in the sorted entries of all lists, global seqnos
     // applied.
     ensures list { (lists : List (List (List spec.Entry))) →

@@ -109,7 +109,7 @@ module _ {S A : Type 0} (stops : Error → Bool) (front back : S → Option R �
         → AsksSource ask end i s r t → (ks : List Kept) → Stands stops front back s ks
         → taken ks i end ≡ None → TookOr i ks r t
     asks_took i s t r a ks stands free = subst (λ (q : Result (Unit {0}) Error). TookOr i ks q t)
-        (sym a.told) (by_end end (means a.was a.answer a.is a.asked) a.puts free)
+        (sym a.returned) (by_end end (means a.was a.answer a.is a.asked) a.puts free)
       where
         at_front : (o : Option R) → YieldsFirst stops (Left stops front back) a.was o a.is
             → Puts Front i o s.heap.items t.heap.items → taken ks i Front ≡ None
@@ -250,7 +250,7 @@ module _ {S A : Type 0} (stops : Error → Bool) (front back : S → Option R �
 
       turn_steps : is_ready end s ≡ true → StepOr xs errors r t
       turn_steps now = subst (λ (q : Result (Option Entry) Error). StepOr xs errors q t)
-          (sym k.told) (go end refl)
+          (sym k.returned) (go end refl)
         where
           go : (b : Direction) → end ≡ b → StepOr xs errors
               (entry_result (entry_of k.lead) k.answer) t

@@ -49,25 +49,25 @@ asked_error gives f g x e = elim (is_tombstone_kind x.kind) as
 -- ---- an entry is looked at
 
 record Hidden (k : Option (List ℕ)) (x : Entry) (rs : List R) : Type 0 where
-  pub told : hidden_in k (Ok x ∷ rs) ≡ x ∷ hidden_in k rs
+  pub returned : hidden_in k (Ok x ∷ rs) ≡ x ∷ hidden_in k rs
   pub past : past_hidden k (Ok x ∷ rs) ≡ past_hidden k rs
 
 record Shown (k : Option (List ℕ)) (x : Entry) (rs : List R) : Type 0 where
-  pub told : hidden_in k (Ok x ∷ rs) ≡ []
+  pub returned : hidden_in k (Ok x ∷ rs) ≡ []
   pub past : past_hidden k (Ok x ∷ rs) ≡ Ok x ∷ rs
 
 hides_more : (k : Option (List ℕ)) (x : Entry) (rs : List R) → is_given k x ≡ true → Hidden k x rs
 hides_more None x rs given = let no : false ≡ true = given in absurd cc
 hides_more (Some j) x rs given = record {
-  told = ap (λ (b : Bool). cond b (x ∷ of_key j rs) []) given;
+  returned = ap (λ (b : Bool). cond b (x ∷ of_key j rs) []) given;
   past = hidden_skips j x rs given;
 }
 
 hides_no_more : (k : Option (List ℕ)) (x : Entry) (rs : List R) → is_given k x ≡ false
     → Shown k x rs
-hides_no_more None x rs given = record { told = refl; past = refl }
+hides_no_more None x rs given = record { returned = refl; past = refl }
 hides_no_more (Some j) x rs given = record {
-  told = ap (λ (b : Bool). cond b (x ∷ of_key j rs) []) given;
+  returned = ap (λ (b : Bool). cond b (x ∷ of_key j rs) []) given;
   past = hidden_stops j x rs given;
 }
 
@@ -88,7 +88,7 @@ module _ {F C : Type 0} (gives : F → Entry → Result Verdict Error → F → 
     looks_none none source rules filter callback hidden live next = record {
       answers = [];
       gave = source;
-      told = inl (inl tt, live);
+      returned = inl (inl tt, live);
       idle = λ q n. awake q;
       rules = rules;
       does = λ z l rest more g d ends will.
@@ -114,7 +114,7 @@ module _ {F C : Type 0} (gives : F → Entry → Result Verdict Error → F → 
       looks_hidden given source rules got filter hidden live next = record {
         answers = [];
         gave = source;
-        told = inl (inl tt, live);
+        returned = inl (inl tt, live);
         idle = λ q n. awake q;
         rules = rules;
         does = λ z l rest more g d ends will.
@@ -127,7 +127,7 @@ module _ {F C : Type 0} (gives : F → Entry → Result Verdict Error → F → 
             (subst (λ (rs : List R). CompactedTo gives gets z s.rules s.filter s.callback
             (hidden_in (hidden_key s) (Ok x ∷ rest)) rs more g d) (sym skip.past)
             (subst (λ (is : List Entry). CompactedTo gives gets z s.rules s.filter s.callback is ys
-            more g d) (sym skip.told)
+            more g d) (sym skip.returned)
             (hears_more gives gets z s.rules s.filter g s.callback t.callback d x es ys more got
             (as_here gives gets z s t t.callback es ys more g d rules filter
             (subst (λ (k : Option (List ℕ)). CompactedTo gives gets z t.rules t.filter t.callback
@@ -144,7 +144,7 @@ module _ {F C : Type 0} (gives : F → Entry → Result Verdict Error → F → 
         fresh_it z rest more g d does =
             let stop = hides_no_more (hidden_key s) x rest fresh in
             from_it z rest more g d
-            (will_whole gives gets z s (Ok x ∷ rest) more g d stop.told stop.past does)
+            (will_whole gives gets z s (Ok x ∷ rest) more g d stop.returned stop.past does)
 
         -- it leaves one, which is settled from m on
         pub looks_left : (h : Entry) (r : Option R) → told_by x v ≡ Ok (Some h)
@@ -154,7 +154,7 @@ module _ {F C : Type 0} (gives : F → Entry → Result Verdict Error → F → 
           answers = settles.answers;
           gave = subst (λ (u : S). GaveEach advances u settles.answers t.source) source
               settles.gave;
-          told = elim settles.told [
+          returned = elim settles.returned [
             | inl passing ↦ inl (inl passing.0, passing.1)
             | inr wants ↦ inr wants
           ];
@@ -189,7 +189,7 @@ module _ {F C : Type 0} (gives : F → Entry → Result Verdict Error → F → 
           looks_dropped dropped = record {
             answers = [];
             gave = source;
-            told = inl (inl tt, live);
+            returned = inl (inl tt, live);
             idle = λ q n. awake q;
             rules = rules;
             does = λ z l rest more g d ends will.
@@ -203,7 +203,7 @@ module _ {F C : Type 0} (gives : F → Entry → Result Verdict Error → F → 
           looks_failed e failed = record {
             answers = [];
             gave = source;
-            told = inl (
+            returned = inl (
               inr (record {
                 error = e;
                 is = refl;
@@ -309,7 +309,7 @@ module _ {F C : Type 0} (gives : F → Entry → Result Verdict Error → F → 
   steps_begun s live = record {
     answers = [];
     gave = refl;
-    told = inl (inl tt, live);
+    returned = inl (inl tt, live);
     idle = λ q n. q;
     rules = refl;
     does = λ z l rest more g d ends will. will;
@@ -331,7 +331,7 @@ module _ {F C : Type 0} (gives : F → Entry → Result Verdict Error → F → 
 
     -- what a silent step leaves
     quiet_clean : (before : Quiet) → NoFaults before.answers × (m.is_over ≡ false)
-    quiet_clean before = elim before.told [
+    quiet_clean before = elim before.returned [
       | inl passing ↦ (clean gives None before.answers refl passing.0, passing.1)
       | inr wants ↦ nothing_wanted before.answers wants.0
     ]
@@ -341,7 +341,7 @@ module _ {F C : Type 0} (gives : F → Entry → Result Verdict Error → F → 
       answers = before.answers ++ after.answers;
       gave = each_append advances before.answers after.answers s.source m.source t.source
           before.gave after.gave;
-      told = elim after.told [
+      returned = elim after.returned [
         | inl passing ↦ inl (
           after_clean gives r before.answers after.answers (quiet_clean before).0 passing.0,
           passing.1,

@@ -79,7 +79,7 @@ module _ {F C : Type 0} (gives : F → Entry → Result Verdict Error → F → 
       × StaysOverOr (FilterSays gives) rs calls × (s.is_pending ≡ false → NextIdles rs calls)
   all_result [] s u o each = ([], ap lender each, tt, tt, λ h. tt)
   all_result (r ∷ rs) s u o each =
-      let call = each.1.live o in elim call.step.told [
+      let call = each.1.live o in elim call.step.returned [
         | inl passing ↦
             let passes = passes_of gives r call.step.answers call.ended passing.0 in
             let more = all_result rs each.0 u passing.1 each.2 in (

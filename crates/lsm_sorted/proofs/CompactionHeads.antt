@@ -182,7 +182,7 @@ module _ {F C : Type 0} (gives : F → Entry → Result Verdict Error → F → 
         step = record {
           answers = None ∷ [];
           gave = (t.source, step, refl);
-          told = inl (inl (refl, tt), live);
+          returned = inl (inl (refl, tt), live);
           idle = λ q none. pending ∙ more;
           rules = rules;
           does = λ z l rest after g d ends will.
@@ -198,7 +198,7 @@ module _ {F C : Type 0} (gives : F → Entry → Result Verdict Error → F → 
         step = record {
           answers = Some (Ok x) ∷ [];
           gave = (t.source, step, refl);
-          told = inl (inl (refl, tt), live);
+          returned = inl (inl (refl, tt), live);
           idle = λ q none. let no : Some (Ok x) ≡ None = none.0 in absurd cc;
           rules = rules;
           does = λ z l rest after g d ends will.
@@ -220,7 +220,7 @@ module _ {F C : Type 0} (gives : F → Entry → Result Verdict Error → F → 
         step = record {
           answers = Some (Err e) ∷ [];
           gave = (t.source, step, refl);
-          told = inl (inl (ends_only (Some (Err e))), live);
+          returned = inl (inl (ends_only (Some (Err e))), live);
           idle = λ q none. quiet;
           rules = rules;
           does = λ z l rest after g d ends will.
@@ -247,7 +247,7 @@ module _ {F C : Type 0} (gives : F → Entry → Result Verdict Error → F → 
     settled_memory e head is source rules over = record {
       answers = [];
       gave = source;
-      told = inr ((ap (λ (f : Error). Some (Err f)) is, tt), over);
+      returned = inr ((ap (λ (f : Error). Some (Err f)) is, tt), over);
       rules = rules;
       does = λ z live. let no : true ≡ false = sym over ∙ live in absurd cc;
     }
@@ -352,7 +352,7 @@ module _ {F C : Type 0} (gives : F → Entry → Result Verdict Error → F → 
         keeps_high high plain = record {
           answers = [];
           gave = sym source;
-          told = inl (tt, live);
+          returned = inl (tt, live);
           rules = rules;
           does = λ z l rest gave g d ends will. high_first z rest gave g d high
               (plainly z rest rest gave g d callback plain (looked_next lent t rest next) will);
@@ -364,7 +364,7 @@ module _ {F C : Type 0} (gives : F → Entry → Result Verdict Error → F → 
         keeps_low b low goes hides key = record {
           answers = [];
           gave = sym source;
-          told = inl (passing_of s.rules b head [] tt, live);
+          returned = inl (passing_of s.rules b head [] tt, live);
           rules = rules;
           does = λ z l rest gave g d ends will.
               let then = will_hide z t head.user_key rest gave g d hides key
@@ -391,7 +391,7 @@ module _ {F C : Type 0} (gives : F → Entry → Result Verdict Error → F → 
           settles_fault e next step = record {
             answers = Some (Err e) ∷ [];
             gave = (t.source, step, refl);
-            told = inl (ends_only (Some (Err e)), live);
+            returned = inl (ends_only (Some (Err e)), live);
             rules = rules;
             does = λ z l rest gave g d ends will.
                 alone_first z true (Err e ∷ rest) (Err e ∷ gave) g d refl
@@ -405,7 +405,7 @@ module _ {F C : Type 0} (gives : F → Entry → Result Verdict Error → F → 
           settles_none b evict next step = record {
             answers = None ∷ [];
             gave = (t.source, step, refl);
-            told = inl (passing_of s.rules b head (None ∷ []) (refl, tt), live);
+            returned = inl (passing_of s.rules b head (None ∷ []) (refl, tt), live);
             rules = rules;
             does = λ z l rest gave g d ends will.
                 alone_first z b rest gave g d (ap (key_follows head.user_key) ends.0)
@@ -422,7 +422,7 @@ module _ {F C : Type 0} (gives : F → Entry → Result Verdict Error → F → 
             settles_other b evict other = record {
               answers = Some (Ok y) ∷ [];
               gave = (t.source, step, refl);
-              told = inl (passing_of s.rules b head (Some (Ok y) ∷ []) (refl, tt), live);
+              returned = inl (passing_of s.rules b head (Some (Ok y) ∷ []) (refl, tt), live);
               rules = rules;
               does = λ z l rest gave g d ends will.
                   alone_first z b (Ok y ∷ rest) gave g d other
@@ -437,7 +437,7 @@ module _ {F C : Type 0} (gives : F → Entry → Result Verdict Error → F → 
             settles_high same high = record {
               answers = Some (Ok y) ∷ [];
               gave = (t.source, step, refl);
-              told = inl ((refl, tt), live);
+              returned = inl ((refl, tt), live);
               rules = rules;
               does = λ z l rest gave g d ends will.
                   opens_first z (Ok y ∷ rest) gave g d same high
@@ -454,7 +454,7 @@ module _ {F C : Type 0} (gives : F → Entry → Result Verdict Error → F → 
         settles_low y step got same b goes next hides key low = record {
           answers = Some (Ok y) ∷ [];
           gave = (t.source, step, refl);
-          told = inl (passing_of s.rules b head (Some (Ok y) ∷ []) (refl, tt), live);
+          returned = inl (passing_of s.rules b head (Some (Ok y) ∷ []) (refl, tt), live);
           rules = rules;
           does = λ z l rest gave g d ends will.
               let then = will_hide z t head.user_key rest gave g d hides key

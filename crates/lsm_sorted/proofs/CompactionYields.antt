@@ -96,7 +96,7 @@ module _ {S F C A : Type 0} (advances : S → Option R → S → Type 0) (can : 
     gives_first : (s : LendingCompaction S F C A) (ys : List R) (r : Option R) (t : LendingCompaction S F C A) → Leaves s ys → Next s r t
         → answer_stops stops r ≡ false → (r ≡ first ys) × Leaves t (but_first ys)
     gives_first s ys r t leaves step fine =
-        let call = step.live leaves.live in elim call.step.told [
+        let call = step.live leaves.live in elim call.step.returned [
           | inl passing ↦
               let answers = call.step.answers in
               let calm = reported_calm (FilterSays (KeepsAll {F = F})) stops r answers passing.0 fine in

@@ -16,7 +16,7 @@ module _ {F C : Type 0} (gives : F → Entry → Result Verdict Error → F → 
   filters_tombstone head f c h = record {
     verdict = Ok keep;
     asks = subst (λ (b : Bool). AsksIf gives (not b) f head (Ok keep) f) (sym h) (refl, refl);
-    tells = refl;
+    states = refl;
     reports = refl;
   }
 
@@ -25,9 +25,9 @@ module _ {F C : Type 0} (gives : F → Entry → Result Verdict Error → F → 
       (result : Result (Option Entry) Error) (d : C) → is_tombstone_kind head.kind ≡ false
       → gives f head v g → result ≡ told_by head v → GetsAll gets c (reports_by head v) d
       → Filters gives gets head f c result g d
-  filters_asked head f c v g result d h asked told got = record {
+  filters_asked head f c v g result d h asked returned got = record {
     verdict = v;
     asks = subst (λ (b : Bool). AsksIf gives (not b) f head v g) (sym h) asked;
-    tells = told;
+    states = returned;
     reports = got;
   }

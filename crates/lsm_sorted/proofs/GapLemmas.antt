@@ -136,12 +136,12 @@ module _ (stops : Error → Bool) (errors : List Error) where
         → (stops e ≡ true) ⊎ Contains errors e
     whose e end t v es g runs = elim (stops e) as
         (λ b. stops e ≡ b → (stops e ≡ true) ⊎ Contains errors e)
-        [ true ↦ λ h. inl h | false ↦ λ h. inr (told end runs h) ] refl
+        [ true ↦ λ h. inl h | false ↦ λ h. inr (returned end runs h) ] refl
       where
-        told : (end : Direction) → Runs next next_back t (end ∷ []) (Some (Err e) ∷ []) v
+        returned : (end : Direction) → Runs next next_back t (end ∷ []) (Some (Err e) ∷ []) v
             → stops e ≡ false → Contains errors e
-        told Front runs h = (g.until.answers (Front ∷ []) (Some (Err e) ∷ []) v runs (h, tt)).0
-        told Back runs h = (g.until.answers (Back ∷ []) (Some (Err e) ∷ []) v runs (h, tt)).0
+        returned Front runs h = (g.until.answers (Front ∷ []) (Some (Err e) ∷ []) v runs (h, tt)).0
+        returned Back runs h = (g.until.answers (Back ∷ []) (Some (Err e) ∷ []) v runs (h, tt)).0
 
     pub reported_up_to_gap : (ds : List Direction) (rs : List (Option R)) (t u : T) (es : List Entry)
         → Unfailed t es → Runs next next_back t ds rs u → StopsAtNone false rs → Reported es ds rs

@@ -56,7 +56,7 @@ module _ {T F C : Type 0} (stops : Error → Bool) (Has : T → List R → Type 
         → Turns gives gets rules h b x rs answer k d turn.rest
     turn_of rs answer turn d is e got =
         let known : turned rules (told_by x filters.verdict) rs ≡ turn =
-        ap (λ (o : Result (Option Entry) Error). turned rules o rs) (sym filters.tells) ∙ is in
+        ap (λ (o : Result (Option Entry) Error). turned rules o rs) (sym filters.states) ∙ is in
         record {
           verdict = filters.verdict;
           asks = filters.asks;

@@ -155,7 +155,7 @@ module _ {S : Type 0} (front back : S → Option R → S → Type 0) where
     pub led : S
     pub runs : Runs front back o.source.iter ends answers led
     pub once : StopsAtNone o.source.done answers
-    pub told : (stops : Error → Bool) → NoneStops (answer_stops stops) rs
+    pub returned : (stops : Error → Bool) → NoneStops (answer_stops stops) rs
         → NoneStops (answer_stops stops) answers
     pub holds : (ys : List R) → MayGive o.source.done ys → answers ≡ yield_each ys ends → P (list_of o ys)
 
@@ -166,7 +166,7 @@ module _ {S : Type 0} (front back : S → Option R → S → Type 0) where
     led = o.source.iter;
     runs = refl;
     once = elim o.source.done as (λ b. StopsAtNone b []) [ true ↦ refl | false ↦ tt ];
-    told = λ stops fine. tt;
+    returned = λ stops fine. tt;
     holds = λ ys may e. all (list_of o ys);
   }
 
@@ -184,8 +184,8 @@ module _ {S : Type 0} (front back : S → Option R → S → Type 0) where
         h.gave.each) k.runs;
     once = stops_append o.source.done h.answers k.answers h.gave.once
         (subst (λ (b : Bool). StopsAtNone b k.answers) h.gave.over k.once);
-    told = λ stops fine. none_stop_append (answer_stops stops) h.answers k.answers
-        (h.told stops fine.0) (k.told stops fine.1);
+    returned = λ stops fine. none_stop_append (answer_stops stops) h.answers k.answers
+        (h.returned stops fine.0) (k.returned stops fine.1);
     holds = λ ys may e.
         let p = parts_at k.ends k.answers end h.answers ys e in
         let still : MayGive u.source.done p.left =
@@ -220,7 +220,7 @@ module _ {S : Type 0} (front back : S → Option R → S → Type 0) where
     heard_yielded stops xs g d fine =
         let h = from_start g in
         subst P (append-nil xs) (h.holds xs tt (d.answers h.ends h.answers h.led h.runs
-        (h.told stops fine)))
+        (h.returned stops fine)))
 
 -- ---- where the source may be asked at both ends, calls at the front keep it so
 

@@ -85,8 +85,8 @@ module _ {S : Type 0} (ask : S → Option R → S → Type 0) where
     hears_more r q P Q K s u v easy h k both = record {
       answers = h.answers ++ k.answers;
       gave = gave_append s.source u.source v.source h.answers k.answers h.gave k.gave;
-      told = λ stops fine. none_stop_append (answer_stops stops) h.answers k.answers
-          (h.told stops (easy stops)) (k.told stops fine);
+      returned = λ stops fine. none_stop_append (answer_stops stops) h.answers k.answers
+          (h.returned stops (easy stops)) (k.returned stops fine);
       holds = λ rest may.
           let middle = with_rest end (results_in k.answers) rest in
           let before : MayGive u.source.done middle =
@@ -107,8 +107,8 @@ module _ {S : Type 0} (ask : S → Option R → S → Type 0) where
     hears_as r q P K s t easy h weaker = record {
       answers = h.answers;
       gave = h.gave;
-      told =
-          λ stops fine. h.told stops (easy stops fine);
+      returned =
+          λ stops fine. h.returned stops (easy stops fine);
       holds =
           λ rest may. weaker _ _ (h.holds rest may);
     }
@@ -134,7 +134,7 @@ module _ {S : Type 0} (ask : S → Option R → S → Type 0) where
         once = elim s.source.done as
             (λ b. StopsAtNone b []) [ true ↦ refl | false ↦ tt ];
       };
-      told = λ stops fine. tt;
+      returned = λ stops fine. tt;
       holds = λ rest may. subst (λ (xs : List R). P (list_of s xs) (list_of t rest))
           (sym (rest_only end rest)) (h rest (subst
           (λ (e : Ends S). MayGive e.done rest) same may));
@@ -158,7 +158,7 @@ module _ {S : Type 0} (ask : S → Option R → S → Type 0) where
             once =
                 subst (λ (b : Bool). StopsAtNone b (Some x ∷ [])) (sym e) tt;
           };
-          told = λ stops fine. (fine, tt);
+          returned = λ stops fine. (fine, tt);
           holds = λ rest may. h rest;
         }
 
@@ -184,7 +184,7 @@ module _ {S : Type 0} (ask : S → Option R → S → Type 0) where
             once =
                 subst (λ (b : Bool). StopsAtNone b []) (sym e) refl;
           };
-          told = λ stops fine. tt;
+          returned = λ stops fine. tt;
           holds = λ rest may. at_end rest (subst (λ (b : Bool). MayGive b rest)
               (ap (λ (u : Ends S). u.done) c.1 ∙ e) may);
         }
@@ -196,6 +196,6 @@ module _ {S : Type 0} (ask : S → Option R → S → Type 0) where
             once =
                 subst (λ (b : Bool). StopsAtNone b (None ∷ [])) (sym e) refl;
           };
-          told = λ stops fine. (refl, tt);
+          returned = λ stops fine. (refl, tt);
           holds = λ rest may. at_end rest (subst (λ (b : Bool). MayGive b rest) c.1 may);
         }

@@ -212,12 +212,12 @@ held_found {A} hs ks k b y holds e =
     (arith, holds.once k b, count_some (taken ks k b) y e)) in
     let h = found.0 in
     let at = is_from_true k b h found.2 in
-    let told : taken ks h.source h.end ≡ Some (entry_of h) =
+    let returned : taken ks h.source h.end ≡ Some (entry_of h) =
     subst (λ (x : HeapItem A). taken ks x.source x.end ≡ Some (entry_of x)) found.1.2
     (holds.each found.1.0 h found.1.1) in
     let told' : taken ks k b ≡ Some (entry_of h) =
     subst (λ (i : ℕ). taken ks i b ≡ Some (entry_of h)) at.0
-    (subst (λ (c : Direction). taken ks h.source c ≡ Some (entry_of h)) at.1 told) in
+    (subst (λ (c : Direction). taken ks h.source c ≡ Some (entry_of h)) at.1 returned) in
     let same : Some (entry_of h) ≡ Some y = sym told' ∙ e in
     (h, found.1, at.0, at.1, cc)
 

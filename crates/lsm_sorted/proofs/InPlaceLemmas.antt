@@ -110,8 +110,8 @@ others_set (l ∷ lists) (suc k) rs lt =
     ap (λ (qs : List Placed). places_of None l ++ qs) (others_set lists k rs (omega arith))
 
 -- up to the first error of these
-abbrev told : List Placed → List R
-told ps = up_to_error (map (λ (p : Placed). p.is) (sort_places ps))
+abbrev returned : List Placed → List R
+returned ps = up_to_error (map (λ (p : Placed). p.is) (sort_places ps))
 
 -- ---- lists with no error at their head
 
@@ -141,7 +141,7 @@ reported_fault : (lists : List (List R)) (k : ℕ) (at : Option Entry) (e : Erro
     → ((j : ℕ) → k < j → j < length lists → AllByRecursion (NotBefore at)
     (places_of None (slice_index_or lists j [])))
     → AllByRecursion (NotBefore at) ps
-    → told (others lists k (record { at = at; is = Err e } ∷ ps)) ≡ Err e ∷ []
+    → returned (others lists k (record { at = at; is = Err e } ∷ ps)) ≡ Err e ∷ []
 reported_fault lists k at e ps lt before after least =
     ap (λ (qs : List Placed). up_to_error (map (λ (p : Placed). p.is) qs))
     (first_of_others lists k (record { at = at; is = Err e }) ps lt before after least)
@@ -151,7 +151,7 @@ pub merge_fault : (lists : List (List R)) (k : ℕ) (e : Error) (rs : List R) �
     → slice_index_or lists k [] ≡ Err e ∷ rs
     → ((j : ℕ) → j < k → HasNoFault (slice_index_or lists j [])) → merge_of lists ≡ Err e ∷ []
 merge_fault lists k e rs lt is free =
-    ap told (sym (others_same lists k lt)
+    ap returned (sym (others_same lists k lt)
     ∙ ap (λ (l : List R). others lists k (places_of None l)) is)
     ∙ reported_fault lists k None e (places_of None rs) lt
     (λ j below. fault_free (slice_index_or lists j []) (free j below))
@@ -197,7 +197,7 @@ goes_on : (lists : List (List R)) (k : ℕ) (x : Entry) (rs : List R) → k < le
     (places_of None (slice_index_or lists j [])))
     → ((j : ℕ) → j < k → HasNoFault (slice_index_or lists j []))
     → AllByRecursion (AtMost x) (entries_among rs)
-    → told (others lists k (places_of (Some x) rs)) ≡ told (others lists k (places_of None rs))
+    → returned (others lists k (places_of (Some x) rs)) ≡ returned (others lists k (places_of None rs))
 goes_on lists k x [] lt own before after free least = refl
 goes_on lists k x (Ok y ∷ rs) lt own before after free least = refl
 goes_on lists k x (Err e ∷ rs) lt own before after free least =
@@ -226,19 +226,19 @@ merge_entry lists k x rs lt is own free before after least =
     let late : (j : ℕ) → k < j → j < length lists → AllByRecursion (NotBefore (Some x))
     (places_of None (slice_index_or lists j [])) = λ j above within.
     head_not_before x (slice_index_or lists j []) (free j within) (after j above within) in
-    ap told (sym (others_same lists k lt)
+    ap returned (sym (others_same lists k lt)
     ∙ ap (λ (l : List R). others lists k (places_of None l)) is)
     ∙ ap (λ (qs : List Placed). up_to_error (map (λ (p : Placed). p.is) qs))
     (first_of_others lists k (record { at = Some x; is = Ok x }) (places_of (Some x) rs) lt early
     late (all_not_before x x rs own least))
     ∙ ap (λ (qs : List R). Ok x ∷ qs) (goes_on lists k x rs lt own early late
     (λ j below. free j (omega arith)) least
-    ∙ ap told (others_set lists k rs lt))
+    ∙ ap returned (others_set lists k rs lt))
 
 -- nothing is left of empty lists
 pub merge_nothing : (lists : List (List R))
     → ((j : ℕ) → j < length lists → slice_index_or lists j [] ≡ []) → merge_of lists ≡ []
-merge_nothing lists none = ap told (nothing lists none)
+merge_nothing lists none = ap returned (nothing lists none)
   where
     nothing : (lists : List (List R))
         → ((j : ℕ) → j < length lists → slice_index_or lists j [] ≡ []) → all_placed lists ≡ []

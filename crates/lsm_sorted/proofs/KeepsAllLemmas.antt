@@ -14,7 +14,7 @@ use Rattle.lsm_sorted.specs.declared.compaction.Rules.{Rules}
 use Rattle.lsm_sorted.specs.Compaction.{Judged, JudgedItem, Verdict, Versions, as_is, as_they_are}
 use Rattle.lsm_sorted.specs.Compaction.{asked, asked_of, before, by_key, concat_by, entries}
 use Rattle.lsm_sorted.specs.Compaction.{error_of, expired, given, heads, is_cut, is_version_of}
-use Rattle.lsm_sorted.specs.Compaction.{drop, head_given, items, keep, replace, reported, told}
+use Rattle.lsm_sorted.specs.Compaction.{drop, head_given, items, keep, replace, reported, returned}
 use Rattle.lsm_sorted.specs.Compaction.{told_by, zeroed}
 use Rattle.lsm_sorted.specs.Compacting.{GetsAll, KeepsTombstones, SaysOf}
 use Rattle.lsm_sorted.specs.lending.LentCompaction.{CompactedLent, gone_of_lent, lent_outs}
@@ -223,25 +223,25 @@ module _ (P : Judged → Type 0) (of_stays : (j : Judged) → Stays j → P j) w
   heads_so : (js : List Judged) → AllByRecursion StaysDead js
       → AllByRecursion P (filter (λ j. not (is_tombstone_kind j.entry.kind)) js)
       → AllByRecursion P js
-  heads_so [] dead told = tt
-  heads_so (j ∷ js) dead told = elim (is_tombstone_kind j.entry.kind) as
+  heads_so [] dead returned = tt
+  heads_so (j ∷ js) dead returned = elim (is_tombstone_kind j.entry.kind) as
       (λ b. is_tombstone_kind j.entry.kind ≡ b → AllByRecursion P
       (cond (not b) (j ∷ filter (λ k. not (is_tombstone_kind k.entry.kind)) js)
       (filter (λ k. not (is_tombstone_kind k.entry.kind)) js)) → AllByRecursion P (j ∷ js)) [
         | true ↦ λ e h. (of_stays j (dead.0 e), heads_so js dead.1 h)
         | false ↦ λ e h. (h.0, heads_so js dead.1 h.1)
-      ] refl told
+      ] refl returned
 
   keys_so : (rules : Rules) (vs : List Versions) → EachIn StaysDead vs
       → AllByRecursion P (concat_by (asked_of rules) vs)
       → AllByRecursion (λ v. AllByRecursion P (heads rules.watermark v.versions)) vs
-  keys_so rules [] dead told = tt
-  keys_so rules (v ∷ vs) dead told = (
+  keys_so rules [] dead returned = tt
+  keys_so rules (v ∷ vs) dead returned = (
     heads_so (heads rules.watermark v.versions)
         (each_head StaysDead rules.watermark v.versions dead.0)
-        (all_front P (asked_of rules v) (concat_by (asked_of rules) vs) told),
+        (all_front P (asked_of rules v) (concat_by (asked_of rules) vs) returned),
     keys_so rules vs dead.1
-        (all_behind P (asked_of rules v) (concat_by (asked_of rules) vs) told),
+        (all_behind P (asked_of rules v) (concat_by (asked_of rules) vs) returned),
   )
 
 -- what a filter that keeps every entry lets through, whatever is reported
@@ -295,7 +295,7 @@ given_so : (rules : Rules) (gone : Entry → Bool) (js : List Judged)
 given_so rules gone [] says = tt
 given_so rules gone (j ∷ []) says = head_so rules gone j.entry j.verdict says.0
 given_so rules gone (j ∷ k ∷ ks) says =
-    all_append IsMemoryAtMost (head_given rules (λ x. false) (told j)) (given rules gone (k ∷ ks))
+    all_append IsMemoryAtMost (head_given rules (λ x. false) (returned j)) (given rules gone (k ∷ ks))
     (head_so rules (λ x. false) j.entry j.verdict says.0) (given_so rules gone (k ∷ ks) says.1)
 
 outs_so : (rules : Rules) (vs : List Versions) → Calm vs

@@ -14,7 +14,7 @@ use Rattle.lsm_sorted.proofs.Pairs.{Precedes, Strict}
 use Rattle.lsm_sorted.specs.declared.compaction.Rules.{Rules}
 use Rattle.lsm_sorted.specs.Compaction.{Judged, Verdict, Versions, before, by_key, concat_by}
 use Rattle.lsm_sorted.specs.Compaction.{drop, entries, expired, given, gone, heads, is_cut, keep, kept}
-use Rattle.lsm_sorted.specs.Compaction.{head_given, outs, outs_of, replace, told}
+use Rattle.lsm_sorted.specs.Compaction.{head_given, outs, outs_of, replace, returned}
 use Rattle.lsm_sorted.specs.Compaction.{is_left, unfiltered, zeroed}
 use Rattle.sst_entries.proofs.KeyLemmas.{KeyLe, same_is, same_itself, le_itself}
 use Rattle.sst_entries.proofs.OrderLemmas.{lt_trans}
@@ -204,7 +204,7 @@ own_first j (k ∷ own) rest all over =
 
 module _ (rules : Rules) where
   -- the only head of its key
-  own_kept : (j : Judged) (y : Entry) → told j ≡ Ok (Some y) → (own rest : List Judged)
+  own_kept : (j : Judged) (y : Entry) → returned j ≡ Ok (Some y) → (own rest : List Judged)
       → AllByRecursion (λ k. k.entry.user_key ≡ j.entry.user_key) own
       → follows_in j.entry.user_key (ok_results rest) ≡ false
       → (nat_lt j.entry.seqno rules.watermark ≡ true) ⊎ (own ≡ [])
@@ -245,7 +245,7 @@ module _ (rules : Rules) where
       (more (ws ++ z ∷ []) (subst Ordered (sym (append_assoc ws (z ∷ []) (entries js))) h))
 
   -- what the filter leaves of an entry, and its key and number
-  left_order : (j : Judged) (y : Entry) → told j ≡ Ok (Some y) → y.user_key ≡ j.entry.user_key
+  left_order : (j : Judged) (y : Entry) → returned j ≡ Ok (Some y) → y.user_key ≡ j.entry.user_key
       → y.seqno ≡ j.entry.seqno → (js : List Judged)
       → ((ks : List Judged) → length ks ≤ length js → KeepsOrder ks) → KeepsOrder (j ∷ js)
   left_order j y left key number js smaller ws h =

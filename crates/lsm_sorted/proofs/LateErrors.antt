@@ -277,22 +277,22 @@ module _ {S A : Type 0} (front back : S → Option R → S → Type 0) (ask : S 
   asks_err : (i : ℕ) (s t : Merger S A) (e : Error) → AsksSource ask end i s (Err e) t
       → (ks : List Kept) → Stands stops front back s ks → stops e ≡ false
       → Some (Err e) ≡ nearest end (kept_at ks i).rest
-  asks_err i s t e a ks stands fine = go end a.answer a.told
+  asks_err i s t e a ks stands fine = go end a.answer a.returned
       (means stops a.was a.answer a.is a.asked)
     where
       go : (b : Direction) (o : Option R) → Err e ≡ error_result o
           → YieldsAt b stops (Left stops front back) a.was o a.is
           → Some (Err e) ≡ nearest b (kept_at ks i).rest
-      go Front None told d = absurd cc
-      go Front (Some (Ok x)) told d = absurd cc
-      go Front (Some (Err f)) told d =
+      go Front None returned d = absurd cc
+      go Front (Some (Ok x)) returned d = absurd cc
+      go Front (Some (Err f)) returned d =
           let same : f ≡ e = cc in
           front_err_first stops front back s i a.within a.was a.is a.found ks stands e
           (subst (λ (g : Error). YieldsAt Front stops (Left stops front back) a.was
           (Some (Err g)) a.is) same d) fine
-      go Back None told d = absurd cc
-      go Back (Some (Ok x)) told d = absurd cc
-      go Back (Some (Err f)) told d =
+      go Back None returned d = absurd cc
+      go Back (Some (Ok x)) returned d = absurd cc
+      go Back (Some (Err f)) returned d =
           let same : f ≡ e = cc in
           back_err_last stops front back s i a.within a.was a.is a.found ks stands e
           (subst (λ (g : Error). YieldsAt Back stops (Left stops front back) a.was
@@ -421,7 +421,7 @@ module _ {S A : Type 0} (front back : S → Option R → S → Type 0) (ask : S 
         (Late end stops lists given)
     turn_along = subst (λ (q : Result (Option Entry) Error). MatchResult q
         (λ o. MatchOption o (Unit {0}) (λ x. Along (x ∷ given) t)) (Late end stops lists given))
-        (sym k.told) (go k.answer k.asks)
+        (sym k.returned) (go k.answer k.asks)
       where
         go : (q : Result (Unit {0}) Error) → AsksSource ask end k.lead.source k.mid q t
             → MatchResult (entry_result (entry_of k.lead) q)
@@ -449,18 +449,18 @@ module _ {S A : Type 0} (front back : S → Option R → S → Type 0) (ask : S 
         go (Err e) a = λ fine.
             let o = gone_one end lists (map whole was.kept) given k.lead.source
             (entry_of k.lead) rest was.gone within head in
-            let told = err_whole end (kept_at after k.lead.source) e free
+            let returned = err_whole end (kept_at after k.lead.source) e free
             (asks_err k.lead.source k.mid t e a after stand fine) in
             record {
               place = k.lead.source;
               within = within;
               passed = join_at end o.0 (entry_of k.lead ∷ []);
-              beyond = told.0;
+              beyond = returned.0;
               stands = o.1
                   ∙ ap (λ (rs : List R). join_at end (ok_results
                   (join_at end o.0 (entry_of k.lead ∷ []))) rs)
                   (ap (λ (ls : List (List R)). slice_index_or ls k.lead.source []) (sym wholes)
-                  ∙ get_or-map whole after k.lead.source _ ∙ told.1);
+                  ∙ get_or-map whole after k.lead.source _ ∙ returned.1);
               gave = subst (λ (ys : List Entry). IsWithinBag ys given)
                   (sym (but_farther end o.0 (entry_of k.lead))) o.2;
             }

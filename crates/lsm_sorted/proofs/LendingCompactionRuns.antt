@@ -62,15 +62,15 @@ ends_calm stops r answers ends fine =
 pub reported_calm : (Says : Error → Type 0) (stops : Error → Bool) (r : Option R)
     (answers : List (Option R)) → PassingOr Says r answers → answer_stops stops r ≡ false
     → NoneStops (answer_stops stops) answers
-reported_calm Says stops None answers told fine = elim told [
+reported_calm Says stops None answers returned fine = elim returned [
   | inl faults ↦ no_faults_calm stops answers faults
   | inr says ↦ no_faults_calm stops answers says.none
 ]
-reported_calm Says stops (Some (Ok x)) answers told fine = elim told [
+reported_calm Says stops (Some (Ok x)) answers returned fine = elim returned [
   | inl faults ↦ no_faults_calm stops answers faults
   | inr says ↦ no_faults_calm stops answers says.none
 ]
-reported_calm Says stops (Some (Err e)) answers told fine = elim told [
+reported_calm Says stops (Some (Err e)) answers returned fine = elim returned [
   | inl ends ↦ ends_calm stops (Some (Err e)) answers ends fine
   | inr says ↦ no_faults_calm stops answers says.none
 ]
@@ -266,7 +266,7 @@ module _ {F C : Type 0} (gives : F → Entry → Result Verdict Error → F → 
     run_one : (s u : LendingCompaction S F C A) (r : Option R) → s.is_over ≡ false → Next s r u
         → answer_stops stops r ≡ false → RunsOn s (listed_answer r) r u
     run_one s u r live next fine =
-        let call = next.live live in elim call.step.told [
+        let call = next.live live in elim call.step.returned [
           | inl passing ↦ record {
             part = record {
               answers = call.step.answers;

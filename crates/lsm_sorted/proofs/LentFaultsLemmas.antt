@@ -85,7 +85,7 @@ passes_or_wants (Some (Err e)) answers passes wants =
 
 module _ {S T : Type 0} (advances : S → Option R → S → Type 0) (source_of : T → S) (over : T → Bool)
     (quiet : T → Bool) (next : T → Option R → T → Type 0)
-    (tells : (s : T) (r : Option R) (t : T) → next s r t
+    (states : (s : T) (r : Option R) (t : T) → next s r t
     → CallReports advances source_of over quiet s r t) where
   abbrev Meanwhile : T → T → List (List (Option R)) → Type 0
   Meanwhile s u calls = GaveInCalls advances (source_of s) calls (source_of u)
@@ -106,7 +106,7 @@ module _ {S T : Type 0} (advances : S → Option R → S → Type 0) (source_of 
       × StaysOver rs calls
   all_over [] s u o each = ([], ap source_of each, (tt, tt), tt)
   all_over (r ∷ rs) s u o each =
-      let call = (tells s r each.0 each.1).ended o in
+      let call = (states s r each.0 each.1).ended o in
       let more = all_over rs each.0 u call.1 each.2 in (
         [] ∷ more.0,
         (source_of each.0, sym call.2, more.1),
@@ -123,7 +123,7 @@ module _ {S T : Type 0} (advances : S → Option R → S → Type 0) (source_of 
       × StaysOver rs calls × (quiet s ≡ true → NextIdles rs calls)
   all_result [] s u o each = ([], ap source_of each, tt, tt, λ h. tt)
   all_result (r ∷ rs) s u o each =
-      let call = (tells s r each.0 each.1).live o in elim call.told [
+      let call = (states s r each.0 each.1).live o in elim call.returned [
         | inl passes ↦
             let more = all_result rs each.0 u passes.1 each.2 in (
               call.answers ∷ more.0,

@@ -56,7 +56,7 @@ module _ {S : Type 0} (advances : S → Option R → S → Type 0) where
     hears_fault e live step = record {
       answers = skipped.0 ++ Some (Err e) ∷ [];
       gave = gave (Some (Err e)) step;
-      told = inl ((skipped.0, skipped.1, refl), live);
+      returned = inl ((skipped.0, skipped.1, refl), live);
       idle = λ q none. absurd (fault_comes e (skipped.0 ++ Some (Err e) ∷ [])
           (skipped.0, skipped.1, refl) none);
       rests = λ none. refl;
@@ -66,7 +66,7 @@ module _ {S : Type 0} (advances : S → Option R → S → Type 0) where
     hears_none live step = record {
       answers = skipped.0 ++ None ∷ [];
       gave = gave None step;
-      told = inl ((skipped.0, skipped.1, refl), live);
+      returned = inl ((skipped.0, skipped.1, refl), live);
       idle = λ q none. refl;
       rests = λ none. refl;
     }
@@ -76,7 +76,7 @@ module _ {S : Type 0} (advances : S → Option R → S → Type 0) where
     hears_entry x live step = record {
       answers = skipped.0 ++ Some (Ok x) ∷ [];
       gave = gave (Some (Ok x)) step;
-      told = inl (no_faults_append skipped.0 (Some (Ok x) ∷ []) skipped.1 (refl, tt), live);
+      returned = inl (no_faults_append skipped.0 (Some (Ok x) ∷ []) skipped.1 (refl, tt), live);
       idle = λ q none. last_came (Some (Ok x)) skipped.0 none;
       rests = λ none. refl;
     }
@@ -86,7 +86,7 @@ module _ {S : Type 0} (advances : S → Option R → S → Type 0) where
     memory_for x e is over step = record {
       answers = skipped.0 ++ Some (Ok x) ∷ [];
       gave = gave (Some (Ok x)) step;
-      told = inr (
+      returned = inr (
         (
           ap (λ (f : Error). Some (Err f)) is,
           no_faults_append skipped.0 (Some (Ok x) ∷ []) skipped.1 (refl, tt),

@@ -46,11 +46,11 @@ newest_yielded (Back ∷ ends) es up =
     cc (head, tail)
 
 steps_on : (end : List R → Option R × List R) (r : Option R) (rs : List (Option R)) (xs ys : List R)
-    (told : List R → List (Option R)) → IsStep end r xs ys → rs ≡ told ys
-    → r ∷ rs ≡ (end xs).0 ∷ told (end xs).1
-steps_on end r rs xs ys told h more =
+    (returned : List R → List (Option R)) → IsStep end r xs ys → rs ≡ returned ys
+    → r ∷ rs ≡ (end xs).0 ∷ returned (end xs).1
+steps_on end r rs xs ys returned h more =
     let head : r ≡ (end xs).0 = h.0 in
-    let tail : rs ≡ told (end xs).1 = more ∙ ap told h.1 in
+    let tail : rs ≡ returned (end xs).1 = more ∙ ap returned h.1 in
     cc (head, tail)
 
 module _ {S : Type 0} (front back : S → Option R → S → Type 0)

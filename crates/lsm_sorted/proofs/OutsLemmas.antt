@@ -10,7 +10,7 @@ use Rattle.sst_entries.specs.Stream.{first, ok_results}
 use Rattle.sst_entries.specs.declared.error.Error.{Error}
 use Rattle.lsm_sorted.specs.merge.Ends.{R}
 use Rattle.lsm_sorted.specs.declared.compaction.Rules.{Rules}
-use Rattle.lsm_sorted.specs.Compaction.{Verdict, drop, Judged, JudgedItem, told, is_left}
+use Rattle.lsm_sorted.specs.Compaction.{Verdict, drop, Judged, JudgedItem, returned, is_left}
 use Rattle.lsm_sorted.specs.Compaction.{reports_by, is_cut, heads, expired, zeroed, head_given}
 use Rattle.lsm_sorted.specs.Compaction.{given, Versions, is_version_of, before, by_key, gone}
 use Rattle.lsm_sorted.specs.Compaction.{error_of, entries, reported_heads, reported_of}
@@ -146,7 +146,7 @@ pub begins : (k : Judged) (js : List JudgedItem) → Begins k (by_key (Ok k ∷ 
 begins k js = begins_before k (by_key js)
 
 -- a version that the filter leaves as y, above the watermark or before nothing
-module _ (rules : Rules) (j : Judged) (y : Entry) (left : told j ≡ Ok (Some y)) where
+module _ (rules : Rules) (j : Judged) (y : Entry) (left : returned j ≡ Ok (Some y)) where
   -- it is no cut where it stands at the watermark or above
   high_is_no_cut : nat_lt j.entry.seqno rules.watermark ≡ false → is_cut rules.watermark j ≡ false
   high_is_no_cut high = ap (λ (o : Result (Option Entry) Error). is_left o
@@ -270,7 +270,7 @@ module _ (key : List ℕ) (js : List JudgedItem) (over : follows_in key js ≡ f
   entries_as_is (e ∷ es) = ap (λ (ys : List Entry). e ∷ ys) (entries_as_is es)
 
   -- the last head of a key, which the filter leaves as y
-  module _ (rules : Rules) (j : Judged) (y : Entry) (left : told j ≡ Ok (Some y)) (es : List Entry)
+  module _ (rules : Rules) (j : Judged) (y : Entry) (left : returned j ≡ Ok (Some y)) (es : List Entry)
       (its : j.entry.user_key ≡ key) (all : AllOf key es)
       (last : (nat_lt j.entry.seqno rules.watermark ≡ true) ⊎ (es ≡ [])) where
     -- either it is a cut, or nothing follows
@@ -295,7 +295,7 @@ module _ (key : List ℕ) (js : List JudgedItem) (over : follows_in key js ≡ f
         ap (concat_by (given_of go rules)) (closes j es its all)
         ∙ ap (λ (ys : List R). ys ++ rest) (by_cut
         (λ b V. given_if rules j y left go b V (error_in js)) refl)
-        ∙ ap (λ (zs : List Entry). (head_given rules (go (first zs) (error_in js)) (told j)
+        ∙ ap (λ (zs : List Entry). (head_given rules (go (first zs) (error_in js)) (returned j)
         ++ error_of (error_in js)) ++ rest) (entries_as_is es)
         ∙ ap (λ (o : Result (Option Entry) Error).
         (head_given rules (go (first es) (error_in js)) o ++ error_of (error_in js))

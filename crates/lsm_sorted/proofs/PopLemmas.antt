@@ -214,11 +214,11 @@ module _ {A : Type 0} (hs mid : List (HeapItem A)) (h : HeapItem A) (ks : List K
   abbrev pub without : List Kept
   without = slice_set ks h.source (cleared h.end its)
 
-  told : taken ks h.source h.end ≡ Some (entry_of h)
-  told = held_first hs mid h ks heap pops
+  returned : taken ks h.source h.end ≡ Some (entry_of h)
+  returned = held_first hs mid h ks heap pops
 
   pub within : h.source < length ks
-  within = taken_within ks h.source h.end (entry_of h) told
+  within = taken_within ks h.source h.end (entry_of h) returned
 
   pub without_gone : taken without h.source h.end ≡ None
   without_gone = taken_set_same ks h.source (cleared h.end its) h.end within
@@ -290,7 +290,7 @@ module _ {A : Type 0} (hs mid : List (HeapItem A)) (h : HeapItem A) (ks : List K
             subst (λ (f : Option Entry). Ascends (entries_among
             (one f ++ (its.rest ++ one its.back)))) e own_sorted in
             let last : its.back ≡ Some (entry_of h) =
-            subst (λ (b : Direction). taken ks h.source b ≡ Some (entry_of h)) back told in
+            subst (λ (b : Direction). taken ks h.source b ≡ Some (entry_of h)) back returned in
             let parts : entries_among (its.rest ++ one its.back) ≡ entries_among its.rest
             ++ entry_of h ∷ [] = ap (λ (b : Option Entry). entries_among (its.rest ++ one b))
             last ∙ entries_append its.rest (Ok (entry_of h) ∷ []) in
@@ -299,7 +299,7 @@ module _ {A : Type 0} (hs mid : List (HeapItem A)) (h : HeapItem A) (ks : List K
             absurd (not_both y (entry_of h) under above)
 
     pub least_first : whole its ≡ Ok (entry_of h) ∷ whole (cleared h.end its)
-    least_first = first_whole its h.end (entry_of h) told least_alone
+    least_first = first_whole its h.end (entry_of h) returned least_alone
 
     pub least_merged : union_of (map whole ks) ≡ entry_of h ∷ union_of (map whole without)
     least_merged =
@@ -384,7 +384,7 @@ module _ {A : Type 0} (hs mid : List (HeapItem A)) (h : HeapItem A) (ks : List K
             let above : Above (entry_of h) y = subst (Above (entry_of h)) g.3
             (turn_end g.0 h g.4 (sym g.1) g.2 front) in
             let first : its.front ≡ Some (entry_of h) =
-            subst (λ (b : Direction). taken ks h.source b ≡ Some (entry_of h)) front told in
+            subst (λ (b : Direction). taken ks h.source b ≡ Some (entry_of h)) front returned in
             let asc : Ascends (entry_of h ∷ entries_among (its.rest ++ one its.back)) =
             subst (λ (f : Option Entry). Ascends (entries_among
             (one f ++ (its.rest ++ one its.back)))) first own_sorted in
@@ -397,7 +397,7 @@ module _ {A : Type 0} (hs mid : List (HeapItem A)) (h : HeapItem A) (ks : List K
             absurd (not_both (entry_of h) y over above)
 
     pub greatest_last : whole its ≡ whole (cleared h.end its) ++ Ok (entry_of h) ∷ []
-    greatest_last = last_whole its h.end (entry_of h) told greatest_alone
+    greatest_last = last_whole its h.end (entry_of h) returned greatest_alone
 
     last_parts : entries_among (whole its) ≡ entries_among (whole (cleared h.end its)) ++ entry_of h
         ∷ []

@@ -11,7 +11,7 @@ use Rattle.lsm_sorted.specs.merge.Ends.{R}
 use Rattle.lsm_sorted.specs.Newest.{after_key}
 use Rattle.lsm_sorted.specs.declared.compaction.Rules.{Rules}
 use Rattle.lsm_sorted.specs.Compaction.{Verdict, keep, replace, drop, Judged, JudgedItem, items}
-use Rattle.lsm_sorted.specs.Compaction.{told_by, told, reports_by, goes, zeroed, head_given, gone}
+use Rattle.lsm_sorted.specs.Compaction.{told_by, returned, reports_by, goes, zeroed, head_given, gone}
 use Rattle.lsm_sorted.specs.Compaction.{error_of, outs, reported, asked, as_is, unfiltered}
 use Rattle.lsm_sorted.specs.Compacting.{of_key, key_follows, Turn, head_answer, close, settled}
 use Rattle.lsm_sorted.specs.Compacting.{turned}
@@ -104,7 +104,7 @@ module _ (P : Judged → Type 0) (plain : (x : Entry) → P (as_is x)) (rules : 
   each_unfiltered [] js h = h
   each_unfiltered (e ∷ es) js h = (plain e, each_unfiltered es js h)
 
-  module _ (j : Judged) (y : Entry) (left : told j ≡ Ok (Some y))
+  module _ (j : Judged) (y : Entry) (left : returned j ≡ Ok (Some y))
       (its : j.entry.user_key ≡ y.user_key) (number : j.entry.seqno ≡ y.seqno) where
     -- the head is answered, and an older version is in front
     open_explained : (rs : List R) (js : List JudgedItem) → follows_in y.user_key js ≡ true

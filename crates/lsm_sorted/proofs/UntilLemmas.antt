@@ -16,15 +16,15 @@ fine_for stops (Some (Ok x) ∷ rs) h = (refl, fine_for stops rs h.1)
 fine_for stops (Some (Err e) ∷ rs) h = absurd cc
 
 -- where no answer is an error, what follows is what is told
-reported_by_all : (errors : List Error) (told rs : List (Option R))
-    → NoneStops (answer_stops every_error) rs → Follows errors told rs → rs ≡ told
-reported_by_all errors told [] h f = sym f
+reported_by_all : (errors : List Error) (returned rs : List (Option R))
+    → NoneStops (answer_stops every_error) rs → Follows errors returned rs → rs ≡ returned
+reported_by_all errors returned [] h f = sym f
 reported_by_all errors [] (r ∷ rs) h f = absurd f
-reported_by_all errors (d ∷ told) (None ∷ rs) h f = let one = f.0 in let more =
-    reported_by_all errors told rs h.1 f.2 in cc (one, more)
-reported_by_all errors (d ∷ told) (Some (Ok x) ∷ rs) h f = let one = f.0 in let more =
-    reported_by_all errors told rs h.1 f.1 in cc (one, more)
-reported_by_all errors (d ∷ told) (Some (Err e) ∷ rs) h f = absurd cc
+reported_by_all errors (d ∷ returned) (None ∷ rs) h f = let one = f.0 in let more =
+    reported_by_all errors returned rs h.1 f.2 in cc (one, more)
+reported_by_all errors (d ∷ returned) (Some (Ok x) ∷ rs) h f = let one = f.0 in let more =
+    reported_by_all errors returned rs h.1 f.1 in cc (one, more)
+reported_by_all errors (d ∷ returned) (Some (Err e) ∷ rs) h f = absurd cc
 
 pub yields_until_error : {S : Type 0} (stops : Error → Bool) (front back : S → Option R → S → Type 0)
     (s : S) (xs : List Entry) (errors : List Error) → YieldsUntil stops front back s xs errors

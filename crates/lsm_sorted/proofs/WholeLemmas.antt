@@ -15,7 +15,7 @@ use Rattle.lsm_sorted.specs.merge.Union.{entries_among}
 use Rattle.lsm_sorted.specs.merge.Ends.{R}
 use Rattle.lsm_sorted.specs.declared.compaction.Rules.{Rules}
 use Rattle.lsm_sorted.specs.Compaction.{Verdict, keep, replace, drop, Judged, JudgedItem, items}
-use Rattle.lsm_sorted.specs.Compaction.{told_by, told, is_cut, heads, expired, zeroed, head_given}
+use Rattle.lsm_sorted.specs.Compaction.{told_by, returned, is_cut, heads, expired, zeroed, head_given}
 use Rattle.lsm_sorted.specs.Compaction.{given, Versions, is_version_of, before, by_key, gone}
 use Rattle.lsm_sorted.specs.Compaction.{error_of, entries, outs_of, concat_by, outs, kept, as_is}
 use Rattle.lsm_sorted.specs.Compaction.{as_they_are, unfiltered}
@@ -254,7 +254,7 @@ errorless_given : (rules : Rules) (gone : Entry → Bool) (js : List Judged)
 errorless_given rules gone [] h = refl
 errorless_given rules gone (j ∷ []) h = errorless_given_by rules gone j.entry j.verdict h.0
 errorless_given rules gone (j ∷ k ∷ ks) h = errorless_append
-    (head_given rules (λ x. false) (told j)) (given rules gone (k ∷ ks))
+    (head_given rules (λ x. false) (returned j)) (given rules gone (k ∷ ks))
     (errorless_given_by rules (λ x. false) j.entry j.verdict h.0)
     (errorless_given rules gone (k ∷ ks) h.1)
 

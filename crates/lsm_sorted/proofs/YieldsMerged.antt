@@ -160,17 +160,17 @@ module _ {T : Type 0} (May Ended : T → Type 0)
     Yielded t rs = (xs : List Entry) × (rs ≡ ok_results xs) × Has stops t xs []
 
     -- without errors to come, one call gives the entry of its end
-    one_yielded : (step : Option Entry × List Entry) (told : Option R) (others : List R)
-        → told ≡ option_map (λ x. Ok x) step.0 → others ≡ ok_results step.1
+    one_yielded : (step : Option Entry × List Entry) (returned : Option R) (others : List R)
+        → returned ≡ option_map (λ x. Ok x) step.0 → others ≡ ok_results step.1
         → (step.0 ≡ None → step.1 ≡ []) → (r : Option R) (t : T)
-        → MergeAnswer (Has stops) step [] r t → (r ≡ told) × Yielded t others
-    one_yielded step told others tells leaves ends None t a = (
-      sym (tells ∙ ap (option_map (λ x. Ok x)) a.0),
+        → MergeAnswer (Has stops) step [] r t → (r ≡ returned) × Yielded t others
+    one_yielded step returned others states leaves ends None t a = (
+      sym (states ∙ ap (option_map (λ x. Ok x)) a.0),
       ([], leaves ∙ ap ok_results (ends a.0), a.2),
     )
-    one_yielded step told others tells leaves ends (Some (Ok x)) t a =
-        (sym (tells ∙ ap (option_map (λ y. Ok y)) a.0), (step.1, leaves, a.1))
-    one_yielded step told others tells leaves ends (Some (Err e)) t a = absurd (omega (arith, a.0.1))
+    one_yielded step returned others states leaves ends (Some (Ok x)) t a =
+        (sym (states ∙ ap (option_map (λ y. Ok y)) a.0), (step.1, leaves, a.1))
+    one_yielded step returned others states leaves ends (Some (Err e)) t a = absurd (omega (arith, a.0.1))
 
     none_left : (xs : List Entry) → first xs ≡ None → but_first xs ≡ []
     none_left [] e = refl
@@ -211,23 +211,23 @@ module _ {T : Type 0} (May Ended : T → Type 0)
         (λ h. nothing_more ends rs runs.0 t h runs.2 fine.1)
 
     -- one answer, and those after it
-    one_followed : (errors : List Error) (step : Option Entry × List Entry) (told : Option R)
-        (others : List (Option R)) → told ≡ option_map (λ x. Ok x) step.0
+    one_followed : (errors : List Error) (step : Option Entry × List Entry) (returned : Option R)
+        (others : List (Option R)) → returned ≡ option_map (λ x. Ok x) step.0
         → (step.0 ≡ None → step.1 ≡ []) → (r : Option R) (rs : List (Option R)) (t : T)
         → MergeAnswer (Has stops) step errors r t
         → (Has stops t step.1 errors → Follows errors others rs)
         → (Has stops t [] [] → AllByRecursion (λ q. q ≡ None) rs)
-        → Follows errors (told ∷ others) (r ∷ rs)
-    one_followed errors step told others tells ends None rs t a more nothing = (
-      tells ∙ ap (option_map (λ x. Ok x)) a.0,
+        → Follows errors (returned ∷ others) (r ∷ rs)
+    one_followed errors step returned others states ends None rs t a more nothing = (
+      states ∙ ap (option_map (λ x. Ok x)) a.0,
       a.1,
       more
           (subst (λ (es : List Error). Has stops t step.1 es) (sym a.1)
           (subst (λ (xs : List Entry). Has stops t xs []) (sym (ends a.0)) a.2)),
     )
-    one_followed errors step told others tells ends (Some (Ok x)) rs t a more nothing =
-        (tells ∙ ap (option_map (λ y. Ok y)) a.0, more a.1)
-    one_followed errors step told others tells ends (Some (Err e)) rs t a more nothing =
+    one_followed errors step returned others states ends (Some (Ok x)) rs t a more nothing =
+        (states ∙ ap (option_map (λ y. Ok y)) a.0, more a.1)
+    one_followed errors step returned others states ends (Some (Err e)) rs t a more nothing =
         (a.0, nothing a.1)
 
     follows : (errors : List Error) (ends : List Direction) (rs : List (Option R)) (s t : T)

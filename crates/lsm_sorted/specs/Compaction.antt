@@ -42,8 +42,8 @@ told_by x (Ok (replace kind value)) =
 told_by x (Ok drop) = Ok None
 told_by x (Err e) = Err e
 
-abbrev pub told : Judged → Result (Option Entry) Error
-told j = told_by j.entry j.verdict
+abbrev pub returned : Judged → Result (Option Entry) Error
+returned j = told_by j.entry j.verdict
 
 -- the filter passes an entry
 abbrev pub is_left : Result (Option Entry) Error → Bool
@@ -61,7 +61,7 @@ reports_by x (Err e) = []
 -- a version that passes the filter, with a seqno below the watermark, hides all older ones from
 -- every reader
 abbrev pub is_cut : ℕ → Judged → Bool
-is_cut watermark j = is_left (told j) && nat_lt j.entry.seqno watermark
+is_cut watermark j = is_left (returned j) && nat_lt j.entry.seqno watermark
 
 -- the versions of a key up to and including the first cut, or all of them
 abbrev pub heads : ℕ → List Judged → List Judged
@@ -109,8 +109,8 @@ head_given rules gone (Err e) = Err e ∷ []
 -- the output for the heads of a key, where only the last may be removed
 abbrev pub given : Rules → (Entry → Bool) → List Judged → List R
 given rules gone [] = []
-given rules gone (j ∷ []) = head_given rules gone (told j)
-given rules gone (j ∷ k ∷ ks) = head_given rules (λ x. false) (told j) ++ given rules gone (k ∷ ks)
+given rules gone (j ∷ []) = head_given rules gone (returned j)
+given rules gone (j ∷ k ∷ ks) = head_given rules (λ x. false) (returned j) ++ given rules gone (k ∷ ks)
 
 -- the successive versions of one key, and the error that follows them, if any
 pub record Versions : Type 0 where

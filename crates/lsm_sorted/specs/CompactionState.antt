@@ -176,5 +176,5 @@ pub record Filters {F C : Type 0} (gives : F → Entry → Result Verdict Error 
     (result : Result (Option Entry) Error) (g : F) (d : C) : Type 0 where
   pub verdict : Result Verdict Error
   pub asks : Asks gives f head verdict g
-  pub tells : result ≡ told_by head verdict
+  pub states : result ≡ told_by head verdict
   pub reports : GetsAll gets c (reports_by head verdict) d

@@ -26,7 +26,7 @@ module _ {S : Type 0} (ask : S → Option R → S → Type 0) where
       : Type 0 where
     pub answers : List (Option R)
     pub gave : Gave s.source answers t.source
-    pub told : (stops : Error → Bool) → answer_stops stops r ≡ false
+    pub returned : (stops : Error → Bool) → answer_stops stops r ≡ false
         → NoneStops (answer_stops stops) answers
     pub holds : (rest : List R) → MayGive t.source.done rest
         → P (list_of s (with_rest end (results_in answers) rest)) (list_of t rest)

@@ -148,4 +148,4 @@ module _ {A : Type 0} (target : ℕ) (ids : Option ℕ) (fs : List (FinishedTabl
   run_works works = rw works refl
 
   pub works_first : failed ≡ false → (x : Error) → failed_fault failed ≡ Some x → ⊥
-  works_first works x told = none_some x (rw works at told)
+  works_first works x returned = none_some x (rw works at returned)

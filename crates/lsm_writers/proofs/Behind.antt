@@ -85,9 +85,9 @@ pub front_same : (w u x : Written) → take (length w.bytes) u.bytes ≡ w.bytes
 front_same w u x before e = ap (λ (y : Written). take (length w.bytes) y.bytes) e ∙ before
 
 -- where nothing is refused but want of memory, no fault is told
-pub faults_none : {X : Type 0} (r : Result X Error) (told : Option Error) → told ≡ None
-    → IfErr r (λ e. e ≡ OutOfMemory) → Faults r told
-faults_none (Ok x) told none memory = none
-faults_none (Err e) told none memory = λ h.
+pub faults_none : {X : Type 0} (r : Result X Error) (returned : Option Error) → returned ≡ None
+    → IfErr r (λ e. e ≡ OutOfMemory) → Faults r returned
+faults_none (Ok x) returned none memory = none
+faults_none (Err e) returned none memory = λ h.
     let both : true ≡ false = sym (ap is_memory memory) ∙ h in
     absurd cc

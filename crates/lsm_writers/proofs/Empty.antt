@@ -163,9 +163,9 @@ module _ (w : Registered) (kind : IndexKind) (hs : List Handle) (failed : Bool)
 
   pub empty_fault : failed ≡ false → index_fault w.kind w.failed w.handles ≡ None
   empty_fault works =
-      let told : kind_fault kind hs ≡ None = ap (λ (xs : List Handle). kind_fault kind xs) none
+      let returned : kind_fault kind hs ≡ None = ap (λ (xs : List Handle). kind_fault kind xs) none
       ∙ no_kind_fault kind in
-      works_fault {X = ℕ} (Ok 0) w kind hs failed view works told
+      works_fault {X = ℕ} (Ok 0) w kind hs failed view works returned
 
 -- what was written before stays at the front
 pub empty_front : (w x : Written) (ss : Sections) → x ≡ appended w ss

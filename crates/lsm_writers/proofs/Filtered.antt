@@ -219,8 +219,8 @@ pub rising_now : (policy : BloomConstructionPolicy) (starts r : Bool) (keys : Li
     (key : List ℕ) → r ≡ (nat_lt 0 (tenths_of policy) && starts) → r ≡ true
     → AreRising (keys ++ registered_key policy starts key)
     → AreRising (keys ++ key ∷ [])
-rising_now policy starts r keys key is told rising =
-    subst (λ (b : Bool). AreRising (keys ++ cond b (key ∷ []) [])) (sym is ∙ told) rising
+rising_now policy starts r keys key is returned rising =
+    subst (λ (b : Bool). AreRising (keys ++ cond b (key ∷ []) [])) (sym is ∙ returned) rising
 
 -- so an optional writer has it, where the call was not refused
 pub registered_in : {A X : Type 0} (r : Result X Error) (kind : FilterKind)
@@ -294,14 +294,14 @@ pub registered_first : {A : Type 0} (kind : FilterKind) (policy : BloomConstruct
     (keys : List (List ℕ)) (key : List ℕ) → o ≡ Some v → keys ≡ []
     → r ≡ (nat_lt 0 (tenths_of policy) && starts) → r ≡ true → HasKeys kind policy v (key ∷ [])
     → MayHaveKeys kind policy o (keys ++ registered_key policy starts key)
-registered_first {A} kind policy o v starts r keys key e none is told h =
+registered_first {A} kind policy o v starts r keys key e none is returned h =
     let some : key ∷ [] ≡ [] → ⊥ = λ no. absurd cc in
     let one : MayHaveKeys kind policy (Some v) (keys ++ key ∷ []) =
     subst (λ (ks : List (List ℕ)). MayHaveKeys kind policy (Some v) (ks ++ key ∷ [])) (sym none)
     (some, h) in
     let all : MayHaveKeys kind policy (Some v) (keys ++ registered_key policy starts key) =
     subst (λ (b : Bool). MayHaveKeys kind policy (Some v) (keys ++ cond b (key ∷ []) []))
-    (sym told ∙ is) one in
+    (sym returned ∙ is) one in
     subst (λ (p : Option (FilterWriterImpl A)). MayHaveKeys kind policy p
     (keys ++ registered_key policy starts key)) (sym e) all
 
@@ -341,10 +341,10 @@ pub finish_refuses : {A : Type 0} (r : Result ℕ Error) (kind : FilterKind)
     → Faults r (filter_fault kind policy keys)
 finish_refuses r kind policy w keys h refused =
     let given = given_by kind policy keys in
-    let told : option_or (failed_fault (failed_by w)) (given_fault (kind_by w) (policy_by w) given)
+    let returned : option_or (failed_fault (failed_by w)) (given_fault (kind_by w) (policy_by w) given)
     ≡ filter_fault kind policy keys = rw (h.works, h.kind_is, h.policy_is)
     (fault_same kind policy keys) in
-    subst (λ (f : Option Error). Faults r f) told (refused given h.holds)
+    subst (λ (f : Option Error). Faults r f) returned (refused given h.holds)
 
 -- ---- the steps of writing an entry
 

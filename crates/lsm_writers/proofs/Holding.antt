@@ -319,11 +319,11 @@ pub rest_fault_for : {X : Type 0} (result : Result X Error) (w : CutParts) (give
     → Faults result (fault_for (tenths_of policy) (length hashes)) →
     Faults result (keys_fault w.policy given.pending)
 rest_fault_for result w given key policy hashes h some same held fault =
-    let told : keys_fault w.policy given.pending ≡ fault_for (tenths_of policy) (length hashes) =
+    let returned : keys_fault w.policy given.pending ≡ fault_for (tenths_of policy) (length hashes) =
     rest_fault_some w given key h some
     ∙ ap (λ (p : BloomConstructionPolicy). fault_for (tenths_of p) (length w.hashes)) (sym same)
     ∙ ap (λ (hs : List ℕ). fault_for (tenths_of policy) (length hs)) (sym held) in
-    subst (λ x. Faults result x) (sym told) fault
+    subst (λ x. Faults result x) (sym returned) fault
 
 -- the last key that is taken is the one that was kept
 pub taken_key : (kept taken : Option (List ℕ)) (key : List ℕ) {end_key : List ℕ}

@@ -6,22 +6,22 @@ use Rattle.sst_entries.specs.declared.error.Error.{Error}
 use Rattle.sst_entries.specs.declared.error.Error.TheVariants.{OutOfMemory}
 use Rattle.sst_entries.proofs.Refusals.{memory_is}
 
-memory_or : (e : Error) (told : Option Error) (b : Bool) → is_memory e ≡ b → told ≡ None
-    → (is_memory e ≡ false → told ≡ Some e) → e ≡ OutOfMemory
-memory_or e told true m none h = memory_is e m
-memory_or e told false m none h = let no : None ≡ Some e = sym none ∙ h m in cc
+memory_or : (e : Error) (returned : Option Error) (b : Bool) → is_memory e ≡ b → returned ≡ None
+    → (is_memory e ≡ false → returned ≡ Some e) → e ≡ OutOfMemory
+memory_or e returned true m none h = memory_is e m
+memory_or e returned false m none h = let no : None ≡ Some e = sym none ∙ h m in cc
 
 -- where no fault is told, a refusal is want of memory
-pub memory_alone : {X : Type 0} (r : Result X Error) (told : Option Error) → told ≡ None
-    → Faults r told → IfErr r (λ e. e ≡ OutOfMemory)
-memory_alone (Ok x) told none h = tt
-memory_alone (Err e) told none h = memory_or e told (is_memory e) refl none h
+pub memory_alone : {X : Type 0} (r : Result X Error) (returned : Option Error) → returned ≡ None
+    → Faults r returned → IfErr r (λ e. e ≡ OutOfMemory)
+memory_alone (Ok x) returned none h = tt
+memory_alone (Err e) returned none h = memory_or e returned (is_memory e) refl none h
 
 -- so of the refusal itself
 pub refused_alone : {X : Type 0} (r : Result X Error) (e : Error) → r ≡ Err e
     → IfErr r (λ x. x ≡ OutOfMemory) → e ≡ OutOfMemory
-refused_alone {X} r e is told = subst (λ (t : Result X Error). IfErr t (λ x. x ≡ OutOfMemory)) is
-    told
+refused_alone {X} r e is returned = subst (λ (t : Result X Error). IfErr t (λ x. x ≡ OutOfMemory)) is
+    returned
 
 -- what follows from a call's refusal
 pub err_then : {X E P Q R : Type 0} (r : Result X E) → OnErr r P → OnErr r Q → (P → Q → R)

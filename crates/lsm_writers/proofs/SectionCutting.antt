@@ -42,7 +42,7 @@ pub record Done (all rest : List (List Handle)) (before now : Written)
   pub done : List (List Handle)
   pub parts : all ≡ done ++ rest
   pub written : now ≡ record before { bytes = before.bytes ++ blocks done }
-  pub told : tops ≡ index_tops V4 (length before.bytes) done
+  pub returned : tops ≡ index_tops V4 (length before.bytes) done
   pub short : length (blocks done) < 2 ^ 32
   pub fault : parts_fault 0 all ≡ parts_fault (length (blocks done)) rest
 
@@ -52,7 +52,7 @@ done_none all w tops none = record {
   done = [];
   parts = refl;
   written = ap (λ (bs : List ℕ). record w { bytes = bs }) (sym (append-nil w.bytes));
-  told = none;
+  returned = none;
   short = omega arith;
   fault = refl;
 }
@@ -99,7 +99,7 @@ module _ (all rest : List (List Handle)) (before now : Written) (tops : List Han
       → tops' ≡ tops ++ index_tops V4 (length now.bytes) (part ∷ []) →
       length (handles_block V4 part) ≡ index_block_bound_of part → length next.bytes - base < 2 ^ 32
       → part_fault (length now.bytes - base) part ≡ None → Done all rest before next tops'
-  part_done next tops' wrote tells bound short none =
+  part_done next tops' wrote states bound short none =
       let block = handles_block V4 part in
       let len = done_length all (part ∷ rest) before now tops d in
       let more : blocks (d.done ++ part ∷ []) ≡ blocks d.done ++ block =
@@ -118,8 +118,8 @@ module _ (all rest : List (List Handle)) (before now : Written) (tops : List Han
             ∙ ap (λ (bs : List ℕ). record before { bytes = bs })
             (append_assoc before.bytes (blocks d.done) block
             ∙ ap (λ (b : List ℕ). before.bytes ++ b) (sym more));
-        told = tells ∙ ap (λ (ts : List Handle). ts ++ index_tops V4 (length now.bytes) (part ∷ []))
-            d.told
+        returned = states ∙ ap (λ (ts : List Handle). ts ++ index_tops V4 (length now.bytes) (part ∷ []))
+            d.returned
             ∙ ap (λ (n : ℕ). index_tops V4 (length before.bytes) d.done
             ++ index_tops V4 n (part ∷ [])) len
             ∙ sym (tops_push (length before.bytes) d.done part);
@@ -138,7 +138,7 @@ module _ (all : List (List Handle)) (before now : Written) (tops : List Handle)
   all_written = d.written ∙ ap (λ ps. record before { bytes = before.bytes ++ blocks ps }) whole
 
   pub all_result : tops ≡ index_tops V4 (length before.bytes) all
-  all_result = d.told ∙ ap (λ ps. index_tops V4 (length before.bytes) ps) whole
+  all_result = d.returned ∙ ap (λ ps. index_tops V4 (length before.bytes) ps) whole
 
   pub all_short : length (blocks all) < 2 ^ 32
   all_short = subst (λ ps. length (blocks ps) < 2 ^ 32) whole d.short

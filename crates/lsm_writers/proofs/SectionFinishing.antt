@@ -52,9 +52,9 @@ module _ (hs now : List Handle) (limit : ℕ) (is : now ≡ hs) where
   -- their section was begun and written, and the top level has `tops`
   module _ (w u v : Written) (tops given : List Handle)
       (begun : u ≡ record w { started = w.started ++ (Index, length w.bytes) ∷ [] })
-      (told : tops ≡ index_tops V4 (length u.bytes) parts_now) (same : given ≡ tops) where
+      (returned : tops ≡ index_tops V4 (length u.bytes) parts_now) (same : given ≡ tops) where
     reported_now : given ≡ index_tops V4 (length w.bytes) parts
-    reported_now = same ∙ told ∙ ap (λ ps. index_tops V4 (length u.bytes) ps) same_parts
+    reported_now = same ∙ returned ∙ ap (λ ps. index_tops V4 (length u.bytes) ps) same_parts
         ∙ ap (λ (y : Written). index_tops V4 (length y.bytes) parts) begun
 
     pub top_strict : AreStrictHandles hs → AreStrictHandles given
@@ -112,12 +112,12 @@ works_fault r w kind hs failed view works fault =
 
 pub works_first : {X : Type 0} (r : Result X Error) (inside failed : Bool) → inside ≡ failed
     → inside ≡ false → FaultsFirst r (failed_fault failed)
-works_first r inside failed same works = λ e told. absurd
-    (none_result failed e (sym same ∙ works) told)
+works_first r inside failed same works = λ e returned. absurd
+    (none_result failed e (sym same ∙ works) returned)
   where
     none_result : (failed : Bool) (e : Error) → failed ≡ false → failed_fault failed ≡ Some e → ⊥
-    none_result true e works told = cc
-    none_result false e works told = cc
+    none_result true e works returned = cc
+    none_result false e works returned = cc
 
 -- what a part refuses behind others: its block, then the section so far
 pub part_refused : {X : Type 0} (r : Result X Error) (e : Error) (before : ℕ) (part : List Handle)
@@ -140,9 +140,9 @@ module _ (w x : Written) (base : ℕ) (part : List Handle) (block : List ℕ)
     behind,
   )
 
-  told : (large : Bool) → nat_le (2 ^ 32) (length x.bytes - base) ≡ large
+  returned : (large : Bool) → nat_le (2 ^ 32) (length x.bytes - base) ≡ large
       → part_fault (length w.bytes - base) part ≡ (if large then Some SectionTooLarge else None)
-  told large is =
+  returned large is =
       ap (λ (f : Option Error). option_or f (section_fault
       (length w.bytes - base + index_block_bound_of part))) fits
       ∙ ap (λ (n : ℕ). section_fault n) so_far ∙ ap
@@ -150,7 +150,7 @@ module _ (w x : Written) (base : ℕ) (part : List Handle) (block : List ℕ)
 
   pub part_large : 2 ^ 32 ≤ length x.bytes - base
       → part_fault (length w.bytes - base) part ≡ Some SectionTooLarge
-  part_large le = told true (grind (arith, nat_tests, le))
+  part_large le = returned true (grind (arith, nat_tests, le))
 
   pub part_fits : length x.bytes - base < 2 ^ 32 → part_fault (length w.bytes - base) part ≡ None
-  part_fits lt = told false (grind (arith, nat_tests, lt))
+  part_fits lt = returned false (grind (arith, nat_tests, lt))

@@ -253,11 +253,11 @@ pub full_fault : (r : Result ℕ Error) (policy : BloomConstructionPolicy) (hash
     → Faults r (fault_for (tenths_of policy) (length hashes)) →
     Faults r (option_or (failed_fault w.failed) (given_fault Full w.policy given))
 full_fault r policy hashes w given same held some works h fault =
-    let told : option_or (failed_fault w.failed) (given_fault Full w.policy given)
+    let returned : option_or (failed_fault w.failed) (given_fault Full w.policy given)
     ≡ fault_for (tenths_of policy) (length hashes) =
     ap (λ (b : Bool). option_or (failed_fault b) (keys_fault w.policy given.pending)) works
     ∙ full_result policy hashes w given same held some h in
-    subst (λ x. Faults r x) (sym told) fault
+    subst (λ x. Faults r x) (sym returned) fault
 
 -- a filter that is too large is found first
 pub full_first : (r : Result ℕ Error) (policy : BloomConstructionPolicy) (hashes : List ℕ)
@@ -625,9 +625,9 @@ spent_result inside failed other same spent = rw (sym same ∙ spent) refl
 
 pub spent_first : (inside failed : Bool) (e : Error) → inside ≡ failed → inside ≡ true
     → failed_fault failed ≡ Some e → Some e ≡ Some WriterFailed
-spent_first inside failed e same spent told =
+spent_first inside failed e same spent returned =
     let fault : failed_fault failed ≡ Some WriterFailed = rw (sym same ∙ spent) refl in
-    sym told ∙ fault
+    sym returned ∙ fault
 
 -- what is left waiting
 pub rest_refused : {X : Type 0} (r : Result X Error) (e : Error) (size : ℕ)
@@ -662,6 +662,6 @@ pub written_blocks : (r : Result ℕ Error) (P Q : Type 0) (R S : ℕ → Type 0
 written_blocks (Ok n) P Q R S p q h step = step n p q h
 written_blocks (Err e) P Q R S p q h step = tt
 
-pub faults_same : (r : Result ℕ Error) (told other : Option Error) → told ≡ other → Faults r other
-    → Faults r told
-faults_same r told other e h = subst (λ x. Faults r x) (sym e) h
+pub faults_same : (r : Result ℕ Error) (returned other : Option Error) → returned ≡ other → Faults r other
+    → Faults r returned
+faults_same r returned other e h = subst (λ x. Faults r x) (sym e) h

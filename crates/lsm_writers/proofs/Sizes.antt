@@ -20,41 +20,41 @@ use Rattle.lsm_writers.specs.section.FilterRefusing.{size_fault, top_fault}
 -- ---- a fault that comes before any want of memory
 
 -- none is told
-pub first_none : {X : Type 0} (r : Result X Error) (told : Option Error) → told ≡ None
-    → FaultsFirst r told
-first_none r told none = λ e is. absurd cc
+pub first_none : {X : Type 0} (r : Result X Error) (returned : Option Error) → returned ≡ None
+    → FaultsFirst r returned
+first_none r returned none = λ e is. absurd cc
 
 -- it is the refusal that is passed on
-pub first_passed : {X : Type 0} (r : Result X Error) (e : Error) (told : Option Error)
-    → IsErrAnd r (λ y. y ≡ e) → told ≡ Some e → FaultsFirst r told
-first_passed (Ok x) e told is fault = absurd is
-first_passed (Err y) e told is fault = λ first same. cc
+pub first_passed : {X : Type 0} (r : Result X Error) (e : Error) (returned : Option Error)
+    → IsErrAnd r (λ y. y ≡ e) → returned ≡ Some e → FaultsFirst r returned
+first_passed (Ok x) e returned is fault = absurd is
+first_passed (Err y) e returned is fault = λ first same. cc
 
 -- of a writer that has failed, and of one that works
-pub first_failed : (X : Type 0) (failed : Bool) (told : Option Error) → failed ≡ true
-    → FaultsFirst {X = X} (Err WriterFailed) (option_or (failed_fault failed) told)
-first_failed X failed told is =
+pub first_failed : (X : Type 0) (failed : Bool) (returned : Option Error) → failed ≡ true
+    → FaultsFirst {X = X} (Err WriterFailed) (option_or (failed_fault failed) returned)
+first_failed X failed returned is =
     first_passed {X = X} (Err WriterFailed) WriterFailed _ refl (rw is refl)
 
-pub first_works : {X : Type 0} (r : Result X Error) (failed : Bool) (told : Option Error)
-    → failed ≡ false → FaultsFirst r told → FaultsFirst r (option_or (failed_fault failed) told)
-first_works r failed told is first = rw is first
+pub first_works : {X : Type 0} (r : Result X Error) (failed : Bool) (returned : Option Error)
+    → failed ≡ false → FaultsFirst r returned → FaultsFirst r (option_or (failed_fault failed) returned)
+first_works r failed returned is first = rw is first
 
 -- ---- what is too large
 
 -- without keys nothing is too large
 pub sizes_none : (size : ℕ) (policy : BloomConstructionPolicy) (e : Error)
     → size_fault (Partitioned size) policy no_keys ≡ Some e → ⊥
-sizes_none size policy e told = cc
+sizes_none size policy e returned = cc
 
 -- what is too large is refused
 size_given : (size : ℕ) (policy : BloomConstructionPolicy) (given : GivenKeys) (e : Error)
     → size_fault (Partitioned size) policy given ≡ Some e
     → given_fault (Partitioned size) policy given ≡ Some e
-size_given size policy given e told =
+size_given size policy given e returned =
     let parts = key_parts_of policy given in
     of (keys_fault policy given.pending) (section_fault (key_parts_bound parts))
-    (top_fault (map last_of_keys (keys_in parts))) told
+    (top_fault (map last_of_keys (keys_in parts))) returned
   where
     of : (filter section top : Option Error) → option_or filter section ≡ Some e
         → option_or filter (option_or section top) ≡ Some e
@@ -67,8 +67,8 @@ pub size_refused : {X : Type 0} (r : Result X Error) (e : Error) (size : ℕ)
     → IsErrAnd r (λ y. y ≡ e) → failed ≡ false
     → size_fault (Partitioned size) policy given ≡ Some e →
     Faults r (option_or (failed_fault failed) (given_fault (Partitioned size) policy given))
-size_refused r e size policy given failed is works told =
-    faults_refusal r e _ is (λ m. rw (works, size_given size policy given e told) refl)
+size_refused r e size policy given failed is works returned =
+    faults_refusal r e _ is (λ m. rw (works, size_given size policy given e returned) refl)
 
 -- where nothing is too large, the section of all parts is short
 pub sizes_short : (size : ℕ) (policy : BloomConstructionPolicy) (given : GivenKeys)

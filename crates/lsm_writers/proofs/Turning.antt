@@ -49,7 +49,7 @@ ids_spent ids is = rw (← is) refl
 
 pub ids_spent_first : (ids : Option ℕ) → None ≡ ids → (x : Error) → ids_fault ids ≡ Some x
     → Some x ≡ Some TableIdsSpent
-ids_spent_first ids is x told = sym told ∙ ids_spent ids is
+ids_spent_first ids is x returned = sym returned ∙ ids_spent ids is
 
 pub rotation_spent : (ids : Option ℕ) (w : Writing) → None ≡ ids
     → rotation_fault ids w ≡ Some TableIdsSpent
@@ -60,7 +60,7 @@ ids_fine id ids is = rw (← is) refl
 
 pub ids_fine_first : (id : ℕ) (ids : Option ℕ) → Some id ≡ ids → (x : Error)
     → ids_fault ids ≡ Some x → ⊥
-ids_fine_first id ids is x told = none_some x (sym (ids_fine id ids is) ∙ told)
+ids_fine_first id ids is x returned = none_some x (sym (ids_fine id ids is) ∙ returned)
 
 -- a writer of no table yet
 pub goes_on_first : {A : Type 0} (target : ℕ) (ids left : Option ℕ) (id level moment : ℕ)
@@ -142,13 +142,13 @@ module _ {A : Type 0} (target : ℕ) (ids ids' : Option ℕ) (fs fs' : List (Fin
       → IsStanding due ids fs w ids' fs' w' → turn_fault target ids w e ≡ None
       → early_refusal (state_of target ids fs w false) e ≡ Some x → write_fault w' e ≡ Some x
   early_by x false h s fine early =
-      let told : early_refusal (state_of target ids fs w false) e ≡ write_fault w e = rw h refl in
-      ap (λ (v : Writing). write_fault v e) s.2 ∙ (sym told ∙ early)
+      let returned : early_refusal (state_of target ids fs w false) e ≡ write_fault w e = rw h refl in
+      ap (λ (v : Writing). write_fault v e) s.2 ∙ (sym returned ∙ early)
   early_by x true h s fine early =
-      let told : early_refusal (state_of target ids fs w false) e ≡ ids_fault ids = rw h refl in
+      let returned : early_refusal (state_of target ids fs w false) e ≡ ids_fault ids = rw h refl in
       let turned : turn_fault target ids w e ≡ rotation_fault ids w = rw h refl in
       let none : ids_fault ids ≡ None = ids_left ids w (sym turned ∙ fine) in
-      let both : None ≡ Some x = sym none ∙ (sym told ∙ early) in
+      let both : None ≡ Some x = sym none ∙ (sym returned ∙ early) in
       absurd cc
 
   goes_on_by : (due : Bool) → is_due target w e ≡ due → IsStanding due ids fs w ids' fs' w'
@@ -216,9 +216,9 @@ pub early_due : {A : Type 0} (target : ℕ) (ids : Option ℕ) (fs : List (Finis
     → is_due target w e ≡ true → early_refusal (state_of target ids fs w failed) e ≡ Some x
     → (if is_due target w e then ids_fault ids else None) ≡ Some x
 early_due target ids fs w e failed x works due early =
-    let told : early_refusal (state_of target ids fs w failed) e ≡ ids_fault ids =
+    let returned : early_refusal (state_of target ids fs w failed) e ≡ ids_fault ids =
     rw (works, due) refl in
-    rw due (sym told ∙ early)
+    rw due (sym returned ∙ early)
 
 -- a refusal that is passed on, and is the first
 pub refuses_passed : {X : Type 0} (r : Result X Error) (e x : Error) → IsErrAnd r (λ y. y ≡ e)
@@ -254,9 +254,9 @@ module _ {A : Type 0} (target : ℕ) (ids : Option ℕ) (fs : List (FinishedTabl
   pub spent_first : (x : Error) → early_refusal (state_of target ids fs w failed) e ≡ Some x
       → Some x ≡ Some WriterFailed
   spent_first x early =
-      let told : early_refusal (state_of target ids fs w failed) e ≡ Some WriterFailed =
+      let returned : early_refusal (state_of target ids fs w failed) e ≡ Some WriterFailed =
       rw spent refl in
-      sym early ∙ told
+      sym early ∙ returned
 
   pub spent_memory : took_fault (state_of target ids fs w failed) e ≡ None
       → WriterFailed ≡ OutOfMemory

@@ -39,8 +39,8 @@ not_passed_on (task.Stat t) input content there known new status e old text does
 ended : (done : Result ℕ Failure) (status : ℕ)
     → MatchResult done (λ s. status ≡ s) (λ e. status ≡ status_of_failure e)
     → status ≡ status_of_done done
-ended (Ok s) status told = told
-ended (Err e) status told = told
+ended (Ok s) status returned = returned
+ended (Err e) status returned = returned
 
 -- what the words ask for
 runs_as : {E : Type 0} (words : List (List ℕ)) (input : Option (List ℕ)) (asked : Result Parsed E)
@@ -56,19 +56,19 @@ pub runs_task : {E : Type 0} (words : List (List ℕ)) (input : Option (List ℕ
     → IfErr done (λ e. StopsTask t input (λ _. None) (λ _. None) None e None old new)
     → MatchResult done (λ s. status ≡ s) (λ e. status ≡ status_of_failure e)
     → Runs words input status old new
-runs_task words input asked t done status old new asks is does refused told =
+runs_task words input asked t done status old new asks is does refused returned =
     runs_as words input asked (parsed.Task t) status old new asks is
-    (done, does, refused, ended done status told)
+    (done, does, refused, ended done status returned)
 
 -- 0 where the output took a text, else 1
 shown : {P : Type 0} (printed : Result ℕ Failure) (status : ℕ) → IfOk printed (λ s. s ≡ 0)
     → OnOk printed P → IfErr printed (λ e. status_of_failure e ≡ 1)
     → MatchResult printed (λ s. status ≡ s) (λ e. status ≡ status_of_failure e)
     → (status ≡ 0 → P) × (status ≤ 1)
-shown (Ok s) status zero took one told =
-    (λ _. took, let small : status ≤ 1 = omega (arith, zero, told) in small)
-shown (Err e) status zero took one told =
-    let is : status ≡ 1 = told ∙ one in
+shown (Ok s) status zero took one returned =
+    (λ _. took, let small : status ≤ 1 = omega (arith, zero, returned) in small)
+shown (Err e) status zero took one returned =
+    let is : status ≡ 1 = returned ∙ one in
     (λ none. absurd (omega (arith, is, none)), let small : status ≤ 1 = omega (arith, is) in small)
 
 pub runs_shown : {E : Type 0} (words : List (List ℕ)) (input : Option (List ℕ))
@@ -78,9 +78,9 @@ pub runs_shown : {E : Type 0} (words : List (List ℕ)) (input : Option (List �
     → IfErr printed (λ e. status_of_failure e ≡ 1)
     → MatchResult printed (λ s. status ≡ s) (λ e. status ≡ status_of_failure e)
     → Runs words input status old new
-runs_shown words input asked text printed status old new asks is zero took one told =
+runs_shown words input asked text printed status old new asks is zero took one returned =
     runs_as words input asked (parsed.Shown text) status old new asks is
-    (shown printed status zero took one told)
+    (shown printed status zero took one returned)
 
 -- words that are at fault are answered by a text, and nothing is printed
 pub runs_mistaken : {E : Type 0} (words : List (List ℕ)) (input : Option (List ℕ))

@@ -35,10 +35,10 @@ failure_of_and {X} {Y} y P (Err e) s is p =
 pub failure_of_map : {X Y : Type 0} (P : Failure → Type 0) (Q : X → Type 0) (r : Result X Failure)
     (s : Result Y Failure) → MatchResult r Q (λ e. s ≡ Err e) → is_ok s ≡ is_ok r → IfErr r P
     → IfErr s P
-failure_of_map P Q (Ok x) (Ok y) told kind p = tt
-failure_of_map P Q (Ok x) (Err e) told kind p = absurd cc
-failure_of_map {X} {Y} P Q (Err e) s told kind p =
-    subst (λ (u : Result Y Failure). IfErr u P) (sym told) p
+failure_of_map P Q (Ok x) (Ok y) returned kind p = tt
+failure_of_map P Q (Ok x) (Err e) returned kind p = absurd cc
+failure_of_map {X} {Y} P Q (Err e) s returned kind p =
+    subst (λ (u : Result Y Failure). IfErr u P) (sym returned) p
 
 module _ (k : Task) (input : Option (List ℕ)) (content : List ℕ → Option (List ℕ))
     (there : List ℕ → Option Bool) (known new : Option (List Step)) (old text : Option (List ℕ))

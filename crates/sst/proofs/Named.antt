@@ -38,7 +38,7 @@ pub named_more : (content : List ℕ → Option (List ℕ)) (names : List (Bor (
     → file.name ≡ get_or names i d → IsToldByBytes false file.table
     → HasContent (content (get_or names i d).now) file.table
     → AreNamed content (take (i + 1) names) (files ++ file ∷ [])
-named_more content names i d files file h before name told has = record {
+named_more content names i d files file h before name returned has = record {
   named = mapped_more (λ (f : NamedTable Global). f.name) files file
       ∙ ap (λ (ns : List (Bor (List ℕ))). ns ++ file.name ∷ []) before.named
       ∙ ap (λ (n : Bor (List ℕ)). take i names ++ n ∷ []) name
@@ -46,7 +46,7 @@ named_more content names i d files file h before name told has = record {
   opened = subst (λ (ts : List OpenTable). AreOpenedFrom false content (take (i + 1) names) ts)
       (sym (mapped_more (λ (f : NamedTable Global). f.table) files file))
       (opened_more false content names i d (map (λ (f : NamedTable Global). f.table) files)
-      file.table h before.opened told has);
+      file.table h before.opened returned has);
 }
 
 -- one file is refused
@@ -67,7 +67,7 @@ opening_stops content names i d files e less before refused = inl (
     tables = map (λ (f : NamedTable Global). f.table) files;
     opened = before.opened;
     named = refused.2;
-    told = refused.3;
+    returned = refused.3;
   },
 )
 
@@ -92,9 +92,9 @@ module _ (o : DumpOptions) (content : List ℕ → Option (List ℕ)) where
       → PrintsResults o.format (dumped o.reverse left (readable o t)) now new
       → rest ≡ left - length (dumped o.reverse left (readable o t))
       → DumpsEach o content (front ++ name ∷ []) most rest old new
-  dumps_behind [] name t most left rest old now new so_far more told has prints is = inr (
+  dumps_behind [] name t most left rest old now new so_far more returned has prints is = inr (
     t,
-    told,
+    returned,
     has,
     new,
     subst (λ (n : ℕ). PrintsResults o.format (dumped o.reverse n (readable o t)) old new) so_far.0
@@ -105,7 +105,7 @@ module _ (o : DumpOptions) (content : List ℕ → Option (List ℕ)) where
       refl,
     ),
   )
-  dumps_behind (x ∷ front) name t most left rest old now new so_far more told has prints is =
+  dumps_behind (x ∷ front) name t most left rest old now new so_far more returned has prints is =
       elim so_far [
         | inl none ↦ absurd (more none.1)
         | inr one ↦ inr (
@@ -116,7 +116,7 @@ module _ (o : DumpOptions) (content : List ℕ → Option (List ℕ)) where
           one.4,
           dumps_behind front name t
               (most - length (dumped o.reverse most (readable o one.0))) left rest one.3 now new
-              one.5 more told has prints is,
+              one.5 more returned has prints is,
         )
       ]
 
@@ -128,10 +128,10 @@ module _ (o : DumpOptions) (content : List ℕ → Option (List ℕ)) where
       → PrintsResults o.format (dumped o.reverse left (readable o t)) now new
       → rest ≡ left - length (dumped o.reverse left (readable o t))
       → DumpsEach o content (take (i + 1) names) most rest old new
-  dumps_more names i d t most left rest old now new less so_far more told has prints is =
+  dumps_more names i d t most left rest old now new less so_far more returned has prints is =
       subst (λ (ns : List (Bor (List ℕ))). DumpsEach o content ns most rest old new)
       (sym (take_more names i d less))
-      (dumps_behind (take i names) (get_or names i d) t most left rest old now new so_far more told
+      (dumps_behind (take i names) (get_or names i d) t most left rest old now new so_far more returned
       has prints is)
 
   dumps_none : (front behind : List (Bor (List ℕ))) (most left : ℕ) (old new : Option (List ℕ))
@@ -213,22 +213,22 @@ module _ (json : Bool) (content : List ℕ → Option (List ℕ)) where
       → IsToldByBytes false t → HasContent (content name.now) t
       → PrintsText (IsStatAs json t name.now) now new
       → StatsEach json content (front ++ name ∷ []) old new
-  stats_behind [] name t old now new so_far told has prints = (
+  stats_behind [] name t old now new so_far returned has prints = (
     t,
-    told,
+    returned,
     has,
     new,
     subst (λ (text : Option (List ℕ)). PrintsText (IsStatAs json t name.now) text new) so_far
         prints,
     refl,
   )
-  stats_behind (x ∷ front) name t old now new so_far told has prints = (
+  stats_behind (x ∷ front) name t old now new so_far returned has prints = (
     so_far.0,
     so_far.1,
     so_far.2,
     so_far.3,
     so_far.4,
-    stats_behind front name t so_far.3 now new so_far.5 told has prints,
+    stats_behind front name t so_far.3 now new so_far.5 returned has prints,
   )
 
   -- one more is printed
@@ -238,10 +238,10 @@ module _ (json : Bool) (content : List ℕ → Option (List ℕ)) where
       → HasContent (content (get_or names i d).now) t
       → PrintsText (IsStatAs json t (get_or names i d).now) now new
       → StatsEach json content (take (i + 1) names) old new
-  stats_more names i d t old now new less so_far told has prints =
+  stats_more names i d t old now new less so_far returned has prints =
       subst (λ (ns : List (Bor (List ℕ))). StatsEach json content ns old new)
       (sym (take_more names i d less))
-      (stats_behind (take i names) (get_or names i d) t old now new so_far told has prints)
+      (stats_behind (take i names) (get_or names i d) t old now new so_far returned has prints)
 
   -- all are printed
   pub stats_all : (names : List (Bor (List ℕ))) (i : ℕ) (old new : Option (List ℕ))

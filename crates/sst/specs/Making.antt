@@ -34,7 +34,7 @@ pub record DoesWrite (task : WriteTask) (input : Option (List ℕ)) (there : Lis
     (known new : Option (List Step)) (old_text new_text : Option (List ℕ)) : Type 0 where
   pub made : Made
   pub writes : WritesTables task input there made known new
-  pub told : Appends old_text new_text (made_line made)
+  pub returned : Appends old_text new_text (made_line made)
 
 -- it did not, for what is told; or it did, and the output took no line
 abbrev pub RefusesWrite : WriteTask → Option (List ℕ) → (List ℕ → Option Bool)
@@ -59,7 +59,7 @@ pub record DoesCompact (task : CompactTask) (content : List ℕ → Option (List
     (known new : Option (List Step)) (old_text new_text : Option (List ℕ)) : Type 0 where
   pub made : Made
   pub compacts : CompactsTables task content made known new
-  pub told : Appends old_text new_text (made_line made)
+  pub returned : Appends old_text new_text (made_line made)
 
 -- it did not, for what is told; or it did, and the output took no line
 abbrev pub RefusesCompact : CompactTask → (List ℕ → Option (List ℕ)) → (List ℕ → Option Bool)

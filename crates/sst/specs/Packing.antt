@@ -21,7 +21,7 @@ pub record DoesPack (task : PackTask) (content : List ℕ → Option (List ℕ))
   pub are : AreOpenedFrom true content task.files.items opened
   pub packed : Packed OpenTable Global
   pub least : IsPackedOf range_of opened packed
-  pub told : Appends old_text new_text (packed_text task.files.items packed)
+  pub returned : Appends old_text new_text (packed_text task.files.items packed)
 
 -- the files are not packed, for what is told, or the output takes no more
 abbrev pub RefusesPack : PackTask → (List ℕ → Option (List ℕ)) → Failure → Type 0

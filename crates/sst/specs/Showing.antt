@@ -60,7 +60,7 @@ pub record DoesGet (task : GetTask) (content : List ℕ → Option (List ℕ)) (
   pub asked : AsksGet task options
   pub files : List (NamedTable Global)
   pub named : AreNamed content task.files.items files
-  pub told : AllByRecursion (IsInOrder range_of) (runs_in files) → (found : Option Entry)
+  pub returned : AllByRecursion (IsInOrder range_of) (runs_in files) → (found : Option Entry)
       × (runs_result options.key.now (seen_below options) None (runs_in files) ≡ Ok found)
       × (there ≡ is_some found)
   pub printed : AllByRecursion (IsInOrder range_of) (runs_in files) → (found : Option Entry)
@@ -153,7 +153,7 @@ RefusesOpening content names e =
 pub record IsNamed (known : Option (List ℕ)) (name : Bor (List ℕ)) (f : NamedTable Global) : Type 0
   where
     pub named : f.name ≡ name
-    pub told : IsToldByBytes false f.table
+    pub returned : IsToldByBytes false f.table
     pub has : HasContent known f.table
 
 -- a file is not shown: it does not open, and then nothing is printed of it; or its table is named

@@ -25,7 +25,7 @@ AreSoundFiles content names = AllByRecursion (λ name. IsSoundFile content name.
 pub record ChecksTable (bytes name : List ℕ) (found : ℕ) (old new : Option (List ℕ)) : Type 0 where
   pub table : OpenTable
   pub are : table.bytes ≡ bytes
-  pub told : IsToldByBytes false table
+  pub returned : IsToldByBytes false table
   pub before : Option (List (ℕ × ℕ))
   pub after : Option (List (ℕ × ℕ))
   pub checks : ChecksFile table name before after old new

@@ -40,7 +40,7 @@ fn open_named<'a, P: Place>(
     name: &'a str,
 ) -> Result<NamedTable<'a, Global>, Failure<'a>>
     ensures name { IfOk result (λ f. f.name ≡ name.entry) }
-    ensures told { IfOk result (λ f. IsToldByBytes false f.table) }
+    ensures returned { IfOk result (λ f. IsToldByBytes false f.table) }
     ensures content { IfOk result (λ f. HasContent (P.content place.now name.now) f.table) }
     ensures refused { IfErr result (RefusesFile (P.content place.now name.now) name.now) }
 {

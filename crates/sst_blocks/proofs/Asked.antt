@@ -100,10 +100,10 @@ spelled_strict v bytes some = under (entries_in v bytes) refl some
   where
     under : (o : Option (List Entry)) → entries_in v bytes ≡ o → is_some o ≡ true
         → IsStrict (unwrap_or o [])
-    under None told some = absurd cc
-    under (Some es) told some = subst (IsStrictAfter None) (map-id es)
+    under None returned some = absurd cc
+    under (Some es) returned some = subst (IsStrictAfter None) (map-id es)
         (items_strict (entry_format v) (entries_advance v) bytes es
-        (sym (entries_in_same v bytes) ∙ told))
+        (sym (entries_in_same v bytes) ∙ returned))
 
 -- ---- an answer over a copy of the payload
 
@@ -143,14 +143,14 @@ module _ (v : TableVersion) (checksum : ℕ) (payload part : List ℕ) (same : p
 -- ---- what memory cannot change
 
 module _ {X : Type 0} where
-  pub sure_none : (told : Result (Option X) Error) → told ≡ Ok None → IsSure (Ok None) told
-  sure_none told is = subst (λ (t : Result (Option X) Error). IsSure (Ok None) t) (sym is) refl
+  pub sure_none : (returned : Result (Option X) Error) → returned ≡ Ok None → IsSure (Ok None) returned
+  sure_none returned is = subst (λ (t : Result (Option X) Error). IsSure (Ok None) t) (sym is) refl
 
-  pub sure_some : (r told : Result (Option X) Error) (x : X) → told ≡ Ok (Some x) → IsSure r told
-  sure_some r told x is = subst (λ (t : Result (Option X) Error). IsSure r t) (sym is) tt
+  pub sure_some : (r returned : Result (Option X) Error) (x : X) → returned ≡ Ok (Some x) → IsSure r returned
+  sure_some r returned x is = subst (λ (t : Result (Option X) Error). IsSure r t) (sym is) tt
 
-  pub sure_fault : (told : Result (Option X) Error) (e : Error) → told ≡ Err e → IsSure (Err e) told
-  sure_fault told e is = subst (λ (t : Result (Option X) Error). IsSure (Err e) t) (sym is) refl
+  pub sure_fault : (returned : Result (Option X) Error) (e : Error) → returned ≡ Err e → IsSure (Err e) returned
+  sure_fault returned e is = subst (λ (t : Result (Option X) Error). IsSure (Err e) t) (sym is) refl
 
 -- ---- where an entry lies in a table's bytes
 
@@ -166,14 +166,14 @@ pub record Shares (bytes : List ℕ) (key_at end : ℕ) (e : Entry) : Type 0 whe
 
 read_there : (v : TableVersion) (bytes : List ℕ) (at : ℕ) (e : Entry) (o : Option (Entry × List ℕ))
     → entry_at v (drop at bytes) ≡ o → option_map (λ y. y.0) o ≡ Some e → Stands v bytes at e
-read_there v bytes at e None told some = absurd (none-some e some)
-read_there v bytes at e (Some (x, rest)) told some =
+read_there v bytes at e None returned some = absurd (none-some e some)
+read_there v bytes at e (Some (x, rest)) returned some =
     let is : x ≡ e = same_Some x e some in
-    let l = entry_lies v (drop at bytes) x rest told in
+    let l = entry_lies v (drop at bytes) x rest returned in
     subst (Stands v bytes at) is (stands v bytes at x
     (record {
       rest = rest;
-      found = told;
+      found = returned;
       within =
           omega (arith, l.within, length-spelled v x, length-drop at bytes);
     }))

@@ -199,12 +199,12 @@ record Met (v : TableVersion) (kind : BlockType) (payload : List ℕ) (body : Li
 met : (v : TableVersion) (kind : BlockType) (payload head pre post body : List ℕ) (offset : ℕ)
     → Says v kind payload head → in_grammar v kind payload ≡ true → offset ≡ length pre
     → body ≡ (pre ++ (head ++ payload)) ++ post → Met v kind payload body offset
-met v kind payload head pre post body offset told ok at e =
+met v kind payload head pre post body offset returned ok at e =
     let head_is : slice_range body offset (offset + 24) ≡ head =
     ap (λ (xs : List ℕ). slice_range xs offset (offset + 24)) (e ∙ regroup pre head payload post)
-    ∙ part_at pre head (payload ++ post) offset (offset + 24) at (omega (arith, told.len)) in
+    ∙ part_at pre head (payload ++ post) offset (offset + 24) at (omega (arith, returned.len)) in
     let front : length (pre ++ head) ≡ offset + 24 =
-    omega (arith, length-append pre head, told.len) in
+    omega (arith, length-append pre head, returned.len) in
     let payload_is : slice_range body (offset + 24) (offset + (24 + length payload)) ≡ payload =
     ap (λ (xs : List ℕ). slice_range xs (offset + 24) (offset + (24 + length payload)))
     (e ∙ regroup_left pre head payload post)
@@ -219,12 +219,12 @@ met v kind payload head pre post body offset told ok at e =
         length-append pre
             (head ++ payload),
         length-append head payload,
-        told.len,
+        returned.len,
       );
-      fault = rw head_is told.fault;
-      stored = rw head_is told.stored;
-      uncompressed = rw head_is told.uncompressed;
-      checked = rw (head_is, payload_is, told.version, told.checksum)
+      fault = rw head_is returned.fault;
+      stored = rw head_is returned.stored;
+      uncompressed = rw head_is returned.uncompressed;
+      checked = rw (head_is, payload_is, returned.version, returned.checksum)
           (checked_ok v kind payload ok);
     }
 
@@ -272,19 +272,19 @@ loads_back v kind bytes lt ok front behind =
 
 entries_ok : (v : TableVersion) (kind : BlockType) (bytes : List ℕ) (es : List Entry)
     → HoldsEntries kind → entries_in v bytes ≡ Some es → in_grammar v kind bytes ≡ true
-entries_ok v Data bytes es holds told = ap is_some told
-entries_ok v Meta bytes es holds told = ap is_some told
-entries_ok v Index bytes es holds told = absurd holds
-entries_ok v Filter bytes es holds told = absurd holds
+entries_ok v Data bytes es holds returned = ap is_some returned
+entries_ok v Meta bytes es holds returned = ap is_some returned
+entries_ok v Index bytes es holds returned = absurd holds
+entries_ok v Filter bytes es holds returned = absurd holds
 
 -- a block of a list that was written loads, and holds the list
 pub entries_load : (v : TableVersion) (kind : BlockType) (es : List Entry) → HoldsEntries kind
     → IsStrict es → AreSpellable v es → length (payload v es) < 2 ^ 32
     → LoadsBack v kind (payload v es) × (entries_of (loaded v kind (payload v es)) ≡ es)
 entries_load v kind es holds strict fit lt =
-    let told = entries_read v es fit strict in (
-      loads_back v kind (payload v es) lt (entries_ok v kind (payload v es) es holds told),
-      rw told
+    let returned = entries_read v es fit strict in (
+      loads_back v kind (payload v es) lt (entries_ok v kind (payload v es) es holds returned),
+      rw returned
           refl,
     )
 
@@ -293,8 +293,8 @@ pub handles_load : (v : TableVersion) (hs : List Handle) → AreStrictHandles hs
     → LoadsBack v Index (handles_payload v hs) × (handles_of (loaded v Index (handles_payload v hs))
     ≡ hs)
 handles_load v hs strict fit lt =
-    let told = handles_read v hs fit strict in
-    (loads_back v Index (handles_payload v hs) lt (ap is_some told), rw told refl)
+    let returned = handles_read v hs fit strict in
+    (loads_back v Index (handles_payload v hs) lt (ap is_some returned), rw returned refl)
 
 pub filter_load : (v : TableVersion) (f : BloomFilter) → is_filter (payload_of f) ≡ true
     → length (payload_of f) < 2 ^ 32

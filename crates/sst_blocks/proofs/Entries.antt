@@ -353,9 +353,9 @@ pub record AtFront (v : TableVersion) (bytes : List ℕ) : Type 0 where
 
 front_there : (v : TableVersion) (bytes : List ℕ) (o : Option (Entry × List ℕ))
     → entry_at v bytes ≡ o → (o ≡ None → ⊥) → AtFront v bytes
-front_there v bytes None told some = absurd (some refl)
-front_there v bytes (Some (e, rest)) told some =
-    record { item = e; rest = rest; found = told; lies = entry_lies v bytes e rest told }
+front_there v bytes None returned some = absurd (some refl)
+front_there v bytes (Some (e, rest)) returned some =
+    record { item = e; rest = rest; found = returned; lies = entry_lies v bytes e rest returned }
 
 pub front_of_bytes : (v : TableVersion) (bytes : List ℕ) → (entry_at v bytes ≡ None → ⊥)
     → AtFront v bytes

@@ -34,10 +34,10 @@ module _ {X : Type 0} (fault_or : X → Option Error → Option Error) (bound : 
       → x ≡ get_or xs i x
       → ((later : Option Error) → fault_or x later ≡ Some e)
       → items_fault fault_or bound xs ≡ Some e
-  fault_at xs i x e fine lt is told =
+  fault_at xs i x e fine lt is returned =
       let here : first_fault fault_or xs ≡ Some e = fine
       ∙ ap (first_fault fault_or) (split_at xs i x lt is)
-      ∙ told (first_fault fault_or (drop (i + 1) xs)) in
+      ∙ returned (first_fault fault_or (drop (i + 1) xs)) in
       ap (λ (o : Option Error). option_or o (large_fault (bound_of bound xs))) here
 
   pub no_fault_at : (xs : List X) (i : ℕ) (x : X)
@@ -124,10 +124,10 @@ front_again n m a x b c la lb eb ec =
     sym (take-take n m c le) ∙ ap (take n) (ec ∙ eb) ∙ take_at a x n la
 
 -- a fault that is passed on is refused with
-pub passed_on : {X : Type 0} (r : Result X Error) (e : Error) (told : Option Error)
-    → IsErrAnd r (λ y. y ≡ e) → told ≡ Some e → Refuses r told
-passed_on (Ok x) e told is said = absurd is
-passed_on (Err y) e told is said = said ∙ ap (λ z. Some z) (sym is)
+pub passed_on : {X : Type 0} (r : Result X Error) (e : Error) (returned : Option Error)
+    → IsErrAnd r (λ y. y ≡ e) → returned ≡ Some e → Refuses r returned
+passed_on (Ok x) e returned is said = absurd is
+passed_on (Err y) e returned is said = said ∙ ap (λ z. Some z) (sym is)
 
 -- what holds on success may be said in other words
 pub on_ok : {X E : Type 0} (P Q : Type 0) (r : Result X E) → OnOk r P → (P → Q) → OnOk r Q

@@ -17,16 +17,16 @@ pub record Probed {X : Type 0} (compared : X → List ℕ × ℕ) (xs : List X) 
 module _ {X : Type 0} (compared : X → List ℕ × ℕ) (xs : List X) (i : ℕ) (key : List ℕ) (n : ℕ) where
   probed_of : (o : Option X) → slice_get xs i ≡ o → option_map compared o ≡ Some (key, n)
       → Probed compared xs i key n
-  probed_of None there told = absurd (none-some _ told)
-  probed_of (Some x) there told = record {
+  probed_of None there returned = absurd (none-some _ returned)
+  probed_of (Some x) there returned = record {
     item = x;
     here = there;
     read =
-        same_Some (compared x) (key, n) told;
+        same_Some (compared x) (key, n) returned;
   }
 
   pub probed : option_map compared (slice_get xs i) ≡ Some (key, n) → Probed compared xs i key n
-  probed told = probed_of (slice_get xs i) refl told
+  probed returned = probed_of (slice_get xs i) refl returned
 
   -- a test of what was read is one of the item
   pub probed_test : (p : List ℕ → ℕ → Bool) (r b : Bool) (x : Probed compared xs i key n)

@@ -68,7 +68,7 @@ pub handle_takes : (v : TableVersion) (bytes : List ℕ) (h : Handle) (rest : Li
     → handle_at v bytes ≡ Some (h, rest) → (bytes ≡ handle_spelled v h ++ rest)
     × IsSpellableHandle v h
 unfolding handle_at
-handle_takes v bytes h rest fits told =
+handle_takes v bytes h rest fits returned =
     let w = key_width v in
     let b8 = drop 8 bytes in
     let b16 = drop 16 bytes in
@@ -85,7 +85,7 @@ handle_takes v bytes h rest fits told =
           num4 b16;
     } in
     let g = guard_some (ltb (length bytes) (20 + w)) (cond (ltb (length r) k) None (Some (made, R)))
-    (h, rest) told in
+    (h, rest) returned in
     let long : 20 + w ≤ length bytes = ltb-false _ _ g.0 in
     let g2 = guard_some (ltb (length r) k) (Some (made, R)) (h, rest) g.1 in
     let room : k ≤ length r = ltb-false _ _ g2.0 in
@@ -223,7 +223,7 @@ pub record Lies (v : TableVersion) (bytes : List ℕ) (h : Handle) (rest : List 
 handle_lies : (v : TableVersion) (bytes : List ℕ) (h : Handle) (rest : List ℕ)
     → handle_at v bytes ≡ Some (h, rest) → Lies v bytes h rest
 unfolding handle_at
-handle_lies v bytes h rest told =
+handle_lies v bytes h rest returned =
     let w = 20 + key_width v in
     let r = drop w bytes in
     let k = key_len_at v (drop 20 bytes) in
@@ -237,7 +237,7 @@ handle_lies v bytes h rest told =
       size = num4 (drop 16 bytes);
     } in
     let g = guard_some (ltb (length bytes) w) (cond (ltb (length r) k) None (Some (made, R)))
-    (h, rest) told in
+    (h, rest) returned in
     let g2 = guard_some (ltb (length r) k) (Some (made, R)) (h, rest) g.1 in
     let p = some_pair_parts made h R rest g2.1 in
     let long : w ≤ length bytes = ltb-false _ _ g.0 in
@@ -254,8 +254,8 @@ handle_lies v bytes h rest told =
     (subst (λ (x : List ℕ). Lies v bytes made x) p.1 lies)
 
 pub handles_advance : (v : TableVersion) → Advances (handle_format v)
-handles_advance v bytes h rest told =
-    let l = handle_lies v bytes h rest told in (
+handles_advance v bytes h rest returned =
+    let l = handle_lies v bytes h rest returned in (
       l.rest_is ∙ ap (λ (n : ℕ). drop n bytes) (sym (length-handle_spelled v h)),
       omega
           (arith, l.within, length-handle_spelled v h),
@@ -271,9 +271,9 @@ pub record AtFront (v : TableVersion) (bytes : List ℕ) : Type 0 where
 
 front_there : (v : TableVersion) (bytes : List ℕ) (o : Option (Handle × List ℕ))
     → handle_at v bytes ≡ o → (o ≡ None → ⊥) → AtFront v bytes
-front_there v bytes None told some = absurd (some refl)
-front_there v bytes (Some (h, rest)) told some =
-    record { item = h; rest = rest; found = told; lies = handle_lies v bytes h rest told }
+front_there v bytes None returned some = absurd (some refl)
+front_there v bytes (Some (h, rest)) returned some =
+    record { item = h; rest = rest; found = returned; lies = handle_lies v bytes h rest returned }
 
 pub front_of_bytes : (v : TableVersion) (bytes : List ℕ) → (handle_at v bytes ≡ None → ⊥)
     → AtFront v bytes
@@ -294,9 +294,9 @@ front_key v bytes f h k n head len number =
     let key : take (h + k - h) (drop h bytes) ≡ f.item.end_key =
     ap (λ (m : ℕ). take m (drop h bytes)) size
     ∙ ap (λ (m : ℕ). take (length f.item.end_key) (drop m bytes)) head ∙ f.lies.key in
-    let told : n ≡ f.item.seqno = number ∙ f.lies.number in
+    let returned : n ≡ f.item.seqno = number ∙ f.lies.number in
     ap (option_map (λ (x : Handle × List ℕ). key_and_number (end_of x.0))) f.found
-    ∙ rw (key, told) refl
+    ∙ rw (key, returned) refl
 
 -- ---- a handle of a block
 
@@ -339,8 +339,8 @@ block_len v bytes starts hs block view = let b = block_spells v bytes starts hs 
 -- what a payload spells is strict
 pub handles_strict : (v : TableVersion) (bytes : List ℕ) (hs : List Handle)
     → handles_in v bytes ≡ Some hs → AreStrictHandles hs
-handles_strict v bytes hs told = items_strict (handle_format v) (handles_advance v) bytes hs
-    (sym (handles_in_same v bytes) ∙ told)
+handles_strict v bytes hs returned = items_strict (handle_format v) (handles_advance v) bytes hs
+    (sym (handles_in_same v bytes) ∙ returned)
 
 pub block_strict : (v : TableVersion) (bytes starts : List ℕ) (hs : List Handle)
     → HandlesAt v bytes starts → unwrap_or (handles_in v bytes) [] ≡ hs → AreStrictHandles hs

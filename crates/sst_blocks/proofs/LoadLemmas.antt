@@ -21,32 +21,32 @@ use Rattle.sst_blocks.specs.Block.{version_in, checked_payload, load_result, loa
 use Rattle.sst_blocks.specs.Block.{place_fault, position_fault, room_fault}
 
 -- no fault yet
-after : {A : Type 0} (wrong : Bool) (e : Error) (fault : Option Error) (told : Result A Error)
-    → wrong ≡ false → fault ≡ None → (if wrong then Err e else unless fault told) ≡ told
-after wrong e fault told fine none = rw (fine, none) refl
+after : {A : Type 0} (wrong : Bool) (e : Error) (fault : Option Error) (returned : Result A Error)
+    → wrong ≡ false → fault ≡ None → (if wrong then Err e else unless fault returned) ≡ returned
+after wrong e fault returned fine none = rw (fine, none) refl
 
 -- the first fault of the two lengths
-lengths_differ : {A : Type 0} (d u size : ℕ) (told : Result A Error) → (d ≡ u → 24 + d ≡ size → ⊥)
-    → (if not (d == u) || not (24 + d == size) then Err InvalidHeader else told) ≡ Err InvalidHeader
-lengths_differ d u size told differ = grind arith
+lengths_differ : {A : Type 0} (d u size : ℕ) (returned : Result A Error) → (d ≡ u → 24 + d ≡ size → ⊥)
+    → (if not (d == u) || not (24 + d == size) then Err InvalidHeader else returned) ≡ Err InvalidHeader
+lengths_differ d u size returned differ = grind arith
 
-lengths_agree : {A : Type 0} (d u size : ℕ) (told : Result A Error) → d ≡ u → 24 + d ≡ size
-    → (if not (d == u) || not (24 + d == size) then Err InvalidHeader else told) ≡ told
-lengths_agree d u size told same whole = grind arith
+lengths_agree : {A : Type 0} (d u size : ℕ) (returned : Result A Error) → d ≡ u → 24 + d ≡ size
+    → (if not (d == u) || not (24 + d == size) then Err InvalidHeader else returned) ≡ returned
+lengths_agree d u size returned same whole = grind arith
 
-unequal : {A : Type 0} (d u : ℕ) (told : Result A Error) → (d ≡ u → ⊥)
-    → (if not (d == u) then Err InvalidHeader else told) ≡ Err InvalidHeader
-unequal d u told differ = grind arith
+unequal : {A : Type 0} (d u : ℕ) (returned : Result A Error) → (d ≡ u → ⊥)
+    → (if not (d == u) then Err InvalidHeader else returned) ≡ Err InvalidHeader
+unequal d u returned differ = grind arith
 
-equal_past : {A : Type 0} (d u end past : ℕ) (told : Result A Error) → d ≡ u → end < past
+equal_past : {A : Type 0} (d u end past : ℕ) (returned : Result A Error) → d ≡ u → end < past
     → (if not (d == u) then Err InvalidHeader else (if nat_lt end past then Err Truncated
-    else told)) ≡ Err Truncated
-equal_past d u end past told same lt = grind arith
+    else returned)) ≡ Err Truncated
+equal_past d u end past returned same lt = grind arith
 
-equal_within : {A : Type 0} (d u end past : ℕ) (told : Result A Error) → d ≡ u → past ≤ end
+equal_within : {A : Type 0} (d u end past : ℕ) (returned : Result A Error) → d ≡ u → past ≤ end
     → (if not (d == u) then Err InvalidHeader else (if nat_lt end past then Err Truncated
-    else told)) ≡ told
-equal_within d u end past told same le = grind arith
+    else returned)) ≡ returned
+equal_within d u end past returned same le = grind arith
 
 module _ (body : List ℕ) (offset size : ℕ) (kind : BlockType) where
   pub load_truncated : (24 ≤ size → offset + size ≤ length body → ⊥)
@@ -157,9 +157,9 @@ pub loaded_within : (v : TableVersion) (checksum : ℕ) (kind : BlockType) (payl
     (n end : ℕ) (r : Result Loaded Error) → Gives {X = Loaded} {Y = Loaded} (λ b. b) r
     (checked_payload v checksum kind payload) → n + length payload < end
     → IfOk r (λ b. n + length b.payload < end)
-loaded_within v checksum kind payload n end (Ok b) told lt = let e =
-    payload_is v checksum kind payload b told in rw e lt
-loaded_within v checksum kind payload n end (Err e) told lt = tt
+loaded_within v checksum kind payload n end (Ok b) returned lt = let e =
+    payload_is v checksum kind payload b returned in rw e lt
+loaded_within v checksum kind payload n end (Err e) returned lt = tt
 
 pub range_short : (xs : List ℕ) (from len : ℕ) → length (slice_range xs from (from + len)) ≤ len
 range_short xs from len = omega (arith, length-take (from + len - from) (drop from xs))
@@ -309,15 +309,15 @@ unfolding checked_payload
 given_items v checksum kind payload b given = grind arith
 
 -- what is loaded is of the kind that was asked for
-passed : {A : Type 0} (wrong : Bool) (e : Error) (told : Result A Error) (x : A)
-    → (if wrong then Err e else told) ≡ Ok x → told ≡ Ok x
-passed true e told x is = absurd cc
-passed false e told x is = is
+passed : {A : Type 0} (wrong : Bool) (e : Error) (returned : Result A Error) (x : A)
+    → (if wrong then Err e else returned) ≡ Ok x → returned ≡ Ok x
+passed true e returned x is = absurd cc
+passed false e returned x is = is
 
-pub unless_ok : {A : Type 0} (fault : Option Error) (told : Result A Error) (x : A)
-    → unless fault told ≡ Ok x → told ≡ Ok x
-unless_ok None told x is = is
-unless_ok (Some e) told x is = absurd cc
+pub unless_ok : {A : Type 0} (fault : Option Error) (returned : Result A Error) (x : A)
+    → unless fault returned ≡ Ok x → returned ≡ Ok x
+unless_ok None returned x is = is
+unless_ok (Some e) returned x is = absurd cc
 
 checked_kind : (v : TableVersion) (checksum : ℕ) (kind : BlockType) (payload : List ℕ) (b : Loaded)
     → checked_payload v checksum kind payload ≡ Ok b → b.kind ≡ kind
@@ -327,13 +327,13 @@ checked_kind v checksum kind payload b given = grind arith
 pub load_kind : (body : List ℕ) (offset size : ℕ) (kind : BlockType) (b : Loaded)
     → load_result body offset size kind ≡ Ok b → b.kind ≡ kind
 unfolding load_result
-load_kind body offset size kind b told =
+load_kind body offset size kind b returned =
     let head = slice_range body offset (offset + 24) in
     let tail = checked_payload (version_in head) (stored_checksum head) kind
     (slice_range body (offset + 24) (offset + size)) in
     let wrong = not (data_len head == uncompressed_len head) || not (24 + data_len head == size) in
     let one = passed (nat_lt size 24 || nat_lt (length body) (offset + size)) Truncated
-    (unless (header_fault kind head) (if wrong then Err InvalidHeader else tail)) b told in
+    (unless (header_fault kind head) (if wrong then Err InvalidHeader else tail)) b returned in
     let two = unless_ok (header_fault kind head)
     (if wrong then Err InvalidHeader else tail) b one in
     checked_kind (version_in head) (stored_checksum head) kind

@@ -62,10 +62,10 @@ module _ (bytes : List ℕ) (start end : ℕ) (v : TableVersion) (kind : BlockTy
   pub items_tested : HasItems bytes start → in_grammar v kind (slice_range bytes start end) ≡ true
   unfolding HasItems
   items_tested has =
-      let told = subst (λ (w : TableVersion). in_grammar w kind
+      let returned = subst (λ (w : TableVersion). in_grammar w kind
       (slice_range bytes start (start + data_len (head_before bytes start))) ≡ true)
       headed.version (has kind headed.kind_is) in
-      subst (λ (e : ℕ). in_grammar v kind (slice_range bytes start e) ≡ true) headed.said.len told
+      subst (λ (e : ℕ). in_grammar v kind (slice_range bytes start e) ≡ true) headed.said.len returned
 
   pub tested_items : in_grammar v kind (slice_range bytes start end) ≡ true → HasItems bytes start
   unfolding HasItems

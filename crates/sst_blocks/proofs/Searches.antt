@@ -119,8 +119,8 @@ module _ {X : Type 0} (f : Format X) (p : X → Bool) where
       (found : Option X) → Search f p bytes rest last n found → n ≤ num4 bytes
       → is_some (items_in f bytes) ≡ true
       → is_some found ≡ true → found ≡ find p (unwrap_or (items_in f bytes) [])
-  search_stops advances bytes rest last n found s le told some =
-      there (items_in f bytes) (found ≡ find p (unwrap_or (items_in f bytes) [])) told (λ xs are.
+  search_stops advances bytes rest last n found s le returned some =
+      there (items_in f bytes) (found ≡ find p (unwrap_or (items_in f bytes) [])) returned (λ xs are.
       let m = num4 bytes - n in
       let whole = items_read f advances bytes xs are in
       option_map_some (λ (more : List X). s.walk.items ++ more) (items_at f.read m rest) xs
@@ -134,9 +134,9 @@ module _ {X : Type 0} (f : Format X) (p : X → Bool) where
   pub search_whole : (bytes rest : List ℕ) (last : Option Entry) (n : ℕ) (found : Option X)
       → Search f p bytes rest last n found → n ≡ num4 bytes → is_some (items_in f bytes) ≡ true
       → found ≡ find p (unwrap_or (items_in f bytes) [])
-  search_whole bytes [] last n found s all told = (search_ends bytes [] last n found s all refl).1
-  search_whole bytes (b ∷ rest) last n found s all told = absurd (is_none_and_some _
-      (walk_over f bytes (b ∷ rest) s.starts last n s.walk all (omega arith)) told)
+  search_whole bytes [] last n found s all returned = (search_ends bytes [] last n found s all refl).1
+  search_whole bytes (b ∷ rest) last n found s all returned = absurd (is_none_and_some _
+      (walk_over f bytes (b ∷ rest) s.starts last n s.walk all (omega arith)) returned)
 
 -- ---- what a test of the next item answers
 

@@ -165,11 +165,11 @@ length_both xs ys n e = omega (arith, length-append xs ys)
 
 trailer_length : (w : Written) → length (trailer w) ≡ 120
 trailer_length w =
-    let told : SectionName → Option Section = λ name. section_of (length w.bytes) w.started name in
+    let returned : SectionName → Option Section = λ name. section_of (length w.bytes) w.started name in
     omega (
       arith,
-      length-append (flat_map (λ name. slot (told name)) section_names) trailer_mark,
-      slots_len told section_names,
+      length-append (flat_map (λ name. slot (returned name)) section_names) trailer_mark,
+      slots_len returned section_names,
     )
 
 -- the body of a finished writer's bytes is what was written
@@ -207,12 +207,12 @@ pub finished_section : (w : Written) (name : SectionName) → length w.bytes < 2
     → section_in (finished w) name ≡ section_of (length w.bytes) w.started name
 unfolding section_in
 finished_section w name small asc =
-    let told : SectionName → Option Section = λ name. section_of (length w.bytes) w.started name in
-    let place = slots_from told section_names trailer_mark (slot_index name) Data (place_lt name) in
+    let returned : SectionName → Option Section = λ name. section_of (length w.bytes) w.started name in
+    let place = slots_from returned section_names trailer_mark (slot_index name) Data (place_lt name) in
     ap (λ (cells : List ℕ). section_at (drop (16 * slot_index name) cells)) (finished_trailer w)
     ∙ ap (λ (cells : List ℕ). section_at cells) (place.1
-    ∙ ap (λ (n : SectionName). slot (told n) ++ place.0) (name_at name))
-    ∙ slot_reads (length w.bytes) (told name) place.0 small
+    ∙ ap (λ (n : SectionName). slot (returned n) ++ place.0) (name_at name))
+    ∙ slot_reads (length w.bytes) (returned name) place.0 small
     (section_of-within (length w.bytes) w.started name asc)
 
 map_same : {X Y : Type 0} (f g : X → Y) (xs : List X) → ((x : X) → f x ≡ g x) → map f xs ≡ map g xs
@@ -223,21 +223,21 @@ map_same f g (x ∷ xs) same = let head = same x in let tail = map_same f g xs s
 pub finished_fine : (w : Written) → length w.bytes < 2 ^ 64
     → AreAscending (length w.bytes) w.started → trailer_fault (finished w) ≡ None
 finished_fine w small asc =
-    let told : SectionName → Option Section = λ name. section_of (length w.bytes) w.started name in
+    let returned : SectionName → Option Section = λ name. section_of (length w.bytes) w.started name in
     let bytes = finished w in
     let end = length_both w.bytes (trailer w) 120 (trailer_length w) in
-    let slots : length (flat_map (λ name. slot (told name)) section_names) ≡ 112 =
-    slots_len told section_names in
+    let slots : length (flat_map (λ name. slot (returned name)) section_names) ≡ 112 =
+    slots_len returned section_names in
     let marked : drop 112 (trailer_of bytes) ≡ trailer_mark = ap (drop 112) (finished_trailer w)
-    ∙ drop_at (flat_map (λ name. slot (told name)) section_names) trailer_mark 112 slots in
-    let read : map (section_in bytes) section_names ≡ map told section_names =
-    map_same (section_in bytes) told section_names
+    ∙ drop_at (flat_map (λ name. slot (returned name)) section_names) trailer_mark 112 slots in
+    let read : map (section_in bytes) section_names ≡ map returned section_names =
+    map_same (section_in bytes) returned section_names
     (λ name. finished_section w name small asc) in
     trailer_fine bytes (omega (arith, length-append w.bytes (trailer w), trailer_length w))
     (ap (λ (mark : List ℕ). not (pointwise nat_eq mark trailer_mark)) marked)
     (ap (λ (n : ℕ). list_any (is_past n) (map (section_in bytes) section_names)) end
     ∙ ap (λ (ss : List (Option Section)). list_any (is_past (length w.bytes)) ss) read
-    ∙ none_past told (length w.bytes) section_names
+    ∙ none_past returned (length w.bytes) section_names
     (λ name. section_of-within (length w.bytes) w.started name asc))
 
 -- ---- sections begin one behind the other

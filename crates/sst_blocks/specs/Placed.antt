@@ -16,7 +16,7 @@ pub record IsPlaced (body : List ℕ) (offset size : ℕ) (kind : BlockType) (p 
   pub ordered : p.start ≤ p.end
   pub within : p.end ≤ length body
   pub short : p.end < p.start + 2 ^ 32
-  pub told : load_result body offset size kind ≡
+  pub returned : load_result body offset size kind ≡
       checked_payload p.header.version p.header.checksum kind (slice_range body p.start p.end)
   pub first : place_fault body offset size kind ≡
       option_or (checksum_fault p.header.checksum (slice_range body p.start p.end))
@@ -40,6 +40,6 @@ IsValidHeaded bytes kind s = IsHeaded bytes s.start s.end s.header.version kind 
 -- loading the block checks exactly this payload, and no fault is found before allocating
 pub record IsValidAt (body : List ℕ) (offset size : ℕ) (kind : BlockType) (s : Valid) : Type 0 where
   pub sound : IsValid body kind s
-  pub told : load_result body offset size kind ≡
+  pub returned : load_result body offset size kind ≡
       checked_payload s.header.version s.header.checksum kind (slice_range body s.start s.end)
   pub first : place_fault body offset size kind ≡ None

@@ -18,11 +18,11 @@ starts_of spell at [] = []
 starts_of spell at (x ∷ xs) = at ∷ starts_of spell (at + length (spell x)) xs
 
 -- the payload decodes to these items, which start at these offsets
-pub record SpellsAt (X : Type 0) (spell : X → List ℕ) (told : Option (List X))
+pub record SpellsAt (X : Type 0) (spell : X → List ℕ) (returned : Option (List X))
     (bytes starts : List ℕ)
     : Type 0 where
   pub items : List X
-  pub are : told ≡ Some items
+  pub are : returned ≡ Some items
   pub places : starts ≡ starts_of spell 4 items
   pub short : length bytes < 2 ^ 32
 

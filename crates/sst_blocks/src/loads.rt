@@ -43,7 +43,7 @@ pub trait LoadBlocks {
     ///
     /// Fails as [`BlockSource::load`] on the same bytes.
     fn load(&mut self, handle: &BlockHandle, kind: BlockType) -> Result<Block<Self::Alloc>, Error>
-        ensures told { let bytes = body self.old in
+        ensures returned { let bytes = body self.old in
             Gives (λ (b : Loaded). b) result
             (load_result bytes handle.now.offset handle.now.size kind) }
         ensures first { let bytes = body self.old in
@@ -66,7 +66,7 @@ pub trait LoadBlocks {
         key: &[u8],
         seqno: SeqNo,
     ) -> Result<Option<InternalValue<Self::Alloc>>, Error>
-        ensures told { let bytes = body self.old in
+        ensures returned { let bytes = body self.old in
             Gives (λ (found : Option Entry). found) result
             (point_result bytes handle.now.offset handle.now.size key.now seqno) }
         ensures first { let bytes = body self.old in
@@ -95,7 +95,7 @@ pub trait LoadBlocks {
         key: &[u8],
         seqno: SeqNo,
     ) -> Result<Option<BlockHandle>, Error>
-        ensures told { let bytes = body self.old in
+        ensures returned { let bytes = body self.old in
             Gives (λ (found : Option Place). found) result
             (find_result bytes handle.now.offset handle.now.size key.now seqno) }
         ensures first { let bytes = body self.old in
@@ -119,7 +119,7 @@ pub trait LoadBlocks {
     /// Fails as [`BlockSource::maybe_contains_hash`], or with [`Error::OutOfMemory`]. The latter
     /// hides only the errors that it can hide in [`LoadBlocks::load`].
     fn maybe_contains_hash(&mut self, handle: &BlockHandle, hash: u64) -> Result<bool, Error>
-        ensures told { let bytes = body self.old in
+        ensures returned { let bytes = body self.old in
             Gives (λ (maybe : Bool). maybe) result
             (maybe_result bytes handle.now.offset handle.now.size hash) }
         ensures first { let bytes = body self.old in

@@ -28,7 +28,7 @@ pub(crate) trait ItemRef<'a>: Copy {
     // The value that it denotes.
     ghost Reported: { Type 0 };
 
-    ghost told: { Self → Reported };
+    ghost returned: { Self → Reported };
 
     // The encoding of that value.
     ghost format: { TableVersion → Format Reported };
@@ -38,7 +38,7 @@ pub(crate) trait ItemRef<'a>: Copy {
 
     /// Reads the item at the front of some bytes, and returns the bytes after it.
     fn read(version: TableVersion, bytes: &'a [u8]) -> Option<(Self, &'a [u8])>
-        ensures { option_map (λ x. (told x.0, x.1.now)) result ≡
+        ensures { option_map (λ x. (returned x.0, x.1.now)) result ≡
             (format version).read bytes.now };
 
     /// Reads the key and the sequence number of the item at the front of some bytes.
@@ -50,13 +50,13 @@ pub(crate) trait ItemRef<'a>: Copy {
 
     /// Returns whether the item may come after another, or first.
     fn may_follow(&self, last: &Option<Self>) -> bool
-        ensures { (v : TableVersion) → let key = λ (x : Self). (format v).key (told x) in
+        ensures { (v : TableVersion) → let key = λ (x : Self). (format v).key (returned x) in
             result ≡ may_follow (option_map key last.now) (key self.now) };
 
     /// Returns whether a read of a key at `seqno` orders before the item.
     fn is_past(&self, key: &[u8], seqno: SeqNo) -> bool
         ensures { (v : TableVersion) →
-            result ≡ is_before (read_place key.now seqno) ((format v).key (told self.now)) };
+            result ≡ is_before (read_place key.now seqno) ((format v).key (returned self.now)) };
 
     /// States that reading and encoding are inverse. The call has no effect.
     fn is_format(version: TableVersion)

@@ -197,7 +197,7 @@ impl<A: Allocator + Clone> BlockSource<A> {
         kind: BlockType,
         opened: &mut Opened,
     ) -> Result<Block<A>, Error>
-        ensures told { let body = body_of self.now in
+        ensures returned { let body = body_of self.now in
             Gives (λ (b : Loaded). b) result
             (load_result body handle.now.offset handle.now.size kind) }
         // Faults in the position, header, checksum or count come before any `OutOfMemory`.
@@ -224,8 +224,8 @@ impl<A: Allocator + Clone> BlockSource<A> {
         kind: BlockType,
         opened: &mut Opened,
     ) -> Result<Block<A>, Error>
-        ensures told { let told = load_at_result (body_of self.now) position kind in
-            Gives (λ (b : Loaded). b) result told }
+        ensures returned { let returned = load_at_result (body_of self.now) position kind in
+            Gives (λ (b : Loaded). b) result returned }
         ensures first { FaultsFirst result (position_fault (body_of self.now) position kind) }
         // The block ends below 2^63.
         ensures within { IfOk result (λ b. position + header_len + length b.payload < 2 ^ 63) }
@@ -262,7 +262,7 @@ impl<A: Allocator + Clone> BlockSource<A> {
             IsPlaced (body_of self.now) handle.now.offset handle.now.size kind p) }
         ensures headed { IfOk result (λ p.
             IsHeaded self.now p.start p.end p.header.version kind p.header.checksum) }
-        ensures told { let body = body_of self.now in
+        ensures returned { let body = body_of self.now in
             IfErr result (λ e. load_result body handle.now.offset handle.now.size kind ≡ Err e) }
         ensures first { let body = body_of self.now in
             IfErr result (λ e. place_fault body handle.now.offset handle.now.size kind ≡ Some e) }
@@ -311,7 +311,7 @@ impl<A: Allocator + Clone> BlockSource<A> {
         requires within { end ≤ length (body_of self.now) }
         requires short { end < start + 2 ^ 32 }
         requires headed { IsHeaded self.now start end header.version kind header.checksum }
-        ensures told { let payload = slice_range (body_of self.now) start end in
+        ensures returned { let payload = slice_range (body_of self.now) start end in
             Gives (λ (b : Loaded). b) result
             (checked_payload header.version header.checksum kind payload) }
         ensures first { let payload = slice_range (body_of self.now) start end in
@@ -350,7 +350,7 @@ impl<A: Allocator + Clone> BlockSource<A> {
         ensures tested { let payload = slice_range (body_of self.now) start end in
             IfOk result (λ is_tested.
             IsTrue is_tested → in_grammar header.now.version kind payload ≡ true) }
-        ensures told { let payload = slice_range (body_of self.now) start end in
+        ensures returned { let payload = slice_range (body_of self.now) start end in
             IfErr result (λ e.
             checked_payload header.now.version header.now.checksum kind payload ≡ Err e) }
         ensures first { let payload = slice_range (body_of self.now) start end in
@@ -386,7 +386,7 @@ impl<A: Allocator + Clone> BlockSource<A> {
             has_room header.now.version kind payload ≡ true }
         requires tested { let payload = slice_range (body_of self.now) start end in
             IsTrue is_tested → in_grammar header.now.version kind payload ≡ true }
-        ensures told { let payload = slice_range (body_of self.now) start end in
+        ensures returned { let payload = slice_range (body_of self.now) start end in
             Gives (λ (b : Loaded). b) result
             (checked_payload header.now.version header.now.checksum kind payload) }
     {

@@ -63,31 +63,31 @@ is_one_or_not WriterFailed = inr refl
 is_one_or_not (Source n) = inr refl
 
 -- the number of a refusal is the code of what is told
-pub tells : {X : Type 0} (e : Error) (told : Result X Error) → Fails e told → ReportsCode (number_of e) told
-tells e told fails = elim (is_one_or_not e) [ inl one ↦ inl one | inr other ↦ inr (sym (ap result_code (fails other))) ]
+pub states : {X : Type 0} (e : Error) (returned : Result X Error) → Fails e returned → ReportsCode (number_of e) returned
+states e returned fails = elim (is_one_or_not e) [ inl one ↦ inl one | inr other ↦ inr (sym (ap result_code (fails other))) ]
 
 -- so it is where what is told is no refusal
-pub reports_begun : {X : Type 0} (code : ℕ) (x : X) (told : Result X Error) → (code ≡ 0) ⊎ (code ≡ 1)
-    → told ≡ Ok x → ReportsCode code told
-reports_begun code x told codes same = elim codes [
+pub reports_begun : {X : Type 0} (code : ℕ) (x : X) (returned : Result X Error) → (code ≡ 0) ⊎ (code ≡ 1)
+    → returned ≡ Ok x → ReportsCode code returned
+reports_begun code x returned codes same = elim codes [
   | inl zero ↦ inr (zero ∙ sym (ap result_code same))
   | inr one ↦ inl one
 ]
 
-answers_err : (e : Error) (told : Result (Option Entry) Error) → told ≡ Err e → AnswersRead (number_of e) None told
-answers_err e told same = let P : Result (Option Entry) Error → Type 0 = λ t. AnswersRead (number_of e) None t in subst P (sym same) (inl refl, refl)
+answers_err : (e : Error) (returned : Result (Option Entry) Error) → returned ≡ Err e → AnswersRead (number_of e) None returned
+answers_err e returned same = let P : Result (Option Entry) Error → Type 0 = λ t. AnswersRead (number_of e) None t in subst P (sym same) (inl refl, refl)
 
-answers_one : (told : Result (Option Entry) Error) → AnswersRead 1 None told
+answers_one : (returned : Result (Option Entry) Error) → AnswersRead 1 None returned
 answers_one (Ok x) = inr (refl, refl)
 answers_one (Err e) = (inr refl, refl)
 
 -- a read's code and entry answer what is told
-pub answers : (r : Result (Option Entry) Error) (told : Result (Option Entry) Error)
-    → Gives (λ (x : Option Entry). x) r told → AnswersRead (result_code r) (found_of r) told
-answers (Ok x) told gives = let P : Result (Option Entry) Error → Type 0 = λ t. AnswersRead 0 x t in subst P (sym gives) (inl (refl, refl))
-answers (Err e) told fails = elim (is_one_or_not e) [
-  | inl one ↦ (let P : ℕ → Type 0 = λ n. AnswersRead n None told in subst P (sym one) (answers_one told))
-  | inr other ↦ answers_err e told (fails other)
+pub answers : (r : Result (Option Entry) Error) (returned : Result (Option Entry) Error)
+    → Gives (λ (x : Option Entry). x) r returned → AnswersRead (result_code r) (found_of r) returned
+answers (Ok x) returned gives = let P : Result (Option Entry) Error → Type 0 = λ t. AnswersRead 0 x t in subst P (sym gives) (inl (refl, refl))
+answers (Err e) returned fails = elim (is_one_or_not e) [
+  | inl one ↦ (let P : ℕ → Type 0 = λ n. AnswersRead n None returned in subst P (sym one) (answers_one returned))
+  | inr other ↦ answers_err e returned (fails other)
 ]
 
 -- the refusal is the fault that is told
@@ -138,21 +138,21 @@ not_zero WriterFailed zero = cc
 not_zero (Source n) zero = cc
 
 -- the number of a refusal is the code of the fault that is told
-pub fault_reports : (e : Error) (told : Option Error) → (is_memory e ≡ false → told ≡ Some e) → FaultReported (number_of e) told
+pub fault_reports : (e : Error) (returned : Option Error) → (is_memory e ≡ false → returned ≡ Some e) → FaultReported (number_of e) returned
 unfolding FaultReported
-fault_reports e told fails = elim (is_one_or_not e) [ inl one ↦ inl one | inr other ↦ inr (sym (ap fault_code (fails other))) ]
+fault_reports e returned fails = elim (is_one_or_not e) [ inl one ↦ inl one | inr other ↦ inr (sym (ap fault_code (fails other))) ]
 
-pub no_fault_reports : (told : Option Error) → told ≡ None → FaultReported 0 told
+pub no_fault_reports : (returned : Option Error) → returned ≡ None → FaultReported 0 returned
 unfolding FaultReported
-no_fault_reports told none = inr (sym (ap fault_code none))
+no_fault_reports returned none = inr (sym (ap fault_code none))
 
-pub memory_reports : (told : Option Error) → FaultReported 1 told
+pub memory_reports : (returned : Option Error) → FaultReported 1 returned
 unfolding FaultReported
-memory_reports told = inl refl
+memory_reports returned = inl refl
 
 -- a fault that comes first is what is answered, and where there is none, 0 or want of memory
-pub refused_answered : (e : Error) (told : Option Error) → (is_memory e ≡ false → told ≡ Some e)
-    → ((f : Error) → told ≡ Some f → Some f ≡ Some e) → FaultAnswered (number_of e) told
+pub refused_answered : (e : Error) (returned : Option Error) → (is_memory e ≡ false → returned ≡ Some e)
+    → ((f : Error) → returned ≡ Some f → Some f ≡ Some e) → FaultAnswered (number_of e) returned
 unfolding FaultAnswered
 refused_answered e None fails first = elim (is_one_or_not e) [ inl one ↦ inr one | inr other ↦ no_fault e (fails other) ]
   where
@@ -160,15 +160,15 @@ refused_answered e None fails first = elim (is_one_or_not e) [ inl one ↦ inr o
     no_fault e same = absurd (let no : ⊥ = cc in no)
 refused_answered e (Some f) fails first = ap fault_code (sym (first f refl))
 
-pub taken_answered : (told : Option Error) → told ≡ None → FaultAnswered 0 told
+pub taken_answered : (returned : Option Error) → returned ≡ None → FaultAnswered 0 returned
 unfolding FaultAnswered
 taken_answered None none = inl refl
 taken_answered (Some e) none = absurd (let no : ⊥ = cc in no)
 
 -- no fault comes first where a call did not refuse
-passes_first : (code : ℕ) (told : Option Error) → ((f : Error) → told ≡ Some f → Some f ≡ None)
-    → ReportsFirst code told
-passes_first code told first f is = absurd (no_fault f (first f is))
+passes_first : (code : ℕ) (returned : Option Error) → ((f : Error) → returned ≡ Some f → Some f ≡ None)
+    → ReportsFirst code returned
+passes_first code returned first f is = absurd (no_fault f (first f is))
   where
     no_fault : (f : Error) → Some f ≡ None → ⊥
     no_fault f same = cc
@@ -197,10 +197,10 @@ unfolding FinishReported
 finish_unplaced w first some = (memory_reports (finish_fault w), passes_first 1 (failed_fault w.failed) first, λ none works. absurd (some none))
 
 -- what is begun where no fault is told answers 0, or 1 for want of memory
-pub begun_reports : (code : ℕ) (told : Option Error) → (code ≡ 0) ⊎ (code ≡ 1) → told ≡ None
-    → FaultReported code told
+pub begun_reports : (code : ℕ) (returned : Option Error) → (code ≡ 0) ⊎ (code ≡ 1) → returned ≡ None
+    → FaultReported code returned
 unfolding FaultReported
-begun_reports code told codes none = elim codes [
+begun_reports code returned codes none = elim codes [
   | inl zero ↦ inr (zero ∙ sym (ap fault_code none))
   | inr one ↦ inl one
 ]

@@ -39,11 +39,11 @@ module _ {S T : Type 0} (A : S → ℕ → Option Entry → S → Type 0) (B : T
         (step.0, step.1, inr (more.0, step.2, more.2)))
   ]
 
-  pub many_so : (s v : S) (t : T) (places told : List EntryReport) (room copied : List ℕ)
+  pub many_so : (s v : S) (t : T) (places returned : List EntryReport) (room copied : List ℕ)
       (count code : ℕ) (found : Option Entry) → Is s t
-      → ReadsMany A s places told room copied count code found v
-      → (u : T) × Is v u × ReadsMany B t places told room copied count code found u
-  many_so s v t places told room copied count code found is many =
+      → ReadsMany A s places returned room copied count code found v
+      → (u : T) × Is v u × ReadsMany B t places returned room copied count code found u
+  many_so s v t places returned room copied count code found is many =
       let yields = yields_so s many.last t many.entries is many.yields in
       let ends = ends_so many.last v yields.0 (length places) (length room) many.entries code found yields.1 many.ends in (
         ends.0,
@@ -54,23 +54,23 @@ module _ {S T : Type 0} (A : S → ℕ → Option Entry → S → Type 0) (B : T
           yields = yields.2;
           ends = ends.2;
           counts = many.counts;
-          tells = many.tells;
+          states = many.states;
           copies = many.copies;
         },
       )
 
 -- a bulk read whose reads are of a part of what is read is one of that part
 pub part_many : {S T : Type 0} (part : S → T) (B : T → ℕ → Option Entry → T → Type 0) (s v : S)
-    (places told : List EntryReport) (room copied : List ℕ) (count code : ℕ) (found : Option Entry)
-    → ReadsMany (λ (x : S) (c : ℕ) (f : Option Entry) (y : S). B (part x) c f (part y)) s places told
+    (places returned : List EntryReport) (room copied : List ℕ) (count code : ℕ) (found : Option Entry)
+    → ReadsMany (λ (x : S) (c : ℕ) (f : Option Entry) (y : S). B (part x) c f (part y)) s places returned
     room copied count code found v
-    → ReadsMany B (part s) places told room copied count code found (part v)
-part_many {S} {T} part B s v places told room copied count code found many =
+    → ReadsMany B (part s) places returned room copied count code found (part v)
+part_many {S} {T} part B s v places returned room copied count code found many =
     let so = many_so (λ (x : S) (c : ℕ) (f : Option Entry) (y : S). B (part x) c f (part y)) B
     (λ (x : S) (t : T). part x ≡ t)
     (λ x y t c f is step. (part y, refl, subst (λ (z : T). B z c f (part y)) is step))
-    s v (part s) places told room copied count code found refl many in
-    subst (λ (z : T). ReadsMany B (part s) places told room copied count code found z) (sym so.1) so.2
+    s v (part s) places returned room copied count code found refl many in
+    subst (λ (z : T). ReadsMany B (part s) places returned room copied count code found z) (sym so.1) so.2
 
 -- a scan or a range of which something holds is one
 scan_where : (w : What) (P : Scan → Type 0) → IsScanWhere P w → (s : Scan) × (w ≡ ScanOf s) × P s
@@ -125,55 +125,55 @@ runs_scan_where (Packing x) P is = absurd is
 module _ (front back : NewestAt → Option (Result Entry Error) → NewestAt → Type 0)
     (advances : LentNewestAt → Option (Result Entry Error) → LentNewestAt → Type 0) (at_back : Bool) where
   -- what a bulk read of a handle is, by what the handle holds
-  pub scan_many : (w v : What) (s : Scan) (places told : List EntryReport) (room copied : List ℕ)
+  pub scan_many : (w v : What) (s : Scan) (places returned : List EntryReport) (room copied : List ℕ)
       (count code : ℕ) (found : Option Entry) → w ≡ ScanOf s
-      → ReadsMany (ReadsOn front back advances at_back) w places told room copied count code found v
-      → IsScanWhere (ReadsMany (StepsBy ScansLent) s places told room copied count code found) v
-  scan_many w v s places told room copied count code found is many =
-      let P : Scan → Type 0 = ReadsMany (StepsBy ScansLent) s places told room copied count code found in
+      → ReadsMany (ReadsOn front back advances at_back) w places returned room copied count code found v
+      → IsScanWhere (ReadsMany (StepsBy ScansLent) s places returned room copied count code found) v
+  scan_many w v s places returned room copied count code found is many =
+      let P : Scan → Type 0 = ReadsMany (StepsBy ScansLent) s places returned room copied count code found in
       let so = many_so (ReadsOn front back advances at_back) (StepsBy ScansLent) (λ (x : What) (y : Scan). x ≡ ScanOf y)
       (λ x y t c f same step. scan_where y (StepsBy ScansLent t c f) (step.scan t same))
-      w v s places told room copied count code found is many in
+      w v s places returned room copied count code found is many in
       subst (IsScanWhere P) (sym so.1) so.2
 
-  pub range_many : (w v : What) (s : Range Global) (places told : List EntryReport) (room copied : List ℕ)
+  pub range_many : (w v : What) (s : Range Global) (places returned : List EntryReport) (room copied : List ℕ)
       (count code : ℕ) (found : Option Entry) → w ≡ RangeOf s
-      → ReadsMany (ReadsOn front back advances at_back) w places told room copied count code found v
+      → ReadsMany (ReadsOn front back advances at_back) w places returned room copied count code found v
       → IsRangeWhere (ReadsMany (StepsBy (gives_at (RangeGives front_of front_next)
-      (RangeGives back_of back_next) at_back)) s places told room copied count code found) v
-  range_many w v s places told room copied count code found is many =
+      (RangeGives back_of back_next) at_back)) s places returned room copied count code found) v
+  range_many w v s places returned room copied count code found is many =
       let gives : Range Global → Option (Result Entry Error) → Range Global → Type 0 =
       gives_at (RangeGives front_of front_next) (RangeGives back_of back_next) at_back in
-      let P : Range Global → Type 0 = ReadsMany (StepsBy gives) s places told room copied count code found in
+      let P : Range Global → Type 0 = ReadsMany (StepsBy gives) s places returned room copied count code found in
       let so = many_so (ReadsOn front back advances at_back) (StepsBy gives) (λ (x : What) (y : Range Global). x ≡ RangeOf y)
       (λ x y t c f same step. range_where y (StepsBy gives t c f) (step.range t same))
-      w v s places told room copied count code found is many in
+      w v s places returned room copied count code found is many in
       subst (IsRangeWhere P) (sym so.1) so.2
 
-  pub merged_many : (w v : What) (m : Option NewestAt) (places told : List EntryReport)
+  pub merged_many : (w v : What) (m : Option NewestAt) (places returned : List EntryReport)
       (room copied : List ℕ) (count code : ℕ) (found : Option Entry) → w ≡ Merged m
-      → ReadsMany (ReadsOn front back advances at_back) w places told room copied count code found v
-      → IsMergedAs (ReadsMany (MergedReads (gives_at front back at_back)) m places told room copied
+      → ReadsMany (ReadsOn front back advances at_back) w places returned room copied count code found v
+      → IsMergedAs (ReadsMany (MergedReads (gives_at front back at_back)) m places returned room copied
       count code found) v
-  merged_many w v m places told room copied count code found is many =
+  merged_many w v m places returned room copied count code found is many =
       let reads : Option NewestAt → ℕ → Option Entry → Option NewestAt → Type 0 = MergedReads (gives_at front back at_back) in
-      let P : Option NewestAt → Type 0 = ReadsMany reads m places told room copied count code found in
+      let P : Option NewestAt → Type 0 = ReadsMany reads m places returned room copied count code found in
       let so = many_so (ReadsOn front back advances at_back) reads (λ (x : What) (y : Option NewestAt). x ≡ Merged y)
       (λ x y t c f same step. merged_where y (reads t c f) (step.merged t same))
-      w v m places told room copied count code found is many in
+      w v m places returned room copied count code found is many in
       subst (IsMergedAs P) (sym so.1) so.2
 
-  pub runs_scan_many : (w v : What) (m : Option LentNewestAt) (places told : List EntryReport)
+  pub runs_scan_many : (w v : What) (m : Option LentNewestAt) (places returned : List EntryReport)
       (room copied : List ℕ) (count code : ℕ) (found : Option Entry) → w ≡ RunsScanOf m
-      → ReadsMany (ReadsOn front back advances at_back) w places told room copied count code found v
-      → IsRunsScanAs (ReadsMany (MergedReads advances) m places told room copied count code found) v
-  runs_scan_many w v m places told room copied count code found is many =
+      → ReadsMany (ReadsOn front back advances at_back) w places returned room copied count code found v
+      → IsRunsScanAs (ReadsMany (MergedReads advances) m places returned room copied count code found) v
+  runs_scan_many w v m places returned room copied count code found is many =
       let reads : Option LentNewestAt → ℕ → Option Entry → Option LentNewestAt → Type 0 = MergedReads advances in
-      let P : Option LentNewestAt → Type 0 = ReadsMany reads m places told room copied count code found in
+      let P : Option LentNewestAt → Type 0 = ReadsMany reads m places returned room copied count code found in
       let so = many_so (ReadsOn front back advances at_back) reads
       (λ (x : What) (y : Option LentNewestAt). x ≡ RunsScanOf y)
       (λ x y t c f same step. runs_scan_where y (reads t c f) (step.runs_scan t same))
-      w v m places told room copied count code found is many in
+      w v m places returned room copied count code found is many in
       subst (IsRunsScanAs P) (sym so.1) so.2
 
 -- a step of a range of several runs, as what it leads to
@@ -260,15 +260,15 @@ module _ (front back : NewestAt → Option (Result Entry Error) → NewestAt →
   }
 
 -- a bulk read of a scan that found nothing, with places left, is at the end
-pub ended_many : (v : What) (s : Scan) (places told : List EntryReport) (room copied : List ℕ) (count code : ℕ)
+pub ended_many : (v : What) (s : Scan) (places returned : List EntryReport) (room copied : List ℕ) (count code : ℕ)
     (found : Option Entry)
-    → IsScanWhere (ReadsMany (StepsBy ScansLent) s places told room copied count code found) v
+    → IsScanWhere (ReadsMany (StepsBy ScansLent) s places returned room copied count code found) v
     → found ≡ None → count < length places → IsScanWhere IsEndedScan v
-ended_many v s places told room copied count code found many none left =
-    let scan = scan_where v (ReadsMany (StepsBy ScansLent) s places told room copied count code found) many in
+ended_many v s places returned room copied count code found many none left =
+    let scan = scan_where v (ReadsMany (StepsBy ScansLent) s places returned room copied count code found) many in
     subst (IsScanWhere IsEndedScan) (sym scan.1) (ended_at scan.0 scan.2)
   where
-    ended_at : (t : Scan) → ReadsMany (StepsBy ScansLent) s places told room copied count code found t
+    ended_at : (t : Scan) → ReadsMany (StepsBy ScansLent) s places returned room copied count code found t
         → IsEndedScan t
     ended_at t many = elim many.ends [
       | inl full ↦ absurd (let same : count ≡ length places = many.counts ∙ full.0 in let no : ⊥ = omega arith in no)

@@ -56,38 +56,38 @@ cut_length (n ∷ ns) bytes seqno = ap suc (cut_length ns (drop n bytes) seqno)
 
 -- want of memory may be answered whatever is told
 pub many_one : (kept : Option (List (Option Entry))) (old new : List EntryReport)
-    (told : Result (List (Option Entry)) Error) → AnswersMany 1 kept old new told
+    (returned : Result (List (Option Entry)) Error) → AnswersMany 1 kept old new returned
 unfolding AnswersMany
 many_one kept old new (Ok found) = inl refl
 many_one kept old new (Err e) = inl refl
 
 many_reported_err : (e : Error) (kept : Option (List (Option Entry))) (old new : List EntryReport)
-    (told : Result (List (Option Entry)) Error) → told ≡ Err e
-    → AnswersMany (number_of e) kept old new told
+    (returned : Result (List (Option Entry)) Error) → returned ≡ Err e
+    → AnswersMany (number_of e) kept old new returned
 unfolding AnswersMany
-many_reported_err e kept old new told same =
+many_reported_err e kept old new returned same =
     subst (λ (r : Result (List (Option Entry)) Error). AnswersMany (number_of e) kept old new r) (sym same) (inr refl)
 
 -- a refusal is the one that is told
 pub many_err : (e : Error) (kept : Option (List (Option Entry))) (old new : List EntryReport)
-    (told : Result (List (Option Entry)) Error) → Fails e told
-    → AnswersMany (number_of e) kept old new told
-many_err e kept old new told fails = elim (is_one_or_not e) [
-  | inl one ↦ subst (λ (n : ℕ). AnswersMany n kept old new told) (sym one) (many_one kept old new told)
-  | inr other ↦ many_reported_err e kept old new told (fails other)
+    (returned : Result (List (Option Entry)) Error) → Fails e returned
+    → AnswersMany (number_of e) kept old new returned
+many_err e kept old new returned fails = elim (is_one_or_not e) [
+  | inl one ↦ subst (λ (n : ℕ). AnswersMany n kept old new returned) (sym one) (many_one kept old new returned)
+  | inr other ↦ many_reported_err e kept old new returned (fails other)
 ]
 
 -- what was found is kept and told
 pub many_ok : (code : ℕ) (kept : Option (List (Option Entry))) (old new : List EntryReport)
-    (found : List (Option Entry)) (told : Result (List (Option Entry)) Error) → told ≡ Ok found
+    (found : List (Option Entry)) (returned : Result (List (Option Entry)) Error) → returned ≡ Ok found
     → (code ≡ 0) ⊎ (code ≡ 1) → (code ≡ 0 → kept ≡ Some found)
     → (code ≡ 0 → new ≡ laid_over (map entry_facts found) old)
-    → AnswersMany code kept old new told
+    → AnswersMany code kept old new returned
 unfolding AnswersMany
-many_ok code kept old new found told same codes keeps tells =
+many_ok code kept old new found returned same codes keeps states =
     subst (λ (r : Result (List (Option Entry)) Error). AnswersMany code kept old new r) (sym same)
     (elim codes [
-      | inl zero ↦ inr (zero, keeps zero, tells zero)
+      | inl zero ↦ inr (zero, keeps zero, states zero)
       | inr one ↦ inl one
     ])
 
@@ -98,10 +98,10 @@ kept_many (Some h) found is = is
 kept_many None found is = absurd is
 
 -- what a call gives is what is told
-pub gives_ok : {X Y : Type 0} (view : X → Y) (r : Result X Error) (x : X) (told : Result Y Error) → r ≡ Ok x → Gives view r told
-    → told ≡ Ok (view x)
-gives_ok {X} view r x told is gives = subst (λ (s : Result X Error). Gives view s told) is gives
+pub gives_ok : {X Y : Type 0} (view : X → Y) (r : Result X Error) (x : X) (returned : Result Y Error) → r ≡ Ok x → Gives view r returned
+    → returned ≡ Ok (view x)
+gives_ok {X} view r x returned is gives = subst (λ (s : Result X Error). Gives view s returned) is gives
 
-pub gives_err : {X Y : Type 0} (view : X → Y) (r : Result X Error) (e : Error) (told : Result Y Error) → r ≡ Err e
-    → Gives view r told → Fails e told
-gives_err {X} view r e told is gives = subst (λ (s : Result X Error). Gives view s told) is gives
+pub gives_err : {X Y : Type 0} (view : X → Y) (r : Result X Error) (e : Error) (returned : Result Y Error) → r ≡ Err e
+    → Gives view r returned → Fails e returned
+gives_err {X} view r e returned is gives = subst (λ (s : Result X Error). Gives view s returned) is gives

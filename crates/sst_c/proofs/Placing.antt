@@ -22,23 +22,23 @@ use Rattle.sst_c.specs.declared.held.What.{What}
 use Rattle.sst_c.specs.declared.held.What.TheVariants.{Runs, Table}
 
 -- a read whose position is kept answers what is told
-kept_answers : (t : OpenTable) (r : Result (Option EntryPlace) Error) (told : Result (Option Entry) Error)
-    → Gives (option_map (entry_placed t.bytes)) r told → IfOk r (λ o. IfSome o (IsPlacedIn t.bytes))
-    → AnswersRead (result_code r) (found_at (kept_in_table r) (Table t)) told
-kept_answers t (Ok None) told gives within = answers (Ok None) told gives
-kept_answers t (Ok (Some p)) told gives within =
-    subst (λ (o : Option Entry). AnswersRead 0 o told) (sym (placed_there t.bytes p within))
-    (answers (Ok (Some (entry_placed t.bytes p))) told gives)
-kept_answers t (Err e) told fails within = answers (Err e) told fails
+kept_answers : (t : OpenTable) (r : Result (Option EntryPlace) Error) (returned : Result (Option Entry) Error)
+    → Gives (option_map (entry_placed t.bytes)) r returned → IfOk r (λ o. IfSome o (IsPlacedIn t.bytes))
+    → AnswersRead (result_code r) (found_at (kept_in_table r) (Table t)) returned
+kept_answers t (Ok None) returned gives within = answers (Ok None) returned gives
+kept_answers t (Ok (Some p)) returned gives within =
+    subst (λ (o : Option Entry). AnswersRead 0 o returned) (sym (placed_there t.bytes p within))
+    (answers (Ok (Some (entry_placed t.bytes p))) returned gives)
+kept_answers t (Err e) returned fails within = answers (Err e) returned fails
 
-pub place_answers : (t : OpenTable) (r : Result (Option EntryPlace) Error) (told : Result (Option Entry) Error)
+pub place_answers : (t : OpenTable) (r : Result (Option EntryPlace) Error) (returned : Result (Option Entry) Error)
     (code : ℕ) (found : FoundEntry) → code ≡ result_code r → found ≡ kept_in_table r
-    → Gives (option_map (entry_placed t.bytes)) r told → IfOk r (λ o. IfSome o (IsPlacedIn t.bytes))
-    → AnswersRead code (found_at found (Table t)) told
-place_answers t r told code found same is gives within =
-    subst (λ (n : ℕ). AnswersRead n (found_at found (Table t)) told) (sym same)
-    (subst (λ (f : FoundEntry). AnswersRead (result_code r) (found_at f (Table t)) told) (sym is)
-    (kept_answers t r told gives within))
+    → Gives (option_map (entry_placed t.bytes)) r returned → IfOk r (λ o. IfSome o (IsPlacedIn t.bytes))
+    → AnswersRead code (found_at found (Table t)) returned
+place_answers t r returned code found same is gives within =
+    subst (λ (n : ℕ). AnswersRead n (found_at found (Table t)) returned) (sym same)
+    (subst (λ (f : FoundEntry). AnswersRead (result_code r) (found_at f (Table t)) returned) (sym is)
+    (kept_answers t r returned gives within))
 
 -- what holds of a table holds of what holds the table
 pub at_table : (P : What → OpenTable → Type 0) (w : What) (table t : OpenTable) → w ≡ Table table
@@ -48,20 +48,20 @@ at_table P w table t is same holds =
 
 -- so it is of a read of runs
 kept_answers_of : (rs : List (List OpenTable)) (r : Result (Option RunPlace) Error)
-    (told : Result (Option Entry) Error) → Gives (option_and_then (placed_in_runs rs)) r told
-    → AnswersRead (result_code r) (found_at (kept_in_runs r) (Runs rs)) told
-kept_answers_of rs (Ok None) told gives = answers (Ok None) told gives
-kept_answers_of rs (Ok (Some p)) told gives = answers (Ok (placed_in_runs rs p)) told gives
-kept_answers_of rs (Err e) told fails = answers (Err e) told fails
+    (returned : Result (Option Entry) Error) → Gives (option_and_then (placed_in_runs rs)) r returned
+    → AnswersRead (result_code r) (found_at (kept_in_runs r) (Runs rs)) returned
+kept_answers_of rs (Ok None) returned gives = answers (Ok None) returned gives
+kept_answers_of rs (Ok (Some p)) returned gives = answers (Ok (placed_in_runs rs p)) returned gives
+kept_answers_of rs (Err e) returned fails = answers (Err e) returned fails
 
 pub run_place_answers : (rs : List (List OpenTable)) (r : Result (Option RunPlace) Error)
-    (told : Result (Option Entry) Error) (code : ℕ) (found : FoundEntry) → code ≡ result_code r
-    → found ≡ kept_in_runs r → Gives (option_and_then (placed_in_runs rs)) r told
-    → AnswersRead code (found_at found (Runs rs)) told
-run_place_answers rs r told code found same is gives =
-    subst (λ (n : ℕ). AnswersRead n (found_at found (Runs rs)) told) (sym same)
-    (subst (λ (f : FoundEntry). AnswersRead (result_code r) (found_at f (Runs rs)) told) (sym is)
-    (kept_answers_of rs r told gives))
+    (returned : Result (Option Entry) Error) (code : ℕ) (found : FoundEntry) → code ≡ result_code r
+    → found ≡ kept_in_runs r → Gives (option_and_then (placed_in_runs rs)) r returned
+    → AnswersRead code (found_at found (Runs rs)) returned
+run_place_answers rs r returned code found same is gives =
+    subst (λ (n : ℕ). AnswersRead n (found_at found (Runs rs)) returned) (sym same)
+    (subst (λ (f : FoundEntry). AnswersRead (result_code r) (found_at f (Runs rs)) returned) (sym is)
+    (kept_answers_of rs r returned gives))
 
 -- what holds of runs holds of what holds the runs
 pub at_runs : (P : What → List (List OpenTable) → Type 0) (w : What) (rs : List (List OpenTable))

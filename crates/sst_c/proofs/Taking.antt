@@ -13,11 +13,11 @@ use Rattle.sst_c.specs.declared.entries.EntryReport.{EntryReport}
 
 -- reads from s on yielded entries that fill the first places and bytes, and led to t
 pub record IsTaking {S : Type 0} (read : S → ℕ → Option Entry → S → Type 0) (s : S)
-    (places told : List EntryReport) (room copied : List ℕ) (place at : ℕ) (t : S) : Type 0 where
+    (places returned : List EntryReport) (room copied : List ℕ) (place at : ℕ) (t : S) : Type 0 where
   pub entries : List Entry
   pub yields : Yields read s entries t
   pub counts : place ≡ length entries
-  pub tells : told ≡ laid_over (facts_of entries) places
+  pub states : returned ≡ laid_over (facts_of entries) places
   pub copies : copied ≡ laid_over (bytes_in entries) room
   pub filled : at ≡ length (bytes_in entries)
 
@@ -59,7 +59,7 @@ module _ {S : Type 0} (read : S → ℕ → Option Entry → S → Type 0) where
     entries = [];
     yields = refl;
     counts = refl;
-    tells = refl;
+    states = refl;
     copies = refl;
     filled = refl;
   }
@@ -71,22 +71,22 @@ module _ {S : Type 0} (read : S → ℕ → Option Entry → S → Type 0) where
       subst (λ (n : ℕ). read s n (Some e) t) (fine (ap is_some (sym is)))
       (subst (λ (x : Option Entry). read s code x t) (sym is) step)
 
-  pub taking_more : (s t u : S) (places told : List EntryReport) (room copied laid : List ℕ)
+  pub taking_more : (s t u : S) (places returned : List EntryReport) (room copied laid : List ℕ)
       (place at end : ℕ) (e : Entry) (x : EntryReport)
-      → IsTaking read s places told room copied place at t → read t 0 (Some e) u
+      → IsTaking read s places returned room copied place at t → read t 0 (Some e) u
       → place < length places → x ≡ entry_facts (Some e)
       → laid ≡ take at copied ++ laid_over (bytes_of e) (drop at copied)
       → end ≡ at + length (bytes_of e)
-      → IsTaking read s places (slice_set told place x) room laid (place + 1) end u
-  taking_more s t u places told room copied laid place at end e x before step within fact same on =
+      → IsTaking read s places (slice_set returned place x) room laid (place + 1) end u
+  taking_more s t u places returned room copied laid place at end e x before step within fact same on =
       let es = before.entries in
       record {
         entries = es ++ e ∷ [];
         yields = yields_one s t u es e before.yields step;
         counts = ap (λ n. n + 1) before.counts ∙ sym (length-append es (e ∷ []));
-        tells =
-            ap (λ y. slice_set told place y) fact
-            ∙ ap (λ l. slice_set l place (entry_facts (Some e))) before.tells
+        states =
+            ap (λ y. slice_set returned place y) fact
+            ∙ ap (λ l. slice_set l place (entry_facts (Some e))) before.states
             ∙ one_result (facts_of es) places place (entry_facts (Some e))
             (before.counts ∙ sym (length-map es (λ x. entry_facts (Some x)))) within
             ∙ ap (λ l. laid_over l places) (sym (map-append (λ x. entry_facts (Some x)) es (e ∷ [])));
@@ -102,30 +102,30 @@ module _ {S : Type 0} (read : S → ℕ → Option Entry → S → Type 0) where
             ∙ ap length (sym (one_more es e));
       }
 
-  pub taking_full : (s t : S) (places told : List EntryReport) (room copied : List ℕ) (place at : ℕ)
-      → IsTaking read s places told room copied place at t → place ≡ length places
-      → ReadsMany read s places told room copied place 0 None t
-  taking_full s t places told room copied place at before full = record {
+  pub taking_full : (s t : S) (places returned : List EntryReport) (room copied : List ℕ) (place at : ℕ)
+      → IsTaking read s places returned room copied place at t → place ≡ length places
+      → ReadsMany read s places returned room copied place 0 None t
+  taking_full s t places returned room copied place at before full = record {
     entries = before.entries;
     last = t;
     yields = before.yields;
     ends = inl (sym before.counts ∙ full, refl, refl, refl);
     counts = before.counts;
-    tells = before.tells;
+    states = before.states;
     copies = before.copies;
   }
 
-  pub taking_stopped : (s t u : S) (places told : List EntryReport) (room copied : List ℕ) (place at code : ℕ)
-      (found : Option Entry) → IsTaking read s places told room copied place at t → read t code found u
+  pub taking_stopped : (s t u : S) (places returned : List EntryReport) (room copied : List ℕ) (place at code : ℕ)
+      (found : Option Entry) → IsTaking read s places returned room copied place at t → read t code found u
       → place < length places
       → ((e : Entry) → found ≡ Some e → length room < at + length (bytes_of e))
-      → ReadsMany read s places told room copied place code found u
-  taking_stopped s t u places told room copied place at code found before step within full = record {
+      → ReadsMany read s places returned room copied place code found u
+  taking_stopped s t u places returned room copied place at code found before step within full = record {
     entries = before.entries;
     last = t;
     yields = before.yields;
     ends = inr (omega arith, step, λ e is. subst (λ n. length room < n + length (bytes_of e)) before.filled (full e is));
     counts = before.counts;
-    tells = before.tells;
+    states = before.states;
     copies = before.copies;
   }

@@ -16,20 +16,20 @@ use Rattle.sst_c.specs.declared.held.What.{What}
 use Rattle.sst_c.specs.declared.held.What.TheVariants.{Table}
 use Rattle.sst_c.specs.declared.verify.VerifyReport.{VerifyReport}
 
-pub answers_ok : (v : Verified) (told : Result Verified Finding) → told ≡ Ok v
-    → VerifyAnswers 0 (verified_result v) told
+pub answers_ok : (v : Verified) (returned : Result Verified Finding) → returned ≡ Ok v
+    → VerifyAnswers 0 (verified_result v) returned
 unfolding VerifyAnswers
-answers_ok v told same = let P : Result Verified Finding → Type 0 = λ t. VerifyAnswers 0 (verified_result v) t in
+answers_ok v returned same = let P : Result Verified Finding → Type 0 = λ t. VerifyAnswers 0 (verified_result v) t in
     subst P (sym same) (inl (refl, refl))
 
-pub answers_err : (f : Finding) (told : Result Verified Finding) → told ≡ Err f
-    → VerifyAnswers 107 (finding_result f) told
+pub answers_err : (f : Finding) (returned : Result Verified Finding) → returned ≡ Err f
+    → VerifyAnswers 107 (finding_result f) returned
 unfolding VerifyAnswers
-answers_err f told same = let P : Result Verified Finding → Type 0 = λ t. VerifyAnswers 107 (finding_result f) t in
+answers_err f returned same = let P : Result Verified Finding → Type 0 = λ t. VerifyAnswers 107 (finding_result f) t in
     subst P (sym same) (inl (refl, refl))
 
-pub answers_memory : (told : Result Verified Finding) (v : VerifyReport) → v ≡ no_finding
-    → VerifyAnswers 1 v told
+pub answers_memory : (returned : Result Verified Finding) (v : VerifyReport) → v ≡ no_finding
+    → VerifyAnswers 1 v returned
 unfolding VerifyAnswers
 answers_memory (Ok x) v none = inr (refl, none)
 answers_memory (Err f) v none = inr (refl, none)
@@ -58,11 +58,11 @@ pub at_both : (P : ℕ → VerifyReport → Type 0) (code other : ℕ) (v w : Ve
 at_both P code other v w one two holds = subst (λ (n : ℕ). P n v) (sym one) (subst (λ (x : VerifyReport). P other x) (sym two) holds)
 
 -- what a verification came to is told, memory aside
-pub came_answers : (r : Result Verified VerifyError) (told : Result Verified Finding) → Finds (λ (v : Verified). v) r told
-    → VerifyAnswers (verify_code r) (verify_result r) told
-came_answers (Ok v) told same = answers_ok v told same
-came_answers (Err OutOfMemory) told misses = answers_memory told no_finding refl
-came_answers (Err (Found f)) told misses = answers_err f told (misses f refl)
+pub came_answers : (r : Result Verified VerifyError) (returned : Result Verified Finding) → Finds (λ (v : Verified). v) r returned
+    → VerifyAnswers (verify_code r) (verify_result r) returned
+came_answers (Ok v) returned same = answers_ok v returned same
+came_answers (Err OutOfMemory) returned misses = answers_memory returned no_finding refl
+came_answers (Err (Found f)) returned misses = answers_err f returned (misses f refl)
 
 -- and what takes no memory to be found, whatever memory there is;
 pub came_early : (r : Result Verified VerifyError) (early : Option Finding) → FindsFirst r early

@@ -15,7 +15,7 @@ fault_code (Some e) = number_of e
 
 -- want of memory aside, whose number is 1, a call answers the code of what is told
 abbrev pub ReportsCode : {X : Type 0} → ℕ → Result X Error → Type 0
-ReportsCode code told = (code ≡ 1) ⊎ (code ≡ result_code told)
+ReportsCode code returned = (code ≡ 1) ⊎ (code ≡ result_code returned)
 
 -- a fault that takes no memory to be found comes before any want of memory: where there is one, it
 -- is what the call answers

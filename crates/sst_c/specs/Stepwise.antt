@@ -31,7 +31,7 @@ pub record IsStepOf (v : Verifying) (answer : StepAnswer) (w : Verifying) : Type
       (v.left.counts.size ≡ next_size v.ahead + w.left.counts.size))
   -- where none is left it answers what verifying at once does, memory aside,
   pub ends : IfOk answer (λ a. IfSome a (λ _. steps_of v ≡ 0))
-  pub told : IfOk answer (λ a. IfSome a (λ u.
+  pub returned : IfOk answer (λ a. IfSome a (λ u.
       table_found (body_of v.table.bytes) v.table.parts ≡ Ok u))
   pub refused : IfErr answer (λ e. Misses e (table_found (body_of v.table.bytes) v.table.parts))
   -- and what is found is wrong in the next block, or at the end,
@@ -87,6 +87,6 @@ progress_result v end = record {
 
 -- a step led from v to w, and what it answered is told
 abbrev pub ReportsStep : Verifying → ℕ → ProgressReport → VerifyReport → Verifying → Type 0
-ReportsStep v code progress told w = (answer : StepAnswer) × IsStepOf v answer w
-    × (code ≡ step_code answer) × (told ≡ step_result answer)
+ReportsStep v code progress returned w = (answer : StepAnswer) × IsStepOf v answer w
+    × (code ≡ step_code answer) × (returned ≡ step_result answer)
     × (progress ≡ progress_result w (step_end answer))

@@ -37,14 +37,14 @@ EndsWith read places room es s code found t =
 -- a bulk read led from s to t, with a code and an entry that was found and not copied: each entry
 -- that reads from s on yield is reported in its place and copied, until it ends
 pub record ReadsMany {S : Type 0} (read : S → ℕ → Option Entry → S → Type 0) (s : S)
-    (places told : List EntryReport) (room copied : List ℕ) (count code : ℕ) (found : Option Entry)
+    (places returned : List EntryReport) (room copied : List ℕ) (count code : ℕ) (found : Option Entry)
     (t : S) : Type 0 where
   pub entries : List Entry
   pub last : S
   pub yields : Yields read s entries last
   pub ends : EndsWith read (length places) (length room) entries last code found t
   pub counts : count ≡ length entries
-  pub tells : told ≡ laid_over (facts_of entries) places
+  pub states : returned ≡ laid_over (facts_of entries) places
   pub copies : copied ≡ laid_over (bytes_in entries) room
 
 -- the bytes of what was found: none if nothing was

@@ -82,23 +82,23 @@ verify_result (Err (Found f)) = finding_result f
 -- want of memory aside, whose number is 1, what is found is told with 107, else what there is; of
 -- want of memory nothing
 unfoldable pub VerifyAnswers : ℕ → VerifyReport → Result Verified Finding → Type 0
-VerifyAnswers code told (Ok v) =
-    ((code ≡ 0) × (told ≡ verified_result v)) ⊎ ((code ≡ 1) × (told ≡ no_finding))
-VerifyAnswers code told (Err f) =
-    ((code ≡ 107) × (told ≡ finding_result f)) ⊎ ((code ≡ 1) × (told ≡ no_finding))
+VerifyAnswers code returned (Ok v) =
+    ((code ≡ 0) × (returned ≡ verified_result v)) ⊎ ((code ≡ 1) × (returned ≡ no_finding))
+VerifyAnswers code returned (Err f) =
+    ((code ≡ 107) × (returned ≡ finding_result f)) ⊎ ((code ≡ 1) × (returned ≡ no_finding))
 
 -- what takes no memory to be found is told, whatever memory there is
 abbrev pub ReportsFinding : ℕ → VerifyReport → Option Finding → Type 0
-ReportsFinding code told early =
-    (f : Finding) → early ≡ Some f → (code ≡ 107) × (told ≡ finding_result f)
+ReportsFinding code returned early =
+    (f : Finding) → early ≡ Some f → (code ≡ 107) × (returned ≡ finding_result f)
 
 -- what is told is wrong there, and all that is read before it is sound
 abbrev pub ReportsWrong : (Finding → Type 0) → ℕ → VerifyReport → Type 0
-ReportsWrong is_first code told =
-    code ≡ 107 → (f : Finding) × (told ≡ finding_result f) × is_first f
+ReportsWrong is_first code returned =
+    code ≡ 107 → (f : Finding) × (returned ≡ finding_result f) × is_first f
 
 -- the bytes of a table that is verified store a list, and how many entries and data blocks it has
 -- is told
 abbrev pub ReportsCounts : List ℕ → VerifyReport → Type 0
-ReportsCounts bytes told = (es : List Entry) × (t : StoresList bytes es)
-    × (told.item_count ≡ length es) × (told.data_block_count ≡ length t.handles)
+ReportsCounts bytes returned = (es : List Entry) × (t : StoresList bytes es)
+    × (returned.item_count ≡ length es) × (returned.data_block_count ≡ length t.handles)

@@ -15,20 +15,20 @@ fn have_bytes(entries: &[EntryReport], count: u64) -> bool
     ensures { result ≡ (spec.sum (map spec.size_of entries.now) == count) }
 {
     let mut left = count;
-    for told in entries {
-        if told.key_len > left || told.value_len > left - told.key_len {
+    for returned in entries {
+        if returned.key_len > left || returned.value_len > left - returned.key_len {
             return false;
         }
-        left -= told.key_len + told.value_len;
+        left -= returned.key_len + returned.value_len;
     }
     left == 0
 }
 
 // Writes an entry of this kind and number.
-fn add_told(writer: &mut Writer, told: &EntryReport, key: &[u8], value: &[u8]) -> u32
-    ensures { spec.Adds writer.old (spec.row told.now key.now value.now) result writer.new }
+fn add_told(writer: &mut Writer, returned: &EntryReport, key: &[u8], value: &[u8]) -> u32
+    ensures { spec.Adds writer.old (spec.row returned.now key.now value.now) result writer.new }
 {
-    add_kind(writer, key, told.seqno, told.kind, value)
+    add_kind(writer, key, returned.seqno, returned.kind, value)
 }
 
 // Writes entries one after another, up to the first that fails.
@@ -40,10 +40,10 @@ fn add_each(writer: &mut Writer, entries: &[EntryReport], bytes: &[u8], count: &
     let mut at = 0;
     for place in 0..entries.len() {
         *count = place as u64;
-        let told = &entries[place];
-        let middle = at + told.key_len as usize;
-        let end = middle + told.value_len as usize;
-        let code = add_told(writer, told, &bytes[at..middle], &bytes[middle..end]);
+        let returned = &entries[place];
+        let middle = at + returned.key_len as usize;
+        let end = middle + returned.value_len as usize;
+        let code = add_told(writer, returned, &bytes[at..middle], &bytes[middle..end]);
         if code != 0 {
             return code;
         }

@@ -100,7 +100,7 @@ fn tell_outcome(
 ) -> u32
     requires empty { files.old.boxed.value ≡ None }
     requires through { IfOk came spec.GoesThrough }
-    ensures told { spec.ReportsOutcome result files.new.boxed.value next_id.new came }
+    ensures returned { spec.ReportsOutcome result files.new.boxed.value next_id.new came }
     ensures left { result ≢ 0 →
         (next_id.new ≡ next_id.old) × (files.new.boxed.value ≡ None) }
 {
@@ -127,7 +127,7 @@ fn compact_into(
 ) -> u32
     requires empty { files.old.boxed.value ≡ None }
     requires usable { spec.are_usable options.now ≡ true }
-    ensures told { spec.IsReportedOf
+    ensures returned { spec.IsReportedOf
         (spec.IsCompactionOf runs.now rules (spec.decode_compactor options.now target_size))
         result files.new.boxed.value next_id.new }
     ensures left { result ≢ 0 →
@@ -150,7 +150,7 @@ fn compact_held(
     ensures kind { spec.are_runs held.now.what ≡ false → result ≡ 102 }
     ensures unusable { spec.are_runs held.now.what ≡ true → spec.are_usable options.now ≡ false →
         result ≡ 105 }
-    ensures told { spec.are_runs held.now.what ≡ true → spec.are_usable options.now ≡ true →
+    ensures returned { spec.are_runs held.now.what ≡ true → spec.are_usable options.now ≡ true →
         let writer = spec.decode_compactor options.now target_size in
         spec.IsReportedOf (spec.IsCompactionOf (spec.runs_held held.now.what) rules writer)
         result files.new.boxed.value next_id.new }
@@ -197,7 +197,7 @@ pub extern "C" fn sst_compact(
         runs.old.boxed.value ≡ Some h → spec.are_runs h.what ≡ true →
         spec.are_usable options.now ≡ false → result ≡ 105 }
     // Else it is told what the library's compaction of any tables comes to.
-    ensures told { (h : spec.HeldValue) → files.old.boxed.value ≡ None →
+    ensures returned { (h : spec.HeldValue) → files.old.boxed.value ≡ None →
         runs.old.boxed.value ≡ Some h →
         spec.are_runs h.what ≡ true → spec.are_usable options.now ≡ true →
         let rules = spec.rules_by watermark evict_tombstones zero_seqnos in

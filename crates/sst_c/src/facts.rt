@@ -57,7 +57,7 @@ fn facts_of(table: &Table) -> TableFacts
 
 fn tell_facts(held: &Held, facts: &mut TableFacts) -> u32
     ensures other { spec.is_table held.now.what ≡ false → result ≡ 102 }
-    ensures told { (t : spec.OpenTable) → held.now.what ≡ spec.TableOf t →
+    ensures returned { (t : spec.OpenTable) → held.now.what ≡ spec.TableOf t →
         (result ≡ 0) × (facts.new ≡ spec.table_facts t) }
     ensures left { result ≢ 0 → facts.new ≡ facts.old }
 {
@@ -78,7 +78,7 @@ pub extern "C" fn sst_table_facts(alloc: Global, table: &mut Handle, facts: &mut
     ensures shut { table.old.boxed.value ≡ None → result ≡ 100 }
     ensures other { (h : spec.HeldValue) → table.old.boxed.value ≡ Some h →
         spec.is_table h.what ≡ false → result ≡ 102 }
-    ensures told { (h : spec.HeldValue) (t : spec.OpenTable) → table.old.boxed.value ≡ Some h →
+    ensures returned { (h : spec.HeldValue) (t : spec.OpenTable) → table.old.boxed.value ≡ Some h →
         h.what ≡ spec.TableOf t → (result ≡ 0) × (facts.new ≡ spec.table_facts t) }
     ensures left { result ≢ 0 → facts.new ≡ facts.old }
 {

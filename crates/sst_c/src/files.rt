@@ -34,20 +34,20 @@ fn describe(file: &FinishedTable) -> FileReport
     }
 }
 
-fn tell_file(held: &Held, index: u64, told: &mut FileReport) -> u32
+fn tell_file(held: &Held, index: u64, returned: &mut FileReport) -> u32
     ensures some { (f : spec.Finished spec.Heap) → spec.file_at held.now.what index ≡ Some f →
         result ≡ 0 }
-    ensures told { (f : spec.Finished spec.Heap) → spec.file_at held.now.what index ≡ Some f →
-        told.new ≡ spec.file_facts f }
+    ensures returned { (f : spec.Finished spec.Heap) → spec.file_at held.now.what index ≡ Some f →
+        returned.new ≡ spec.file_facts f }
     ensures none { spec.file_at held.now.what index ≡ None → spec.are_files held.now.what ≡ true →
         result ≡ 105 }
     ensures other { spec.are_files held.now.what ≡ false → result ≡ 102 }
-    ensures left { result ≢ 0 → told.new ≡ told.old }
+    ensures left { result ≢ 0 → returned.new ≡ returned.old }
 {
     match &held.what {
         What::Files(files) => match files.tables.get(index as usize) {
             Some(file) => {
-                *told = describe(file);
+                *returned = describe(file);
                 0
             }
             None => NO_SUCH,
@@ -64,7 +64,7 @@ pub extern "C" fn sst_files_tell(
     alloc: Global,
     files: &mut Handle,
     index: u64,
-    told: &mut FileReport,
+    returned: &mut FileReport,
 ) -> u32
     ensures kept { files.new.boxed.value ≡ files.old.boxed.value }
     ensures shut { files.old.boxed.value ≡ None → result ≡ 100 }
@@ -74,15 +74,15 @@ pub extern "C" fn sst_files_tell(
         spec.are_files h.what ≡ true → spec.file_at h.what index ≡ None → result ≡ 105 }
     ensures some { (h : spec.HeldValue) (f : spec.Finished spec.Heap) →
         files.old.boxed.value ≡ Some h → spec.file_at h.what index ≡ Some f → result ≡ 0 }
-    ensures told { (h : spec.HeldValue) (f : spec.Finished spec.Heap) →
+    ensures returned { (h : spec.HeldValue) (f : spec.Finished spec.Heap) →
         files.old.boxed.value ≡ Some h →
-        spec.file_at h.what index ≡ Some f → told.new ≡ spec.file_facts f }
-    ensures left { result ≢ 0 → told.new ≡ told.old }
+        spec.file_at h.what index ≡ Some f → returned.new ≡ spec.file_facts f }
+    ensures left { result ≢ 0 → returned.new ≡ returned.old }
 {
     let Some(held) = files.take(alloc) else {
         return CLOSED;
     };
-    let code = tell_file(&held, index, told);
+    let code = tell_file(&held, index, returned);
     files.put(held);
     code
 }

@@ -24,7 +24,7 @@ pub extern "C" fn sst_table_open_kept(
     ensures open { is_some table.old.boxed.value ≡ true → result ≡ 101 }
     ensures opened { result ≡ 0 → IsSomeAnd table.new.boxed.value
         (spec.IsOpenedAs file.now global_seqno pin_filter pin_index) }
-    ensures told { table.old.boxed.value ≡ None →
+    ensures returned { table.old.boxed.value ≡ None →
         spec.ReportsCode result (spec.recovered_result file.now global_seqno pin_filter pin_index) }
     // What is found before memory is taken is the refusal, whatever memory there is.
     ensures early { table.old.boxed.value ≡ None →

@@ -54,8 +54,8 @@ fn found_of(
     seqno: SeqNo,
 ) -> Result<Vec<Option<InternalValue>>, Error>
     requires { spec.sum lens.now ≡ length keys.now }
-    ensures told { let told = spec.many_results table.now (spec.queries_for keys.now lens.now seqno) in
-        spec.Gives (λ found. found.items) result told }
+    ensures returned { let returned = spec.many_results table.now (spec.queries_for keys.now lens.now seqno) in
+        spec.Gives (λ found. found.items) result returned }
     ensures list { (es : List spec.Entry) → spec.StoresList table.now.bytes es →
         let all = spec.lift es table.now.global_seqno in
         let each = map (λ k. spec.point all k seqno) (spec.keys_cut lens.now keys.now) in
@@ -100,7 +100,7 @@ fn keep_each(
     ensures new { result ≡ 0 → IsSomeAnd answers.new.boxed.value (λ k. spec.found_by k ≡ None) }
     ensures many { result ≡ 0 → IsSomeAnd answers.new.boxed.value (λ k.
         spec.many_in k.what ≡ Some found.items) }
-    ensures told { result ≡ 0 →
+    ensures returned { result ≡ 0 →
         entries.new ≡ spec.laid_over (map spec.entry_facts found.items) entries.old }
     ensures left { result ≢ 0 →
         (entries.new ≡ entries.old) × (answers.new.boxed.value ≡ None) }
@@ -125,10 +125,10 @@ fn keep_found(
     requires empty { answers.old.boxed.value ≡ None }
     requires room { IfOk found (λ each. length each.items ≤ length entries.old) }
     ensures refused { IfErr found (λ e. result ≡ spec.number_of e) }
-    ensures told { (told : Result (List (Option spec.Entry)) spec.ErrorValue) →
-        spec.Gives (λ each. each.items) found told →
+    ensures returned { (returned : Result (List (Option spec.Entry)) spec.ErrorValue) →
+        spec.Gives (λ each. each.items) found returned →
         let kept = spec.many_kept answers.new.boxed.value in
-        spec.AnswersMany result kept entries.old entries.new told }
+        spec.AnswersMany result kept entries.old entries.new returned }
     ensures new { result ≡ 0 → IsSomeAnd answers.new.boxed.value (λ k. spec.found_by k ≡ None) }
     ensures left { result ≢ 0 →
         (entries.new ≡ entries.old) × (answers.new.boxed.value ≡ None) }
@@ -152,9 +152,9 @@ fn read_each(
     requires empty { answers.old.boxed.value ≡ None }
     requires sum { spec.sum lens.now ≡ length keys.now }
     requires room { length lens.now ≤ length entries.old }
-    ensures told { let told = spec.many_results table.now (spec.queries_for keys.now lens.now seqno) in
+    ensures returned { let returned = spec.many_results table.now (spec.queries_for keys.now lens.now seqno) in
         let kept = spec.many_kept answers.new.boxed.value in
-        spec.AnswersMany result kept entries.old entries.new told }
+        spec.AnswersMany result kept entries.old entries.new returned }
     ensures list { (es : List spec.Entry) → spec.StoresList table.now.bytes es →
         let all = spec.lift es table.now.global_seqno in
         let each = map (λ k. spec.point all k seqno) (spec.keys_cut lens.now keys.now) in
@@ -183,11 +183,11 @@ fn get_each(
         result ≡ 105 }
     ensures room { spec.is_table held.now.what ≡ true → spec.sum lens.now ≡ length keys.now →
         length entries.old < length lens.now → result ≡ 103 }
-    ensures told { (t : spec.OpenTable) → held.now.what ≡ spec.TableOf t →
+    ensures returned { (t : spec.OpenTable) → held.now.what ≡ spec.TableOf t →
         spec.sum lens.now ≡ length keys.now → length lens.now ≤ length entries.old →
-        let told = spec.many_results t (spec.queries_for keys.now lens.now seqno) in
+        let returned = spec.many_results t (spec.queries_for keys.now lens.now seqno) in
         let kept = spec.many_kept answers.new.boxed.value in
-        spec.AnswersMany result kept entries.old entries.new told }
+        spec.AnswersMany result kept entries.old entries.new returned }
     ensures list { (t : spec.OpenTable) (es : List spec.Entry) → held.now.what ≡ spec.TableOf t →
         spec.sum lens.now ≡ length keys.now → length lens.now ≤ length entries.old →
         spec.StoresList t.bytes es → let all = spec.lift es t.global_seqno in
@@ -239,12 +239,12 @@ pub extern "C" fn sst_table_get_many(
         spec.sum key_lens.now ≡ length keys.now → length entries.old < length key_lens.now →
         result ≡ 103 }
     // Whatever the bytes, it is what the table tells of each key, or of the first that is refused,
-    ensures told { (h : spec.HeldValue) (t : spec.OpenTable) → answers.old.boxed.value ≡ None →
+    ensures returned { (h : spec.HeldValue) (t : spec.OpenTable) → answers.old.boxed.value ≡ None →
         table.old.boxed.value ≡ Some h → h.what ≡ spec.TableOf t →
         spec.sum key_lens.now ≡ length keys.now → length key_lens.now ≤ length entries.old →
-        let told = spec.many_results t (spec.queries_for keys.now key_lens.now seqno) in
+        let returned = spec.many_results t (spec.queries_for keys.now key_lens.now seqno) in
         let kept = spec.many_kept answers.new.boxed.value in
-        spec.AnswersMany result kept entries.old entries.new told }
+        spec.AnswersMany result kept entries.old entries.new returned }
     // and on bytes that store a list each key's first match in the list, its numbers lifted.
     ensures list { (h : spec.HeldValue) (t : spec.OpenTable) (es : List spec.Entry) →
         answers.old.boxed.value ≡ None → table.old.boxed.value ≡ Some h → h.what ≡ spec.TableOf t →

@@ -38,7 +38,7 @@ fn memory_of(table: &Table) -> TableMemory
 
 fn tell_memory(held: &Held, memory: &mut TableMemory) -> u32
     ensures other { spec.is_table held.now.what ≡ false → result ≡ 102 }
-    ensures told { (t : spec.OpenTable) → held.now.what ≡ spec.TableOf t →
+    ensures returned { (t : spec.OpenTable) → held.now.what ≡ spec.TableOf t →
         (result ≡ 0) × spec.ReportsMemory t memory.new }
     ensures left { result ≢ 0 → memory.new ≡ memory.old }
 {
@@ -64,7 +64,7 @@ pub extern "C" fn sst_table_memory(
     ensures other { (h : spec.HeldValue) → table.old.boxed.value ≡ Some h →
         spec.is_table h.what ≡ false → result ≡ 102 }
     // It is what the library tells of the table.
-    ensures told { (h : spec.HeldValue) (t : spec.OpenTable) → table.old.boxed.value ≡ Some h →
+    ensures returned { (h : spec.HeldValue) (t : spec.OpenTable) → table.old.boxed.value ≡ Some h →
         h.what ≡ spec.TableOf t → (result ≡ 0) × spec.ReportsMemory t memory.new }
     ensures left { result ≢ 0 → memory.new ≡ memory.old }
 {

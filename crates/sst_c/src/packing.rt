@@ -120,7 +120,7 @@ pub extern "C" fn sst_packing_open(alloc: Global, runs: &mut Handle, packing: &m
 
 fn count(held: &Held, runs: &mut u64) -> u32
     ensures other { spec.is_packing held.now.what ≡ false → result ≡ 102 }
-    ensures told { spec.is_packing held.now.what ≡ true →
+    ensures returned { spec.is_packing held.now.what ≡ true →
         (result ≡ 0) × (runs.new ≡ length (spec.packed_runs held.now.what)) }
     ensures left { result ≢ 0 → runs.new ≡ runs.old }
 {
@@ -141,7 +141,7 @@ pub extern "C" fn sst_packing_count(alloc: Global, packing: &mut Handle, runs: &
     ensures shut { packing.old.boxed.value ≡ None → result ≡ 100 }
     ensures other { (h : spec.HeldValue) → packing.old.boxed.value ≡ Some h →
         spec.is_packing h.what ≡ false → result ≡ 102 }
-    ensures told { (h : spec.HeldValue) → packing.old.boxed.value ≡ Some h →
+    ensures returned { (h : spec.HeldValue) → packing.old.boxed.value ≡ Some h →
         spec.is_packing h.what ≡ true →
         (result ≡ 0) × (runs.new ≡ length (spec.packed_runs h.what)) }
     ensures left { result ≢ 0 → runs.new ≡ runs.old }
@@ -158,7 +158,7 @@ fn count_run(held: &Held, run: u64, tables: &mut u64) -> u32
     ensures other { spec.is_packing held.now.what ≡ false → result ≡ 102 }
     ensures none { spec.is_packing held.now.what ≡ true →
         slice_get (spec.packed_runs held.now.what) run ≡ None → result ≡ 105 }
-    ensures told { (ts : List (spec.PlacedTable spec.OpenTable)) →
+    ensures returned { (ts : List (spec.PlacedTable spec.OpenTable)) →
         slice_get (spec.packed_runs held.now.what) run ≡ Some ts →
         (result ≡ 0) × (tables.new ≡ length ts) }
     ensures left { result ≢ 0 → tables.new ≡ tables.old }
@@ -192,7 +192,7 @@ pub extern "C" fn sst_packing_run(
     ensures none { (h : spec.HeldValue) → packing.old.boxed.value ≡ Some h →
         spec.is_packing h.what ≡ true → slice_get (spec.packed_runs h.what) run ≡ None →
         result ≡ 105 }
-    ensures told { (h : spec.HeldValue) (ts : List (spec.PlacedTable spec.OpenTable)) →
+    ensures returned { (h : spec.HeldValue) (ts : List (spec.PlacedTable spec.OpenTable)) →
         packing.old.boxed.value ≡ Some h → slice_get (spec.packed_runs h.what) run ≡ Some ts →
         (result ≡ 0) × (tables.new ≡ length ts) }
     ensures left { result ≢ 0 → tables.new ≡ tables.old }
@@ -212,7 +212,7 @@ fn tell_table(held: &Held, run: u64, place: u64, table: &mut u64) -> u32
     ensures none { (ts : List (spec.PlacedTable spec.OpenTable)) →
         slice_get (spec.packed_runs held.now.what) run ≡ Some ts → slice_get ts place ≡ None →
         result ≡ 105 }
-    ensures told { (ts : List (spec.PlacedTable spec.OpenTable))
+    ensures returned { (ts : List (spec.PlacedTable spec.OpenTable))
         (t : spec.PlacedTable spec.OpenTable) →
         slice_get (spec.packed_runs held.now.what) run ≡ Some ts → slice_get ts place ≡ Some t →
         (result ≡ 0) × (table.new ≡ t.place) }
@@ -254,7 +254,7 @@ pub extern "C" fn sst_packing_table(
     ensures none { (h : spec.HeldValue) (ts : List (spec.PlacedTable spec.OpenTable)) →
         packing.old.boxed.value ≡ Some h → slice_get (spec.packed_runs h.what) run ≡ Some ts →
         slice_get ts place ≡ None → result ≡ 105 }
-    ensures told { (h : spec.HeldValue) (ts : List (spec.PlacedTable spec.OpenTable))
+    ensures returned { (h : spec.HeldValue) (ts : List (spec.PlacedTable spec.OpenTable))
         (t : spec.PlacedTable spec.OpenTable) → packing.old.boxed.value ≡ Some h →
         slice_get (spec.packed_runs h.what) run ≡ Some ts → slice_get ts place ≡ Some t →
         (result ≡ 0) × (table.new ≡ t.place) }
@@ -272,7 +272,7 @@ fn tell_link(held: &Held, place: u64, table: &mut u64) -> u32
     ensures other { spec.is_packing held.now.what ≡ false → result ≡ 102 }
     ensures none { spec.is_packing held.now.what ≡ true →
         slice_get (spec.packed_chain held.now.what) place ≡ None → result ≡ 105 }
-    ensures told { (p : ℕ × ℕ) → slice_get (spec.packed_chain held.now.what) place ≡ Some p →
+    ensures returned { (p : ℕ × ℕ) → slice_get (spec.packed_chain held.now.what) place ≡ Some p →
         (result ≡ 0) × (table.new ≡ p.0) }
     ensures left { result ≢ 0 → table.new ≡ table.old }
 {
@@ -306,7 +306,7 @@ pub extern "C" fn sst_packing_chain(
     ensures none { (h : spec.HeldValue) → packing.old.boxed.value ≡ Some h →
         spec.is_packing h.what ≡ true → slice_get (spec.packed_chain h.what) place ≡ None →
         result ≡ 105 }
-    ensures told { (h : spec.HeldValue) (p : ℕ × ℕ) → packing.old.boxed.value ≡ Some h →
+    ensures returned { (h : spec.HeldValue) (p : ℕ × ℕ) → packing.old.boxed.value ≡ Some h →
         slice_get (spec.packed_chain h.what) place ≡ Some p → (result ≡ 0) × (table.new ≡ p.0) }
     ensures left { result ≢ 0 → table.new ≡ table.old }
 {

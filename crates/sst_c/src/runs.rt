@@ -192,7 +192,7 @@ fn keep_place(found: &mut FoundEntry, outcome: Result<Option<RunPlace>, Error>) 
 // Reads a key of a list of runs, and keeps the position of the entry that it finds.
 #[tactic(auto, using(crate::proofs::Answering::reads))]
 fn get_in(runs: &RunList, key: &[u8], seqno: SeqNo, found: &mut FoundEntry) -> u32
-    ensures told { let entry = spec.found_at found.new (spec.RunsOf runs.now) in
+    ensures returned { let entry = spec.found_at found.new (spec.RunsOf runs.now) in
         spec.AnswersRead result entry (spec.runs_result key.now seqno None runs.now) }
     ensures early { spec.ReportsFirst result (spec.runs_read key.now seqno None runs.now).early }
     ensures calm { (spec.runs_read key.now seqno None runs.now).loads ≡ [] → result ≡ 0 }
@@ -208,7 +208,7 @@ fn get(held: &mut Held, key: &[u8], seqno: SeqNo) -> u32
     ensures kept { held.new.what ≡ held.old.what }
     ensures other { spec.are_runs held.old.what ≡ false →
         (result ≡ 102) × (spec.found_by held.new ≡ None) }
-    ensures told { spec.are_runs held.old.what ≡ true →
+    ensures returned { spec.are_runs held.old.what ≡ true →
         spec.AnswersRead result (spec.found_by held.new)
         (spec.runs_result key.now seqno None (spec.runs_held held.old.what)) }
     ensures early { spec.are_runs held.old.what ≡ true →
@@ -251,7 +251,7 @@ pub extern "C" fn sst_runs_get(
         (result ≡ 102) × (spec.found_in runs.new.boxed.value ≡ None) }
     ensures entry { entry.new ≡ spec.entry_facts (spec.found_in runs.new.boxed.value) }
     // It is what the tables tell, whatever the bytes,
-    ensures told { (h : spec.HeldValue) → runs.old.boxed.value ≡ Some h →
+    ensures returned { (h : spec.HeldValue) → runs.old.boxed.value ≡ Some h →
         spec.are_runs h.what ≡ true → let found = spec.found_in runs.new.boxed.value in
         spec.AnswersRead result found (spec.runs_result key.now seqno None (spec.runs_held h.what)) }
     // a fault of the first block that is loaded which takes no memory to be found first,

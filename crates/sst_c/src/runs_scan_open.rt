@@ -22,9 +22,9 @@ fn newest_within(
     seqno: SeqNo,
 ) -> Result<RunsScan, Error>
     ensures places { let advances = ⟦<LentNewestOfRunsAt<Global> as Lending>⟧.advances in
-        let told = spec.runs_results_within range.0 range.1 runs.now in
-        spec.AllByRecursion (λ rs. spec.Ascends (spec.entries_among rs)) told →
-        let found = spec.newest_results (spec.merge_of (map (spec.below_results seqno) told)) in
+        let returned = spec.runs_results_within range.0 range.1 runs.now in
+        spec.AllByRecursion (λ rs. spec.Ascends (spec.entries_among rs)) returned →
+        let found = spec.newest_results (spec.merge_of (map (spec.below_results seqno) returned)) in
         IfOk result (λ s. spec.LendsResults advances found s) }
     ensures list { let advances = ⟦<LentNewestOfRunsAt<Global> as Lending>⟧.advances in
         (lists : List (List (List spec.Entry))) → spec.RunsHoldLists runs.now lists →
@@ -51,9 +51,9 @@ fn scan_within(
     ensures places { let advances = ⟦<LentNewestOfRunsAt<Global> as Lending>⟧.advances in
         let low = spec.decode_bound lower_kind lower.now in
         let high = spec.decode_bound upper_kind upper.now in
-        let told = spec.runs_results_within low high runs.now in
-        spec.AllByRecursion (λ rs. spec.Ascends (spec.entries_among rs)) told →
-        let found = spec.newest_results (spec.merge_of (map (spec.below_results seqno) told)) in
+        let returned = spec.runs_results_within low high runs.now in
+        spec.AllByRecursion (λ rs. spec.Ascends (spec.entries_among rs)) returned →
+        let found = spec.newest_results (spec.merge_of (map (spec.below_results seqno) returned)) in
         IfOk result (spec.LendsResults advances found) }
     ensures list { let advances = ⟦<LentNewestOfRunsAt<Global> as Lending>⟧.advances in
         let low = spec.decode_bound lower_kind lower.now in
@@ -89,9 +89,9 @@ fn begin_scan(
     ensures places { let advances = ⟦<LentNewestOfRunsAt<Global> as Lending>⟧.advances in
         let low = spec.decode_bound lower_kind lower.now in
         let high = spec.decode_bound upper_kind upper.now in
-        let told = spec.runs_results_within low high (spec.runs_held held.now.what) in result ≡ 0 →
-        spec.AllByRecursion (λ rs. spec.Ascends (spec.entries_among rs)) told →
-        let found = spec.newest_results (spec.merge_of (map (spec.below_results seqno) told)) in
+        let returned = spec.runs_results_within low high (spec.runs_held held.now.what) in result ≡ 0 →
+        spec.AllByRecursion (λ rs. spec.Ascends (spec.entries_among rs)) returned →
+        let found = spec.newest_results (spec.merge_of (map (spec.below_results seqno) returned)) in
         IsSomeAnd scan.new.boxed.value (λ k.
         spec.IsRunsScanWhere (spec.LendsResults advances found) k.what) }
     ensures list { let advances = ⟦<LentNewestOfRunsAt<Global> as Lending>⟧.advances in
@@ -156,9 +156,9 @@ pub extern "C" fn sst_runs_scan_open(
         let low = spec.decode_bound lower_kind lower.now in
         let high = spec.decode_bound upper_kind upper.now in
         (h : spec.HeldValue) → runs.old.boxed.value ≡ Some h → result ≡ 0 →
-        let told = spec.runs_results_within low high (spec.runs_held h.what) in
-        spec.AllByRecursion (λ rs. spec.Ascends (spec.entries_among rs)) told →
-        let found = spec.newest_results (spec.merge_of (map (spec.below_results seqno) told)) in
+        let returned = spec.runs_results_within low high (spec.runs_held h.what) in
+        spec.AllByRecursion (λ rs. spec.Ascends (spec.entries_among rs)) returned →
+        let found = spec.newest_results (spec.merge_of (map (spec.below_results seqno) returned)) in
         IsSomeAnd scan.new.boxed.value (λ k.
         spec.IsRunsScanWhere (spec.LendsResults advances found) k.what) }
     // of tables of lists it yields what is newest of all entries together, their numbers lifted,

@@ -32,7 +32,7 @@ fn scan_of(table: &Table) -> Result<Scanner, Error>
 #[tactic(auto, using(crate::proofs::Answering::tell))]
 fn begin_scan(alloc: Global, table: &Table, scan: &mut Handle) -> u32
     requires { scan.old.boxed.value ≡ None }
-    ensures told { spec.FaultReported result (spec.scan_fault table.now) }
+    ensures returned { spec.FaultReported result (spec.scan_fault table.now) }
     ensures early { spec.ReportsFirst result (spec.early_scan_fault table.now) }
     ensures fine { (es : List spec.Entry) → spec.StoresList table.now.bytes es → 0 < length es →
         (result ≡ 0) ⊎ (result ≡ 1) }
@@ -55,7 +55,7 @@ fn begin_scan(alloc: Global, table: &Table, scan: &mut Handle) -> u32
 fn begin(alloc: Global, held: &Held, scan: &mut Handle) -> u32
     requires { scan.old.boxed.value ≡ None }
     ensures other { spec.is_table held.now.what ≡ false → result ≡ 102 }
-    ensures told { (t : spec.OpenTable) → held.now.what ≡ spec.TableOf t →
+    ensures returned { (t : spec.OpenTable) → held.now.what ≡ spec.TableOf t →
         spec.FaultReported result (spec.scan_fault t) }
     ensures early { (t : spec.OpenTable) → held.now.what ≡ spec.TableOf t →
         spec.ReportsFirst result (spec.early_scan_fault t) }
@@ -93,7 +93,7 @@ pub extern "C" fn sst_scan_open(alloc: Global, table: &mut Handle, scan: &mut Ha
     ensures other { (h : spec.HeldValue) → scan.old.boxed.value ≡ None →
         table.old.boxed.value ≡ Some h → spec.is_table h.what ≡ false → result ≡ 102 }
     // Want of memory aside, it is refused with the fault of the first block, and else begun;
-    ensures told { (h : spec.HeldValue) (t : spec.OpenTable) → scan.old.boxed.value ≡ None →
+    ensures returned { (h : spec.HeldValue) (t : spec.OpenTable) → scan.old.boxed.value ≡ None →
         table.old.boxed.value ≡ Some h → h.what ≡ spec.TableOf t →
         spec.FaultReported result (spec.scan_fault t) }
     // what the block's header says, its checksum and its count come before any want of memory;

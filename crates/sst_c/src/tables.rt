@@ -12,7 +12,7 @@ use sst_blocks::{Checksum, EntryPlace, Error, InternalValue, SeqNo, Slice};
 use std::alloc::Global;
 
 /// Opens a table from its bytes, into a handle that holds nothing.
-#[tactic(auto, using(crate::proofs::Answering::tells, crate::proofs::Answering::reports_begun))]
+#[tactic(auto, using(crate::proofs::Answering::states, crate::proofs::Answering::reports_begun))]
 pub(crate) fn open_from(
     alloc: Global,
     bytes: Slice,
@@ -24,7 +24,7 @@ pub(crate) fn open_from(
     requires { table.old.boxed.value ≡ None }
     ensures opened { result ≡ 0 → IsSomeAnd table.new.boxed.value
         (spec.IsOpenedAs bytes global_seqno pin_filter pin_index) }
-    ensures told { spec.ReportsCode result
+    ensures returned { spec.ReportsCode result
         (spec.recovered_result bytes global_seqno pin_filter pin_index) }
     ensures early { spec.ReportsFirst result (spec.early_fault bytes) }
     ensures list { (es : List spec.Entry) → spec.StoresList bytes es →
@@ -60,7 +60,7 @@ pub extern "C" fn sst_table_open(
     ensures open { is_some table.old.boxed.value ≡ true → result ≡ 101 }
     ensures opened { result ≡ 0 → IsSomeAnd table.new.boxed.value
         (spec.IsOpenedAs file.now global_seqno pin_filter pin_index) }
-    ensures told { table.old.boxed.value ≡ None →
+    ensures returned { table.old.boxed.value ≡ None →
         spec.ReportsCode result (spec.recovered_result file.now global_seqno pin_filter pin_index) }
     // Bytes that store a list are opened where the highest number fits.
     ensures list { table.old.boxed.value ≡ None → (es : List spec.Entry) →
@@ -119,8 +119,8 @@ fn keep_place(found: &mut FoundEntry, outcome: Result<Option<EntryPlace>, Error>
 // Reads a key of a table, and keeps the position of the entry that it finds.
 #[tactic(auto, using(crate::proofs::Answering::reads))]
 fn get_in(table: &Table, key: &[u8], seqno: SeqNo, found: &mut FoundEntry) -> u32
-    ensures told { let entry = spec.found_at found.new (spec.TableOf table.now) in
-        spec.AnswersRead result entry (spec.table_answer table.now key.now seqno).told }
+    ensures returned { let entry = spec.found_at found.new (spec.TableOf table.now) in
+        spec.AnswersRead result entry (spec.table_answer table.now key.now seqno).returned }
     ensures early { spec.ReportsFirst result (spec.table_answer table.now key.now seqno).early }
     ensures calm { (spec.table_answer table.now key.now seqno).loads ≡ [] → result ≡ 0 }
     ensures list { (es : List spec.Entry) → spec.StoresList table.now.bytes es →
@@ -136,8 +136,8 @@ fn get(held: &mut Held, key: &[u8], seqno: SeqNo) -> u32
     ensures kept { held.new.what ≡ held.old.what }
     ensures other { spec.is_table held.old.what ≡ false →
         (result ≡ 102) × (spec.found_by held.new ≡ None) }
-    ensures told { (t : spec.OpenTable) → held.old.what ≡ spec.TableOf t →
-        spec.AnswersRead result (spec.found_by held.new) (spec.table_answer t key.now seqno).told }
+    ensures returned { (t : spec.OpenTable) → held.old.what ≡ spec.TableOf t →
+        spec.AnswersRead result (spec.found_by held.new) (spec.table_answer t key.now seqno).returned }
     ensures early { (t : spec.OpenTable) → held.old.what ≡ spec.TableOf t →
         spec.ReportsFirst result (spec.table_answer t key.now seqno).early }
     ensures calm { (t : spec.OpenTable) → held.old.what ≡ spec.TableOf t →
@@ -176,9 +176,9 @@ pub extern "C" fn sst_table_get(
         (result ≡ 102) × (spec.found_in table.new.boxed.value ≡ None) }
     ensures entry { entry.new ≡ spec.entry_facts (spec.found_in table.new.boxed.value) }
     // Whatever the bytes, it is what the table tells,
-    ensures told { (h : spec.HeldValue) (t : spec.OpenTable) → table.old.boxed.value ≡ Some h →
+    ensures returned { (h : spec.HeldValue) (t : spec.OpenTable) → table.old.boxed.value ≡ Some h →
         h.what ≡ spec.TableOf t → let found = spec.found_in table.new.boxed.value in
-        spec.AnswersRead result found (spec.table_answer t key.now seqno).told }
+        spec.AnswersRead result found (spec.table_answer t key.now seqno).returned }
     // a fault of the first block that is loaded which takes no memory to be found first,
     ensures early { (h : spec.HeldValue) (t : spec.OpenTable) → table.old.boxed.value ≡ Some h →
         h.what ≡ spec.TableOf t → spec.ReportsFirst result (spec.table_answer t key.now seqno).early }

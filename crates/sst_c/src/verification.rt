@@ -70,18 +70,18 @@ pub extern "C" fn sst_verification_open(
 }
 
 // Makes a step of what is held.
-fn step(held: &mut Held, progress: &mut ProgressReport, told: &mut VerifyReport) -> u32
+fn step(held: &mut Held, progress: &mut ProgressReport, returned: &mut VerifyReport) -> u32
     requires progress { progress.old ≡ spec.no_progress }
-    requires told { told.old ≡ spec.no_finding }
+    requires returned { returned.old ≡ spec.no_finding }
     ensures other { spec.is_verification held.old.what ≡ false → (result ≡ 102) ×
-        (progress.new ≡ spec.no_progress) × (told.new ≡ spec.no_finding) ×
+        (progress.new ≡ spec.no_progress) × (returned.new ≡ spec.no_finding) ×
         (held.new.what ≡ held.old.what) }
     ensures steps { (v : spec.Verifying) → held.old.what ≡ spec.VerificationOf v →
-        spec.IsVerificationWhere (spec.ReportsStep v result progress.new told.new) held.new.what }
+        spec.IsVerificationWhere (spec.ReportsStep v result progress.new returned.new) held.new.what }
     ensures found { spec.found_by held.new ≡ spec.found_by held.old }
 {
     match &mut held.what {
-        What::Verification(verifier) => verifier.step(progress, told),
+        What::Verification(verifier) => verifier.step(progress, returned),
         _ => OTHER_KIND,
     }
 }
@@ -96,30 +96,30 @@ pub extern "C" fn sst_verification_step(
     alloc: Global,
     verification: &mut Handle,
     progress: &mut ProgressReport,
-    told: &mut VerifyReport,
+    returned: &mut VerifyReport,
 ) -> u32
     ensures shut { verification.old.boxed.value ≡ None → (result ≡ 100) ×
-        (progress.new ≡ spec.no_progress) × (told.new ≡ spec.no_finding) ×
+        (progress.new ≡ spec.no_progress) × (returned.new ≡ spec.no_finding) ×
         (verification.new.boxed.value ≡ None) }
     ensures other { (h : spec.HeldValue) → verification.old.boxed.value ≡ Some h →
         spec.is_verification h.what ≡ false → (result ≡ 102) × (progress.new ≡ spec.no_progress) ×
-        (told.new ≡ spec.no_finding) × IsSomeAnd verification.new.boxed.value
+        (returned.new ≡ spec.no_finding) × IsSomeAnd verification.new.boxed.value
         (λ k. k.what ≡ h.what) }
     // It is one step of the library's verification, told as it is.
     ensures steps { (h : spec.HeldValue) (v : spec.Verifying) →
         verification.old.boxed.value ≡ Some h →
         h.what ≡ spec.VerificationOf v → IsSomeAnd verification.new.boxed.value (λ k.
-        spec.IsVerificationWhere (spec.ReportsStep v result progress.new told.new) k.what) }
+        spec.IsVerificationWhere (spec.ReportsStep v result progress.new returned.new) k.what) }
     // What a read found stays.
     ensures found { (h : spec.HeldValue) → verification.old.boxed.value ≡ Some h →
         IsSomeAnd verification.new.boxed.value (λ k. spec.found_by k ≡ spec.found_by h) }
 {
     *progress = no_progress();
-    *told = nothing();
+    *returned = nothing();
     let Some(mut held) = verification.take(alloc) else {
         return CLOSED;
     };
-    let code = step(&mut held, progress, told);
+    let code = step(&mut held, progress, returned);
     verification.put(held);
     code
 }

@@ -61,20 +61,20 @@ fn end_of(answer: &Result<Option<Verified>, VerifyError>) -> u64
 }
 
 // Tells what a step answered.
-fn tell_answer(answer: &Result<Option<Verified>, VerifyError>, told: &mut VerifyReport) -> u32
-    requires { told.old ≡ spec.no_finding }
+fn tell_answer(answer: &Result<Option<Verified>, VerifyError>, returned: &mut VerifyReport) -> u32
+    requires { returned.old ≡ spec.no_finding }
     ensures code { result ≡ spec.step_code answer.now }
-    ensures told { told.new ≡ spec.step_result answer.now }
+    ensures returned { returned.new ≡ spec.step_result answer.now }
 {
     match answer {
         Ok(None) => 0,
         Ok(Some(verified)) => {
-            *told = tell_verified(*verified);
+            *returned = tell_verified(*verified);
             0
         }
         Err(VerifyError::OutOfMemory) => NO_MEMORY,
         Err(VerifyError::Found(finding)) => {
-            *told = tell_finding(finding);
+            *returned = tell_finding(finding);
             FAULTY
         }
     }
@@ -104,12 +104,12 @@ impl Verifier {
     }
 
     /// Makes a step, and tells what it answered.
-    pub(crate) fn step(&mut self, progress: &mut ProgressReport, told: &mut VerifyReport) -> u32
-        requires { told.old ≡ spec.no_finding }
-        ensures { spec.ReportsStep self.old result progress.new told.new self.new }
+    pub(crate) fn step(&mut self, progress: &mut ProgressReport, returned: &mut VerifyReport) -> u32
+        requires { returned.old ≡ spec.no_finding }
+        ensures { spec.ReportsStep self.old result progress.new returned.new self.new }
     {
         let answer = self.verification.step();
         *progress = self.progress(end_of(&answer));
-        tell_answer(&answer, told)
+        tell_answer(&answer, returned)
     }
 }

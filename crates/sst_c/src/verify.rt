@@ -107,56 +107,56 @@ pub(crate) fn tell_verified(verified: Verified) -> VerifyReport
     }
 }
 
-fn verify(table: &Table, told: &mut VerifyReport) -> u32
-    requires { told.old ≡ spec.no_finding }
-    ensures told { spec.VerifyAnswers result told.new
+fn verify(table: &Table, returned: &mut VerifyReport) -> u32
+    requires { returned.old ≡ spec.no_finding }
+    ensures returned { spec.VerifyAnswers result returned.new
         (spec.table_found (spec.body_of table.now.bytes) table.now.parts) }
     ensures early { let body = spec.body_of table.now.bytes in
-        spec.ReportsFinding result told.new (spec.table_early body table.now.parts) }
+        spec.ReportsFinding result returned.new (spec.table_early body table.now.parts) }
     ensures first { let body = spec.body_of table.now.bytes in
-        spec.ReportsWrong (spec.IsFirstFinding body table.now.parts) result told.new }
-    ensures sound { result ≡ 0 → spec.ReportsCounts table.now.bytes told.new }
+        spec.ReportsWrong (spec.IsFirstFinding body table.now.parts) result returned.new }
+    ensures sound { result ≡ 0 → spec.ReportsCounts table.now.bytes returned.new }
     ensures complete { (es : List spec.Entry) → spec.StoresList table.now.bytes es → result ≢ 107 }
 {
-    tell(&table.verify(), told)
+    tell(&table.verify(), returned)
 }
 
 // Tells what a verification came to.
-fn tell(came: &Result<Verified, VerifyError>, told: &mut VerifyReport) -> u32
-    requires { told.old ≡ spec.no_finding }
+fn tell(came: &Result<Verified, VerifyError>, returned: &mut VerifyReport) -> u32
+    requires { returned.old ≡ spec.no_finding }
     ensures code { result ≡ spec.verify_code came.now }
-    ensures told { told.new ≡ spec.verify_result came.now }
+    ensures returned { returned.new ≡ spec.verify_result came.now }
 {
     match came {
         Ok(verified) => {
-            *told = tell_verified(*verified);
+            *returned = tell_verified(*verified);
             0
         }
         Err(VerifyError::OutOfMemory) => NO_MEMORY,
         Err(VerifyError::Found(finding)) => {
-            *told = tell_finding(finding);
+            *returned = tell_finding(finding);
             FAULTY
         }
     }
 }
 
-fn verify_held(held: &Held, told: &mut VerifyReport) -> u32
-    requires { told.old ≡ spec.no_finding }
+fn verify_held(held: &Held, returned: &mut VerifyReport) -> u32
+    requires { returned.old ≡ spec.no_finding }
     ensures other { spec.is_table held.now.what ≡ false →
-        (result ≡ 102) × (told.new ≡ spec.no_finding) }
-    ensures told { (t : spec.OpenTable) → held.now.what ≡ spec.TableOf t →
-        spec.VerifyAnswers result told.new (spec.table_found (spec.body_of t.bytes) t.parts) }
+        (result ≡ 102) × (returned.new ≡ spec.no_finding) }
+    ensures returned { (t : spec.OpenTable) → held.now.what ≡ spec.TableOf t →
+        spec.VerifyAnswers result returned.new (spec.table_found (spec.body_of t.bytes) t.parts) }
     ensures early { (t : spec.OpenTable) → held.now.what ≡ spec.TableOf t →
-        spec.ReportsFinding result told.new (spec.table_early (spec.body_of t.bytes) t.parts) }
+        spec.ReportsFinding result returned.new (spec.table_early (spec.body_of t.bytes) t.parts) }
     ensures first { (t : spec.OpenTable) → held.now.what ≡ spec.TableOf t →
-        spec.ReportsWrong (spec.IsFirstFinding (spec.body_of t.bytes) t.parts) result told.new }
+        spec.ReportsWrong (spec.IsFirstFinding (spec.body_of t.bytes) t.parts) result returned.new }
     ensures sound { (t : spec.OpenTable) → held.now.what ≡ spec.TableOf t → result ≡ 0 →
-        spec.ReportsCounts t.bytes told.new }
+        spec.ReportsCounts t.bytes returned.new }
     ensures complete { (t : spec.OpenTable) (es : List spec.Entry) →
         held.now.what ≡ spec.TableOf t → spec.StoresList t.bytes es → result ≢ 107 }
 {
     match &held.what {
-        What::Table(table) => verify(table, told),
+        What::Table(table) => verify(table, returned),
         _ => OTHER_KIND,
     }
 }
@@ -169,38 +169,38 @@ fn verify_held(held: &Held, told: &mut VerifyReport) -> u32
 pub extern "C" fn sst_table_verify(
     alloc: Global,
     table: &mut Handle,
-    told: &mut VerifyReport,
+    returned: &mut VerifyReport,
 ) -> u32
     ensures kept { table.new.boxed.value ≡ table.old.boxed.value }
-    ensures shut { table.old.boxed.value ≡ None → (result ≡ 100) × (told.new ≡ spec.no_finding) }
+    ensures shut { table.old.boxed.value ≡ None → (result ≡ 100) × (returned.new ≡ spec.no_finding) }
     ensures other { (h : spec.HeldValue) → table.old.boxed.value ≡ Some h →
-        spec.is_table h.what ≡ false → (result ≡ 102) × (told.new ≡ spec.no_finding) }
+        spec.is_table h.what ≡ false → (result ≡ 102) × (returned.new ≡ spec.no_finding) }
     // What is wrong first is found, memory aside.
-    ensures told { (h : spec.HeldValue) (t : spec.OpenTable) → table.old.boxed.value ≡ Some h →
+    ensures returned { (h : spec.HeldValue) (t : spec.OpenTable) → table.old.boxed.value ≡ Some h →
         h.what ≡ spec.TableOf t →
-        spec.VerifyAnswers result told.new (spec.table_found (spec.body_of t.bytes) t.parts) }
+        spec.VerifyAnswers result returned.new (spec.table_found (spec.body_of t.bytes) t.parts) }
     // A fault of the first block that is loaded which takes no memory to be found is told, whatever
     // memory there is,
     ensures early { (h : spec.HeldValue) (t : spec.OpenTable) → table.old.boxed.value ≡ Some h →
         h.what ≡ spec.TableOf t →
-        spec.ReportsFinding result told.new (spec.table_early (spec.body_of t.bytes) t.parts) }
+        spec.ReportsFinding result returned.new (spec.table_early (spec.body_of t.bytes) t.parts) }
     // and what is told is wrong there, and all that is read before it is sound.
     ensures first { (h : spec.HeldValue) (t : spec.OpenTable) → table.old.boxed.value ≡ Some h →
         h.what ≡ spec.TableOf t →
-        spec.ReportsWrong (spec.IsFirstFinding (spec.body_of t.bytes) t.parts) result told.new }
+        spec.ReportsWrong (spec.IsFirstFinding (spec.body_of t.bytes) t.parts) result returned.new }
     // A table that is verified stores a list, which has as many entries and data blocks;
     ensures sound { (h : spec.HeldValue) (t : spec.OpenTable) → table.old.boxed.value ≡ Some h →
-        h.what ≡ spec.TableOf t → result ≡ 0 → spec.ReportsCounts t.bytes told.new }
+        h.what ≡ spec.TableOf t → result ≡ 0 → spec.ReportsCounts t.bytes returned.new }
     // in one that stores a list nothing wrong is found.
     ensures complete { (h : spec.HeldValue) (t : spec.OpenTable) (es : List spec.Entry) →
         table.old.boxed.value ≡ Some h → h.what ≡ spec.TableOf t → spec.StoresList t.bytes es →
         result ≢ 107 }
 {
-    *told = nothing();
+    *returned = nothing();
     let Some(held) = table.take(alloc) else {
         return CLOSED;
     };
-    let code = verify_held(&held, told);
+    let code = verify_held(&held, returned);
     table.put(held);
     code
 }

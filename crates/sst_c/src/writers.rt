@@ -217,7 +217,7 @@ pub extern "C" fn sst_writer_add(
 // Finishes a writer, and puts its table behind others, where something was written.
 #[tactic(auto, using(crate::proofs::Answering::tell), unfolding(crate::specs::Writing::AddsFileOf))]
 fn finish_behind(tables: &mut Vec<FinishedTable>, writer: Writer) -> u32
-    ensures told { spec.FinishReported result writer }
+    ensures returned { spec.FinishReported result writer }
     ensures finished { result ≡ 0 → spec.AddsFileOf writer tables.old.items tables.new.items }
     ensures refused { result ≢ 0 → tables.new.items ≡ tables.old.items }
 {
@@ -237,7 +237,7 @@ fn finish_behind(tables: &mut Vec<FinishedTable>, writer: Writer) -> u32
 // Finishes what is written.
 fn finish_files(files: &mut Files) -> u32
     ensures none { files.old.writer ≡ None → (result ≡ 102) × (files.new ≡ files.old) }
-    ensures told { (w : spec.WritingValue) → files.old.writer ≡ Some w →
+    ensures returned { (w : spec.WritingValue) → files.old.writer ≡ Some w →
         spec.FinishReported result w }
     ensures given { (w : spec.WritingValue) → files.old.writer ≡ Some w → files.new.writer ≡ None }
     ensures finished { (w : spec.WritingValue) → files.old.writer ≡ Some w → result ≡ 0 →
@@ -254,7 +254,7 @@ fn finish_files(files: &mut Files) -> u32
 fn finish(held: &mut Held) -> u32
     ensures other { spec.writer_in held.old.what ≡ None →
         (result ≡ 102) × (held.new.what ≡ held.old.what) }
-    ensures told { (w : spec.WritingValue) → spec.writer_in held.old.what ≡ Some w →
+    ensures returned { (w : spec.WritingValue) → spec.writer_in held.old.what ≡ Some w →
         spec.FinishReported result w }
     ensures given { (w : spec.WritingValue) → spec.writer_in held.old.what ≡ Some w →
         spec.writer_in held.new.what ≡ None }
@@ -283,7 +283,7 @@ pub extern "C" fn sst_writer_finish(alloc: Global, writer: &mut Handle) -> u32
         spec.writer_in h.what ≡ None →
         (result ≡ 102) × IsSomeAnd writer.new.boxed.value (λ k. k.what ≡ h.what) }
     // Of a writer that had failed, and where nothing was written, no want of memory is told.
-    ensures told { (h : spec.HeldValue) (w : spec.WritingValue) → writer.old.boxed.value ≡ Some h →
+    ensures returned { (h : spec.HeldValue) (w : spec.WritingValue) → writer.old.boxed.value ≡ Some h →
         spec.writer_in h.what ≡ Some w → spec.FinishReported result w }
     ensures given { (h : spec.HeldValue) (w : spec.WritingValue) → writer.old.boxed.value ≡ Some h →
         spec.writer_in h.what ≡ Some w →

@@ -19,10 +19,10 @@ use Rattle.sst_entries.specs.declared.error.Error.TheVariants.{TableIdsSpent, Wr
 use Rattle.sst_entries.specs.Error.{Faults, is_memory}
 
 -- a call that passes a refusal on refuses with what is told, where the refusal is that
-pub faults_refusal : {X : Type 0} (r : Result X Error) (e : Error) (told : Option Error)
-    → IsErrAnd r (λ y. y ≡ e) → (is_memory e ≡ false → told ≡ Some e) → Faults r told
-faults_refusal (Ok x) e told is fault = absurd is
-faults_refusal (Err y) e told is fault = rw is fault
+pub faults_refusal : {X : Type 0} (r : Result X Error) (e : Error) (returned : Option Error)
+    → IsErrAnd r (λ y. y ≡ e) → (is_memory e ≡ false → returned ≡ Some e) → Faults r returned
+faults_refusal (Ok x) e returned is fault = absurd is
+faults_refusal (Err y) e returned is fault = rw is fault
 
 -- the one refusal that is want of memory
 pub memory_is : (e : Error) → is_memory e ≡ true → e ≡ OutOfMemory
@@ -52,9 +52,9 @@ memory_is WriterFailed h = absurd cc
 memory_is (Source n) h = absurd cc
 
 -- a want of memory that is passed on is no fault
-pub faults_memory : {X : Type 0} (r : Result X Error) (e : Error) (told : Option Error)
-    → IsErrAnd r (λ y. y ≡ e) → e ≡ OutOfMemory → Faults r told
-faults_memory (Ok x) e told is memory = absurd is
-faults_memory (Err y) e told is memory = λ h.
+pub faults_memory : {X : Type 0} (r : Result X Error) (e : Error) (returned : Option Error)
+    → IsErrAnd r (λ y. y ≡ e) → e ≡ OutOfMemory → Faults r returned
+faults_memory (Ok x) e returned is memory = absurd is
+faults_memory (Err y) e returned is memory = λ h.
     let both : true ≡ false = sym (ap is_memory (is ∙ memory)) ∙ h in
     absurd cc

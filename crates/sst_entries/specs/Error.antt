@@ -50,28 +50,28 @@ is_memory e = false
 
 -- Except for `OutOfMemory`, the expected result is this error.
 abbrev pub Fails : {Y : Type 0} → Error → Result Y Error → Type 0
-Fails e told = is_memory e ≡ false → told ≡ Err e
+Fails e returned = is_memory e ≡ false → returned ≡ Err e
 
 -- Except for `OutOfMemory`, a call returns the expected result, its value seen through a view.
 abbrev pub Gives : {X Y : Type 0} → (X → Y) → Result X Error → Result Y Error → Type 0
-Gives view (Ok x) told = told ≡ Ok (view x)
-Gives view (Err e) told = Fails e told
+Gives view (Ok x) returned = returned ≡ Ok (view x)
+Gives view (Err e) returned = Fails e returned
 
 -- Except for `OutOfMemory`, a call fails exactly with the expected error, and succeeds without one.
 abbrev pub Faults : {X : Type 0} → Result X Error → Option Error → Type 0
-Faults (Ok x) told = told ≡ None
-Faults (Err e) told = is_memory e ≡ false → told ≡ Some e
+Faults (Ok x) returned = returned ≡ None
+Faults (Err e) returned = is_memory e ≡ false → returned ≡ Some e
 
 -- The expected error if there is one, else the result.
 abbrev pub unless : {A : Type 0} → Option Error → Result A Error → Result A Error
-unless None told = told
-unless (Some e) told = Err e
+unless None returned = returned
+unless (Some e) returned = Err e
 
 -- A call fails exactly with the expected error, and succeeds without one.
 abbrev pub Refuses : {X : Type 0} → Result X Error → Option Error → Type 0
-Refuses (Ok x) told = told ≡ None
-Refuses (Err e) told = told ≡ Some e
+Refuses (Ok x) returned = returned ≡ None
+Refuses (Err e) returned = returned ≡ Some e
 
 -- An expected error that needs no memory to detect is returned before any `OutOfMemory`.
 abbrev pub FaultsFirst : {X : Type 0} → Result X Error → Option Error → Type 0
-FaultsFirst result told = (e : Error) → told ≡ Some e → Refuses result (Some e)
+FaultsFirst result returned = (e : Error) → returned ≡ Some e → Refuses result (Some e)

@@ -18,6 +18,6 @@ passed {T} {E} (Err y) e is = ap (λ (f : E). Err f) is
 
 -- what is told, memory aside
 pub gives_refusal : {X Y : Type 0} (view : X → Y) (r : Result X Error) (e : Error)
-    (told : Result Y Error) → IsErrAnd r (λ y. y ≡ e) → Fails e told → Gives view r told
-gives_refusal view (Ok x) e told is fails = absurd is
-gives_refusal view (Err y) e told is fails = rw is fails
+    (returned : Result Y Error) → IsErrAnd r (λ y. y ≡ e) → Fails e returned → Gives view r returned
+gives_refusal view (Ok x) e returned is fails = absurd is
+gives_refusal view (Err y) e returned is fails = rw is fails

@@ -77,7 +77,7 @@ module _ (rs : List Run) (ts : List (List OpenTable)) (same : run_tables rs ≡ 
 pub number_gives : (rs : List Run) (key : List ℕ) (n : ℕ) (found : Option Entry) (b : Bool)
     → Gives (λ (x : Option Entry). x) (Ok found) (Ok (point (union rs) key (n + 1)))
     → b ≡ has_number n found → Gives (λ (x : Bool). x) (Ok b) (Ok (has_entry (union rs) key n))
-number_gives rs key n found b told is =
+number_gives rs key n found b returned is =
     let first : point (union rs) key (n + 1) ≡ found = cc in
     let has : has_entry (union rs) key n ≡ b = has_entry_found (union rs) key n
     (ascends_in_order (all_entries (map (λ (r : Run). ok_results r.list) rs)))

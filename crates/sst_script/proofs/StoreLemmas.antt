@@ -23,16 +23,16 @@ nothing_refused next (e ∷ es) written = written
 fine : (rs : List Run) (es : List Entry) (next : Option ℕ) → repeats rs es ≡ false
     → tables_fault next target_size 0 es ≡ None → adding_fault (store es rs next) ≡ None
 fine rs es next fresh written =
-    let told : pending_fault next es ≡ None = nothing_refused next es written in
-    rw (fresh, told) refl
+    let returned : pending_fault next es ≡ None = nothing_refused next es written in
+    rw (fresh, returned) refl
 
 -- what the test for repeated entries answered
-pub answered : (rs : List Run) (es given : List Entry) (b told : Bool)
-    → Gives (λ (x : Bool). x) (Ok b) (Ok (repeats rs given)) → b ≡ told → given ≡ es
-    → repeats rs es ≡ told
-answered rs es given b told gives fresh same =
+pub answered : (rs : List Run) (es given : List Entry) (b returned : Bool)
+    → Gives (λ (x : Bool). x) (Ok b) (Ok (repeats rs given)) → b ≡ returned → given ≡ es
+    → repeats rs es ≡ returned
+answered rs es given b returned gives fresh same =
     let is : repeats rs given ≡ b = cc in
-    subst (λ (xs : List Entry). repeats rs xs ≡ told) same (is ∙ fresh)
+    subst (λ (xs : List Entry). repeats rs xs ≡ returned) same (is ∙ fresh)
 
 -- a run was written
 pub wrote : (rs : List Run) (ts new : List (List OpenTable)) (es : List Entry)

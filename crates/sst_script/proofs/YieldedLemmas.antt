@@ -11,18 +11,18 @@ use Rattle.lsm_runs.specs.RunLists.{YieldsList}
 
 module _ {S : Type 0} (front back : S → Option (Result Entry Error) → S → Type 0) (s t : S) where
   -- what a call tells of the list, where nothing but want of memory stops it
-  told : (es : List Entry) (r : Option (Result Entry Error)) → YieldsList front back es s
+  returned : (es : List Entry) (r : Option (Result Entry Error)) → YieldsList front back es s
       → front s r t → answer_stops is_memory r ≡ false → r ≡ first (ok_results es)
-  told es r yields step fine = (yields_front (answer_stops is_memory) front back s (ok_results es) r t
+  returned es r yields step fine = (yields_front (answer_stops is_memory) front back s (ok_results es) r t
       (yields is_memory refl) step fine).0
 
   next_yielded : (es : List Entry) (x : Entry) → YieldsList front back es s → front s (Some (Ok x)) t
       → (left : List Entry) × (es ≡ x ∷ left) × YieldsList front back left t
   next_yielded [] x yields step =
-      let no : Some (Ok x) ≡ None = told [] (Some (Ok x)) yields step refl in
+      let no : Some (Ok x) ≡ None = returned [] (Some (Ok x)) yields step refl in
       absurd cc
   next_yielded (e ∷ es) x yields step =
-      let same : Some (Ok x) ≡ Some (Ok e) = told (e ∷ es) (Some (Ok x)) yields step refl in
+      let same : Some (Ok x) ≡ Some (Ok e) = returned (e ∷ es) (Some (Ok x)) yields step refl in
       let is : e ≡ x = cc in (
         es,
         ap (λ (y : Entry). y ∷ es) is,
@@ -34,17 +34,17 @@ module _ {S : Type 0} (front back : S → Option (Result Entry Error) → S → 
   end_yielded : (es : List Entry) → YieldsList front back es s → front s None t → es ≡ []
   end_yielded [] yields step = refl
   end_yielded (e ∷ es) yields step =
-      let no : None ≡ Some (Ok e) = told (e ∷ es) None yields step refl in
+      let no : None ≡ Some (Ok e) = returned (e ∷ es) None yields step refl in
       absurd cc
 
   -- an error is want of memory
   error_yielded : (es : List Entry) (e : Error) → YieldsList front back es s → front s (Some (Err e)) t
       → is_memory e ≡ false → ⊥
   error_yielded [] e yields step fine =
-      let no : Some (Err e) ≡ None = told [] (Some (Err e)) yields step fine in
+      let no : Some (Err e) ≡ None = returned [] (Some (Err e)) yields step fine in
       absurd cc
   error_yielded (x ∷ es) e yields step fine =
-      let no : Some (Err e) ≡ Some (Ok x) = told (x ∷ es) (Some (Err e)) yields step fine in
+      let no : Some (Err e) ≡ Some (Ok x) = returned (x ∷ es) (Some (Err e)) yields step fine in
       absurd cc
 
 -- one more entry was taken

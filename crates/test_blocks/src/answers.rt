@@ -1,5 +1,5 @@
 //! Results of writers: whether an entry may follow, error codes, and the ids of the tables.
-use crate::given::{By, Given, MAY_NOT_FOLLOW, Refusals, number, told};
+use crate::given::{By, Given, MAY_NOT_FOLLOW, Refusals, number, returned};
 use lsm_writers::{MultiWriter, TableId, TableIds, Timestamp};
 use sst_blocks::{SeqNo, ValueType};
 use std::alloc::Global;
@@ -86,7 +86,7 @@ static ANSWERS: [(By, &[Row<'static>], Refusals, Option<TableId>, Ids); 9] = [
 
 // The results of writing these rows.
 fn answers(alloc: Global, by: By, rows: &[Row<'static>]) -> (Refusals, Option<TableId>, Ids) {
-    let (refusals, next, _, (_, tables)) = told(alloc, by, rows, Given::ByValue);
+    let (refusals, next, _, (_, tables)) = returned(alloc, by, rows, Given::ByValue);
     (refusals, next, [tables[0].0, tables[1].0, tables[2].0])
 }
 

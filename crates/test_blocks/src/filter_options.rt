@@ -100,7 +100,7 @@ fn end_at(tops: &IndexBlock, place: usize) -> u8 {
 // The end keys of the first partitions, and whether "a", "b" and "c" are admitted.
 type Reported = ([u8; 3], bool);
 
-fn told(tops: &IndexBlock, source: &BlockSource) -> Result<Reported, Error> {
+fn returned(tops: &IndexBlock, source: &BlockSource) -> Result<Reported, Error> {
     let mut admits = true;
     for key in [b"a", b"b", b"c"] {
         admits &= says(source, tops, key)?;
@@ -113,9 +113,9 @@ fn told(tops: &IndexBlock, source: &BlockSource) -> Result<Reported, Error> {
 fn told_of(alloc: Global, settings: Settings) -> Result<(usize, Reported), Error> {
     let (count, bytes) = written(alloc, settings)?;
     let source = BlockSource::new(alloc, bytes)?;
-    let told = asked_with(tops_of(&source), &source, told);
+    let returned = asked_with(tops_of(&source), &source, returned);
     drop(source);
-    Ok((count, told?))
+    Ok((count, returned?))
 }
 
 // The settings before each key, the number of partitions, and their end keys. Up to three keys of

@@ -229,7 +229,7 @@ fn tables<A: Allocator + Copy>(
 }
 
 /// The result of writing rows with a kind of writer.
-pub(crate) fn told<A: Allocator + Copy>(
+pub(crate) fn returned<A: Allocator + Copy>(
     alloc: A,
     by: By,
     rows: &[Row<'static>],

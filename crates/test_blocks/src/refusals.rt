@@ -1,6 +1,6 @@
 //! Writers after an allocation failure, for each request in turn; later requests succeed. They fail
 //! from then on. One function tests them all, so that its call is proved once.
-use crate::given::{By, Given, NO_TABLES, Refusals, Reported, told};
+use crate::given::{By, Given, NO_TABLES, Refusals, Reported, returned};
 use crate::part_refusals::{Part, filter, index, section, section_of_28};
 use sst_blocks::{Error, ValueType};
 use std::alloc::{Allocator, Global};
@@ -57,8 +57,8 @@ fn as_told(part: Result<Part, Error>) -> Reported {
 // The error codes, and the checksums of the tables.
 fn outcome<A: Allocator + Copy>(alloc: A, work: Work) -> Reported {
     match work {
-        Work::Short(by) => told(alloc, by, &SHORT_ROWS, Given::ByValue),
-        Work::Long(by) => told(alloc, by, &LONG_ROWS, Given::ByValue),
+        Work::Short(by) => returned(alloc, by, &SHORT_ROWS, Given::ByValue),
+        Work::Long(by) => returned(alloc, by, &LONG_ROWS, Given::ByValue),
         Work::Filter(is_partitioned) => as_told(filter(alloc, is_partitioned)),
         Work::Index(is_partitioned, has_handle) => {
             as_told(index(alloc, is_partitioned, has_handle))

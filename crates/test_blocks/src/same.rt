@@ -2,7 +2,7 @@
 ghost use Rattle.std.specs.Prelude.{IfOk};
 ghost use Rattle.test_blocks.specs.Words as spec;
 
-use crate::given::{By, Given, NO_TABLES, Reported, Seen, seen_of, told, told_by};
+use crate::given::{By, Given, NO_TABLES, Reported, Seen, returned, seen_of, told_by};
 use lsm_writers::{
     BloomConstructionPolicy, FilterKind, IndexKind, MultiWriter, Options, TableId, TableIds,
     Timestamp, Writer, is_writable, write_list,
@@ -53,8 +53,8 @@ const WRITTEN: [(By, usize); 15] = [
 
 // The number of tables of the rows, if none fails and they are the same by value and by reference.
 fn count_of_same(alloc: Global, by: By) -> Option<usize> {
-    let by_value = told(alloc, by, &ROWS, Given::ByValue);
-    if by_value.0 != [0; 5] || by_value != told(alloc, by, &ROWS, Given::ByReference) {
+    let by_value = returned(alloc, by, &ROWS, Given::ByValue);
+    if by_value.0 != [0; 5] || by_value != returned(alloc, by, &ROWS, Given::ByReference) {
         return None;
     }
     Some(by_value.3.0)
@@ -108,7 +108,7 @@ const ALONE: [(TableId, usize, usize); 3] = [(1, 0, 3), (2, 3, 1), (3, 4, 2)];
 
 #[test]
 fn the_versions_of_a_key_stay_in_one_table(rt: HostRuntime) {
-    let (refusals, _, _, (count, tables)) = told(
+    let (refusals, _, _, (count, tables)) = returned(
         rt.alloc(),
         By::Tables(1, 1_024, 4_096),
         &VERSIONS,
@@ -204,6 +204,6 @@ fn options_may_be_set_at_once(rt: HostRuntime) {
 
 #[test]
 fn takes_options_and_gives_no_table_of_nothing(rt: HostRuntime) {
-    let told = told_by(with_options(rt.alloc()), &[], Given::ByValue);
-    assert!(rt; told == ([0; 5], None, true, NO_TABLES));
+    let returned = told_by(with_options(rt.alloc()), &[], Given::ByValue);
+    assert!(rt; returned == ([0; 5], None, true, NO_TABLES));
 }

@@ -21,7 +21,7 @@ pub row_loaded : (at : Direction) (s t : Rows) (x : Result Row Error)
 row_loaded at s t (Ok row) e = record {
   named = Some (row_named (Ok row));
   names = map_taken row_named at s.rows t.rows (Ok row) (taken at s t (Ok row) e);
-  told = refl;
+  returned = refl;
   loads = omega (arith, sum_taken loads_named at s.rows t.rows (Ok row) (taken at s t (Ok row) e));
   first = λ f early. let wrong : None ≡ Some f = early in absurd cc;
   kept = tt;
@@ -29,7 +29,7 @@ row_loaded at s t (Ok row) e = record {
 row_loaded at s t (Err x) e = record {
   named = Some (row_named (Err x));
   names = map_taken row_named at s.rows t.rows (Err x) (taken at s t (Err x) e);
-  told = λ fine. refl;
+  returned = λ fine. refl;
   loads = omega (arith, sum_taken loads_named at s.rows t.rows (Err x) (taken at s t (Err x) e));
   first = λ f early. let same : Some x ≡ Some f = early in cc;
   kept = tt;

@@ -35,7 +35,7 @@ pub struct Swept {
 // The checksums of an open table's metadata, and of the results of its reads and iterations.
 #[derive(Clone, Copy)]
 struct Answers {
-    told: u64,
+    returned: u64,
     read: u64,
     walked: u64,
 }
@@ -126,10 +126,10 @@ fn answers_of<A: Allocator + Copy>(
     table: &Table<A>,
     subject: &Subject<'_, A>,
 ) -> Result<Answers, Error> {
-    let mut told = Digest::new();
-    put_facts(&mut told, table);
+    let mut returned = Digest::new();
+    put_facts(&mut returned, table);
     Ok(Answers {
-        told: told.finish(),
+        returned: returned.finish(),
         read: digest_of_reads(table, subject)?,
         walked: digest_of_walks(subject.alloc, table),
     })
@@ -159,7 +159,7 @@ impl Swept {
         match answers_to(subject, changes, global_seqno) {
             Ok(answers) => {
                 self.taken = self.taken.saturating_add(1);
-                self.opened.put_number(answers.told);
+                self.opened.put_number(answers.returned);
                 self.read.put_number(answers.read);
                 self.walked.put_number(answers.walked);
             }

@@ -24,10 +24,10 @@ pub keeps : (known : Option (Option ℕ)) (there : Option Metadata) (p : Option 
     → IfSome known (λ was. option_map metadata_mode there ≡ was)
     → option_map permissions_mode p ≡ option_map metadata_mode there
     → IfSome there (λ m. IsFile (file_type m)) → KeepsMode known (option_map permissions_mode p)
-keeps None there p told same plain = tt
-keeps (Some was) there p told same plain = (
-  same ∙ told,
-  subst (λ (w : Option ℕ). IfSome w IsPlainMode) told (plain_mode there plain),
+keeps None there p returned same plain = tt
+keeps (Some was) there p returned same plain = (
+  same ∙ returned,
+  subst (λ (w : Option ℕ). IfSome w IsPlainMode) returned (plain_mode there plain),
 )
 
 -- no step that writes files beside their names writes at a path, so none of them stands there
@@ -63,11 +63,11 @@ module _ (modes : List ℕ → Option (Option ℕ)) (steps : List Step) where
   )
 
 -- all were written, renamed and synced, each with the mode of what had its name
-pub modes_kept : {R E : Type 0} (told : Result R E) (modes : List ℕ → Option (Option ℕ))
+pub modes_kept : {R E : Type 0} (returned : Result R E) (modes : List ℕ → Option (Option ℕ))
     (known one new : Option (List Step)) (all : List Standing) (files : List NewFile)
     → AreBeside files all → HaveModesKept modes all all → one ≡ then_done known (writing all)
-    → OnOk told (new ≡ then_done (then_done one (renaming all)) (syncing all))
-    → OnOk told (AreModesKept modes known new)
+    → OnOk returned (new ≡ then_done (then_done one (renaming all)) (syncing all))
+    → OnOk returned (AreModesKept modes known new)
 modes_kept (Err e) modes known one new all files are kept written done = tt
 modes_kept (Ok r) modes known one new all files are kept written done =
     let behind : List Step = renaming all ++ syncing all in

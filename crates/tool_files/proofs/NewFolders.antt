@@ -139,7 +139,7 @@ module _ {X : Type 0} (bytes_of : X → List ℕ) where
       record {
         written = i;
         synced = [];
-        told = inl (
+        returned = inl (
           omega (arith, long, less),
           named ∙ ap (path_within folder) counted,
           fault,
@@ -165,7 +165,7 @@ stops_naming folder beside all paths known now after e steps wrote named fault m
     record {
       written = length all;
       synced = steps;
-      told = inr (refl, named, fault, may);
+      returned = inr (refl, named, fault, may);
       paths_are = wrote.0
           ∙ ap (λ (l : List (List ℕ)). map (λ f. f.0) (numbered_within beside l)) whole;
       done = done ∙ ap (λ (k : Option (List Step)). then_done k steps) wrote.1
@@ -204,7 +204,7 @@ emptied {X} path_of folder beside all known now after last e xs seen stops same 
     inl record {
       written = stops.written;
       synced = stops.synced;
-      told = stops.told;
+      returned = stops.returned;
       done = gone
           ∙ ap (λ (k : Option (List Step)). then_done k (RemovedFolder beside ∷ []))
           (removed ∙ ap (then_done now) are)
@@ -289,13 +289,13 @@ is_placed folder beside all behind known one new named made done still none =
           ∙ moved_within beside folder n) none;
     }
 
-pub placed_folder : {R : Type 0} (told : Result R FileError) (folder text beside : List ℕ)
+pub placed_folder : {R : Type 0} (returned : Result R FileError) (folder text beside : List ℕ)
     (all : List (List ℕ)) (known one new : Option (List Step)) → text ≡ beside
     → IsBesideFolder folder beside → one ≡ then_done known (MadeFolder beside ∷ [])
-    → OnOk told (new ≡ then_done one
+    → OnOk returned (new ≡ then_done one
     ((writing_files (numbered_within text all) ++ naming_folder text folder)
     ++ Synced folder ∷ []))
-    → OnOk told (IsFolderPlaced folder all (Synced folder ∷ []) known new)
+    → OnOk returned (IsFolderPlaced folder all (Synced folder ∷ []) known new)
 placed_folder (Err e) folder text beside all known one new same named made done = tt
 placed_folder (Ok r) folder text beside all known one new same named made done =
     is_placed folder beside all (Synced folder ∷ []) known one new named made
@@ -397,14 +397,14 @@ given_up folder beside all known one new e named made gone =
       named = named;
       written = gone.written;
       synced = gone.synced;
-      told = gone.told;
+      returned = gone.returned;
       done = gone.done
           ∙ ap (λ (k : Option (List Step)). then_done k steps) made
           ∙ then_more known (MadeFolder beside ∷ []) steps;
       elsewhere = subst
           (AllByRecursion (λ (f : List ℕ × List ℕ). LiesElsewhere folder f.0))
           (sym (left_given_up beside some gone.synced
-          (may_sync folder beside all gone.written gone.synced e gone.told)))
+          (may_sync folder beside all gone.written gone.synced e gone.returned)))
           (elsewhere_all folder beside 1 some named);
     }
 
@@ -417,21 +417,21 @@ pub not_filled : (folder beside : List ℕ) (all : List (List ℕ))
     → IsFolderNotPlaced folder all known e new
 not_filled folder beside all known one new e named made (inl gone) =
     inr (inl (given_up folder beside all known one new e named made gone))
-not_filled folder beside all known one new e named made (inr told) =
+not_filled folder beside all known one new e named made (inr returned) =
     let steps : List Step =
     writing_files (numbered_within beside all) ++ naming_folder beside folder in
     inr (inr (
-      told.0,
-      told.1,
+      returned.0,
+      returned.1,
       is_placed folder beside all [] known one new named made
-          (told.2 ∙ ap (then_done one) (sym (append-nil steps))) (λ path. refl) refl,
+          (returned.2 ∙ ap (then_done one) (sym (append-nil steps))) (λ path. refl) refl,
     ))
 
-pub refused_folder : {R : Type 0} (told : Result R FileError) (folder text beside : List ℕ)
+pub refused_folder : {R : Type 0} (returned : Result R FileError) (folder text beside : List ℕ)
     (all : List (List ℕ)) (known one new : Option (List Step)) → text ≡ beside
     → IsBesideFolder folder beside → one ≡ then_done known (MadeFolder beside ∷ [])
-    → IfErr told (λ e. IsNotFilled folder text all one e new)
-    → IfErr told (λ e. IsFolderNotPlaced folder all known e new)
+    → IfErr returned (λ e. IsNotFilled folder text all one e new)
+    → IfErr returned (λ e. IsFolderNotPlaced folder all known e new)
 refused_folder (Ok r) folder text beside all known one new same named made h = tt
 refused_folder (Err e) folder text beside all known one new same named made h =
     not_filled folder beside all known one new e named made
@@ -484,16 +484,16 @@ pub behind_more : (text : List ℕ) (old mid new : List ℕ → Option Bool)
 behind_more text old mid new one two other apart = two other apart ∙ one other apart
 
 -- what was free then was free before
-pub free_before : {R E : Type 0} (told : Result R E) (old new : Option Bool) → new ≡ old
-    → OnOk told (IfSome new (λ b. b ≡ false)) → OnOk told (IfSome old (λ b. b ≡ false))
-free_before {R} {E} told old new same h =
-    subst (λ (k : Option Bool). OnOk told (IfSome k (λ b. b ≡ false))) same h
+pub free_before : {R E : Type 0} (returned : Result R E) (old new : Option Bool) → new ≡ old
+    → OnOk returned (IfSome new (λ b. b ≡ false)) → OnOk returned (IfSome old (λ b. b ≡ false))
+free_before {R} {E} returned old new same h =
+    subst (λ (k : Option Bool). OnOk returned (IfSome k (λ b. b ≡ false))) same h
 
 -- ---- what is told as taken
 
-pub taken_before : {R : Type 0} (told : Result R FileError) (folder : List ℕ)
+pub taken_before : {R : Type 0} (returned : Result R FileError) (folder : List ℕ)
     (old new : List ℕ → Option Bool) → new folder ≡ old folder
-    → IfErr told (TellsNameTaken new folder) → IfErr told (TellsNameTaken old folder)
+    → IfErr returned (TellsNameTaken new folder) → IfErr returned (TellsNameTaken old folder)
 taken_before (Ok r) folder old new same h = tt
 taken_before (Err e) folder old new same h =
     λ named. subst (TellsTaken e.fault) same (h named)
@@ -514,8 +514,8 @@ found_taken (NotSynced error) there (inr h) = tt
 found_taken (Io error) there (inr h) = tt
 found_taken (Refused error) there (inr h) = tt
 
-pub name_found : {R : Type 0} (told : Result R FileFault) (old new : Option Bool) → new ≡ old
-    → IfErr told (TellsFound Taken new) → IfErr told (λ fault. TellsTaken fault old)
+pub name_found : {R : Type 0} (returned : Result R FileFault) (old new : Option Bool) → new ≡ old
+    → IfErr returned (TellsFound Taken new) → IfErr returned (λ fault. TellsTaken fault old)
 name_found (Ok r) old new same h = tt
 name_found (Err fault) old new same h =
     subst (TellsTaken fault) same (found_taken fault new h)
@@ -609,14 +609,14 @@ filled_stem : (there : List ℕ → Option Bool) (folder beside : List ℕ) (all
     (known new : Option (List Step)) (e : FileError) → IsNotFilled folder beside all known e new
     → TellsStemTaken there folder e.fault
 filled_stem there folder beside all known new e (inl gone) =
-    given_stem there folder beside all gone.written gone.synced e gone.told
-filled_stem there folder beside all known new e (inr told) =
-    synced_stem there folder e.fault told.1
+    given_stem there folder beside all gone.written gone.synced e gone.returned
+filled_stem there folder beside all known new e (inr returned) =
+    synced_stem there folder e.fault returned.1
 
-pub stem_told : {R : Type 0} (told : Result R FileError) (there : List ℕ → Option Bool)
+pub stem_told : {R : Type 0} (returned : Result R FileError) (there : List ℕ → Option Bool)
     (folder beside : List ℕ) (all : List (List ℕ)) (known new : Option (List Step))
-    → IfErr told (λ e. IsNotFilled folder beside all known e new)
-    → IfErr told (λ e. TellsStemTaken there folder e.fault)
+    → IfErr returned (λ e. IsNotFilled folder beside all known e new)
+    → IfErr returned (λ e. TellsStemTaken there folder e.fault)
 stem_told (Ok r) there folder beside all known new h = tt
 stem_told (Err e) there folder beside all known new h =
     filled_stem there folder beside all known new e h

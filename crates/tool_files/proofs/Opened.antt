@@ -17,10 +17,10 @@ use Rattle.tool_files.specs.Opened.{TellsRefused}
 use Rattle.tool_files.proofs.Steps.{list_at}
 
 -- what is told of some bytes is told of the table's
-pub recovered_so : (pinned : Bool) (told : Result OpenTable Error) (bytes : List ℕ)
-    → Gives (λ (t : OpenTable). t.parts) told (recovered_result bytes 0 pinned pinned)
-    → IfOk told (λ t. t.bytes ≡ bytes) → IfOk told (λ t. t.global_seqno ≡ 0)
-    → IfOk told (IsToldByBytes pinned)
+pub recovered_so : (pinned : Bool) (returned : Result OpenTable Error) (bytes : List ℕ)
+    → Gives (λ (t : OpenTable). t.parts) returned (recovered_result bytes 0 pinned pinned)
+    → IfOk returned (λ t. t.bytes ≡ bytes) → IfOk returned (λ t. t.global_seqno ≡ 0)
+    → IfOk returned (IsToldByBytes pinned)
 recovered_so pinned (Ok t) bytes gives same number = (
   subst (λ (bs : List ℕ).
       Gives (λ (u : OpenTable). u.parts) (Ok t) (recovered_result bs 0 pinned pinned)) (sym same) gives,
@@ -69,10 +69,10 @@ pub refused_told : (pinned : Bool) (known : Option (List ℕ)) (bytes : List ℕ
     → IfSome known (λ k. bytes ≡ k)
     → Gives (λ (t : OpenTable). t.parts) (Err e) (recovered_result bytes 0 pinned pinned)
     → TellsRefused pinned known (Refused e)
-refused_told pinned None bytes e same told = tt
-refused_told pinned (Some k) bytes e same told =
+refused_told pinned None bytes e same returned = tt
+refused_told pinned (Some k) bytes e same returned =
     subst (λ (bs : List ℕ). Gives (λ (t : OpenTable). t.parts) (Err e)
-    (recovered_result bs 0 pinned pinned)) same told
+    (recovered_result bs 0 pinned pinned)) same returned
 
 -- ---- several files
 
@@ -81,11 +81,11 @@ module _ (pinned : Bool) (content : List ℕ → Option (List ℕ)) where
       (t : OpenTable) → AreOpenedFrom pinned content paths ts → IsToldByBytes pinned t
       → HasContent (content path.now) t
       → AreOpenedFrom pinned content (paths ++ path ∷ []) (ts ++ t ∷ [])
-  opened_behind [] path [] t h told has = ((told, has), tt)
-  opened_behind [] path (x ∷ ts) t h told has = absurd h
-  opened_behind (p ∷ paths) path [] t h told has = absurd h
-  opened_behind (p ∷ paths) path (x ∷ ts) t h told has =
-      (h.0, opened_behind paths path ts t h.1 told has)
+  opened_behind [] path [] t h returned has = ((returned, has), tt)
+  opened_behind [] path (x ∷ ts) t h returned has = absurd h
+  opened_behind (p ∷ paths) path [] t h returned has = absurd h
+  opened_behind (p ∷ paths) path (x ∷ ts) t h returned has =
+      (h.0, opened_behind paths path ts t h.1 returned has)
 
   -- one more is opened
   pub opened_more : (paths : List (Bor (List ℕ))) (i : ℕ) (d : Bor (List ℕ))
@@ -93,10 +93,10 @@ module _ (pinned : Bool) (content : List ℕ → Option (List ℕ)) where
       → AreOpenedFrom pinned content (take i paths) ts → IsToldByBytes pinned t
       → HasContent (content (get_or paths i d).now) t
       → AreOpenedFrom pinned content (take (i + 1) paths) (ts ++ t ∷ [])
-  opened_more paths i d ts t less so_far told has =
+  opened_more paths i d ts t less so_far returned has =
       subst (λ (ps : List (Bor (List ℕ))). AreOpenedFrom pinned content ps (ts ++ t ∷ []))
       (sym (take_more paths i d less))
-      (opened_behind (take i paths) (get_or paths i d) ts t so_far told has)
+      (opened_behind (take i paths) (get_or paths i d) ts t so_far returned has)
 
   -- one is refused
   pub stops_opening : {R : Type 0} (result : Result R FileError) (paths : List (Bor (List ℕ)))
@@ -104,8 +104,8 @@ module _ (pinned : Bool) (content : List ℕ → Option (List ℕ)) where
       → AreOpenedFrom pinned content (take i paths) ts → path_text e.name ≡ (get_or paths i d).now
       → TellsRefused pinned (content (get_or paths i d).now) e.fault
       → IsErrAnd result (λ y. y ≡ e) → IfErr result (StopsOpening pinned content paths)
-  stops_opening (Ok r) paths i d ts e less so_far named told is = tt
-  stops_opening (Err y) paths i d ts e less so_far named told is =
+  stops_opening (Ok r) paths i d ts e less so_far named returned is = tt
+  stops_opening (Err y) paths i d ts e less so_far named returned is =
       subst (StopsOpening pinned content paths) (sym is) record {
         before = take i paths;
         path = get_or paths i d;
@@ -115,5 +115,5 @@ module _ (pinned : Bool) (content : List ℕ → Option (List ℕ)) where
         tables = ts;
         opened = so_far;
         named = named;
-        told = told;
+        returned = returned;
       }

@@ -276,13 +276,13 @@ pub stops_syncing : {A : Type 0} (known now : Option (List Step)) (bs : List (Be
     (b : Beside A) (e : FileError) → i < length bs → b ≡ get_or bs i b → e.name ≡ b.file.name
     → IsNotSynced e.fault → now ≡ then_done known (syncing (standing_in (take i bs)))
     → StopSyncing known (standing_in bs) e now
-stops_syncing {A} known now bs i b e less here named told so_far = record {
+stops_syncing {A} known now bs i b e less here named returned so_far = record {
   before = standing_in (take i bs);
   one = standing_of b;
   behind = standing_in (drop (i + 1) bs);
   split = standing_at bs i b less here;
   named = named;
-  told = told;
+  returned = returned;
   done = so_far;
 }
 
@@ -417,11 +417,11 @@ stopped_at {A} bs i d e less named counted =
     stops_at bs i (get_or bs i d) e less (get_or_default bs i d (get_or bs i d) less) named counted
 
 -- putting files in their places
-pub put_placed : {A R : Type 0} (told : Result R FileError) (known one new : Option (List Step))
+pub put_placed : {A R : Type 0} (returned : Result R FileError) (known one new : Option (List Step))
     (wanted : List NewFile) (bs named : List (Beside A)) → AreBeside wanted (standing_in bs)
     → named ≡ bs → one ≡ then_done known (writing (standing_in bs))
-    → OnOk told (new ≡ then_done (then_done one (renaming (standing_in named)))
-    (syncing (standing_in named))) → OnOk told (ArePlaced known wanted new)
+    → OnOk returned (new ≡ then_done (then_done one (renaming (standing_in named)))
+    (syncing (standing_in named))) → OnOk returned (ArePlaced known wanted new)
 put_placed (Err e) known one new wanted bs named are same written h = tt
 put_placed {A} (Ok r) known one new wanted bs named are same written h =
     placed known one new wanted (standing_in bs) are written
@@ -429,21 +429,21 @@ put_placed {A} (Ok r) known one new wanted bs named are same written h =
     (syncing (standing_in l))) same h)
 
 -- putting files in their places is refused
-pub put_refused : {A R : Type 0} (told : Result R FileError) (there : List ℕ → Option Bool)
+pub put_refused : {A R : Type 0} (returned : Result R FileError) (there : List ℕ → Option Bool)
     (known one new : Option (List Step)) (wanted : List NewFile) (bs named : List (Beside A))
     → AreBeside wanted (standing_in bs) → named ≡ bs
     → one ≡ then_done known (writing (standing_in bs))
-    → IfErr told (λ e. AreNotPut one (standing_in named) e new)
-    → IfErr told (λ e. AreNotPlaced there known wanted e new)
+    → IfErr returned (λ e. AreNotPut one (standing_in named) e new)
+    → IfErr returned (λ e. AreNotPlaced there known wanted e new)
 put_refused (Ok r) there known one new wanted bs named are same written h = tt
 put_refused {A} (Err e) there known one new wanted bs named are same written h =
     stop_putting there known one new wanted (standing_in bs) e are written
     (subst (λ (l : List (Beside A)). AreNotPut one (standing_in l) e new) same h)
 
-pub put_names : {A R : Type 0} (told : Result R FileError) (one new : Option (List Step))
+pub put_names : {A R : Type 0} (returned : Result R FileError) (one new : Option (List Step))
     (wanted : List NewFile) (bs named : List (Beside A)) → AreBeside wanted (standing_in bs)
-    → named ≡ bs → IfErr told (λ e. AreNotPut one (standing_in named) e new)
-    → IfErr told (λ e. Any (λ (file : NewFile). file.name ≡ e.name) wanted)
+    → named ≡ bs → IfErr returned (λ e. AreNotPut one (standing_in named) e new)
+    → IfErr returned (λ e. Any (λ (file : NewFile). file.name ≡ e.name) wanted)
 put_names (Ok r) one new wanted bs named are same h = tt
 put_names {A} (Err e) one new wanted bs named are same h =
     names_unput one new wanted (standing_in bs) e are
@@ -465,9 +465,9 @@ if_left (Io error) X Y f h = tt
 if_left (Refused error) X Y f h = tt
 
 -- its name
-pub left_named : {R : Type 0} (told : Result R FileError) (next : List ℕ) (there : Option Bool)
-    (known new : Option (List Step)) → IfErr told (λ e. TellsLeft e next there known new)
-    → IfErr told (λ e. IfLeft e.fault (path_text e.name ≡ next))
+pub left_named : {R : Type 0} (returned : Result R FileError) (next : List ℕ) (there : Option Bool)
+    (known new : Option (List Step)) → IfErr returned (λ e. TellsLeft e next there known new)
+    → IfErr returned (λ e. IfLeft e.fault (path_text e.name ≡ next))
 left_named (Ok r) next there known new h = tt
 left_named (Err e) next there known new h =
     if_left e.fault
@@ -514,7 +514,7 @@ synced_none (Refused error) h = tt
 unput_none : (known new : Option (List Step)) (all : List Standing) (e : FileError)
     → AreNotPut known all e new → IfLeft e.fault ⊥
 unput_none known new all e (inl stop) = renamed_none e.fault stop.renamed stop.stops.counted
-unput_none known new all e (inr stop) = synced_none e.fault stop.told
+unput_none known new all e (inr stop) = synced_none e.fault stop.returned
 
 placed_none : (there : List ℕ → Option Bool) (known new : Option (List Step))
     (wanted : List NewFile) (e : FileError) → AreNotPlaced there known wanted e new
@@ -523,9 +523,9 @@ placed_none there known new wanted e (inl stop) = early_none e.fault stop.stops.
 placed_none there known new wanted e (inr stop) =
     unput_none (then_done known (writing stop.all)) new stop.all e stop.stops
 
-pub none_left : {R : Type 0} (told : Result R FileError) (there : List ℕ → Option Bool)
+pub none_left : {R : Type 0} (returned : Result R FileError) (there : List ℕ → Option Bool)
     (known new : Option (List Step)) (wanted : List NewFile)
-    → IfErr told (λ e. AreNotPlaced there known wanted e new)
-    → IfErr told (λ e. IfLeft e.fault ⊥)
+    → IfErr returned (λ e. AreNotPlaced there known wanted e new)
+    → IfErr returned (λ e. IfLeft e.fault ⊥)
 none_left (Ok r) there known new wanted h = tt
 none_left (Err e) there known new wanted h = placed_none there known new wanted e h

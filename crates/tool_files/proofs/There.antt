@@ -21,9 +21,9 @@ taken_more there now stem path i same is below one =
 -- none was made where something is
 pub not_free : (there : Option Bool) (free : Bool) → free ≡ false
     → IfSome there (λ known. free ≡ not known) → IfSome there (λ b. b ≡ true)
-not_free None free was told = tt
-not_free (Some true) free was told = refl
-not_free (Some false) free was told = absurd cc
+not_free None free was returned = tt
+not_free (Some true) free was returned = refl
+not_free (Some false) free was returned = absurd cc
 
 -- what is elsewhere stays, from a state that is as it was
 pub same_from : {X : Type 0} (path text : List ℕ) (old mid new : List ℕ → X) → path ≡ text

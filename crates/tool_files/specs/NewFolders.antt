@@ -124,7 +124,7 @@ pub record IsFolderGivenUp (folder : List ℕ) (all : List (List ℕ)) (known : 
   pub named : IsBesideFolder folder beside
   pub written : ℕ
   pub synced : List Step
-  pub told : TellsGivenUp folder beside all written synced e
+  pub returned : TellsGivenUp folder beside all written synced e
   pub done : new ≡ then_done known (giving_up beside (take written all) synced)
   pub elsewhere : AllByRecursion (λ f. LiesElsewhere folder f.0)
       (files_left (giving_up beside (take written all) synced))
@@ -145,7 +145,7 @@ pub record StopsWithin (folder beside : List ℕ) (all paths : List (List ℕ))
     (known : Option (List Step)) (e : FileError) (new : Option (List Step)) : Type 0 where
   pub written : ℕ
   pub synced : List Step
-  pub told : TellsGivenUp folder beside all written synced e
+  pub returned : TellsGivenUp folder beside all written synced e
   pub paths_are : paths ≡ map (λ f. f.0) (numbered_within beside (take written all))
   pub done : new
       ≡ then_done known (writing_files (numbered_within beside (take written all)) ++ synced)
@@ -161,7 +161,7 @@ pub record IsEmptied (folder beside : List ℕ) (all : List (List ℕ)) (known :
     (e : FileError) (new : Option (List Step)) : Type 0 where
   pub written : ℕ
   pub synced : List Step
-  pub told : TellsGivenUp folder beside all written synced e
+  pub returned : TellsGivenUp folder beside all written synced e
   pub done : new ≡ then_done known (writing_files (numbered_within beside (take written all))
       ++ (synced ++ removing_folder beside (numbered_within beside (take written all))))
 

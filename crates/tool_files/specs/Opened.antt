@@ -46,4 +46,4 @@ pub record StopsOpening (pinned : Bool) (content : List ℕ → Option (List ℕ
   pub tables : List OpenTable
   pub opened : AreOpenedFrom pinned content before tables
   pub named : path_text e.name ≡ path.now
-  pub told : TellsRefused pinned (content path.now) e.fault
+  pub returned : TellsRefused pinned (content path.now) e.fault

@@ -143,7 +143,7 @@ pub record StopSyncing (known : Option (List Step)) (all : List Standing) (e : F
   pub behind : List Standing
   pub split : all ≡ before ++ one ∷ behind
   pub named : e.name ≡ one.file.name
-  pub told : IsNotSynced e.fault
+  pub returned : IsNotSynced e.fault
   pub done : new ≡ then_done known (syncing before)
 
 -- files that stand beside their names are not all renamed, or all are and not all folders synced

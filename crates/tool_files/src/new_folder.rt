@@ -257,7 +257,7 @@ fn sync_parent<'a, P: Place>(place: &mut P, folder: &'a str) -> Result<(), FileE
     ensures synced { OnOk result
         (P.done place.new ≡ then_done (P.done place.old) (Synced folder.now ∷ [])) }
     ensures nothing { OnErr result (P.done place.new ≡ P.done place.old) }
-    ensures told { IfErr result (λ e.
+    ensures returned { IfErr result (λ e.
         (path_text e.name ≡ folder.now) × IsNotSynced e.fault) }
 {
     match place.sync_folder(folder) {

@@ -19,7 +19,7 @@ pub fn open_bytes<A: Allocator + Copy>(
     bytes: Slice<A>,
     pinned: bool,
 ) -> Result<Table<A>, Error>
-    ensures told { Gives (λ (t : OpenTable). t.parts) result
+    ensures returned { Gives (λ (t : OpenTable). t.parts) result
         (recovered_result bytes 0 pinned pinned) }
     ensures bytes { IfOk result (λ t. t.bytes ≡ bytes) }
     ensures recovered { IfOk result (IsToldByBytes pinned) }
@@ -41,7 +41,7 @@ pub fn open_table<'a, P: Place, A: Allocator + Copy>(
     ensures content { IfOk result (HasContent (P.content place.now path.now)) }
     // A refusal names the file, and what its bytes tell is wrong with it.
     ensures named { IfErr result (λ e. path_text e.name ≡ path.now) }
-    ensures told { IfErr result (λ e.
+    ensures returned { IfErr result (λ e.
         TellsRefused pinned (P.content place.now path.now) e.fault) }
 {
     let bytes = read_file(place, alloc, path)?;

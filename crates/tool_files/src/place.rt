@@ -54,7 +54,7 @@ pub trait Place {
             IfSome (there self.now path.now) (λ known. is_some m ≡ known)) }
         ensures mode { IfOk result (λ m.
             IfSome (modes self.now path.now) (λ known. option_map metadata_mode m ≡ known)) }
-        ensures told { OnErr result (there self.now path.now ≡ None) };
+        ensures returned { OnErr result (there self.now path.now ≡ None) };
 
     /// Writes a new file whole, with these permissions if they are given, and syncs it. Answers
     /// `false` where something has the path: then nothing is changed. Where it is refused no file

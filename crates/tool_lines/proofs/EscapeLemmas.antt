@@ -180,9 +180,9 @@ means_begins word (b ∷ bs) h = (b, h.1.0, h.1.1)
 pub none_begins : {X : Type 0} (view : X → List ℕ) (r : Result X LineError) (word : List ℕ)
     (fault : LineError) → IfOk r (λ x. WordMeans word (view x))
     → IfErr r (λ e. (e ≡ fault) ⊎ BeginsSome word) → (BeginsSome word → ⊥) → r ≡ Err fault
-none_begins view (Ok x) word fault means told none =
+none_begins view (Ok x) word fault means returned none =
     absurd (none (means_begins word (view x) means))
-none_begins view (Err e) word fault means told none = elim told [
+none_begins view (Err e) word fault means returned none = elim returned [
   | inl is ↦ ap Err is
   | inr begins ↦ absurd (none begins)
 ]

@@ -87,10 +87,10 @@ digits_mean json digits x bytes is one found stand =
     )
 
 -- the bytes of the digits in an object of one member
-pub means_digits : {E : Type 0} (json digits : Json) (told : Result (List ℕ) E)
+pub means_digits : {E : Type 0} (json digits : Json) (returned : Result (List ℕ) E)
     → (x : Members) × (json ≡ object x) × (length (keys x) ≡ 1)
     → get (codes "hex") json ≡ Some digits
-    → IfOk told (λ bytes. StandsInDigits digits bytes) → IfOk told (λ bytes. MeansBytes json bytes)
+    → IfOk returned (λ bytes. StandsInDigits digits bytes) → IfOk returned (λ bytes. MeansBytes json bytes)
 means_digits json digits (Ok bytes) one found h =
     digits_mean json digits one.0 bytes one.1 one.2 found h
 means_digits json digits (Err e) one found h = tt
@@ -107,11 +107,11 @@ means_its_digits json digits x bytes is found (inr h) =
 
 -- digits that stand for no bytes
 pub digits_mean_none : {X : Type 0} (json digits : Json) (fault : LineError)
-    (told : Result X LineError) → (x : Members) × (json ≡ object x) × (length (keys x) ≡ 1)
+    (returned : Result X LineError) → (x : Members) × (json ≡ object x) × (length (keys x) ≡ 1)
     → get (codes "hex") json ≡ Some digits
-    → IfErr told (λ e. lacks_memory e ≡ false →
+    → IfErr returned (λ e. lacks_memory e ≡ false →
     (e ≡ fault) × ((bytes : List ℕ) → ¬ StandsInDigits digits bytes))
-    → IfErr told (λ e. lacks_memory e ≡ false →
+    → IfErr returned (λ e. lacks_memory e ≡ false →
     (e ≡ fault) × ((bytes : List ℕ) → ¬ MeansBytes json bytes))
 digits_mean_none json digits fault (Ok bytes) one found h = tt
 digits_mean_none json digits fault (Err e) one found h = λ fine. (
@@ -207,9 +207,9 @@ pub no_bytes : (json : Json) → ((bytes : List ℕ) → ¬ MeansBytes json byte
 no_bytes json none h = none h.0 h.1
 
 -- so a line that has one spells none
-pub spells_no_object : {X : Type 0} (told : Result X LineError) (line : List ℕ)
-    → IfErr told (λ e. IsObjectFault line e)
-    → IfErr told (λ e. lacks_memory e ≡ false → (item : Entry) → ¬ SpellsObject line item)
+pub spells_no_object : {X : Type 0} (returned : Result X LineError) (line : List ℕ)
+    → IfErr returned (λ e. IsObjectFault line e)
+    → IfErr returned (λ e. lacks_memory e ≡ false → (item : Entry) → ¬ SpellsObject line item)
 spells_no_object (Ok x) line h = tt
 spells_no_object (Err e) line h = λ fine item spells.
     let memory : lacks_memory e ≡ true =
@@ -226,7 +226,7 @@ more a b c one two first then = (
 )
 
 -- the tokens of an entry
-pub wrote_entry : {E : Type 0} (told : Result (Unit {0}) E) (e : Entry) (name : List ℕ)
+pub wrote_entry : {E : Type 0} (returned : Result (Unit {0}) E) (e : Entry) (name : List ℕ)
     (k v : List Token) (w0 w1 w2 w3 w4 w5 w6 w7 w8 : Written)
     → HasMore w0 w1 (Token.begin_object ∷ []) → WritesBytes e.user_key k
     → HasMore w1 w2 (Token.key (codes "key") ∷ k)
@@ -235,8 +235,8 @@ pub wrote_entry : {E : Type 0} (told : Result (Unit {0}) E) (e : Entry) (name : 
     → HasMore w4 w5 (Token.key (codes "kind") ∷ []) → name ≡ kind_name e.kind
     → HasMore w5 w6 (Token.string name ∷ []) → WritesBytes e.value v
     → HasMore w6 w7 (Token.key (codes "value") ∷ v) → w8.before ≡ w7.before
-    → OnOk told (w8.tokens ≡ w7.tokens ++ Token.end_object ∷ [])
-    → OnOk told ((ts : List Token) × WritesEntry e ts × HasMore w0 w8 ts)
+    → OnOk returned (w8.tokens ≡ w7.tokens ++ Token.end_object ∷ [])
+    → OnOk returned ((ts : List Token) × WritesEntry e ts × HasMore w0 w8 ts)
 wrote_entry (Ok u) e name k v w0 w1 w2 w3 w4 w5 w6 w7 w8 h1 key h2 h3 h4 h5 named h6 value h7 same
     ended =
     let kind : HasMore w5 w6 (Token.string (kind_name e.kind) ∷ []) =

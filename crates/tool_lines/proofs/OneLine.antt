@@ -243,9 +243,9 @@ one_line Json e before text words members spells spelled =
     )
 
 -- and its end
-pub ended : {X E : Type 0} (bytes : X → List ℕ) (told : Result X E) (before text : List ℕ)
-    → IsLine before text → IfOk told (λ t. bytes t ≡ text ++ 10 ∷ [])
-    → IfOk told (λ t. (line : List ℕ) × (bytes t ≡ before ++ line ++ 10 ∷ [])
+pub ended : {X E : Type 0} (bytes : X → List ℕ) (returned : Result X E) (before text : List ℕ)
+    → IsLine before text → IfOk returned (λ t. bytes t ≡ text ++ 10 ∷ [])
+    → IfOk returned (λ t. (line : List ℕ) × (bytes t ≡ before ++ line ++ 10 ∷ [])
     × All (λ b. b ≢ 10) line)
 ended bytes (Ok t) before text h is =
     (h.0, is ∙ ap (λ (bs : List ℕ). bs ++ 10 ∷ []) h.1, h.2)

@@ -408,7 +408,7 @@ key_fault line w e good letter refused (inl is) =
     (w, good, letter, none_means w.key (refused (ap lacks_memory is)).1)
 key_fault line w e good letter refused (inr begun) =
     fault_by (IsWordFault line) e Key (w, good, letter, begun) (λ fine.
-    let told = refused fine in (told.0, (w, good, letter, none_means w.key told.1)))
+    let returned = refused fine in (returned.0, (w, good, letter, none_means w.key returned.1)))
 
 -- a value that is refused behind a key that is none
 pub value_fault : (line : List ℕ) (w : FourWords line) (e : LineError) (key : List ℕ)
@@ -418,8 +418,8 @@ pub value_fault : (line : List ℕ) (w : FourWords line) (e : LineError) (key : 
 value_fault line w e key good letter means refused =
     fault_by (IsWordFault line) e fault.Value
     (w, good, letter, means_begins w.key key means) (λ fine.
-    let told = refused fine in
-    (told.0, (w, good, letter, (key, means), none_means w.value told.1)))
+    let returned = refused fine in
+    (returned.0, (w, good, letter, (key, means), none_means w.value returned.1)))
 
 -- a letter that is none
 pub no_kind : (word : List ℕ) (r : Option ValueType) → r ≡ None

@@ -11,7 +11,7 @@ ghost use Rattle.tool_lines.specs.ObjectLine.{IsObjectFault, SpellsObject, Write
 ghost use Rattle.tool_lines.specs.WordLine.{IsEarlyFault, IsWordFault, SpellsEntry, word_line};
 ghost use Rattle.tool_lines.specs.declared.entry_line.Format.TheVariants.{Json, Lines};
 ghost use Rattle.tool_lines.specs.declared.entry_line.LineError.{LineError as LineFault};
-ghost use Rattle.tool_lines.specs.declared.entry_line.LineError.TheVariants as told;
+ghost use Rattle.tool_lines.specs.declared.entry_line.LineError.TheVariants as returned;
 ghost use Rattle.tool_lines.specs.declared.entry_line.LineError.TheVariants.{OutOfMemory};
 
 use crate::object_line::{parse_object, push_object};
@@ -129,7 +129,7 @@ pub fn parse_entry<A: Allocator + Copy>(
     // What takes no memory to be found is told whatever memory there is.
     ensures early { format ≡ Lines → (fault : LineFault) → IsEarlyFault line.now fault →
         result ≡ Err fault }
-    ensures early_object { format ≡ Json → ¬ IsUtf8 line.now → result ≡ Err told.Json }
+    ensures early_object { format ≡ Json → ¬ IsUtf8 line.now → result ≡ Err returned.Json }
     // So a line that is refused spells no entry, but for want of memory.
     ensures no_words { format ≡ Lines → IfErr result (λ e. lacks_memory e ≡ false
         → (item : Entry) → ¬ SpellsEntry line.now item) }

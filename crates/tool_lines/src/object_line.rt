@@ -15,7 +15,7 @@ ghost use Rattle.tool_lines.specs.ObjectLine.{AreMembers, HasMore, IsEntryObject
 ghost use Rattle.tool_lines.specs.ObjectLine.{IsStrictLine, LacksMembers, MeansBytes, MeansNumber};
 ghost use Rattle.tool_lines.specs.ObjectLine.{SpellsObject, StandsInDigits, WritesBytes};
 ghost use Rattle.tool_lines.specs.ObjectLine.{WritesEntry, digits_tokens, kind_name};
-ghost use Rattle.tool_lines.specs.declared.entry_line.LineError.TheVariants as told;
+ghost use Rattle.tool_lines.specs.declared.entry_line.LineError.TheVariants as returned;
 ghost use Rattle.tool_lines.specs.declared.entry_line.LineError.TheVariants.{KindMember};
 ghost use Rattle.tool_lines.specs.declared.entry_line.LineError.TheVariants.{NumberMember};
 
@@ -127,7 +127,7 @@ pub(crate) fn parse_object<A: Allocator + Copy>(
 ) -> Result<InternalValue<A>, LineError>
     ensures spells { IfOk result (λ e. SpellsObject line.now e) }
     ensures refused { IfErr result (λ e. IsObjectFault line.now e) }
-    ensures early { ¬ IsUtf8 line.now → result ≡ Err told.Json }
+    ensures early { ¬ IsUtf8 line.now → result ≡ Err returned.Json }
 {
     let Ok(text) = str::from_utf8(line) else {
         return Err(LineError::Json);

@@ -76,9 +76,9 @@ no_blame paths tables e one able =
 -- ---- what is told
 
 -- the first fault, memory aside
-told_by : (told : Option Error) (fault f : Error) → f ≡ fault
-    → (is_memory fault ≡ false → told ≡ Some fault) → is_memory f ≡ false → told ≡ Some f
-told_by told fault f same refused other =
+told_by : (returned : Option Error) (fault f : Error) → f ≡ fault
+    → (is_memory fault ≡ false → returned ≡ Some fault) → is_memory f ≡ false → returned ≡ Some f
+told_by returned fault f same refused other =
     refused (ap is_memory (sym same) ∙ other) ∙ ap (λ (g : Error). Some g) (sym same)
 
 -- a refusal
@@ -94,13 +94,13 @@ pub refused_so : (o : CompactOptions) (paths : List (Bor (List ℕ))) (opened : 
     → TellsLibrary o opened e
 refused_so o paths opened fault (error.Refused f) kept blame memory other refused taken =
     λ able lists hold. record {
-      told = told_by (run_with_fault (compactor_by o) (kept_in o.rules lists) 0) fault f kept
+      returned = told_by (run_with_fault (compactor_by o) (kept_in o.rules lists) 0) fault f kept
           (refused able lists hold);
       taken = λ fits low. memory (taken able lists hold fits low);
     }
 refused_so o paths opened fault (error.Unplaced f) kept blame memory other refused taken =
     λ able lists hold. record {
-      told = told_by (run_with_fault (compactor_by o) (kept_in o.rules lists) 0) fault f kept
+      returned = told_by (run_with_fault (compactor_by o) (kept_in o.rules lists) 0) fault f kept
           (refused able lists hold) other;
       taken = λ fits low. memory (taken able lists hold fits low);
     }

@@ -279,9 +279,9 @@ goes_stops : (format : Format) (input left new : Option (List ℕ)) (line : List
     (w m : TablesWriting) (es : List Entry) (count n : ℕ) (wrong : LineFault)
     → Goes format input left es count → TookAll w es m → LosesInputLine left new line
     → TellsLine (count + 1) format m line (Line n wrong) → StopsIn format input w (Line n wrong)
-goes_stops format None left new line w m es count n wrong h taken loses told = tt
-goes_stops format (Some bytes) None new line w m es count n wrong h taken loses told = absurd h
-goes_stops format (Some bytes) (Some rest) new line w m es count n wrong h taken loses told =
+goes_stops format None left new line w m es count n wrong h taken loses returned = tt
+goes_stops format (Some bytes) None new line w m es count n wrong h taken loses returned = absurd h
+goes_stops format (Some bytes) (Some rest) new line w m es count n wrong h taken loses returned =
     record {
       before = h.before;
       line = line;
@@ -291,28 +291,28 @@ goes_stops format (Some bytes) (Some rest) new line w m es count n wrong h taken
       spelled = h.spelled;
       writer = m;
       taken = taken;
-      told = (told.0 ∙ ap (λ (k : ℕ). k + 1) (sym h.counted), told.1);
+      returned = (returned.0 ∙ ap (λ (k : ℕ). k + 1) (sym h.counted), returned.1);
     }
 
 pub stops : (format : Format) (input left new : Option (List ℕ)) (line : List ℕ)
     (w m : TablesWriting) (es : List Entry) (count : ℕ) (error : MakeError)
     → Goes format input left es count → TookAll w es m → LosesInputLine left new line
     → TellsLine (count + 1) format m line error → StopsIn format input w error
-stops format input left new line w m es count (Line n wrong) h taken loses told =
-    goes_stops format input left new line w m es count n wrong h taken loses told
-stops format input left new line w m es count (File error) h taken loses told = absurd told
-stops format input left new line w m es count (Input error) h taken loses told = tt
-stops format input left new line w m es count NoEntries h taken loses told = absurd told
-stops format input left new line w m es count SizeTooLarge h taken loses told = absurd told
-stops format input left new line w m es count (Refused error) h taken loses told = told
+stops format input left new line w m es count (Line n wrong) h taken loses returned =
+    goes_stops format input left new line w m es count n wrong h taken loses returned
+stops format input left new line w m es count (File error) h taken loses returned = absurd returned
+stops format input left new line w m es count (Input error) h taken loses returned = tt
+stops format input left new line w m es count NoEntries h taken loses returned = absurd returned
+stops format input left new line w m es count SizeTooLarge h taken loses returned = absurd returned
+stops format input left new line w m es count (Refused error) h taken loses returned = returned
 
 goes_reading : (format : Format) (input left new : Option (List ℕ)) (line : List ℕ)
     (es : List Entry) (count n : ℕ) (wrong : LineFault) → Goes format input left es count
     → LosesInputLine left new line → TellsSpelling (count + 1) format line (Line n wrong)
     → StopsReading format input (Line n wrong)
-goes_reading format None left new line es count n wrong h loses told = tt
-goes_reading format (Some bytes) None new line es count n wrong h loses told = absurd h
-goes_reading format (Some bytes) (Some rest) new line es count n wrong h loses told =
+goes_reading format None left new line es count n wrong h loses returned = tt
+goes_reading format (Some bytes) None new line es count n wrong h loses returned = absurd h
+goes_reading format (Some bytes) (Some rest) new line es count n wrong h loses returned =
     record {
       before = h.before;
       line = line;
@@ -320,7 +320,7 @@ goes_reading format (Some bytes) (Some rest) new line es count n wrong h loses t
       are = h.are ∙ ap (λ (ls : List (List ℕ)). h.before ++ ls) (line_first rest line new loses);
       entries = es;
       spelled = h.spelled;
-      told = (told.0 ∙ ap (λ (k : ℕ). k + 1) (sym h.counted), told.1);
+      returned = (returned.0 ∙ ap (λ (k : ℕ). k + 1) (sym h.counted), returned.1);
     }
 
 -- a line that spells no entry is refused
@@ -328,13 +328,13 @@ pub stops_reading : (format : Format) (input left new : Option (List ℕ)) (line
     (es : List Entry) (count : ℕ) (error : MakeError) → Goes format input left es count
     → LosesInputLine left new line → TellsSpelling (count + 1) format line error
     → StopsReading format input error
-stops_reading format input left new line es count (Line n wrong) h loses told =
-    goes_reading format input left new line es count n wrong h loses told
-stops_reading format input left new line es count (File error) h loses told = absurd told
-stops_reading format input left new line es count (Input error) h loses told = tt
-stops_reading format input left new line es count NoEntries h loses told = absurd told
-stops_reading format input left new line es count SizeTooLarge h loses told = absurd told
-stops_reading format input left new line es count (Refused error) h loses told = told
+stops_reading format input left new line es count (Line n wrong) h loses returned =
+    goes_reading format input left new line es count n wrong h loses returned
+stops_reading format input left new line es count (File error) h loses returned = absurd returned
+stops_reading format input left new line es count (Input error) h loses returned = tt
+stops_reading format input left new line es count NoEntries h loses returned = absurd returned
+stops_reading format input left new line es count SizeTooLarge h loses returned = absurd returned
+stops_reading format input left new line es count (Refused error) h loses returned = returned
 
 -- ---- what is wrong with a line
 
@@ -377,9 +377,9 @@ tells_entry number format w line e SizeTooLarge reads h = absurd h
 tells_entry number format w line e (Refused error) reads h = h
 
 pub told_entry : {R : Type 0} (number : ℕ) (format : Format) (w : TablesWriting) (line : List ℕ)
-    (e : Entry) (told : Result R MakeError) → LineSpells format line e
-    → IfErr told (λ error. TellsEntry number false w e error)
-    → IfErr told (λ error. TellsLine number format w line error)
+    (e : Entry) (returned : Result R MakeError) → LineSpells format line e
+    → IfErr returned (λ error. TellsEntry number false w e error)
+    → IfErr returned (λ error. TellsLine number format w line error)
 told_entry number format w line e (Ok r) reads h = tt
 told_entry number format w line e (Err error) reads h =
     tells_entry number format w line e error reads h
@@ -416,8 +416,8 @@ goes_row {A} format input left new line rows count row h loses some reads =
 -- a list that is told to be empty
 pub no_items : {X : Type 0} (xs : List X) (len : ℕ) (empty : Bool) → len ≡ length xs
     → empty ≡ (len == 0) → empty ≡ true → xs ≡ []
-no_items xs len empty long told is =
-    nil_from_length xs (sym long ∙ eqb-true len 0 (sym told ∙ is))
+no_items xs len empty long returned is =
+    nil_from_length xs (sym long ∙ eqb-true len 0 (sym returned ∙ is))
 
 -- the input or memory is refused, and no line
 pub stops_else : (format : Format) (input : Option (List ℕ)) (w : TablesWriting)
@@ -439,7 +439,7 @@ reading_else format input SizeTooLarge h = h
 reading_else format input (Refused error) h = h
 
 -- a refusal that is handed on
-pub handed_on : {R : Type 0} (told : Result R MakeError) (error : MakeError)
-    (P : MakeError → Type 0) → IsErrAnd told (λ e. e ≡ error) → P error → IfErr told P
+pub handed_on : {R : Type 0} (returned : Result R MakeError) (error : MakeError)
+    (P : MakeError → Type 0) → IsErrAnd returned (λ e. e ≡ error) → P error → IfErr returned P
 handed_on (Ok r) error P is h = tt
 handed_on (Err e) error P is h = subst P (sym is) h

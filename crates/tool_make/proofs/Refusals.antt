@@ -98,7 +98,7 @@ end_refused o input w m count (Refused e) is taken h = λ not. record {
   writer = m;
   count = count;
   taken = subst (λ (x : TablesWriting). TookLines o input x m count) is taken;
-  told = h not;
+  returned = h not;
 }
 end_refused o input w m count (Line n wrong) is taken h = absurd h
 end_refused o input w m count (File error) is taken h = absurd h
@@ -106,9 +106,9 @@ end_refused o input w m count (Input error) is taken h = absurd h
 end_refused o input w m count NoEntries is taken h = absurd h
 end_refused o input w m count SizeTooLarge is taken h = absurd h
 
-pub told_end : {R : Type 0} (told : Result R MakeError) (o : WriteOptions)
+pub told_end : {R : Type 0} (returned : Result R MakeError) (o : WriteOptions)
     (input : Option (List ℕ)) (w m : TablesWriting) (count : ℕ) → w ≡ writer_by o
-    → TookLines o input w m count → IfErr told (TellsEnd m) → IfErr told (RefusesLines o input)
+    → TookLines o input w m count → IfErr returned (TellsEnd m) → IfErr returned (RefusesLines o input)
 told_end (Ok r) o input w m count is taken h = tt
 told_end (Err e) o input w m count is taken h = end_refused o input w m count e is taken h
 
@@ -146,20 +146,20 @@ repeated_line : (sort : Bool) (format : Format) (input : Option (List ℕ)) (w :
     → TellsLineOrder format input (Line n fault.Repeated)
 repeated_line true format None w n fresh h = tt
 repeated_line false format None w n fresh h = tt
-repeated_line true format (Some bytes) w n fresh (inl h) = absurd h.told.1
+repeated_line true format (Some bytes) w n fresh (inl h) = absurd h.returned.1
 repeated_line true format (Some bytes) w n fresh (inr h) =
     first_repeated format (input_lines bytes) w n fresh h
 repeated_line false format (Some bytes) w n fresh h =
-    absurd (true≢false (sym h.told.1.2.0))
+    absurd (true≢false (sym h.returned.1.2.0))
 
 order_line : (sort : Bool) (format : Format) (input : Option (List ℕ)) (w : TablesWriting)
     (n : ℕ) → all_written w ≡ [] → StopsLines sort format input w (Line n fault.OutOfOrder)
     → TellsLineOrder format input (Line n fault.OutOfOrder)
 order_line true format None w n fresh h = tt
 order_line false format None w n fresh h = tt
-order_line true format (Some bytes) w n fresh (inl h) = absurd h.told.1
+order_line true format (Some bytes) w n fresh (inl h) = absurd h.returned.1
 order_line true format (Some bytes) w n fresh (inr h) =
-    absurd (true≢false h.stops.told.1.0)
+    absurd (true≢false h.stops.returned.1.0)
 order_line false format (Some bytes) w n fresh h =
     first_out_of_order format (input_lines bytes) w n fresh h
 

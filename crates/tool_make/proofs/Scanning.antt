@@ -96,9 +96,9 @@ module _ {S : Type 0} (gives : S → Option R → S → Type 0) where
   came_nothing s t None more is not step = step
 
   -- what is lent came
-  pub came_lent : (s t : S) (lent told : Option Entry) → told ≡ lent
-      → gives s (option_map (λ e. Ok e) lent) t → gives s (option_map (λ e. Ok e) told) t
-  came_lent s t lent told is step =
+  pub came_lent : (s t : S) (lent returned : Option Entry) → returned ≡ lent
+      → gives s (option_map (λ e. Ok e) lent) t → gives s (option_map (λ e. Ok e) returned) t
+  came_lent s t lent returned is step =
       subst (λ (o : Option Entry). gives s (option_map (λ e. Ok e) o) t) (sym is) step
 
 -- ---- refusals among results
@@ -137,8 +137,8 @@ memory_only e h = elim (cases_Bool (is_memory e)) [
 ]
 
 -- of a list nothing but want of memory is refused
-pub only_memory : (es : List Entry) (told : Option Error) → IsFirstRefusal (ok_results es) told
-    → IfSome told (λ e. e ≡ OutOfMemory)
+pub only_memory : (es : List Entry) (returned : Option Error) → IsFirstRefusal (ok_results es) returned
+    → IfSome returned (λ e. e ≡ OutOfMemory)
 only_memory es None h = tt
 only_memory es (Some e) h =
     memory_only e (λ other. sym (ap first (errors_none es)) ∙ h other)
@@ -174,10 +174,10 @@ order_seen x [] = refl
 order_seen x (e ∷ es) = refl
 
 -- what the test of an entry told, by the key that was kept
-pub test_told : (key given : List ℕ) (last : Option ℕ) (x : Entry) (told so : Bool) → given ≡ key
-    → told ≡ may_follow (option_map (read_place given) last) x → told ≡ so
+pub test_told : (key given : List ℕ) (last : Option ℕ) (x : Entry) (returned so : Bool) → given ≡ key
+    → returned ≡ may_follow (option_map (read_place given) last) x → returned ≡ so
     → may_follow (option_map (read_place key) last) x ≡ so
-test_told key given last x told so same says is =
+test_told key given last x returned so same says is =
     ap (λ (k : List ℕ). may_follow (option_map (read_place k) last) x) (sym same) ∙ sym says ∙ is
 
 -- one more entry may follow
@@ -206,8 +206,8 @@ entries_back [] = refl
 entries_back (e ∷ es) = ap (λ (l : List Entry). e ∷ l) (entries_back es)
 
 -- a strict list comes in order
-pub order_told : (told : Result Bool Error) (es : List Entry) → IsStrict es
-    → IfOk told (λ b. b ≡ come_in_order (ok_results es)) → IfOk told (λ b. b ≡ true)
+pub order_told : (returned : Result Bool Error) (es : List Entry) → IsStrict es
+    → IfOk returned (λ b. b ≡ come_in_order (ok_results es)) → IfOk returned (λ b. b ≡ true)
 order_told (Err e) es strict h = tt
 order_told (Ok b) es strict h =
     h ∙ ap (is_strict_after None) (entries_back es) ∙ test_from_strict None es strict
@@ -222,18 +222,18 @@ scan_refused t e fault =
     ap first (fault_left (body_of t.bytes) t.global_seqno t.parts.facts.data_block_count e fault)
 
 -- entries that came in order up to an error, which is no want of memory
-pub ended_so : (told : Result Bool Error) (e : Error) (x : Bool) → OnOk told (is_memory e ≡ false)
-    → IfOk told (λ b. b ≡ true) → (is_memory e ≡ false → x ≡ true) → IfOk told (λ b. b ≡ x)
+pub ended_so : (returned : Result Bool Error) (e : Error) (x : Bool) → OnOk returned (is_memory e ≡ false)
+    → IfOk returned (λ b. b ≡ true) → (is_memory e ≡ false → x ≡ true) → IfOk returned (λ b. b ≡ x)
 ended_so (Err f) e x fault order same = tt
 ended_so (Ok b) e x fault order same = order ∙ sym (same fault)
 
 -- so are those of a table that is not scanned
-pub refused_order : (t : OpenTable) (e : Error) (told : Result Bool Error)
-    → OnOk told (is_memory e ≡ false) → IfOk told (λ b. b ≡ true)
+pub refused_order : (t : OpenTable) (e : Error) (returned : Result Bool Error)
+    → OnOk returned (is_memory e ≡ false) → IfOk returned (λ b. b ≡ true)
     → (is_memory e ≡ false → scan_fault t ≡ Some e)
-    → IfOk told (λ b. b ≡ come_in_order (table_scan t))
-refused_order t e told fault order refused =
-    ended_so told e (come_in_order (table_scan t)) fault order
+    → IfOk returned (λ b. b ≡ come_in_order (table_scan t))
+refused_order t e returned fault order refused =
+    ended_so returned e (come_in_order (table_scan t)) fault order
     (λ other. order_refused None (table_scan t) e (scan_refused t e (refused other)))
 
 -- ---- a stored list
@@ -268,38 +268,38 @@ early_want t e h = position_want (body_of t.bytes) 0 _ e h
 -- nor is the refusal that is told for it
 pub early_fine : (t : OpenTable) (e f : Error) → early_scan_fault t ≡ Some e → Some e ≡ Some f
     → is_memory f ≡ false
-early_fine t e f h told = ap is_memory (sym (same_some e f told)) ∙ early_want t e h
+early_fine t e f h returned = ap is_memory (sym (same_some e f returned)) ∙ early_want t e h
 
 none_early : (o : Option Error) → ((e : Error) → o ≡ Some e → ⊥) → o ≡ None
 none_early None h = refl
 none_early (Some e) h = absurd (h e refl)
 
 -- so where memory is wanted no fault was found before
-pub unread_early : (t : OpenTable) (told : Option Error)
-    → ((e : Error) → early_scan_fault t ≡ Some e → told ≡ Some e) → told ≡ Some OutOfMemory
+pub unread_early : (t : OpenTable) (returned : Option Error)
+    → ((e : Error) → early_scan_fault t ≡ Some e → returned ≡ Some e) → returned ≡ Some OutOfMemory
     → early_scan_fault t ≡ None
-unread_early t told early is = none_early (early_scan_fault t) (λ e h.
+unread_early t returned early is = none_early (early_scan_fault t) (λ e h.
     let memory : OutOfMemory ≡ e = same_some OutOfMemory e (sym is ∙ early e h) in
     true≢false (ap is_memory memory ∙ early_want t e h))
 
-pub unordered_early : (t : OpenTable) (told : Result Bool Error) (f : Error)
-    → ((e : Error) → early_scan_fault t ≡ Some e → IsOk told) → told ≡ Err f
+pub unordered_early : (t : OpenTable) (returned : Result Bool Error) (f : Error)
+    → ((e : Error) → early_scan_fault t ≡ Some e → IsOk returned) → returned ≡ Err f
     → early_scan_fault t ≡ None
-unordered_early t told f early is = none_early (early_scan_fault t) (λ e h.
-    let ok : is_ok told ≡ true = early e h in
+unordered_early t returned f early is = none_early (early_scan_fault t) (λ e h.
+    let ok : is_ok returned ≡ true = early e h in
     true≢false (sym ok ∙ ap is_ok is))
 
 -- ---- what stores no list
 
 -- a table that is told to be out of order
-pub stores_none : (t : OpenTable) (told : Bool)
-    → ((es : List Entry) → StoresList t.bytes es → told ≡ true) → told ≡ false → StoresNone t
-stores_none t told says not = λ es stored. true≢false (sym (says es stored) ∙ not)
+pub stores_none : (t : OpenTable) (returned : Bool)
+    → ((es : List Entry) → StoresList t.bytes es → returned ≡ true) → returned ≡ false → StoresNone t
+stores_none t returned says not = λ es stored. true≢false (sym (says es stored) ∙ not)
 
 -- one that is refused, and not for want of memory
-pub stores_no_entries : (t : OpenTable) (told : Option Error) (e : Error)
+pub stores_no_entries : (t : OpenTable) (returned : Option Error) (e : Error)
     → ((es : List Entry) → StoresList t.bytes es → 0 < length es
-    → IfSome told (λ y. y ≡ OutOfMemory))
-    → told ≡ Some e → e ≢ OutOfMemory → StoresNoEntries t
-stores_no_entries t told e says is other = λ es stored some.
+    → IfSome returned (λ y. y ≡ OutOfMemory))
+    → returned ≡ Some e → e ≢ OutOfMemory → StoresNoEntries t
+stores_no_entries t returned e says is other = λ es stored some.
     other (subst (λ (o : Option Error). IfSome o (λ y. y ≡ OutOfMemory)) is (says es stored some))

@@ -81,11 +81,11 @@ rows_sorted {A} rows order h =
     (λ (p : ℕ × Entry). record { line = p.0; entry = p.1 }) (λ p. refl) is_row_before rows order h
 
 -- rows that a sort put in order
-pub sorted_rows : {A E : Type 0} (rows order : List (Numbered A)) (told : Result (Unit {0}) E)
+pub sorted_rows : {A E : Type 0} (rows order : List (Numbered A)) (returned : Result (Unit {0}) E)
     (Says : Type 0) → IsPermutation rows order
-    → (Says → IsSortedBy (λ a b. is_before a.entry b.entry) order) → OnOk told Says
+    → (Says → IsSortedBy (λ a b. is_before a.entry b.entry) order) → OnOk returned Says
     → IsStableBy (λ a b. is_before a.entry b.entry) rows order
-    → OnOk told (IsSortOf is_row_before (numbered rows) (numbered order))
+    → OnOk returned (IsSortOf is_row_before (numbered rows) (numbered order))
 sorted_rows rows order (Ok u) Says permuted sorted says stable =
     rows_sorted rows order record { permuted = permuted; sorted = sorted says; stable = stable }
 sorted_rows rows order (Err e) Says permuted sorted says stable = tt
@@ -251,7 +251,7 @@ none_before : (row : ℕ × Entry) (w m : TablesWriting) (before : List (ℕ × 
     → all_written w ≡ [] → TookAll w (map (λ r. r.1) before) m → before ≡ []
     → may_follow (last_of None (all_written m)) row.1 ≡ false → ⊥
 unfolding last_of
-none_before row w m before fresh taken none told =
+none_before row w m before fresh taken none returned =
     let listed : all_written m ≡ [] =
     took_list w m (map (λ r. r.1) before) taken ∙ rw (fresh, none) refl in
     let follows : may_follow (last_of None (all_written m)) row.1 ≡ true = rw listed refl in
@@ -265,9 +265,9 @@ repeated_by : (format : Format) (lines : List (List ℕ)) (rows order before beh
     → (before ≡ []) ⊎ ((front : List (ℕ × Entry)) × (last : ℕ × Entry)
     × (before ≡ front ++ last ∷ [])) → IsFirstRepeated rows n
 unfolding last_of
-repeated_by format lines rows order before behind row w m n fresh spelled put are taken told line
-    (inl none) = absurd (none_before row w m before fresh taken none told)
-repeated_by format lines rows order before behind row w m n fresh spelled put are taken told line
+repeated_by format lines rows order before behind row w m n fresh spelled put are taken returned line
+    (inl none) = absurd (none_before row w m before fresh taken none returned)
+repeated_by format lines rows order before behind row w m n fresh spelled put are taken returned line
     (inr (front, first, is)) =
     let entries : List (ℕ × Entry) → List Entry = λ rs. map (λ r. r.1) rs in
     let listed : all_written m ≡ entries before =
@@ -277,7 +277,7 @@ repeated_by format lines rows order before behind row w m n fresh spelled put ar
     ∙ map-append (λ (r : ℕ × Entry). r.1) front (first ∷ []))
     ∙ last_push None (entries front) first.1 in
     let breaks : is_row_before first row ≡ false =
-    subst (λ (o : Option Entry). may_follow o row.1 ≡ false) last told in
+    subst (λ (o : Option Entry). may_follow o row.1 ≡ false) last returned in
     let all : order ≡ front ++ first ∷ row ∷ behind =
     are ∙ ap (λ (rs : List (ℕ × Entry)). rs ++ row ∷ behind) is
     ∙ append_assoc front (first ∷ []) (row ∷ behind) in
@@ -310,7 +310,7 @@ first_repeated format lines w n fresh h = (
   h.rows,
   h.spelled,
   repeated_by format lines h.rows h.sorted h.stops.before h.stops.behind h.stops.row w h.stops.writer n
-      fresh h.spelled h.put h.stops.are h.stops.taken h.stops.told.1.1 h.stops.told.0
+      fresh h.spelled h.put h.stops.are h.stops.taken h.stops.returned.1.1 h.stops.returned.0
       (ends_in h.stops.before),
 )
 
@@ -331,9 +331,9 @@ first_out_of_order format lines w n fresh h =
       spelled = h.spelled;
       strict = subst (λ (o : Option Entry). IsStrictAfter o h.entries)
           (ap (last_of None) fresh) (strict_taken w h.writer h.entries h.taken);
-      entry = h.told.1.0;
-      spells = h.told.1.1;
-      breaks = subst (λ (es : List Entry). may_follow (last_of None es) h.told.1.0 ≡ false) listed
-          h.told.1.2.1;
-      counted = h.told.0;
+      entry = h.returned.1.0;
+      spells = h.returned.1.1;
+      breaks = subst (λ (es : List Entry). may_follow (last_of None es) h.returned.1.0 ≡ false) listed
+          h.returned.1.2.1;
+      counted = h.returned.0;
     }

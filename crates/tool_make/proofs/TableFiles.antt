@@ -71,13 +71,13 @@ tables_placed {A} path target fs wanted seen there known new files same placed f
 }
 
 -- one is refused
-pub tables_stop : {A R : Type 0} (told : Result R MakeError) (path : List ℕ)
+pub tables_stop : {A R : Type 0} (returned : Result R MakeError) (path : List ℕ)
     (target : Option ℕ) (fs : List (FinishedTable A)) (wanted seen : List NewFile)
     (there : List ℕ → Option Bool) (known new : Option (List Step)) (e : FileError)
     → map named_bytes wanted ≡ files_from path target 1 fs → seen ≡ wanted
     → StopsPlacing target (table_file_name path target (length seen + 1)) there known seen e new
-    → IsErrAnd told (λ y. y ≡ error_of_file e)
-    → IfErr told (λ y. RefusesTables path target fs there known y new)
+    → IsErrAnd returned (λ y. y ≡ error_of_file e)
+    → IfErr returned (λ y. RefusesTables path target fs there known y new)
 tables_stop (Ok r) path target fs wanted seen there known new e files same stops is = tt
 tables_stop {A} (Err y) path target fs wanted seen there known new e files same stops is =
     inr (
@@ -103,9 +103,9 @@ blamed_by path target tables e true h = tt
 blamed_by path target tables e false h = h
 
 -- where memory is wanted none is
-pub blamed_table : {R : Type 0} (told : Result R MakeError) (path : List ℕ)
+pub blamed_table : {R : Type 0} (returned : Result R MakeError) (path : List ℕ)
     (target : Option ℕ) (tables : ℕ) (e : FileError) → TellsTableFile path target tables (File e)
-    → IsErrAnd told (λ y. y ≡ error_of_file e) → IfErr told (TellsTableFile path target tables)
+    → IsErrAnd returned (λ y. y ≡ error_of_file e) → IfErr returned (TellsTableFile path target tables)
 blamed_table (Ok r) path target tables e h is = tt
 blamed_table (Err y) path target tables e h is =
     subst (TellsTableFile path target tables) (sym is)
@@ -117,11 +117,11 @@ earlier_by : (path : List ℕ) (target : Option ℕ) (tables : ℕ) (e : FileErr
 earlier_by path target tables e true h = tt
 earlier_by path target tables e false h = h
 
-pub blamed_earlier : {A R : Type 0} (told : Result R MakeError) (path : List ℕ)
+pub blamed_earlier : {A R : Type 0} (returned : Result R MakeError) (path : List ℕ)
     (target : Option ℕ) (fs : List (FinishedTable A)) (wanted seen : List NewFile)
     (e : FileError) → map named_bytes wanted ≡ files_from path target 1 fs → seen ≡ wanted
     → IfLeft e.fault (path_text e.name ≡ table_file_name path target (length seen + 1))
-    → IsErrAnd told (λ y. y ≡ error_of_file e) → IfErr told (TellsEarlier path target (length fs))
+    → IsErrAnd returned (λ y. y ≡ error_of_file e) → IfErr returned (TellsEarlier path target (length fs))
 blamed_earlier (Ok r) path target fs wanted seen e files same h is = tt
 blamed_earlier {A} (Err y) path target fs wanted seen e files same h is =
     subst (TellsEarlier path target (length fs)) (sym is)

@@ -122,8 +122,8 @@ pub lines_stop : (format : Format) (input left new : Option (List ℕ)) (line : 
     (w m : TablesWriting) (count passed : ℕ) (error : MakeError)
     → Took format input left w m count passed → LosesInputLine left new line
     → TellsLine (passed + 1) format m line error → StopsIn format input w error
-lines_stop format input left new line w m count passed error h loses told =
-    stops format input left new line w m h.entries passed error h.goes h.taken loses told
+lines_stop format input left new line w m count passed error h loses returned =
+    stops format input left new line w m h.entries passed error h.goes h.taken loses returned
 
 -- ---- rows that a writer takes
 
@@ -150,11 +150,11 @@ entries_of [] = refl
 entries_of {A} (row ∷ rows) = ap (λ (es : List Entry). row.entry ∷ es) (entries_of rows)
 
 -- a row is refused
-pub stops_among : {A R : Type 0} (told : Result R MakeError) (rows : List (Numbered A)) (i : ℕ)
+pub stops_among : {A R : Type 0} (returned : Result R MakeError) (rows : List (Numbered A)) (i : ℕ)
     (row : Numbered A) (w m : TablesWriting) (error : MakeError) → i < length rows
     → row ≡ get_or rows i row → TookAll w (row_entries (take i rows)) m
-    → TellsEntry row.line true m row.entry error → IsErrAnd told (λ e. e ≡ error)
-    → IfErr told (StopsAmong (numbered rows) w)
+    → TellsEntry row.line true m row.entry error → IsErrAnd returned (λ e. e ≡ error)
+    → IfErr returned (StopsAmong (numbered rows) w)
 stops_among (Ok r) rows i row w m error less here so_far wrong is = tt
 stops_among {A} (Err e) rows i row w m error less here so_far wrong is =
     subst (StopsAmong (numbered rows) w) (sym is) record {
@@ -166,7 +166,7 @@ stops_among {A} (Err e) rows i row w m error less here so_far wrong is =
           (row ∷ drop (i + 1) rows);
       writer = m;
       taken = subst (λ (es : List Entry). TookAll w es m) (sym (entries_of (take i rows))) so_far;
-      told = wrong;
+      returned = wrong;
     }
 
 -- ---- lines that are put in order are refused
@@ -190,16 +190,16 @@ among_sorted : (format : Format) (input : Option (List ℕ)) (rows sorted : List
     → StopsInOrder format input w error
 among_sorted format input rows sorted w (Line n wrong) h put stops =
     among_line format input rows sorted w n wrong h put stops
-among_sorted format input rows sorted w (File error) h put stops = absurd stops.told
+among_sorted format input rows sorted w (File error) h put stops = absurd stops.returned
 among_sorted format input rows sorted w (Input error) h put stops = tt
-among_sorted format input rows sorted w NoEntries h put stops = absurd stops.told
-among_sorted format input rows sorted w SizeTooLarge h put stops = absurd stops.told
-among_sorted format input rows sorted w (Refused error) h put stops = stops.told
+among_sorted format input rows sorted w NoEntries h put stops = absurd stops.returned
+among_sorted format input rows sorted w SizeTooLarge h put stops = absurd stops.returned
+among_sorted format input rows sorted w (Refused error) h put stops = stops.returned
 
-pub told_among : {R : Type 0} (told : Result R MakeError) (format : Format)
+pub told_among : {R : Type 0} (returned : Result R MakeError) (format : Format)
     (input : Option (List ℕ)) (rows sorted : List (ℕ × Entry)) (w : TablesWriting)
     → HasRows format input rows → IsSortOf is_row_before rows sorted
-    → IfErr told (StopsAmong sorted w) → IfErr told (StopsInOrder format input w)
+    → IfErr returned (StopsAmong sorted w) → IfErr returned (StopsInOrder format input w)
 told_among (Ok r) format input rows sorted w h put stops = tt
 told_among (Err e) format input rows sorted w h put stops =
     among_sorted format input rows sorted w e h put stops
@@ -222,11 +222,11 @@ reading_first format input w (Refused error) h = h
 
 -- rows that were put in order, and then taken
 pub sorted_taken : {A E : Type 0} (format : Format) (input : Option (List ℕ))
-    (rows sorted : List (Numbered A)) (w m : TablesWriting) (told : Result ℕ E)
+    (rows sorted : List (Numbered A)) (w m : TablesWriting) (returned : Result ℕ E)
     → HasEntries format input (row_entries rows)
     → IsSortOf is_before (row_entries rows) (row_entries sorted)
-    → IfOk told (λ n. (n ≡ length sorted) × TookAll w (row_entries sorted) m)
-    → IfOk told (λ n. (es : List Entry) × HasEntries format input es × (n ≡ length es)
+    → IfOk returned (λ n. (n ≡ length sorted) × TookAll w (row_entries sorted) m)
+    → IfOk returned (λ n. (es : List Entry) × HasEntries format input es × (n ≡ length es)
     × ((order : List Entry) × IsSortOf is_before es order × TookAll w order m))
 sorted_taken {A} format input rows sorted w m (Ok n) reads put all = (
   row_entries rows,
@@ -280,9 +280,9 @@ of_lines o input w m fs count n is taken same are =
 
 pub told_lines : {A R E : Type 0} (o : WriteOptions) (input : Option (List ℕ))
     (w m : TablesWriting) (n : ℕ) (fs : R → List (FinishedTable A)) (count : R → ℕ)
-    (told : Result R E) → w ≡ writer_by o → TookLines o input w m n
-    → IfOk told (λ r. (count r ≡ n) × AreTablesOf m (fs r))
-    → IfOk told (λ r. AreOfLines o input (fs r) (count r))
+    (returned : Result R E) → w ≡ writer_by o → TookLines o input w m n
+    → IfOk returned (λ r. (count r ≡ n) × AreTablesOf m (fs r))
+    → IfOk returned (λ r. AreOfLines o input (fs r) (count r))
 told_lines o input w m n fs count (Ok r) is taken made =
     of_lines o input w m (fs r) (count r) n is taken (sym made.0) made.1
 told_lines o input w m n fs count (Err e) is taken made = tt

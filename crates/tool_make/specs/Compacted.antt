@@ -72,14 +72,14 @@ TellsOrder o opened e = (lists : List (List (List Entry))) → RunsHoldLists (ea
 
 -- memory aside, an error is this refusal of the library, and names no file
 abbrev pub IsRefusalWith : Option Error → CompactError → Type 0
-IsRefusalWith told (error.Refused f) = is_memory f ≡ false → told ≡ Some f
-IsRefusalWith told (error.Unplaced f) = told ≡ Some f
-IsRefusalWith told e = ⊥
+IsRefusalWith returned (error.Refused f) = is_memory f ≡ false → returned ≡ Some f
+IsRefusalWith returned (error.Unplaced f) = returned ≡ Some f
+IsRefusalWith returned e = ⊥
 
 -- memory aside, an error is the first fault of writing a list and opening its tables; where they
 -- fit, with an id left for each, it is want of memory
 pub record IsRefusedFor (o : CompactOptions) (es : List Entry) (e : CompactError) : Type 0 where
-  pub told : IsRefusalWith (run_with_fault (compactor_by o) es 0) e
+  pub returned : IsRefusalWith (run_with_fault (compactor_by o) es 0) e
   pub taken : FitsBy (compactor_by o) es → highest_seqno es + 0 < 2 ^ 64
       → e ≡ error.Refused OutOfMemory
 

@@ -79,7 +79,7 @@ pub record StopsAt (format : Format) (lines : List (List ℕ)) (w : TablesWritin
   pub spelled : Spell format before entries
   pub writer : TablesWriting
   pub taken : TookAll w entries writer
-  pub told : TellsLine (length before + 1) format writer line error
+  pub returned : TellsLine (length before + 1) format writer line error
 
 -- the input or memory was refused
 abbrev pub IsOfInput : MakeError → Type 0
@@ -103,7 +103,7 @@ pub record StopsSpelling (format : Format) (lines : List (List ℕ)) (error : Ma
   pub are : lines ≡ before ++ line ∷ behind
   pub entries : List Entry
   pub spelled : Spell format before entries
-  pub told : TellsSpelling (length before + 1) format line error
+  pub returned : TellsSpelling (length before + 1) format line error
 
 -- where a refusal names a line of an input, it is the first that spells no entry; else the input or
 -- memory was refused
@@ -121,7 +121,7 @@ pub record StopsAmong (rows : List (ℕ × Entry)) (w : TablesWriting) (error : 
   pub are : rows ≡ before ++ row ∷ behind
   pub writer : TablesWriting
   pub taken : TookAll w (map (λ r. r.1) before) writer
-  pub told : TellsEntry row.0 true writer row.1 error
+  pub returned : TellsEntry row.0 true writer row.1 error
 
 -- all lines spell entries, and put in order one is refused
 pub record StopsSorted (format : Format) (lines : List (List ℕ)) (w : TablesWriting)

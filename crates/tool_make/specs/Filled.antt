@@ -24,7 +24,7 @@ IsFilled {A} folder tables known new =
 pub record StaysUnfilled {A : Type 0} (folder : List ℕ) (tables : List (FinishedTable A))
     (known : Option (List Step)) (e : CompactError) (new : Option (List Step)) : Type 0 where
   pub file : FileError
-  pub told : e ≡ blamed file
+  pub returned : e ≡ blamed file
   pub stops : IsFolderNotPlaced folder (map (λ (t : FinishedTable A). t.bytes) tables) known file
       new
 

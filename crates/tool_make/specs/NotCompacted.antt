@@ -29,7 +29,7 @@ pub record StopsFiles (content : List ℕ → Option (List ℕ)) (paths : List (
     (e : CompactError) : Type 0 where
   pub file : FileError
   pub stops : StopsOpening true content paths file
-  pub told : e ≡ blamed file
+  pub returned : e ≡ blamed file
 
 -- all files were opened, and their tables not compacted, for what is told of them
 pub record StopsTables (o : CompactOptions) (content : List ℕ → Option (List ℕ))

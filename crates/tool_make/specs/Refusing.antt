@@ -32,7 +32,7 @@ pub record RefusesEnd (o : WriteOptions) (input : Option (List ℕ)) (e : Error)
   pub writer : TablesWriting
   pub count : ℕ
   pub taken : TookLines o input (writer_by o) writer count
-  pub told : run_fault writer ≡ Some e
+  pub returned : run_fault writer ≡ Some e
 
 -- why no tables come of lines: sizes are too large; the lines spell no entry; memory was refused,
 -- or the writer refused at its end; or a line or the input was
@@ -51,7 +51,7 @@ pub record RefusesToPlace (A : Type 0) (o : WriteOptions) (input : Option (List 
   pub count : ℕ
   pub made : AreOfLines o input tables count
   pub file : FileError
-  pub told : error ≡ error_of_file file
+  pub returned : error ≡ error_of_file file
   pub stops : AreTablesNotPlaced path o.target tables there known file new
 
 -- why lines are not written: no tables come of them, and nothing was done; or there are tables, and

@@ -125,9 +125,9 @@ pub(crate) fn has_order<A: Allocator + Copy>(alloc: A, table: &Table<A>) -> Resu
 {
     match table.scan() {
         Ok(mut items) => {
-            let told = is_in_order(alloc, &mut items);
+            let returned = is_in_order(alloc, &mut items);
             drop(items);
-            told
+            returned
         }
         Err(error) => ended_by(error),
     }

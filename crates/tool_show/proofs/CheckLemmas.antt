@@ -28,11 +28,11 @@ checks_sound t name before after old new blocks v verdict is reads whole printed
   reads = reads_so (verifying t) before after blocks
       (λ w. IfErr verdict (λ e. Misses e (next_of w)))
       (λ w. IfErr (table_found (body_of t.bytes) t.parts) (λ f. next_of w ≡ Err f))
-      (λ w ends. subst (λ (told : Result Verified Finding). IfErr told (λ f. next_of w ≡ Err f))
+      (λ w ends. subst (λ (returned : Result Verified Finding). IfErr returned (λ f. next_of w ≡ Err f))
       (sym is) tt) reads;
   text = sound_line name v blocks;
-  is = subst (λ (told : Result Verified Finding).
-      IsVerifyText t name blocks told (sound_line name v blocks)) (sym is)
+  is = subst (λ (returned : Result Verified Finding).
+      IsVerifyText t name blocks returned (sound_line name v blocks)) (sym is)
       (ap (sound_line name v) whole);
   printed = printed;
 }
@@ -52,12 +52,12 @@ checks_faulty (Ok x) t name before after old new blocks f e verdict was found is
   reads = reads_so (verifying t) before after blocks
       (λ w. IfErr verdict (λ e. Misses e (next_of w)))
       (λ w. IfErr (table_found (body_of t.bytes) t.parts) (λ f. next_of w ≡ Err f))
-      (λ w ends. subst (λ (told : Result Verified Finding). IfErr told (λ f. next_of w ≡ Err f))
+      (λ w ends. subst (λ (returned : Result Verified Finding). IfErr returned (λ f. next_of w ≡ Err f))
       (sym is)
       (subst (λ (r : Result Verified VerifyError). IfErr r (λ e. Misses e (next_of w))) was ends f
       found)) reads;
   text = printed.0;
-  is = subst (λ (told : Result Verified Finding). IsVerifyText t name blocks told printed.0)
+  is = subst (λ (returned : Result Verified Finding). IsVerifyText t name blocks returned printed.0)
       (sym is) printed.1;
   printed = printed.2;
 }

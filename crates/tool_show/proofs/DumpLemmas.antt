@@ -124,11 +124,11 @@ module _ {E : Type 0} (r : Result ℕ E) (back : Bool) (n : ℕ) (es : List Entr
   pub entries_printed : (format : Format) (old new : Option (List ℕ))
       → OnOk r (PrintsResults format (dumped back n (ok_results es)) old new)
       → OnOk r (PrintsLines format (dumped back n es) old new)
-  entries_printed format old new told = on_ok r (prints_entries format back n es old new) told
+  entries_printed format old new returned = on_ok r (prints_entries format back n es old new) returned
 
   pub entries_left : (m : ℕ) → IfOk r (λ rest. rest ≡ m - length (dumped back n (ok_results es)))
       → IfOk r (λ rest. rest ≡ m - length (dumped back n es))
-  entries_left m told = if_ok r (λ rest is. is ∙ ap (λ (k : ℕ). m - k) (as_many back n es)) told
+  entries_left m returned = if_ok r (λ rest is. is ∙ ap (λ (k : ℕ). m - k) (as_many back n es)) returned
 
 -- ---- what is dealt up to the first error
 

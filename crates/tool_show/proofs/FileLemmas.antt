@@ -92,24 +92,24 @@ pub one_named : {A : Type 0} (key : List ℕ) (n : ℕ) (fs : List (NamedTable A
     (f : NamedTable A) → i < length fs → f ≡ get_or fs i f
     → refused_file key n (take i fs) ≡ None → (e : ShowError) → BlamesFaulty key n f e
     → NamesFaulty key n fs e
-one_named {A} key n fs i f h is before (show.Refused name place error) told = (
+one_named {A} key n fs i f h is before (show.Refused name place error) returned = (
   f,
   found_here (λ (g : NamedTable A). is_some (read_refusal key n g.table)) fs i f h is before
-      (ap is_some told.0.1),
-  told,
+      (ap is_some returned.0.1),
+  returned,
 )
-one_named key n fs i f h is before (show.Output error) told = tt
-one_named key n fs i f h is before show.OutOfMemory told = tt
+one_named key n fs i f h is before (show.Output error) returned = tt
+one_named key n fs i f h is before show.OutOfMemory returned = tt
 
 refusal_only : {A : Type 0} (f : NamedTable A) (IsReported : Error → Type 0) (r : Error) (e : ShowError)
     → IsReported r → TellsRefusal f r e → NamesOnly f IsReported e
-refusal_only f IsReported r (show.Refused name place error) is told = (
-  told.0,
-  subst IsReported (sym told.1) is,
-  subst (λ (x : Error). IsRefusedAt f.table x place) (sym told.1) told.2,
+refusal_only f IsReported r (show.Refused name place error) is returned = (
+  returned.0,
+  subst IsReported (sym returned.1) is,
+  subst (λ (x : Error). IsRefusedAt f.table x place) (sym returned.1) returned.2,
 )
-refusal_only f IsReported r (show.Output error) is told = tt
-refusal_only f IsReported r show.OutOfMemory is told = tt
+refusal_only f IsReported r (show.Output error) is returned = tt
+refusal_only f IsReported r show.OutOfMemory is returned = tt
 
 memory_only : {A : Type 0} (f : NamedTable A) (IsReported : Error → Type 0) (e : ShowError)
     → e ≡ show.OutOfMemory → NamesOnly f IsReported e
@@ -120,28 +120,28 @@ memory_only f IsReported show.OutOfMemory is = tt
 by_memory : {A : Type 0} (f : NamedTable A) (IsReported : Error → Type 0) (r : Error) (e : ShowError)
     (b : Bool) → is_memory r ≡ b → FailsAs IsReported (failure.Refused r)
     → TellsFailure (failure.Refused r) f e → NamesOnly f IsReported e
-by_memory f IsReported r e true so fails told = memory_only f IsReported e (told.0 so)
-by_memory f IsReported r e false so fails told = refusal_only f IsReported r e (fails so) (told.1 so)
+by_memory f IsReported r e true so fails returned = memory_only f IsReported e (returned.0 so)
+by_memory f IsReported r e false so fails returned = refusal_only f IsReported r e (fails so) (returned.1 so)
 
 -- a failure of a file names it, if any
 pub failure_only : {A : Type 0} (f : NamedTable A) (IsReported : Error → Type 0) (x : Failure)
     (e : ShowError) → FailsAs IsReported x → TellsFailure x f e → NamesOnly f IsReported e
-failure_only f IsReported (failure.Output error) (show.Refused name place r) fails told = absurd cc
-failure_only f IsReported (failure.Output error) (show.Output r) fails told = tt
-failure_only f IsReported (failure.Output error) show.OutOfMemory fails told = tt
-failure_only f IsReported (failure.Refused error) e fails told =
-    by_memory f IsReported error e (is_memory error) refl fails told
+failure_only f IsReported (failure.Output error) (show.Refused name place r) fails returned = absurd cc
+failure_only f IsReported (failure.Output error) (show.Output r) fails returned = tt
+failure_only f IsReported (failure.Output error) show.OutOfMemory fails returned = tt
+failure_only f IsReported (failure.Refused error) e fails returned =
+    by_memory f IsReported error e (is_memory error) refl fails returned
 
 -- a failure that is no file's fault names none
 pub failure_none : {A : Type 0} (f : NamedTable A) (x : Failure) (e : ShowError)
     → TellsFailure x f e → BlamesNoFile x → NamesNone e
-failure_none f (failure.Output error) (show.Refused name place r) told none = absurd cc
-failure_none f (failure.Output error) (show.Output r) told none = tt
-failure_none f (failure.Output error) show.OutOfMemory told none = tt
-failure_none f (failure.Refused error) (show.Refused name place r) told none =
-    let is : show.Refused name place r ≡ show.OutOfMemory = told.0 none in absurd cc
-failure_none f (failure.Refused error) (show.Output r) told none = tt
-failure_none f (failure.Refused error) show.OutOfMemory told none = tt
+failure_none f (failure.Output error) (show.Refused name place r) returned none = absurd cc
+failure_none f (failure.Output error) (show.Output r) returned none = tt
+failure_none f (failure.Output error) show.OutOfMemory returned none = tt
+failure_none f (failure.Refused error) (show.Refused name place r) returned none =
+    let is : show.Refused name place r ≡ show.OutOfMemory = returned.0 none in absurd cc
+failure_none f (failure.Refused error) (show.Output r) returned none = tt
+failure_none f (failure.Refused error) show.OutOfMemory returned none = tt
 
 -- a file that is named and stores no list is blamed
 pub faulty_blamed : {A : Type 0} (key : List ℕ) (n : ℕ) (f : NamedTable A) (e : ShowError)
@@ -161,33 +161,33 @@ memory_blames_none (Err x) e is memory = subst BlamesNoFile (sym is) memory
 pub fails_as : {X : Type 0} (r : Result X Failure) (e : Error) (IsReported : Error → Type 0)
     → IsErrAnd r (λ x. x ≡ failure.Refused e) → (is_memory e ≡ false → IsReported e)
     → IfErr r (FailsAs IsReported)
-fails_as (Ok x) e IsReported is told = tt
-fails_as (Err x) e IsReported is told = subst (FailsAs IsReported) (sym is) told
+fails_as (Ok x) e IsReported is returned = tt
+fails_as (Err x) e IsReported is returned = subst (FailsAs IsReported) (sym is) returned
 
 -- what holds where a file is refused
 pub if_refused : {X : Type 0} (r : Result X Failure) (e : Error) (Holds : Type 0)
     → IsErrAnd r (λ x. x ≡ failure.Refused e) → (is_memory e ≡ false → Holds)
     → IfErr r (IfRefusal Holds)
-if_refused (Ok x) e Holds is told = tt
-if_refused (Err x) e Holds is told = subst (IfRefusal Holds) (sym is) told
+if_refused (Ok x) e Holds is returned = tt
+if_refused (Err x) e Holds is returned = subst (IfRefusal Holds) (sym is) returned
 
 named_by : {A : Type 0} (f : NamedTable A) (Holds : Type 0) (error : Error) (e : ShowError)
     (b : Bool) → is_memory error ≡ b → (is_memory error ≡ false → Holds)
     → TellsFailure (failure.Refused error) f e → IfNamed Holds e
-named_by f Holds error (show.Refused name place r) true so holds told =
-    let is : show.Refused name place r ≡ show.OutOfMemory = told.0 so in absurd cc
-named_by f Holds error (show.Refused name place r) false so holds told = holds so
-named_by f Holds error (show.Output r) b so holds told = tt
-named_by f Holds error show.OutOfMemory b so holds told = tt
+named_by f Holds error (show.Refused name place r) true so holds returned =
+    let is : show.Refused name place r ≡ show.OutOfMemory = returned.0 so in absurd cc
+named_by f Holds error (show.Refused name place r) false so holds returned = holds so
+named_by f Holds error (show.Output r) b so holds returned = tt
+named_by f Holds error show.OutOfMemory b so holds returned = tt
 
 -- what holds of a refusal holds where its file is named
 pub named_if : {A : Type 0} (f : NamedTable A) (Holds : Type 0) (x : Failure) (e : ShowError)
     → IfRefusal Holds x → TellsFailure x f e → IfNamed Holds e
-named_if f Holds (failure.Output error) (show.Refused name place r) holds told = absurd cc
-named_if f Holds (failure.Refused error) (show.Refused name place r) holds told =
-    named_by f Holds error (show.Refused name place r) (is_memory error) refl holds told
-named_if f Holds x (show.Output r) holds told = tt
-named_if f Holds x show.OutOfMemory holds told = tt
+named_if f Holds (failure.Output error) (show.Refused name place r) holds returned = absurd cc
+named_if f Holds (failure.Refused error) (show.Refused name place r) holds returned =
+    named_by f Holds error (show.Refused name place r) (is_memory error) refl holds returned
+named_if f Holds x (show.Output r) holds returned = tt
+named_if f Holds x show.OutOfMemory holds returned = tt
 
 -- a read that is refused, and not for want of memory, is one of a file that stores no list
 pub refused_faulty : {X : Type 0} (r : Result X Error) (e : Error) → r ≡ Err e
@@ -202,18 +202,18 @@ blamed_by : {A : Type 0} (key : List ℕ) (n : ℕ) (f : NamedTable A) (r : Erro
     (b : Bool) → is_memory r ≡ b → (is_memory r ≡ false → read_refusal key n f.table ≡ Some r)
     → (is_memory r ≡ false → IsSoundTable f.table → ⊥) → TellsFailure (failure.Refused r) f e
     → BlamesFaulty key n f e
-blamed_by key n f r e true so told faulty is =
+blamed_by key n f r e true so returned faulty is =
     subst (λ (x : ShowError). BlamesFaulty key n f x) (sym (is.0 so)) tt
-blamed_by key n f r e false so told faulty is =
+blamed_by key n f r e false so returned faulty is =
     faulty_blamed key n f e (failure_only f (λ x. read_refusal key n f.table ≡ Some x)
-    (failure.Refused r) e told is) (faulty so)
+    (failure.Refused r) e returned is) (faulty so)
 
 -- a file is blamed for what a read of its table is refused
 pub read_blamed : {A : Type 0} (key : List ℕ) (n : ℕ) (f : NamedTable A) (r : Error)
     (e : ShowError) → (is_memory r ≡ false → read_refusal key n f.table ≡ Some r)
     → (is_memory r ≡ false → IsSoundTable f.table → ⊥) → TellsFailure (failure.Refused r) f e
     → BlamesFaulty key n f e
-read_blamed key n f r e told faulty is = blamed_by key n f r e (is_memory r) refl told faulty is
+read_blamed key n f r e returned faulty is = blamed_by key n f r e (is_memory r) refl returned faulty is
 
 -- a refusal that is no want of memory is told
 pub refusal_told : {A : Type 0} (f : NamedTable A) (r e : Error) (x : ShowError) → r ≡ e
@@ -232,8 +232,8 @@ error_faulty {X} (Err e) t memory =
 -- what is found before memory is taken is the error that a call answers
 pub error_early : {X : Type 0} (r : Result X Error) (e : Error) → Refuses r (Some e)
     → result_err r ≡ Some e
-error_early (Ok x) e told = absurd (let not : Some e ≡ None = told in cc)
-error_early (Err x) e told = sym told
+error_early (Ok x) e returned = absurd (let not : Some e ≡ None = returned in cc)
+error_early (Err x) e returned = sym returned
 
 -- it is that of the read, where the table is asked
 pub asked_early : (key : List ℕ) (n : ℕ) (t : OpenTable) (e : Error)

@@ -11,12 +11,12 @@ use Rattle.tool_show.specs.declared.blocks.NamedBlock.{NamedBlock}
 use Rattle.tool_show.specs.declared.places.BlockPlace.{BlockPlace}
 
 -- whether a fault is this refusal
-pub refused_so : (so : Bool) (fault told : Option Error) (e r : Error) → told ≡ fault
-    → told ≡ Some e → MatchBool so (e ≡ r) (e ≢ r)
+pub refused_so : (so : Bool) (fault returned : Option Error) (e r : Error) → returned ≡ fault
+    → returned ≡ Some e → MatchBool so (e ≡ r) (e ≢ r)
     → MatchBool so (fault ≡ Some r) (fault ≢ Some r)
-refused_so true fault told e r is some same =
+refused_so true fault returned e r is some same =
     sym is ∙ some ∙ ap (λ (x : Error). Some x) same
-refused_so false fault told e r is some other = λ both.
+refused_so false fault returned e r is some other = λ both.
     let pair : Some e ≡ Some r = sym some ∙ is ∙ both in
     let one : e ≡ r = cc in other one
 

@@ -62,10 +62,10 @@ pub handles_result : {A : Type 0} (t : OpenTable) (r : Result (BlockIndexIterImp
     (data_handles t))
 handles_result t (Err e) index is reader = tt
 handles_result t (Ok i) index is reader =
-    let told : (left_of i).results ≡ data_handles t = reader.between.results
-    ∙ ap (λ (x : Index). x.told None None) (reader.index_is ∙ is) in
+    let returned : (left_of i).results ≡ data_handles t = reader.between.results
+    ∙ ap (λ (x : Index). x.returned None None) (reader.index_is ∙ is) in
     subst (λ (rs : List (Result Handle Error)). YieldsEnding FrontGives BackGives (λ _. Unit {0})
-    (λ _. Unit {0}) i rs) told reader.yields
+    (λ _. Unit {0}) i rs) returned reader.yields
 
 -- one place more
 pub places_one : (ps : List Place) (came : List Handle) (x : Handle) (p : Place) (new : List Place)
@@ -319,13 +319,13 @@ gathered_next {X} {Y} h xs i d first before after k so grows =
 -- ---- texts
 
 -- the sections and the data blocks
-pub pictures_text : {E : Type 0} (told : Result (Unit {0}) E) (sections seen : List NamedPlace)
+pub pictures_text : {E : Type 0} (returned : Result (Unit {0}) E) (sections seen : List NamedPlace)
     (places shown : List Place) (count entries all : ℕ) (a b c d e : Option (List ℕ))
     → seen ≡ sections → shown ≡ places → count ≡ length places
     → Appends a b (codes "sections           offset        bytes   share\n")
     → Appends b c (flat_map (λ (s : NamedPlace). named_line all (s.name.now, s.place)) seen)
-    → Appends c d (data_line count entries) → OnOk told (PrintsText (IsBlocksText all shown) d e)
-    → OnOk told (PrintsText (IsPicturesText sections places entries all) a e)
+    → Appends c d (data_line count entries) → OnOk returned (PrintsText (IsBlocksText all shown) d e)
+    → OnOk returned (PrintsText (IsPicturesText sections places entries all) a e)
 pictures_text (Err u) sections seen places shown count entries all a b c d e p q r head lines counts blocks = tt
 pictures_text (Ok u) sections seen places shown count entries all a b c d e p q r head lines counts blocks =
     let Lines = λ (ss : List NamedPlace).
@@ -363,17 +363,17 @@ parts_text {A} t name p items a b c d e is title lines summary pictures =
     )
 
 -- those of a table's values
-pub stat_text : {E A : Type 0} (told : Result (Unit {0}) E) (t : OpenTable) (name : List ℕ)
+pub stat_text : {E A : Type 0} (returned : Result (Unit {0}) E) (t : OpenTable) (name : List ℕ)
     (p : Parts A) (a b : Option (List ℕ)) → AreValuesOf t p
-    → OnOk told (PrintsText (IsPartsText t name p) a b)
-    → OnOk told (PrintsText (IsStatText A t name) a b)
+    → OnOk returned (PrintsText (IsPartsText t name p) a b)
+    → OnOk returned (PrintsText (IsStatText A t name) a b)
 stat_text (Ok u) t name p a b are printed = (printed.0, (p, are, printed.1), printed.2)
 stat_text (Err u) t name p a b are printed = tt
 
 -- and its object
-pub stat_object : {E A : Type 0} (told : Result (Unit {0}) E) (t : OpenTable) (name : List ℕ)
+pub stat_object : {E A : Type 0} (returned : Result (Unit {0}) E) (t : OpenTable) (name : List ℕ)
     (p : Parts A) (a b : Option (List ℕ)) → AreValuesOf t p
-    → OnOk told (PrintsText (IsPartsObject t name p) a b)
-    → OnOk told (PrintsText (IsStatObject A t name) a b)
+    → OnOk returned (PrintsText (IsPartsObject t name p) a b)
+    → OnOk returned (PrintsText (IsStatObject A t name) a b)
 stat_object (Ok u) t name p a b are printed = (printed.0, (p, are, printed.1), printed.2)
 stat_object (Err u) t name p a b are printed = tt

@@ -38,7 +38,7 @@ same_table v (u ∷ us) w there = same_table u us w there.1 ∙ there.0.0
 pub record Went (v w : Verifying) (old new : Option (List (ℕ × ℕ))) (blocks : ℕ) : Type 0 where
   pub steps : List Verifying
   pub reached : Reaches v steps w
-  pub told : AreTold old new (map progress_of steps)
+  pub returned : AreTold old new (map progress_of steps)
   pub count : blocks ≡ min (length steps) (2 ^ 64 - 1)
   pub left : steps_of v ≡ length steps + steps_of w
 
@@ -47,7 +47,7 @@ pub went_none : (v : Verifying) (old : Option (List (ℕ × ℕ))) → Went v v 
 went_none v old = record {
   steps = [];
   reached = refl;
-  told = told_none old;
+  returned = told_none old;
   count = refl;
   left = omega arith;
 }
@@ -57,11 +57,11 @@ pub went_more : (v w x : Verifying) (old left new : Option (List (ℕ × ℕ))) 
     → Went v w old left blocks → IsNextOf w x
     → AreTold left new (progress_of x ∷ []) → more ≡ min (blocks + 1) (2 ^ 64 - 1)
     → steps_of w ≡ 1 + steps_of x → Went v x old new more
-went_more v w x old left new blocks more went next told counts falls = record {
+went_more v w x old left new blocks more went next returned counts falls = record {
   steps = went.steps ++ x ∷ [];
   reached = reaches_more v went.steps w x went.reached next;
-  told = subst (AreTold old new) (sym (map-append progress_of went.steps (x ∷ [])))
-      (reported_more old left new (map progress_of went.steps) (progress_of x ∷ []) went.told told);
+  returned = subst (AreTold old new) (sym (map-append progress_of went.steps (x ∷ [])))
+      (reported_more old left new (map progress_of went.steps) (progress_of x ∷ []) went.returned returned);
   count = omega (arith, counts, went.count, length-append went.steps (x ∷ []));
   left = omega (arith, went.left, falls, length-append went.steps (x ∷ []));
 }
@@ -73,7 +73,7 @@ reads_up_to v w old new blocks Ends went ends = record {
   steps = went.steps;
   last = w;
   reached = went.reached;
-  told = went.told;
+  returned = went.returned;
   count = went.count;
   ends = ends;
 }
@@ -86,7 +86,7 @@ reads_so v old new blocks One Other follows reads = record {
   steps = reads.steps;
   last = reads.last;
   reached = reads.reached;
-  told = reads.told;
+  returned = reads.returned;
   count = reads.count;
   ends = follows reads.last reads.ends;
 }
@@ -96,12 +96,12 @@ pub reported_at : (v w x : Verifying) (us : List Verifying) (old new : Option (L
     (done all : ℕ) → Reaches v us w → x.table ≡ w.table → done ≡ bytes_read x
     → all ≡ v.table.parts.facts.file_size → AreTold old new ((done, all) ∷ [])
     → AreTold old new (progress_of x ∷ [])
-reported_at v w x us old new done all reached same is size told =
+reported_at v w x us old new done all reached same is size returned =
     let table : v.table ≡ x.table = sym (same ∙ same_table v us w reached) in
     let whole : all ≡ x.table.parts.facts.file_size =
     size ∙ ap (λ (t : OpenTable). t.parts.facts.file_size) table in
     subst (λ (n : ℕ). AreTold old new ((bytes_read x, n) ∷ [])) whole
-    (subst (λ (n : ℕ). AreTold old new ((n, all) ∷ [])) is told)
+    (subst (λ (n : ℕ). AreTold old new ((n, all) ∷ [])) is returned)
 
 -- where no step is left, all were made
 pub went_all : (v w : Verifying) (old new : Option (List (ℕ × ℕ))) (blocks : ℕ)

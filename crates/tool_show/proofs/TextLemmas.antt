@@ -49,11 +49,11 @@ text_more f xs i x a b c h is before more =
     (Appends-trans a b c (flat_map f (take i xs)) (f x) before more)
 
 -- the line of a block, part by part
-pub refusal_line : {E : Type 0} (told : Result (Unit {0}) E) (name : List ℕ) (place : BlockPlace)
+pub refusal_line : {E : Type 0} (returned : Result (Unit {0}) E) (name : List ℕ) (place : BlockPlace)
     (e : Error) (a b c d : Option (List ℕ))
     → Appends a b (block_head name place)
-    → PrintsText (IsRefusalText e) b c → OnOk told (Appends c d (codes "\n"))
-    → OnOk told (PrintsText (IsUnloadedLine name (place, e)) a d)
+    → PrintsText (IsRefusalText e) b c → OnOk returned (Appends c d (codes "\n"))
+    → OnOk returned (PrintsText (IsUnloadedLine name (place, e)) a d)
 refusal_line (Ok u) name place e a b c d head refusal end =
     let before = block_head name place in (
       before ++ (refusal.0 ++ codes "\n"),
@@ -101,10 +101,10 @@ pub joined_none : {X : Type 0} (Is : X → List ℕ → Type 0) (old : Option (L
 joined_none Is old = ([], refl, Appends-nil old)
 
 -- a fault that has the refusal of a block of the filter
-pub unfiltered_text : {E : Type 0} (told : Result (Unit {0}) E) (e : Error) (a b c : Option (List ℕ))
+pub unfiltered_text : {E : Type 0} (returned : Result (Unit {0}) E) (e : Error) (a b c : Option (List ℕ))
     → Appends a b (codes "the filter's block of a key: ")
-    → OnOk told (PrintsText (IsRefusalText e) b c)
-    → OnOk told (PrintsText (IsFaultText (fault.Unfiltered e)) a c)
+    → OnOk returned (PrintsText (IsRefusalText e) b c)
+    → OnOk returned (PrintsText (IsFaultText (fault.Unfiltered e)) a c)
 unfiltered_text (Ok u) e a b c head refusal = (
   codes "the filter's block of a key: " ++ refusal.0,
   (refusal.0, refusal.1, refl),
@@ -113,10 +113,10 @@ unfiltered_text (Ok u) e a b c head refusal = (
 unfiltered_text (Err u) e a b c head refusal = tt
 
 -- the line of what is found first, part by part
-pub first_line : {E : Type 0} (told : Result (Unit {0}) E) (name : List ℕ) (f : Finding) (blocks : ℕ)
+pub first_line : {E : Type 0} (returned : Result (Unit {0}) E) (name : List ℕ) (f : Finding) (blocks : ℕ)
     (a b c d : Option (List ℕ)) → Appends a b (block_head name (found_place f))
-    → PrintsText (IsFaultText f.fault) b c → OnOk told (Appends c d (before_text blocks))
-    → OnOk told (PrintsText (IsFirstLine name f blocks) a d)
+    → PrintsText (IsFaultText f.fault) b c → OnOk returned (Appends c d (before_text blocks))
+    → OnOk returned (PrintsText (IsFirstLine name f blocks) a d)
 first_line (Ok u) name f blocks a b c d head fault end =
     let before = block_head name (found_place f) in (
       before ++ (fault.0 ++ before_text blocks),
@@ -149,10 +149,10 @@ answer_text o fs found a b c line loads = (
 )
 
 -- a fault that has an item
-pub unborne_text : {E : Type 0} (told : Result (Unit {0}) E) (i : ItemName) (key : List ℕ)
+pub unborne_text : {E : Type 0} (returned : Result (Unit {0}) E) (i : ItemName) (key : List ℕ)
     (a b c : Option (List ℕ)) → key ≡ name_of i
-    → Appends a b (codes "the entries do not bear out the meta item ") → OnOk told (Appends b c key)
-    → OnOk told (PrintsText (IsFaultText (fault.Unborne i)) a c)
+    → Appends a b (codes "the entries do not bear out the meta item ") → OnOk returned (Appends b c key)
+    → OnOk returned (PrintsText (IsFaultText (fault.Unborne i)) a c)
 unborne_text (Ok u) i key a b c is head name = (
   codes "the entries do not bear out the meta item " ++ key,
   ap (λ (text : List ℕ). codes "the entries do not bear out the meta item " ++ text) is,
@@ -161,10 +161,10 @@ unborne_text (Ok u) i key a b c is head name = (
 unborne_text (Err u) i key a b c is head name = tt
 
 -- a block that does not load, which what was found does not say
-pub further_one : (body : List ℕ) (told : Option Finding) (b : NamedBlock) (e : Error)
-    → is_told told b ≡ false → block_fault body b ≡ Some e
-    → further_fault body told b ≡ (begin_of b, e) ∷ []
-further_one body told b e not is =
+pub further_one : (body : List ℕ) (returned : Option Finding) (b : NamedBlock) (e : Error)
+    → is_told returned b ≡ false → block_fault body b ≡ Some e
+    → further_fault body returned b ≡ (begin_of b, e) ∷ []
+further_one body returned b e not is =
     ap (λ (t : Bool). if t then [] else map (λ (x : Error). (begin_of b, x))
     (option_to_list (block_fault body b))) not
     ∙ ap (λ (o : Option Error). map (λ (x : Error). (begin_of b, x)) (option_to_list o)) is
@@ -196,16 +196,16 @@ count_more : {X : Type 0} (p : X → Bool) (xs : List X) (i : ℕ) (x : X) → i
 count_more p xs i x h is = counts_by p xs i x (p x) h is refl
 
 -- the further blocks that are counted, and their lines
-pub further_more : (body : List ℕ) (told : Option Finding) (bs : List NamedBlock) (i : ℕ)
+pub further_more : (body : List ℕ) (returned : Option Finding) (bs : List NamedBlock) (i : ℕ)
     (b : NamedBlock) (n lines m : ℕ) → i < length bs → b ≡ get_or bs i b
-    → n ≡ further_of body told (take i bs) → lines ≡ (if is_further body told b then 1 else 0)
-    → m ≡ min (n + lines) (2 ^ 64 - 1) → m ≡ further_of body told (take (i + 1) bs)
-further_more body told bs i b n lines m h is before some sum =
-    omega (arith, before, some, sum, count_more (is_further body told) bs i b h is)
+    → n ≡ further_of body returned (take i bs) → lines ≡ (if is_further body returned b then 1 else 0)
+    → m ≡ min (n + lines) (2 ^ 64 - 1) → m ≡ further_of body returned (take (i + 1) bs)
+further_more body returned bs i b n lines m h is before some sum =
+    omega (arith, before, some, sum, count_more (is_further body returned) bs i b h is)
 
 -- a text, and then the last one
-pub appends_then : {E : Type 0} (told : Result (Unit {0}) E) (a b c : Option (List ℕ))
-    (one two : List ℕ) → Appends a b one → OnOk told (Appends b c two)
-    → OnOk told (Appends a c (one ++ two))
+pub appends_then : {E : Type 0} (returned : Result (Unit {0}) E) (a b c : Option (List ℕ))
+    (one two : List ℕ) → Appends a b one → OnOk returned (Appends b c two)
+    → OnOk returned (Appends a c (one ++ two))
 appends_then (Ok u) a b c one two first last = Appends-trans a b c one two first last
 appends_then (Err u) a b c one two first last = tt

@@ -18,16 +18,16 @@ tokens_more a b c one two first then = (
 )
 
 -- what follows once the last went well
-pub tokens_end : {E : Type 0} (told : Result (Unit {0}) E) (a b c : Written) (last all : List Token)
-    → b.before ≡ a.before → OnOk told (b.tokens ≡ a.tokens ++ last)
-    → (HasMore a b last → HasMore c b all) → OnOk told (HasMore c b all)
+pub tokens_end : {E : Type 0} (returned : Result (Unit {0}) E) (a b c : Written) (last all : List Token)
+    → b.before ≡ a.before → OnOk returned (b.tokens ≡ a.tokens ++ last)
+    → (HasMore a b last → HasMore c b all) → OnOk returned (HasMore c b all)
 tokens_end (Ok u) a b c last all same ended then = then (same, ended)
 tokens_end (Err e) a b c last all same ended then = tt
 
 -- more, and then the last
-pub tokens_last : {E : Type 0} (told : Result (Unit {0}) E) (a b c : Written) (ts : List Token)
-    (t : Token) → HasMore a b ts → c.before ≡ b.before → OnOk told (c.tokens ≡ b.tokens ++ t ∷ [])
-    → OnOk told (HasMore a c (ts ++ t ∷ []))
+pub tokens_last : {E : Type 0} (returned : Result (Unit {0}) E) (a b c : Written) (ts : List Token)
+    (t : Token) → HasMore a b ts → c.before ≡ b.before → OnOk returned (c.tokens ≡ b.tokens ++ t ∷ [])
+    → OnOk returned (HasMore a c (ts ++ t ∷ []))
 tokens_last (Ok u) a b c ts t more same last = tokens_more a b c ts (t ∷ []) more (same, last)
 tokens_last (Err e) a b c ts t more same last = tt
 
@@ -36,8 +36,8 @@ pub tokens_none : (a : Written) → HasMore a a []
 tokens_none a = (refl, sym (append-nil a.tokens))
 
 -- more, and then more where that went well
-pub tokens_then : {E : Type 0} (told : Result (Unit {0}) E) (a b c : Written) (one two : List Token)
-    → HasMore a b one → OnOk told (HasMore b c two) → OnOk told (HasMore a c (one ++ two))
+pub tokens_then : {E : Type 0} (returned : Result (Unit {0}) E) (a b c : Written) (one two : List Token)
+    → HasMore a b one → OnOk returned (HasMore b c two) → OnOk returned (HasMore a c (one ++ two))
 tokens_then (Ok u) a b c one two first last = tokens_more a b c one two first last
 tokens_then (Err e) a b c one two first last = tt
 

@@ -105,7 +105,7 @@ pub record ReadsUpTo (v : Verifying) (old new : Option (List (ℕ × ℕ))) (blo
   pub steps : List Verifying
   pub last : Verifying
   pub reached : Reaches v steps last
-  pub told : AreTold old new (map progress_of steps)
+  pub returned : AreTold old new (map progress_of steps)
   pub count : blocks ≡ min (length steps) (2 ^ 64 - 1)
   pub ends : Ends last
 

@@ -82,7 +82,7 @@ NamesOnly f IsReported e = Unit {0}
 -- why a read of a key below a number is refused by a table, if its range has the key and it is
 abbrev pub read_refusal : List ℕ → ℕ → OpenTable → Option Error
 read_refusal key n t =
-    if has_key (range_of t) key then fault_of (table_answer t key n).told else None
+    if has_key (range_of t) key then fault_of (table_answer t key n).returned else None
 
 -- the refusal among these that is found before memory is taken, if there is one
 abbrev pub read_early : List ℕ → ℕ → OpenTable → Option Error

@@ -103,7 +103,7 @@ is_told (Some f) b = is_first f b
 
 -- a block does not load, and what was found does not say it
 abbrev pub is_further : List ℕ → Option Finding → NamedBlock → Bool
-is_further body told b = is_some (block_fault body b) && not (is_told told b)
+is_further body returned b = is_some (block_fault body b) && not (is_told returned b)
 
 -- where a named block begins
 abbrev pub begin_of : NamedBlock → BlockPlace
@@ -111,16 +111,16 @@ begin_of b = record { section = b.section; offset = b.place.offset }
 
 -- where a block begins that does not load, and its refusal, unless what was found says it
 abbrev pub further_fault : List ℕ → Option Finding → NamedBlock → List (BlockPlace × Error)
-further_fault body told b = if is_told told b then []
+further_fault body returned b = if is_told returned b then []
     else map (λ e. (begin_of b, e)) (option_to_list (block_fault body b))
 
 -- those of some blocks
 abbrev pub further_faults : List ℕ → Option Finding → List NamedBlock → List (BlockPlace × Error)
-further_faults body told bs = flat_map (further_fault body told) bs
+further_faults body returned bs = flat_map (further_fault body returned) bs
 
 -- how many of some blocks are so, as far as that can be counted
 abbrev pub further_of : List ℕ → Option Finding → List NamedBlock → ℕ
-further_of body told bs = min (count_by (is_further body told) bs) (2 ^ 64 - 1)
+further_of body returned bs = min (count_by (is_further body returned) bs) (2 ^ 64 - 1)
 
 abbrev pub further_count : OpenTable → Finding → ℕ
 further_count t f = further_of (body_of t.bytes) (Some f) (named_blocks (body_of t.bytes) t.parts)

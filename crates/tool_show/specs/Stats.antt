@@ -57,7 +57,7 @@ meta_value t item = result_ok (meta_item_result (body_of t.bytes) t.parts.region
 
 -- the handles of the data blocks by the index, or why they cannot be read
 abbrev pub data_handles : OpenTable → List (Result Handle Error)
-data_handles t = (table_index t).told None None
+data_handles t = (table_index t).returned None None
 
 -- what the meta block refuses, or the index first
 abbrev pub IsStatRefusal : OpenTable → Error → Type 0

@@ -273,7 +273,7 @@ pub(crate) fn refusal_of<A: Allocator + Clone>(
     source: &BlockSource<A>,
     block: &NamedBlock,
 ) -> Result<Option<Error>, Error>
-    ensures told { IfOk result (λ fault. fault ≡ block_fault (body_of source.now) block.now) }
+    ensures returned { IfOk result (λ fault. fault ≡ block_fault (body_of source.now) block.now) }
     ensures err { IfErr result (λ e. e ≡ OutOfMemory) }
 {
     let mut opened = Opened::none();
@@ -286,8 +286,8 @@ pub(crate) fn refusal_of<A: Allocator + Clone>(
 
 /// Whether a finding, if there is one, says of a block that it does not load.
 pub(crate) fn is_told(finding: Option<&Finding>, block: &NamedBlock) -> bool
-    ensures { let told = option_map (λ (f : Bor FindingValue). f.now) finding.entry in
-        result ≡ is_told told block.now }
+    ensures { let returned = option_map (λ (f : Bor FindingValue). f.now) finding.entry in
+        result ≡ is_told returned block.now }
 {
     match finding {
         None => false,

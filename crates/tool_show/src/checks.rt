@@ -40,7 +40,7 @@ pub trait Progress {
 
     /// So many bytes of the file's data blocks were read, of so many in all.
     fn moved(&mut self, done: u64, all: u64)
-        ensures told { AreTold (moves self.old) (moves self.new) ((done, all) ∷ []) };
+        ensures returned { AreTold (moves self.old) (moves self.new) ((done, all) ∷ []) };
 }
 
 /// Shows no progress.
@@ -124,7 +124,7 @@ fn look_at<A: Allocator + Clone, P: Progress>(table: &Table<A>, progress: &mut P
     // Of a sound table all blocks are read.
     ensures whole { IfOk result.verdict (λ _.
         result.blocks ≡ min (steps_of (verifying table.now)) (2 ^ 64 - 1)) }
-    ensures told { let t = table.now in
+    ensures returned { let t = table.now in
         Finds (λ (v : Verification). v) result.verdict (table_found (body_of t.bytes) t.parts) }
     ensures sound { IfOk result.verdict (λ _.
         (es : List Entry) × StoresList table.now.bytes es) }
@@ -153,7 +153,7 @@ fn look_on<A: Allocator + Clone, P: Progress>(
         result.blocks (λ v. IfErr result.verdict (λ e. Misses e (next_of v))) }
     ensures whole { IfOk result.verdict (λ _.
         result.blocks ≡ min (steps_of verification.old) (2 ^ 64 - 1)) }
-    ensures told { let t = verification.old.table in
+    ensures returned { let t = verification.old.table in
         Finds (λ (v : Verification). v) result.verdict (table_found (body_of t.bytes) t.parts) }
     ensures sound { IfOk result.verdict (λ _.
         (es : List Entry) × StoresList verification.old.table.bytes es) }
@@ -284,9 +284,9 @@ fn print_unloaded<'a, A: Allocator + Copy, W: Write>(
     source: &BlockSource<A>,
     blocks: &[NamedBlock],
 ) -> Result<u64, ShowError<'a>>
-    ensures printed { let told = option_map (λ (f : Bor FindingValue). f.now) finding.entry in
+    ensures printed { let returned = option_map (λ (f : Bor FindingValue). f.now) finding.entry in
         OnOk result (PrintsText (AreJoined (IsUnloadedLine name.now)
-        (further_faults (body_of source.now) told blocks.now))
+        (further_faults (body_of source.now) returned blocks.now))
         (W.contents output.old) (W.contents output.new)) }
     ensures count { IfOk result (λ count. count ≡ further_of (body_of source.now)
         (option_map (λ (f : Bor FindingValue). f.now) finding.entry) blocks.now) }
@@ -309,13 +309,13 @@ fn print_block<'a, A: Allocator + Clone, W: Write>(
     source: &BlockSource<A>,
     block: &NamedBlock,
 ) -> Result<u64, ShowError<'a>>
-    ensures printed { let told = option_map (λ (f : Bor FindingValue). f.now) finding.entry in
+    ensures printed { let returned = option_map (λ (f : Bor FindingValue). f.now) finding.entry in
         OnOk result (PrintsText (AreJoined (IsUnloadedLine name.now)
-        (further_fault (body_of source.now) told block.now))
+        (further_fault (body_of source.now) returned block.now))
         (W.contents output.old) (W.contents output.new)) }
-    ensures count { let told = option_map (λ (f : Bor FindingValue). f.now) finding.entry in
+    ensures count { let returned = option_map (λ (f : Bor FindingValue). f.now) finding.entry in
         IfOk result (λ lines. lines ≡
-        (if is_further (body_of source.now) told block.now then 1 else 0)) }
+        (if is_further (body_of source.now) returned block.now then 1 else 0)) }
     ensures unnamed { IfErr result NamesNone }
 {
     match refusal_of(source, block) {

@@ -46,7 +46,7 @@ pub fn dump<'a, A: Allocator + Copy, W: Write>(
 ) -> Result<u64, ShowError<'a>>
     // Whatever the bytes, what is printed are entries that can be read between the keys, in their
     // order or from the last on, as many as may be: no refusal is passed over.
-    ensures told { OnOk result (PrintsResults options.now.format
+    ensures returned { OnOk result (PrintsResults options.now.format
         (dumped options.now.reverse left (readable options.now file.now.table))
         (W.contents output.old) (W.contents output.new)) }
     // Of a list they are its entries.
@@ -85,7 +85,7 @@ fn dump_table<A: Allocator + Copy, W: Write>(
     options: &DumpOptions<'_>,
     left: u64,
 ) -> Result<u64, Failure>
-    ensures told { OnOk result (PrintsResults options.now.format
+    ensures returned { OnOk result (PrintsResults options.now.format
         (dumped options.now.reverse left (readable options.now table.now))
         (W.contents output.old) (W.contents output.new)) }
     ensures printed { let t = table.now in (es : List Entry) → StoresList t.bytes es →

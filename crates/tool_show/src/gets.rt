@@ -63,7 +63,7 @@ pub fn get<'a, A: Allocator + Copy, W: Write>(
 ) -> Result<bool, ShowError<'a>>
     // Whatever the bytes, where each key range is well-formed it answers what the tables tell: no
     // refusal is passed over.
-    ensures told { AllByRecursion (IsInOrder range_of) (runs_in files.now) →
+    ensures returned { AllByRecursion (IsInOrder range_of) (runs_in files.now) →
         IfOk result (λ there. (found : Option Entry)
         × (runs_result options.now.key.now (seen_below options.now) None (runs_in files.now)
         ≡ Ok found) × (there ≡ is_some found)) }
@@ -107,7 +107,7 @@ fn print_read<'a, A: Allocator + Copy, W: Write>(
     files: &[NamedTable<'a, A>],
     options: &GetOptions<'_>,
 ) -> Result<bool, ShowError<'a>>
-    ensures told { AllByRecursion (IsInOrder range_of) (map arc_value runs.now) →
+    ensures returned { AllByRecursion (IsInOrder range_of) (map arc_value runs.now) →
         IfOk result (λ there. (found : Option Entry)
         × (runs_result options.now.key.now (seen_below options.now) None (map arc_value runs.now)
         ≡ Ok found) × (there ≡ is_some found) × PrintsFound options.now.format found
@@ -212,7 +212,7 @@ fn refused_by<'a, A: Allocator + Copy>(
 
 // Why a table refuses a read, if it is asked and does.
 fn refusal_of<A: Allocator + Copy>(table: &Table<A>, key: &[u8], seqno: SeqNo) -> Option<Error>
-    ensures told { IfSome result (λ e. is_memory e ≡ false →
+    ensures returned { IfSome result (λ e. is_memory e ≡ false →
         read_refusal key.now seqno table.now ≡ Some e) }
     ensures faulty { IfSome result (λ e. is_memory e ≡ false → IsSoundTable table.now → ⊥) }
     ensures none { IfNone result (read_refusal key.now seqno table.now ≡ None) }

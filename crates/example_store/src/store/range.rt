@@ -31,7 +31,7 @@ impl<A: Allocator + Clone> Store<A> {
         snapshot: SeqNo,
     ) -> Result<Range<A>, Error>
         // At a snapshot that is kept, it shows what the history of writes says.
-        ensures told { let gives = ⟦<Range<A> as Iterator>⟧.next_gives in
+        ensures returned { let gives = ⟦<Range<A> as Iterator>⟧.next_gives in
             let back_gives = ⟦<Range<A> as DoubleEndedIterator>⟧.next_back_gives in
             (ws : List spec.Entry) → spec.IsReported self.now ws → self.now.oldest ≤ snapshot →
             IfOk result (λ s. (es : List spec.Entry) × spec.YieldsList gives back_gives es s ×

@@ -13,7 +13,7 @@ use Rattle.sst_blocks.specs.Place.{Place, place_of}
 -- The handles from the first that reaches the lower edge to the first that ends above the upper
 -- one. Also the number of index blocks loaded for all of them; a missing edge is unbounded.
 pub record Index : Type 0 where
-  pub told : Option (List ℕ × ℕ) → Option (List ℕ) → List (Result Handle Error)
+  pub returned : Option (List ℕ × ℕ) → Option (List ℕ) → List (Result Handle Error)
   pub loads : Option (List ℕ × ℕ) → Option (List ℕ) → ℕ
 
 -- The handles of a block between the edges, or the one error of loading it.
@@ -41,20 +41,20 @@ parts_between body lower upper tops = flat_map
 -- One pinned block.
 abbrev pub full : List Handle → Index
 full handles = record {
-  told = λ lower upper. ok_results (window handles lower upper);
+  returned = λ lower upper. ok_results (window handles lower upper);
   loads = λ lower upper. 0;
 }
 
 -- One block that each iterator loads.
 abbrev pub on_demand : List ℕ → Place → Index
 on_demand body place = record {
-  told = λ lower upper. block_between body lower upper place;
+  returned = λ lower upper. block_between body lower upper place;
   loads = λ lower upper. 1;
 }
 
 -- A pinned top level, and the partitions that its handles name.
 abbrev pub two_level : List ℕ → List Handle → Index
 two_level body tops = record {
-  told = λ lower upper. parts_between body lower upper (window tops lower upper);
+  returned = λ lower upper. parts_between body lower upper (window tops lower upper);
   loads = λ lower upper. length (window tops lower upper);
 }

@@ -48,7 +48,7 @@ left_size l = length l.results + l.loads
 
 -- The results left are those that the index has between two edges.
 pub record IsBetween (l : Left) (low : Option (List ℕ × ℕ)) (high : Option (List ℕ)) : Type 0 where
-  pub results : l.results ≡ l.index.told low high
+  pub results : l.results ≡ l.index.returned low high
   pub loads : l.loads ≡ l.index.loads low high
 
 -- The counts after a number of index block loads.

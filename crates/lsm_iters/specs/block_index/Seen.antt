@@ -19,6 +19,6 @@ PartGives end hs (Some (Err e)) ts = (e ≡ OutOfMemory) × (hs ≡ [] → ⊥) 
 -- A step takes the handle at the end and returns its block's offset and size, or `None`.
 pub record PlaceGives (end : List Handle → Option Handle × List Handle) (s : Span Handle)
     (place : Option Place) (t : Span Handle) : Type 0 where
-  pub told : place ≡ option_map place_of (end (rest_in s)).0
+  pub returned : place ≡ option_map place_of (end (rest_in s)).0
   pub rest : rest_in t ≡ (end (rest_in s)).1
   pub list : t.list ≡ s.list

@@ -93,7 +93,7 @@ pub record LoadGives {P T X : Type 0} (left : T → Remains X) (coming : P → C
     (at : Direction) (s : P) (r : Option (Result T Error)) (t : P) : Type 0 where
   pub named : Option (Result (Loading X) Error)
   pub names : Names at (coming s) named (coming t)
-  pub told : ReportsOf left named r
+  pub returned : ReportsOf left named r
   pub loads : own_of left r + (coming t).loads ≤ (coming s).loads
   pub first : (f : Error) → early_named named ≡ Some f → r ≡ Some (Err f)
   pub kept : keeps s named t

@@ -124,7 +124,7 @@ pub trait BlockIndex<A: Allocator> {
         seqno: SeqNo,
     ) -> Result<Option<BlockIndexIterImpl<A>>, Error>
         ensures found { let edge = Some (key.now, seqno) in
-            IfOk result (λ found. MatchOption found ((index self.now).told edge None ≡ [])
+            IfOk result (λ found. MatchOption found ((index self.now).returned edge None ≡ [])
             (λ i. IsReader i (index self.now) edge None)) }
         ensures reader { let has = has_reader self.now (Some (key.now, seqno)) in
             IfOk result (λ found. MatchOption found (has → ⊥) (λ i. has)) }

@@ -83,10 +83,10 @@ pub fn load_handles<A: Allocator + Clone>(
     edges: &Edges<A>,
     opened: &mut Opened,
 ) -> Result<OwnedIndexBlockIter<A>, Error>
-    ensures ok { let told = block_between (body_of source.now) edges.now.0 edges.now.1 in
-        IfOk result (λ hs. ok_results (rest_in hs) ≡ told handle.now) }
-    ensures err { let told = block_between (body_of source.now) edges.now.0 edges.now.1 in
-        IfErr result (λ e. is_memory e ≡ false → Err e ∷ [] ≡ told handle.now) }
+    ensures ok { let returned = block_between (body_of source.now) edges.now.0 edges.now.1 in
+        IfOk result (λ hs. ok_results (rest_in hs) ≡ returned handle.now) }
+    ensures err { let returned = block_between (body_of source.now) edges.now.0 edges.now.1 in
+        IfErr result (λ e. is_memory e ≡ false → Err e ∷ [] ≡ returned handle.now) }
     // An error that is found before allocating is returned rather than `OutOfMemory`.
     ensures first { FaultsFirst result (block_early (body_of source.now) handle.now) }
     ensures counted { opened.new ≡ with_index_loads 1 opened.old }
@@ -108,10 +108,10 @@ pub fn load_part<A: Allocator + Clone>(
     edges: &Edges<A>,
     opened: &mut Opened,
 ) -> Result<Part<A>, Error>
-    ensures ok { let told = block_between (body_of source.now) edges.now.0 edges.now.1 in
-        IfOk result (λ hs. ok_results hs ≡ told handle.now) }
-    ensures err { let told = block_between (body_of source.now) edges.now.0 edges.now.1 in
-        IfErr result (λ e. is_memory e ≡ false → Err e ∷ [] ≡ told handle.now) }
+    ensures ok { let returned = block_between (body_of source.now) edges.now.0 edges.now.1 in
+        IfOk result (λ hs. ok_results hs ≡ returned handle.now) }
+    ensures err { let returned = block_between (body_of source.now) edges.now.0 edges.now.1 in
+        IfErr result (λ e. is_memory e ≡ false → Err e ∷ [] ≡ returned handle.now) }
     ensures first { FaultsFirst result (block_early (body_of source.now) handle.now) }
     ensures counted { opened.new ≡ with_index_loads 1 opened.old }
 {

@@ -10,19 +10,19 @@ use Rattle.lsm_readers.specs.point.Parts.{Parts}
 
 -- The result of a point read for a query.
 abbrev pub query_result : {A : Type 0} → List ℕ → ℕ → Parts → Query A → Result (Option Entry) Error
-query_result body g parts q = (answer body g parts q.key q.seqno).told
+query_result body g parts q = (answer body g parts q.key q.seqno).returned
 
 -- A lookup of the query at an index of the list: its point read needs the block of this handle.
 pub record IsLookup {A : Type 0} (body : List ℕ) (g : ℕ) (parts : Parts) (queries : List (Query A))
     (l : Lookup) : Type 0 where
   pub within : l.at < length queries
-  pub told : (q : Query A) → q ≡ slice_index_or queries l.at q →
-      (admitted_handle body parts q.key (q.seqno - g)).told ≡ Ok l.handle
+  pub returned : (q : Query A) → q ≡ slice_index_or queries l.at q →
+      (admitted_handle body parts q.key (q.seqno - g)).returned ≡ Ok l.handle
 
 -- The queries flagged as done were answered: each has its function's result.
 pub record AreFound {X Y : Type 0} (f : X → Result (Option Y) Error) (queries : List X)
     (found : List (Option Y)) (done : List Bool) : Type 0 where
   pub found_len : length found ≡ length queries
   pub done_len : length done ≡ length queries
-  pub told : (k : ℕ) (q : X) → slice_index_or done k false ≡ true →
+  pub returned : (k : ℕ) (q : X) → slice_index_or done k false ≡ true →
       q ≡ slice_index_or queries k q → f q ≡ Ok (slice_index_or found k None)

@@ -7,7 +7,7 @@ use Rattle.lsm_readers.specs.declared.keeping.Kept.{Kept}
 
 -- This block is the result of loading a block of a type at an offset.
 pub record IsLoaded (body : List ℕ) (place : Place) (kind : BlockType) (b : Loaded) : Type 0 where
-  pub told : load_result body place.offset place.size kind ≡ Ok b
+  pub returned : load_result body place.offset place.size kind ≡ Ok b
   pub early : place_fault body place.offset place.size kind ≡ None
 
 -- A cached block, if any, is a block of these bytes.

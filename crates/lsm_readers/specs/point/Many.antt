@@ -14,7 +14,7 @@ answers_to f (x ∷ xs) = f x >>= λ y. answers_to f xs >>= λ ys. Ok (y ∷ ys)
 
 -- The result of a point read for a query.
 abbrev pub found_result : {A : Type 0} → OpenTable → Query A → Result (Option Entry) Error
-found_result t q = (table_answer t q.key q.seqno).told
+found_result t q = (table_answer t q.key q.seqno).returned
 
 -- The results of point reads for some queries.
 abbrev pub many_results : {A : Type 0} → OpenTable → List (Query A)

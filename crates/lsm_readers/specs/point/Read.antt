@@ -19,25 +19,25 @@ abbrev pub ◌>>=◌ : {A B E : Type 0} → Result A E → (A → Result B E) �
 -- A read: its result, the types of the blocks it loads in order, and its error that precedes
 -- allocation.
 pub record Read (X : Type 0) : Type 0 where
-  pub told : Result X Error
+  pub returned : Result X Error
   pub loads : List BlockType
   pub early : Option Error
 
 -- A value known without a load.
 abbrev pub known : {X : Type 0} → X → Read X
-known x = record { told = Ok x; loads = []; early = None }
+known x = record { returned = Ok x; loads = []; early = None }
 
 -- A read of one block.
 abbrev pub block_read : List ℕ → Place → BlockType → Read Loaded
 block_read body place kind = record {
-  told = load_result body place.offset place.size kind;
+  returned = load_result body place.offset place.size kind;
   loads = kind ∷ [];
   early = place_fault body place.offset place.size kind;
 }
 
 -- A read whose value is mapped by a function.
 abbrev pub read_map : {X Y : Type 0} → (X → Y) → Read X → Read Y
-read_map f r = record { told = r.told >>= λ x. Ok (f x); loads = r.loads; early = r.early }
+read_map f r = record { returned = r.returned >>= λ x. Ok (f x); loads = r.loads; early = r.early }
 
 abbrev pub loads_behind : {X Y : Type 0} → Result X Error → (X → Read Y) → List BlockType
 loads_behind (Ok x) next = (next x).loads
@@ -55,9 +55,9 @@ early_of (k ∷ ks) early behind = early
 -- A read, and then the next read on its value.
 abbrev pub read_then : {X Y : Type 0} → Read X → (X → Read Y) → Read Y
 read_then r next = record {
-  told = r.told >>= λ x. (next x).told;
-  loads = r.loads ++ loads_behind r.told next;
-  early = early_of r.loads r.early (early_then r.told next);
+  returned = r.returned >>= λ x. (next x).returned;
+  loads = r.loads ++ loads_behind r.returned next;
+  early = early_of r.loads r.early (early_then r.returned next);
 }
 
 -- The counts after loads of these block types.
@@ -83,7 +83,7 @@ pub record Opens {X : Type 0} (r : Result X Error) (loads : List BlockType) (old
 -- its loads. A read without loads never fails.
 pub record DoesRead {X : Type 0} (r : Result X Error) (read : Read X)
     (old new : Opened) : Type 0 where
-  pub told : Gives (λ (x : X). x) r read.told
+  pub returned : Gives (λ (x : X). x) r read.returned
   pub early : FaultsFirst r read.early
   pub opens : Opens r read.loads old new
   pub calm : read.loads ≡ [] → IsOk r

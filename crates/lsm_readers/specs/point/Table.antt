@@ -46,7 +46,7 @@ table_of bytes inner = record {
 pub record IsRecovered (t : OpenTable) : Type 0 where
   pub pin_filter : Bool
   pub pin_index : Bool
-  pub told : recovered_result t.bytes t.global_seqno pin_filter pin_index ≡ Ok t.parts
+  pub returned : recovered_result t.bytes t.global_seqno pin_filter pin_index ≡ Ok t.parts
 
 -- The table was recovered, and its bytes fit in memory.
 pub record IsOpen (t : OpenTable) : Type 0 where

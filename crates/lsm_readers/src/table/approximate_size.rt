@@ -38,7 +38,7 @@ impl<A: Allocator + Clone> Table<A> {
     pub fn approximate_size(&self, lower: Bound<&[u8]>, upper: Bound<&[u8]>) -> Result<u64, Error>
         // Except for `OutOfMemory`, the result follows from the index between the edges of the
         // bounds.
-        ensures told { let size =
+        ensures returned { let size =
             size_result self.now (key_bound lower.entry) (key_bound upper.entry) in
             Gives (λ (n : ℕ). n) result size }
         // On bytes that store a list it is the total size of the blocks between the bounds.
@@ -78,7 +78,7 @@ fn handles_within<A: Allocator + Clone>(
 ) -> Result<BlockIndexIterImpl<A>, Error>
     ensures between { let low = lower_edge (key_bound lower.entry) in
         let high = upper_edge (key_bound upper.entry) in
-        IfOk result (λ i. (left_of i).results ≡ (index_read index.now).told low high) }
+        IfOk result (λ i. (left_of i).results ≡ (index_read index.now).returned low high) }
     ensures err { IfErr result (λ e. e ≡ OutOfMemory) }
 {
     let mut handles = index.iter()?;

@@ -18,8 +18,8 @@ impl<A: Allocator + Clone> Table<A> {
     /// Those of [`Table::get`].
     #[tactic(auto, using(crate::proofs::ByKey::value_is))]
     pub fn get_by_key(&self, key: &[u8], seqno: SeqNo) -> Result<Option<InternalValue<A>>, Error>
-        ensures told { Gives (λ (found : Option Entry). found) result
-            (table_answer self.now key.now seqno).told }
+        ensures returned { Gives (λ (found : Option Entry). found) result
+            (table_answer self.now key.now seqno).returned }
         ensures early { FaultsFirst result (table_answer self.now key.now seqno).early }
         ensures calm { (table_answer self.now key.now seqno).loads ≡ [] → IsOk result }
         // On bytes that store a list it is the newest visible version in the list, global seqno

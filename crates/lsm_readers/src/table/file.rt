@@ -53,7 +53,7 @@ impl<A: Allocator + Clone> Table<A> {
     /// [`Error::MetaKeyMissing`] if it has no such item. It can also fail with
     /// [`Error::OutOfMemory`].
     pub fn meta_item(&self, name: ItemName) -> Result<UserValue<A>, Error>
-        ensures told { let place = self.now.parts.regions.metadata in
+        ensures returned { let place = self.now.parts.regions.metadata in
             Gives (λ (value : List ℕ). value) result
             (meta_item_result (body_of self.now.bytes) place name) }
         // A fault that is found before any allocation takes precedence over `OutOfMemory`.

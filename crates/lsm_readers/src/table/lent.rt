@@ -29,8 +29,8 @@ impl<A: Allocator + Clone> Table<A> {
         key_hash: u64,
     ) -> (Result<Option<EntryPlace>, Error>, Opened)
         requires { key_hash ≡ hash_of key.now }
-        ensures told { Gives (option_map (entry_placed self.now.bytes)) result.0
-            (table_answer self.now key.now seqno).told }
+        ensures returned { Gives (option_map (entry_placed self.now.bytes)) result.0
+            (table_answer self.now key.now seqno).returned }
         // A fault that is found before any allocation takes precedence over `OutOfMemory`.
         ensures early { FaultsFirst result.0 (table_answer self.now key.now seqno).early }
         // If no block is loaded, the read does not fail.
@@ -90,8 +90,8 @@ impl<A: Allocator + Clone> Table<A> {
         key_hash: u64,
     ) -> (Result<Option<EntryRef<'_>>, Error>, Opened)
         requires { key_hash ≡ hash_of key.now }
-        ensures told { Gives (option_map entry_of_ref) result.0
-            (table_answer self.now key.now seqno).told }
+        ensures returned { Gives (option_map entry_of_ref) result.0
+            (table_answer self.now key.now seqno).returned }
         // A fault that is found before any allocation takes precedence over `OutOfMemory`.
         ensures early { FaultsFirst result.0 (table_answer self.now key.now seqno).early }
         // If no block is loaded, the read does not fail.
@@ -127,8 +127,8 @@ impl<A: Allocator + Clone> Table<A> {
         key_hash: u64,
     ) -> Result<Option<EntryRef<'_>>, Error>
         requires { key_hash ≡ hash_of key.now }
-        ensures told { Gives (option_map entry_of_ref) result
-            (table_answer self.now key.now seqno).told }
+        ensures returned { Gives (option_map entry_of_ref) result
+            (table_answer self.now key.now seqno).returned }
         ensures early { FaultsFirst result (table_answer self.now key.now seqno).early }
         ensures calm { (table_answer self.now key.now seqno).loads ≡ [] → IsOk result }
         // On bytes that store a list it is the newest visible version in the list, global seqno

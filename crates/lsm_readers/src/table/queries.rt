@@ -11,7 +11,7 @@ fn answers<A: Allocator + Clone>(
     table: &Table<A>,
     queries: &[Query<A>],
 ) -> Result<Vec<Option<InternalValue<A>>, A>, Error>
-    ensures told { Gives (λ found. found.items) result (many_results table.now queries.now) }
+    ensures returned { Gives (λ found. found.items) result (many_results table.now queries.now) }
     ensures open { IsOpen table.now }
     ensures calm { queries.now ≡ [] → ((alloc : A) → A.is_infallible alloc) → IsOk result }
 {
@@ -36,7 +36,7 @@ pub fn get_many<A: Allocator + Clone>(
     table: &Table<A>,
     queries: &[Query<A>],
 ) -> Result<Vec<Option<InternalValue<A>>, A>, Error>
-    ensures told { Gives (λ found. found.items) result (many_results table.now queries.now) }
+    ensures returned { Gives (λ found. found.items) result (many_results table.now queries.now) }
     // On bytes that store a list it is each query's newest visible version in the list, global
     // seqno applied. It fails with `OutOfMemory` only.
     ensures list { (es : List Entry) → StoresList table.now.bytes es →

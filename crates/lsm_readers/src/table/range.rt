@@ -26,8 +26,8 @@ impl<A: Allocator + Clone> Table<A> {
         ensures is { IfOk result (IsRangeOf self.now Unbounded Unbounded) }
         ensures yields { let gives = ⟦<Iter<A> as Iterator>⟧.next_gives in
             let back_gives = ⟦<Iter<A> as DoubleEndedIterator>⟧.next_back_gives in
-            let told = range_results self.now Unbounded Unbounded in
-            IfOk result (λ i. YieldsEnding gives back_gives (λ _. Unit {0}) (λ _. Unit {0}) i told) }
+            let returned = range_results self.now Unbounded Unbounded in
+            IfOk result (λ i. YieldsEnding gives back_gives (λ _. Unit {0}) (λ _. Unit {0}) i returned) }
         // On bytes that store a list it yields the list, global seqno applied.
         ensures list { let gives = ⟦<Iter<A> as Iterator>⟧.next_gives in
             let back_gives = ⟦<Iter<A> as DoubleEndedIterator>⟧.next_back_gives in
@@ -37,8 +37,8 @@ impl<A: Allocator + Clone> Table<A> {
         // between.
         ensures lends { let advances = ⟦<Iter<A> as Lending>⟧.advances in
             let back_gives = ⟦<Iter<A> as DoubleEndedIterator>⟧.next_back_gives in
-            let told = range_results self.now Unbounded Unbounded in IfOk result (λ i.
-            YieldsEnding advances back_gives (λ _. Unit {0}) (λ _. Unit {0}) i told) }
+            let returned = range_results self.now Unbounded Unbounded in IfOk result (λ i.
+            YieldsEnding advances back_gives (λ _. Unit {0}) (λ _. Unit {0}) i returned) }
         ensures lends_list { let advances = ⟦<Iter<A> as Lending>⟧.advances in
             let back_gives = ⟦<Iter<A> as DoubleEndedIterator>⟧.next_back_gives in
             (es : List Entry) → StoresList self.now.bytes es → let g = self.now.global_seqno in
@@ -83,8 +83,8 @@ impl<A: Allocator + Clone> Table<A> {
         // the bounds, up to the first error.
         ensures yields { let gives = ⟦<Iter<A> as Iterator>⟧.next_gives in
             let back_gives = ⟦<Iter<A> as DoubleEndedIterator>⟧.next_back_gives in
-            let told = range_results self.now lower upper in
-            IfOk result (λ i. YieldsEnding gives back_gives (λ _. Unit {0}) (λ _. Unit {0}) i told) }
+            let returned = range_results self.now lower upper in
+            IfOk result (λ i. YieldsEnding gives back_gives (λ _. Unit {0}) (λ _. Unit {0}) i returned) }
         // On bytes that store a list it yields the list's entries within the bounds, global seqno
         // applied.
         ensures list { let gives = ⟦<Iter<A> as Iterator>⟧.next_gives in
@@ -95,8 +95,8 @@ impl<A: Allocator + Clone> Table<A> {
         // between.
         ensures lends { let advances = ⟦<Iter<A> as Lending>⟧.advances in
             let back_gives = ⟦<Iter<A> as DoubleEndedIterator>⟧.next_back_gives in
-            let told = range_results self.now lower upper in IfOk result (λ i.
-            YieldsEnding advances back_gives (λ _. Unit {0}) (λ _. Unit {0}) i told) }
+            let returned = range_results self.now lower upper in IfOk result (λ i.
+            YieldsEnding advances back_gives (λ _. Unit {0}) (λ _. Unit {0}) i returned) }
         ensures lends_list { let advances = ⟦<Iter<A> as Lending>⟧.advances in
             let back_gives = ⟦<Iter<A> as DoubleEndedIterator>⟧.next_back_gives in
             (es : List Entry) → StoresList self.now.bytes es → let g = self.now.global_seqno in

@@ -153,7 +153,7 @@ impl<A: Allocator + Clone> Verification<A> {
         ensures sizes { IfOk result (λ v. IfNone v (self.old.left.counts.size ≡
             next_size self.old.ahead + self.new.left.counts.size)) }
         // The result is that of `Table::verify`: the first fault, except for `OutOfMemory`.
-        ensures told { let t = self.old.table in IfOk result (λ v. IfSome v (λ v.
+        ensures returned { let t = self.old.table in IfOk result (λ v. IfSome v (λ v.
             table_found (body_of t.bytes) t.parts ≡ Ok v)) }
         ensures refused { let t = self.old.table in
             IfErr result (λ e. Misses e (table_found (body_of t.bytes) t.parts)) }

@@ -28,7 +28,7 @@ impl<A: Allocator + Clone> Table<A> {
     /// - [`VerifyError::OutOfMemory`]. Nothing is known about the table then.
     pub fn verify(&self) -> Result<Verified, VerifyError>
         // Except for `OutOfMemory`, it reports the first fault.
-        ensures told { Finds (λ (v : Verification). v) result
+        ensures returned { Finds (λ (v : Verification). v) result
             (table_found (body_of self.now.bytes) self.now.parts) }
         // A fault of the first loaded block that is found before any allocation takes precedence
         // over `OutOfMemory`.
@@ -64,7 +64,7 @@ impl<A: Allocator + Clone> Table<A> {
         // A verified table has this checksum.
         ensures same { IfOk result (λ _. fnv1a self.now.bytes ≡ checksum.0) }
         // If the checksum matches, the result is that of `Table::verify`.
-        ensures told { fnv1a self.now.bytes ≡ checksum.0 → Finds (λ (v : Verification). v) result
+        ensures returned { fnv1a self.now.bytes ≡ checksum.0 → Finds (λ (v : Verification). v) result
             (table_found (body_of self.now.bytes) self.now.parts) }
         ensures early { fnv1a self.now.bytes ≡ checksum.0 → FindsFirst result
             (table_early (body_of self.now.bytes) self.now.parts) }

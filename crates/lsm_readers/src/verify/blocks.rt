@@ -24,7 +24,7 @@ use std::alloc::Allocator;
 
 /// Checks that a data block's handle starts at the expected offset.
 fn test_place(at: u64, offset: u64) -> Result<(), VerifyError>
-    ensures told { Finds (λ (_ : _). tt) result (place_found at offset) }
+    ensures returned { Finds (λ (_ : _). tt) result (place_found at offset) }
     ensures calm { IfErr result (λ e. is_found e ≡ true) }
 {
     if offset == at {
@@ -37,7 +37,7 @@ fn test_place(at: u64, offset: u64) -> Result<(), VerifyError>
 /// Subtracts a data block from the counts.
 #[tactic(auto, unfolding(crate::specs::Verify::block_spent))]
 fn count_block(meta: u64, size: u32, counts: Counts) -> Result<Counts, VerifyError>
-    ensures told { Finds (λ (c : CountsLeft). c) result (block_spent meta size counts) }
+    ensures returned { Finds (λ (c : CountsLeft). c) result (block_spent meta size counts) }
     ensures calm { IfErr result (λ e. is_found e ≡ true) }
 {
     let blocks = spend(meta, ItemName::BlockCountData, counts.blocks, 1)?;
@@ -54,7 +54,7 @@ pub(super) fn load_chunk<A: Allocator + Clone>(
     source: &BlockSource<A>,
     handle: &BlockHandle,
 ) -> Result<DataBlock<A>, VerifyError>
-    ensures told { Finds (λ (c : List Entry). c) result
+    ensures returned { Finds (λ (c : List Entry). c) result
         (chunk_found (body_of source.now) handle.now) }
     ensures early { let body = body_of source.now in
         FindsFirst result (early_at body section.Data handle.now block.Data) }
@@ -79,7 +79,7 @@ pub(super) fn load_part<A: Allocator + Clone>(
     section: SectionName,
     place: &BlockHandle,
 ) -> Result<IndexBlock<A>, VerifyError>
-    ensures told { Finds (λ (hs : List Handle). hs) result
+    ensures returned { Finds (λ (hs : List Handle). hs) result
         (handles_found (body_of source.now) section place.now) }
     ensures early { let body = body_of source.now in
         FindsFirst result (early_at body section place.now block.Index) }
@@ -97,7 +97,7 @@ fn test_end<A: Allocator>(
     key: &[u8],
     seqno: SeqNo,
 ) -> Result<(), VerifyError>
-    ensures told { Finds (λ (_ : _). tt) result (end_named section handle.now key.now seqno) }
+    ensures returned { Finds (λ (_ : _). tt) result (end_named section handle.now key.now seqno) }
     ensures calm { IfErr result (λ e. is_found e ≡ true) }
 {
     if handle.end_key().as_slice() != key {
@@ -115,7 +115,7 @@ fn test_last<A: Allocator>(
     handle: &KeyedBlockHandle<A>,
     last: &Option<InternalValue<A>>,
 ) -> Result<(), VerifyError>
-    ensures told { Finds (λ (_ : _). tt) result (last_named section.Data handle.now last.now) }
+    ensures returned { Finds (λ (_ : _). tt) result (last_named section.Data handle.now last.now) }
     ensures calm { IfErr result (λ e. is_found e ≡ true) }
 {
     match last {
@@ -136,7 +136,7 @@ pub(super) fn count_at<A: Allocator>(
     counts: Counts,
     place: &BlockHandle,
 ) -> Result<Counts, VerifyError>
-    ensures told { Finds (λ (c : CountsLeft). c) result
+    ensures returned { Finds (λ (c : CountsLeft). c) result
         (counted_found (parts_of inner.now) counts place.now) }
     ensures calm { IfErr result (λ e. is_found e ≡ true) }
 {
@@ -275,7 +275,7 @@ pub(super) fn read_index<A: Allocator + Clone>(
     inner: &Inner<A>,
     left: &mut Unread<A>,
 ) -> Result<(), VerifyError>
-    ensures told { Finds (λ (_ : _). left.new) result
+    ensures returned { Finds (λ (_ : _). left.new) result
         (index_found (body_of source.now) (parts_of inner.now) left.old) }
     ensures early { let tli = (parts_of inner.now).regions.tli in
         FindsFirst result (early_at (body_of source.now) section.Tli tli block.Index) }

@@ -23,7 +23,7 @@ pub(super) fn test_filter<A: Allocator + Clone>(
     source: &BlockSource<A>,
     place: &BlockHandle,
 ) -> Result<(), VerifyError>
-    ensures told { Finds (λ (_ : _). tt) result (filter_found (body_of source.now) place.now) }
+    ensures returned { Finds (λ (_ : _). tt) result (filter_found (body_of source.now) place.now) }
     ensures early { let body = body_of source.now in
         FindsFirst result (early_at body section.Filter place.now block.Filter) }
 {
@@ -42,7 +42,7 @@ fn test_parts<A: Allocator + Clone>(
     source: &BlockSource<A>,
     tops: &IndexBlock<A>,
 ) -> Result<(), VerifyError>
-    ensures told { Finds (λ (_ : _). tt) result (tops_found (body_of source.now) tops.now) }
+    ensures returned { Finds (λ (_ : _). tt) result (tops_found (body_of source.now) tops.now) }
     ensures early { let places = map place_of tops.now in
         FindsFirst result (early_filters (body_of source.now) places None) }
     ensures calm { map place_of tops.now ≡ [] → IsOk result }
@@ -58,7 +58,7 @@ pub(super) fn test_filters<A: Allocator + Clone>(
     source: &BlockSource<A>,
     inner: &Inner<A>,
 ) -> Result<(), VerifyError>
-    ensures told { Finds (λ (_ : _). tt) result
+    ensures returned { Finds (λ (_ : _). tt) result
         (filters_found (body_of source.now) (parts_of inner.now)) }
     ensures early { let parts = parts_of inner.now in
         let places = filter_places parts.pinned.filter_tops parts.regions.filter in
@@ -78,7 +78,7 @@ pub(super) fn test_filters<A: Allocator + Clone>(
 
 /// Checks a number in the meta block at an offset against the one that was read.
 fn test_same(meta: u64, item: ItemName, said: u64, read: u64) -> Result<(), VerifyError>
-    ensures told { Finds (λ (_ : _). tt) result (same_found meta item said read) }
+    ensures returned { Finds (λ (_ : _). tt) result (same_found meta item said read) }
     ensures calm { IfErr result (λ e. is_found e ≡ true) }
 {
     if said == read {
@@ -91,7 +91,7 @@ fn test_same(meta: u64, item: ItemName, said: u64, read: u64) -> Result<(), Veri
 /// Checks that no count is left to read, and that the lowest and the highest seqno match.
 #[tactic(auto, unfolding(crate::specs::Verify::counts_found))]
 fn test_counts<A: Allocator>(inner: &Inner<A>, counts: &Counts) -> Result<(), VerifyError>
-    ensures told { Finds (λ (_ : _). tt) result (counts_found (parts_of inner.now) counts.now) }
+    ensures returned { Finds (λ (_ : _). tt) result (counts_found (parts_of inner.now) counts.now) }
     ensures calm { IfErr result (λ e. is_found e ≡ true) }
 {
     let meta = inner.regions.metadata.offset().0;
@@ -113,7 +113,7 @@ fn test_counts<A: Allocator>(inner: &Inner<A>, counts: &Counts) -> Result<(), Ve
 
 /// Checks that there is no data block at offset 0.
 fn test_unnamed<A: Allocator + Clone>(source: &BlockSource<A>) -> Result<(), VerifyError>
-    ensures told { Finds (λ (_ : _). tt) result (unnamed_found (body_of source.now)) }
+    ensures returned { Finds (λ (_ : _). tt) result (unnamed_found (body_of source.now)) }
     // A load that fails before any allocation does not fail with `OutOfMemory`.
     ensures calm { (e : Error) → position_fault (body_of source.now) 0 block.Data ≡ Some e →
         IsOk result }
@@ -131,7 +131,7 @@ fn test_unnamed<A: Allocator + Clone>(source: &BlockSource<A>) -> Result<(), Ver
 
 /// Checks a key in the meta block at an offset against the one that was read.
 fn test_range_key(meta: u64, item: ItemName, said: &[u8], read: &[u8]) -> Result<(), VerifyError>
-    ensures told { Finds (λ (_ : _). tt) result (key_same meta item said.now read.now) }
+    ensures returned { Finds (λ (_ : _). tt) result (key_same meta item said.now read.now) }
     ensures calm { IfErr result (λ e. is_found e ≡ true) }
 {
     if said == read {
@@ -148,7 +148,7 @@ pub(super) fn test_left<A: Allocator + Clone>(
     inner: &Inner<A>,
     left: &Unread<A>,
 ) -> Result<(), VerifyError>
-    ensures told { Finds (λ (_ : _). tt) result
+    ensures returned { Finds (λ (_ : _). tt) result
         (end_found (body_of source.now) (parts_of inner.now) left.now) }
     // A fault that is found before any allocation takes precedence over `OutOfMemory`.
     ensures early { FindsFirst result (end_early (parts_of inner.now) left.now) }

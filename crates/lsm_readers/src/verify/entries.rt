@@ -19,7 +19,7 @@ use std::alloc::Allocator;
 
 /// Subtracts from a count of the meta block at an offset. Fails if too little is left.
 pub(super) fn spend(meta: u64, item: ItemName, left: u64, by: u64) -> Result<u64, VerifyError>
-    ensures told { Finds (λ n. n) result (spent meta item left by) }
+    ensures returned { Finds (λ n. n) result (spent meta item left by) }
     ensures calm { IfErr result (λ e. is_found e ≡ true) }
 {
     if left < by {
@@ -74,7 +74,7 @@ fn test_order<A: Allocator>(
     last: &Option<InternalValue<A>>,
     entry: &InternalValue<A>,
 ) -> Result<(), VerifyError>
-    ensures told { Finds (λ (_ : _). tt) result (order_found at last.now entry.now) }
+    ensures returned { Finds (λ (_ : _). tt) result (order_found at last.now entry.now) }
     ensures calm { IfErr result (λ e. is_found e ≡ true) }
 {
     if entry.key.seqno < SeqNo::MAX {
@@ -94,7 +94,7 @@ fn test_first<A: Allocator>(
     last: &Option<InternalValue<A>>,
     entry: &InternalValue<A>,
 ) -> Result<(), VerifyError>
-    ensures told { Finds (λ (_ : _). tt) result
+    ensures returned { Finds (λ (_ : _). tt) result
         (first_found (parts_of inner.now) last.now entry.now) }
     ensures calm { IfErr result (λ e. is_found e ≡ true) }
 {
@@ -137,7 +137,7 @@ fn test_key<A: Allocator + Clone>(
     last: &Option<InternalValue<A>>,
     entry: &InternalValue<A>,
 ) -> Result<(), VerifyError>
-    ensures told { Finds (λ (_ : _). tt) result
+    ensures returned { Finds (λ (_ : _). tt) result
         (key_found (body_of source.now) (parts_of inner.now) at last.now entry.now) }
     ensures calm { IfErr result (λ e. is_found e ≡ true) }
 {
@@ -159,7 +159,7 @@ fn count_entry<A: Allocator>(
     entry: &InternalValue<A>,
     counts: Counts,
 ) -> Result<Counts, VerifyError>
-    ensures told { Finds (λ (c : CountsLeft). c) result
+    ensures returned { Finds (λ (c : CountsLeft). c) result
         (entry_spent meta last.now entry.now counts) }
     ensures calm { IfErr result (λ e. is_found e ≡ true) }
 {
@@ -196,7 +196,7 @@ fn test_entry<A: Allocator + Clone>(
     left: &Unread<A>,
     entry: &InternalValue<A>,
 ) -> Result<Counts, VerifyError>
-    ensures told { Finds (λ (c : CountsLeft). c) result
+    ensures returned { Finds (λ (c : CountsLeft). c) result
         (entry_tested (body_of source.now) (parts_of inner.now) at left.now entry.now) }
     ensures calm { IfErr result (λ e. is_found e ≡ true) }
 {
@@ -216,7 +216,7 @@ fn read_entry<A: Allocator + Clone>(
     left: &mut Unread<A>,
     entry: InternalValue<A>,
 ) -> Result<(), VerifyError>
-    ensures told { Finds (λ (_ : _). left.new) result
+    ensures returned { Finds (λ (_ : _). left.new) result
         (entry_found (body_of source.now) (parts_of inner.now) at left.old entry) }
     ensures calm { IfErr result (λ e. is_found e ≡ true) }
 {

@@ -152,7 +152,7 @@ fn read_at<A: Allocator + Clone>(
     index: usize,
 ) -> Result<Unread<A>, VerifyError>
     requires { index < length handles.now }
-    ensures told { (h : Handle) → slice_get handles.now index ≡ Some h →
+    ensures returned { (h : Handle) → slice_get handles.now index ≡ Some h →
         Finds (λ (read : UnreadLeft). read) result
         (block_found (body_of source.now) (parts_of inner.now) left.now h) }
     ensures early { (h : Handle) → slice_get handles.now index ≡ Some h →
@@ -213,7 +213,7 @@ fn load_partition<A: Allocator + Clone>(
     index: usize,
 ) -> Result<IndexBlock<A>, VerifyError>
     requires { index < length tops.now }
-    ensures told { (top : Handle) → slice_get tops.now index ≡ Some top →
+    ensures returned { (top : Handle) → slice_get tops.now index ≡ Some top →
         Finds (λ (handles : List Handle). handles) result
         (partition_found (body_of source.now) top) }
     ensures early { (top : Handle) → slice_get tops.now index ≡ Some top →

@@ -75,14 +75,14 @@ module _ {S : Type 0} (next : S → Option R → S → Type 0) (w : TablesWritin
       pub led : S
       pub gave : Yields next s (ok_results list) led
       pub ends : EndsAs list led outcome u
-      pub told : WasNotifiedOf says w list outcome o q
+      pub returned : WasNotifiedOf says w list outcome o q
 
     -- it yielded these, and their writing ended so; the observer was called for them
     pub record WroteUntil (list : List Entry) (ending : Ending) (u : S) (q : O) : Type 0 where
       pub led : S
       pub gave : Yields next s (ok_results list) led
       pub ends : EndsAt list led ending u
-      pub told : WasNotifiedAt says w list ending o q
+      pub returned : WasNotifiedAt says w list ending o q
 
     -- it yielded these, which were written, and the observer was called for them; then, except for
     -- `OutOfMemory`, it or the writer failed with this error
@@ -92,7 +92,7 @@ module _ {S : Type 0} (next : S → Option R → S → Type 0) (w : TablesWritin
       pub led : S
       pub gave : Yields next s (ok_results list) led
       pub fails : is_memory e ≡ false → FailsAt list led e ⊎ FailsToEnd list led e
-      pub told : NotifiedOfPart says w list o q
+      pub returned : NotifiedOfPart says w list o q
 
 -- ---- a list that is compacted
 
@@ -189,7 +189,7 @@ module _ {F C : Type 0} (gives : F → Entry → Result Verdict Error → F → 
         pub kept : List Entry
         pub taken : AreTaken w kept
         pub came : KeepsThen kept outcome d
-        pub told : WasNotifiedOf says w kept outcome o q
+        pub returned : WasNotifiedOf says w kept outcome o q
 
       -- these were kept and written; then, except for `OutOfMemory`, it failed with this error
       pub record CameUntil (e : Error) (q : O) : Type 0 where
@@ -198,4 +198,4 @@ module _ {F C : Type 0} (gives : F → Entry → Result Verdict Error → F → 
         pub callback : C
         pub given : KeepsSome (ok_results kept) callback
         pub fails : is_memory e ≡ false → KeepsFault kept e
-        pub told : NotifiedOfPart says w kept o q
+        pub returned : NotifiedOfPart says w kept o q

@@ -28,7 +28,7 @@ pub record IsOpenedBy {A : Type 0} (how : OpenOptions) (f : FinishedTable A) (t 
   pub checksum_is : t.checksum ≡ f.checksum.0
   pub number_is : t.global_seqno ≡ how.global_seqno
   pub tree_is : t.tree_id ≡ how.tree_id
-  pub told : recovered_result t.bytes how.global_seqno how.pin_filter how.pin_index ≡ Ok t.parts
+  pub returned : recovered_result t.bytes how.global_seqno how.pin_filter how.pin_index ≡ Ok t.parts
   pub opened : IsOpen t
 
 -- the same of several tables, in their order

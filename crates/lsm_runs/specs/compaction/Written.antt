@@ -65,7 +65,7 @@ pub record IsOpened (label : Label) (es : List Entry) (g : ℕ) (t : OpenTable) 
 -- the error of a point read of a table, or else of a scan after it
 abbrev pub reads_fault : OpenTable → List ℕ → ℕ → Option Error
 reads_fault t key bound =
-    option_or (fault_of (table_answer t key bound).told)
+    option_or (fault_of (table_answer t key bound).returned)
     (fault_of (load_at_result (body_of t.bytes) 0 Data))
 
 -- the results of reading a list: the first match of a key, and a scan of all, the global seqno

@@ -45,7 +45,7 @@ fn write_and_tell<O: CompactionObserver, A: Allocator + Clone>(
         (spec.took_fault writer.old (spec.entry_of_ref entry.now)) }
     ensures counts { spec.IsCounted progress.old writer.old → spec.HasBegun writer.old →
         OnOk result (spec.IsCounted progress.new writer.new) }
-    ensures told { spec.IsCounted progress.old writer.old → spec.HasBegun writer.old →
+    ensures returned { spec.IsCounted progress.old writer.old → spec.HasBegun writer.old →
         IfOk result (λ goes.
         spec.NotifiesNext O.says writer.old writer.new observer.old goes observer.new) }
 {
@@ -158,7 +158,7 @@ fn write_observed<
         IfOk result (λ r.
         spec.IsWritten next writer source.old O.says observer.old r source.new observer.new) }
     ensures made { IfOk result (spec.HasMade writer) }
-    ensures told { IfOk result (λ r. spec.WasNotified O.says writer r observer.old observer.new) }
+    ensures returned { IfOk result (λ r. spec.WasNotified O.says writer r observer.old observer.new) }
     ensures refused { let next = ⟦<Compacted<L, F, C, A> as Lending>⟧.advances in
         IfErr result (λ e.
         spec.RefusesWritten next writer source.old O.says observer.old e observer.new) }
@@ -229,7 +229,7 @@ fn compacted_of<F: LentFilter<A> + Drop, C: LentCallback + Drop, A: Allocator + 
         spec.AllByRecursion (λ rs. spec.Ascends (spec.entries_among rs)) scans →
         IfOk result (λ s. spec.CompactsAs F.gives C.gets rules filter callback (spec.merge_of scans)
         next s spec.lent_filter spec.lent_callback) }
-    ensures told { IfErr result (λ e. spec.is_memory e ≡ false →
+    ensures returned { IfErr result (λ e. spec.is_memory e ≡ false →
         spec.BeginsWith (map spec.arc_value runs.now) e) }
     // The first data block of each run is loaded.
     ensures opens { spec.Faults result (spec.first_blocks_fault (map spec.arc_value runs.now)) }
@@ -303,7 +303,7 @@ pub fn compact_any_runs_with<
     ensures made { IfOk result (λ r. spec.HasMade writer r.0) }
     // The observer was called for each table but the last, in their order. The compaction stops
     // exactly when the observer returns so, at once.
-    ensures told { IfOk result (λ r. spec.WasNotified O.says writer r.0 observer.old observer.new) }
+    ensures returned { IfOk result (λ r. spec.WasNotified O.says writer r.0 observer.old observer.new) }
     // On an error, it was called for the tables that were finished until then.
     ensures heard { IfErr result (λ _. spec.WasNotifiedUntil O.says writer observer.old observer.new) }
     // These are the tables of what was kept until then; after it comes the error, except for

@@ -29,7 +29,7 @@ fn scanner_of<A: Allocator + Clone>(run: &Arc<Run<Table<A>, A>, A>) -> Result<Ru
     // with that error.
     ensures any { IfOk result (spec.YieldsResults ⟦<RunScanner<A> as Iterator>⟧.next_gives
         (spec.tables_scan (spec.arc_value run.now))) }
-    ensures told { IfErr result (λ e. spec.is_memory e ≡ false →
+    ensures returned { IfErr result (λ e. spec.is_memory e ≡ false →
         spec.first (spec.tables_scan (spec.arc_value run.now)) ≡ Some (Err e)) }
     // It loads the first data block.
     ensures opens { spec.Faults result (spec.first_block_fault (spec.arc_value run.now)) }
@@ -54,7 +54,7 @@ pub(crate) fn scanners_of<A: Allocator + Clone>(
     ensures any { let gives = ⟦<RunScanner<A> as Iterator>⟧.next_gives in
         IfOk result (λ v. spec.AllZip (λ s rs. spec.YieldsResults gives rs s) v.items
         (spec.scans_of (map spec.arc_value runs.now))) }
-    ensures told { IfErr result (λ e. spec.is_memory e ≡ false →
+    ensures returned { IfErr result (λ e. spec.is_memory e ≡ false →
         spec.BeginsWith (map spec.arc_value runs.now) e) }
     // It loads the first data block of each run, in their order.
     ensures opens { spec.Faults result (spec.first_blocks_fault (map spec.arc_value runs.now)) }

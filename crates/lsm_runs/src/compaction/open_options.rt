@@ -53,7 +53,7 @@ impl OpenOptions {
         alloc: A,
         table: &FinishedTable<A>,
     ) -> Result<Table<A>, Error>
-        ensures told { spec.Gives (λ (t : spec.OpenTable). t.parts) result
+        ensures returned { spec.Gives (λ (t : spec.OpenTable). t.parts) result
             (spec.recovered_result table.now.bytes self.now.global_seqno self.now.pin_filter
             self.now.pin_index) }
         // It has the bytes and the checksum, and was opened with these options.

@@ -221,7 +221,7 @@ module _ {F C : Type 0} (gives : F → Entry → Result Verdict Error → F → 
     pub record StepsCompacted (r : Option R) (t : LendingCompaction S F C A) : Type 0 where
       pub answers : List (Option R)
       pub gave : GaveEach advances s.source answers t.source
-      pub told : (PassingOr (FilterSays gives) r answers × (t.is_over ≡ false))
+      pub returned : (PassingOr (FilterSays gives) r answers × (t.is_over ≡ false))
           ⊎ (WantsItself r answers × (t.is_over ≡ true))
       pub idle : s.is_pending ≡ false → NothingCame answers → t.is_pending ≡ false
       pub rules : t.rules ≡ s.rules
@@ -235,7 +235,7 @@ module _ {F C : Type 0} (gives : F → Entry → Result Verdict Error → F → 
         : Type 0 where
       pub answers : List (Option R)
       pub gave : GaveEach advances s.source answers t.source
-      pub told : (Passing r answers × (t.is_over ≡ false))
+      pub returned : (Passing r answers × (t.is_over ≡ false))
           ⊎ (WantsItself r answers × (t.is_over ≡ true))
       pub rules : t.rules ≡ s.rules
       pub does : (later : Later) → t.is_over ≡ false → (rest more : List R) (g : F) (d : C)

@@ -90,7 +90,7 @@ module _ {S T : Type 0} (advances : S → Option R → S → Type 0) (source_of 
   pub record Listens (s : T) (r : Option R) (t : T) : Type 0 where
     pub answers : List (Option R)
     pub gave : GaveEach advances (source_of s) answers (source_of t)
-    pub told : (Passes r answers × (over t ≡ false)) ⊎ (WantsItself r answers × (over t ≡ true))
+    pub returned : (Passes r answers × (over t ≡ false)) ⊎ (WantsItself r answers × (over t ≡ true))
     pub idle : quiet s ≡ true → NothingCame answers → r ≡ None
     pub rests : r ≡ None → quiet t ≡ true
 

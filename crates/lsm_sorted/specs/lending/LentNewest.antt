@@ -70,7 +70,7 @@ pub record AdvancesNewest {S : Type 0} (advances : S → Option R → S → Type
     {A : Type 0} (s : LendingNewest S A) (r : Option R) (t : LendingNewest S A) : Type 0 where
   pub may : MayNewest advances can t
   pub gives : (stops : Error → Bool) → YieldsFirst stops (LeavesNewest stops advances) s r t
-  pub tells : CallReports advances newest_lender (λ n. n.is_over) (λ n. true) s r t
+  pub states : CallReports advances newest_lender (λ n. n.is_over) (λ n. true) s r t
 
 module _ {S T : Type 0} (advances : S → Option R → S → Type 0) (source : S)
     (next : T → Option R → T → Type 0) (t : T) where

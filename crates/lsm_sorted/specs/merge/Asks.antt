@@ -87,7 +87,7 @@ module _ {S : Type 0} (ask : S → Option R → S → Type 0) (end : Direction) 
     pub asked : Asked ask was answer is
     pub written : n.sources.items ≡ slice_set m.sources.items i is
     pub puts : Puts end i answer m.heap.items n.heap.items
-    pub told : r ≡ error_result answer
+    pub returned : r ≡ error_result answer
     pub same : SameRoom m n
 
   -- each source below i was called once, in turn, and returned no error
@@ -128,7 +128,7 @@ module _ {S : Type 0} (ask : S → Option R → S → Type 0) (end : Direction) 
     pub pops : Pops end m lead mid
     pub answer : Result (Unit {0}) Error
     pub asks : AsksSource lead.source mid answer n
-    pub told : r ≡ entry_result (entry_of lead) answer
+    pub returned : r ≡ entry_result (entry_of lead) answer
 
   -- no item is held, or the first one is taken; an earlier error is the result
   abbrev pub TakesLeadIf : {A : Type 0} → Result (Unit {0}) Error → Merger S A

@@ -111,11 +111,11 @@ module _ {S : Type 0} (front back : S → Option R → S → Type 0) (can can_ba
 -- the results of calls are the expected ones, up to one of the errors, after which `None` follows.
 -- `None` comes earlier only without errors.
 abbrev pub Follows : List Error → List (Option R) → List (Option R) → Type 0
-Follows errors told [] = told ≡ []
+Follows errors returned [] = returned ≡ []
 Follows errors [] (r ∷ rs) = ⊥
-Follows errors (d ∷ told) (None ∷ rs) = (d ≡ None) × (errors ≡ []) × Follows errors told rs
-Follows errors (d ∷ told) (Some (Ok x) ∷ rs) = (d ≡ Some (Ok x)) × Follows errors told rs
-Follows errors (d ∷ told) (Some (Err e) ∷ rs) = Contains errors e
+Follows errors (d ∷ returned) (None ∷ rs) = (d ≡ None) × (errors ≡ []) × Follows errors returned rs
+Follows errors (d ∷ returned) (Some (Ok x) ∷ rs) = (d ≡ Some (Ok x)) × Follows errors returned rs
+Follows errors (d ∷ returned) (Some (Err e) ∷ rs) = Contains errors e
     × AllByRecursion (λ r. r ≡ None) rs
 
 -- for every list of ends, the results are those of yielding xs, up to one of the errors

@@ -248,7 +248,7 @@ fn apply_verdict<C: DroppedKvCallback<A>, A: Allocator>(
     mut head: InternalValue<A>,
     verdict: StreamFilterVerdict<A>,
 ) -> Option<InternalValue<A>>
-    ensures told { Ok result ≡ told_by head (Ok (verdict_of verdict)) }
+    ensures returned { Ok result ≡ told_by head (Ok (verdict_of verdict)) }
     ensures reports { GetsAll C.gets callback.old (reports_by head (Ok (verdict_of verdict)))
         callback.new }
 {

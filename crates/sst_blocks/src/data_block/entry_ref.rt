@@ -59,7 +59,7 @@ impl<'a> ItemRef<'a> for EntryRef<'a> {
 
     ghost Reported = { Entry };
 
-    ghost told = { entry_of_ref };
+    ghost returned = { entry_of_ref };
 
     ghost format = { entry_format };
 

@@ -32,7 +32,7 @@ impl<'a> ItemRef<'a> for HandleRef<'a> {
 
     ghost Reported = { Handle };
 
-    ghost told = { handle_of_ref };
+    ghost returned = { handle_of_ref };
 
     ghost format = { handle_format };
 

@@ -32,11 +32,11 @@ pub(crate) fn find_item<'a, R: ItemRef<'a>>(
     ensures whole { OnOk result (is_some (items_in (R.format version) payload.now) ≡ true) }
     ensures found { let f = R.format version in
         let items = unwrap_or (items_in f payload.now) [] in
-        IfOk result (λ found. option_map (λ x. R.told x.1) found ≡
+        IfOk result (λ found. option_map (λ x. R.returned x.1) found ≡
         find (λ x. is_before (read_place key.now seqno) (f.key x)) items) }
     ensures place { IfOk result (λ found. IfSome found (λ x.
         option_map (λ y. y.0) ((R.format version).read (drop x.0 payload.now)) ≡
-        Some (R.told x.1))) }
+        Some (R.returned x.1))) }
     ensures fault { IfErr result (λ e.
         (e ≡ InvalidBlock) × (items_in (R.format version) payload.now ≡ None)) }
 {
@@ -59,11 +59,11 @@ fn find_tested<'a, R: ItemRef<'a>>(
     requires tested { is_some (items_in (R.format version) payload.now) ≡ true }
     ensures found { let f = R.format version in
         let items = unwrap_or (items_in f payload.now) [] in
-        option_map (λ x. R.told x.1) result ≡
+        option_map (λ x. R.returned x.1) result ≡
         find (λ x. is_before (read_place key.now seqno) (f.key x)) items }
     ensures place { IfSome result (λ x.
         option_map (λ y. y.0) ((R.format version).read (drop x.0 payload.now)) ≡
-        Some (R.told x.1)) }
+        Some (R.returned x.1)) }
 {
     R::is_format(version);
     let len = u32_at(payload);
@@ -92,11 +92,11 @@ fn find_and_test<'a, R: ItemRef<'a>>(
     ensures whole { OnOk result (is_some (items_in (R.format version) payload.now) ≡ true) }
     ensures found { let f = R.format version in
         let items = unwrap_or (items_in f payload.now) [] in
-        IfOk result (λ found. option_map (λ x. R.told x.1) found ≡
+        IfOk result (λ found. option_map (λ x. R.returned x.1) found ≡
         find (λ x. is_before (read_place key.now seqno) (f.key x)) items) }
     ensures place { IfOk result (λ found. IfSome found (λ x.
         option_map (λ y. y.0) ((R.format version).read (drop x.0 payload.now)) ≡
-        Some (R.told x.1))) }
+        Some (R.returned x.1))) }
     ensures fault { IfErr result (λ e.
         (e ≡ InvalidBlock) × (items_in (R.format version) payload.now ≡ None)) }
 {
@@ -133,7 +133,7 @@ fn put_first<'a, R: ItemRef<'a>>(
     seqno: SeqNo,
 )
     ensures { (v : TableVersion) →
-        let is_past = is_before (read_place key.now seqno) ((R.format v).key (R.told item)) in
+        let is_past = is_before (read_place key.now seqno) ((R.format v).key (R.returned item)) in
         found.new ≡ option_or found.old (if is_past then Some (start, item) else None) }
 {
     if found.is_none() && item.is_past(key, seqno) {

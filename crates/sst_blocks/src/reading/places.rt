@@ -23,7 +23,7 @@ pub(crate) fn item_at<'a, R: ItemRef<'a>, A: Allocator>(
 ) -> R
     requires spelled { ItemsAt (R.format version) payload.now starts.now }
     requires within { index < length starts.now }
-    ensures { slice_get (items_of (R.format version) payload.now) index ≡ Some (R.told result) }
+    ensures { slice_get (items_of (R.format version) payload.now) index ≡ Some (R.returned result) }
 {
     R::is_format(version);
     let start = starts.at(index);

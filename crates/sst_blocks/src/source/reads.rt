@@ -51,7 +51,7 @@ impl<A: Allocator + Clone> BlockSource<A> {
         seqno: SeqNo,
         opened: &mut Opened,
     ) -> Result<Option<EntryPlace>, Error>
-        ensures told { let body = body_of self.now in
+        ensures returned { let body = body_of self.now in
             result_map (option_map (entry_placed self.now)) result
             ≡ point_result body handle.now.offset handle.now.size key.now seqno }
         ensures placed { IfOk result (λ found. IfSome found (IsPlacedIn self.now)) }
@@ -89,7 +89,7 @@ impl<A: Allocator + Clone> BlockSource<A> {
         seqno: SeqNo,
         opened: &mut Opened,
     ) -> Result<Option<InternalValue<A>>, Error>
-        ensures told { let body = body_of self.now in
+        ensures returned { let body = body_of self.now in
             Gives (λ (found : Option Entry). found) result
             (point_result body handle.now.offset handle.now.size key.now seqno) }
         // Only sharing an existing entry can fail with `OutOfMemory`.
@@ -122,7 +122,7 @@ impl<A: Allocator + Clone> BlockSource<A> {
         seqno: SeqNo,
         opened: &mut Opened,
     ) -> Result<Option<BlockHandle>, Error>
-        ensures told { let body = body_of self.now in
+        ensures returned { let body = body_of self.now in
             result ≡ find_result body handle.now.offset handle.now.size key.now seqno }
         ensures first { let body = body_of self.now in
             FaultsFirst result (place_fault body handle.now.offset handle.now.size Index) }
@@ -146,7 +146,7 @@ impl<A: Allocator + Clone> BlockSource<A> {
         hash: u64,
         opened: &mut Opened,
     ) -> Result<bool, Error>
-        ensures told { let body = body_of self.now in
+        ensures returned { let body = body_of self.now in
             result ≡ maybe_result body handle.now.offset handle.now.size hash }
         ensures first { let body = body_of self.now in
             FaultsFirst result (place_fault body handle.now.offset handle.now.size Filter) }
@@ -162,7 +162,7 @@ impl<A: Allocator + Clone> BlockSource<A> {
         ensures sound { IfOk result (λ s.
             IsValidAt (body_of self.now) handle.now.offset handle.now.size kind s) }
         ensures headed { IfOk result (IsValidHeaded self.now kind) }
-        ensures told { let body = body_of self.now in
+        ensures returned { let body = body_of self.now in
             IfErr result (λ e. load_result body handle.now.offset handle.now.size kind ≡ Err e) }
         ensures first { let body = body_of self.now in
             IfErr result (λ e. place_fault body handle.now.offset handle.now.size kind ≡ Some e) }
@@ -186,7 +186,7 @@ impl<A: Allocator + Clone> BlockSource<A> {
     ) -> Result<Option<EntryPlace>, Error>
         requires sound { IsValid (body_of self.now) Data sound.now }
         requires headed { IsValidHeaded self.now Data sound.now }
-        ensures told { let body = body_of self.now in
+        ensures returned { let body = body_of self.now in
             let payload = slice_range body sound.now.start sound.now.end in
             let header = sound.now.header in
             result_map (option_map (entry_placed self.now)) result ≡ result_map (point_of key.now seqno)
@@ -216,7 +216,7 @@ impl<A: Allocator + Clone> BlockSource<A> {
     ) -> Result<Option<BlockHandle>, Error>
         requires sound { IsValid (body_of self.now) Index sound.now }
         requires headed { IsValidHeaded self.now Index sound.now }
-        ensures told { let body = body_of self.now in
+        ensures returned { let body = body_of self.now in
             let payload = slice_range body sound.now.start sound.now.end in
             let header = sound.now.header in
             result ≡ result_map (place_for key.now seqno)
@@ -235,7 +235,7 @@ impl<A: Allocator + Clone> BlockSource<A> {
     fn has_hash_in(&self, sound: &Valid, hash: u64) -> bool
         requires sound { IsValid (body_of self.now) Filter sound.now }
         requires headed { IsValidHeaded self.now Filter sound.now }
-        ensures told { let body = body_of self.now in
+        ensures returned { let body = body_of self.now in
             let payload = slice_range body sound.now.start sound.now.end in
             let header = sound.now.header in
             Ok result ≡ result_map (maybe_in hash)

@@ -57,7 +57,7 @@ fn encoded<A: Allocator>(
 }
 
 /// Encodes some entries and compares the bytes with the expected payload.
-pub(crate) fn told<A: Allocator>(
+pub(crate) fn returned<A: Allocator>(
     alloc: A,
     entries: Result<Vec<InternalValue<A>, A>, Error>,
     payload: &[u8],
@@ -241,8 +241,8 @@ fn both_are_read_so<A: Allocator>(block: DataBlock<A>, stored: &Stored, may_fail
 
 // Whether entries are encoded as their payload; or `OutOfMemory`, where it may fail.
 fn is_written_so(heap: &Refusing, stored: &Stored, may_fail: bool) -> bool {
-    let told = told(heap, entries_of(heap, stored.rows), stored.payload);
-    is_written(told, stored.payload, may_fail)
+    let returned = returned(heap, entries_of(heap, stored.rows), stored.payload);
+    is_written(returned, stored.payload, may_fail)
 }
 
 // Whether a payload reads as it should; or `OutOfMemory`, where it may fail.

@@ -51,7 +51,7 @@ fn encoded<A: Allocator>(
 }
 
 /// Encodes some handles and compares the bytes with the expected payload.
-pub(crate) fn told<A: Allocator>(
+pub(crate) fn returned<A: Allocator>(
     alloc: A,
     handles: Result<Vec<KeyedBlockHandle<A>, A>, Error>,
     payload: &[u8],
@@ -166,8 +166,8 @@ fn is_loaded_so(heap: &Refusing, stored: &Stored, may_fail: bool) -> bool {
 
 // Whether handles are encoded as their payload; or `OutOfMemory`, where it may fail.
 fn is_written_so(heap: &Refusing, stored: &Stored, may_fail: bool) -> bool {
-    let told = told(heap, handles_of(heap, stored.rows), stored.payload);
-    is_written(told, stored.payload, may_fail)
+    let returned = returned(heap, handles_of(heap, stored.rows), stored.payload);
+    is_written(returned, stored.payload, may_fail)
 }
 
 const ONE_IN_V3: &[u8] = &[

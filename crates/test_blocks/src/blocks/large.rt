@@ -132,12 +132,12 @@ const ROWS: &[Row] = &[
 // Whether encoding a row returns its length or its error.
 fn is_so(alloc: Global, row: &Row) -> bool {
     let (kind, size, bound, length) = row;
-    let told = match kind {
-        BlockType::Index => index_blocks::told(alloc, items_of(alloc, size), &[]),
-        _ => data_blocks::told(alloc, items_of(alloc, size), &[]),
+    let returned = match kind {
+        BlockType::Index => index_blocks::returned(alloc, items_of(alloc, size), &[]),
+        _ => data_blocks::returned(alloc, items_of(alloc, size), &[]),
     };
-    match told {
-        Ok(told) => told.0 == *bound && told.1 == *length,
+    match returned {
+        Ok(returned) => returned.0 == *bound && returned.1 == *length,
         Err(_) => false,
     }
 }

@@ -246,7 +246,7 @@ fn count_told<A: Allocator + Copy>(
 }
 
 // The result of loading a row's payload, and how many requests for memory the load makes.
-fn told(heap: &Refusing, row: &Row) -> Result<(Option<usize>, usize), Error> {
+fn returned(heap: &Refusing, row: &Row) -> Result<(Option<usize>, usize), Error> {
     let (version, kind, payload, _) = *row;
     let source = source_of(heap, version, kind, payload)?;
     let before = heap.requests();
@@ -267,7 +267,7 @@ pub(crate) fn is_so_at(heap: &Refusing, place: usize, may_fail: bool) -> bool {
         None => LOADED.get(place.saturating_sub(AT_ONCE.len())),
     };
     match row {
-        Some(row) => match told(heap, row) {
+        Some(row) => match returned(heap, row) {
             Ok((count, requests)) => count == row.3 && (requests == 0 || !is_at_once),
             Err(error) => may_fail && error == Error::OutOfMemory,
         },

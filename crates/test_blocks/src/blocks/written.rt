@@ -15,9 +15,13 @@ pub(crate) fn length_behind_seven(written: &[u8], done: Result<(), Error>) -> Re
 }
 
 /// Whether a payload was written within its bound; or `OutOfMemory`, where it may fail.
-pub(crate) fn is_written(told: Result<Reported, Error>, payload: &[u8], may_fail: bool) -> bool {
+pub(crate) fn is_written(
+    returned: Result<Reported, Error>,
+    payload: &[u8],
+    may_fail: bool,
+) -> bool {
     let size = 24 + payload.len() as u64;
-    match told {
+    match returned {
         Ok((bound, Ok(_), is_it)) => is_it && bound == size,
         Ok((bound, Err(Error::OutOfMemory), _)) => may_fail && bound == size,
         Err(error) => may_fail && error == Error::OutOfMemory,

@@ -30,7 +30,7 @@ fn load(alloc: Global, payload: &[u8]) -> Result<FilterBlock, Error> {
 // The size of a filter, and whether the filter and its clone admit a key.
 type Reported = (usize, bool, bool);
 
-fn told(filter: &FilterBlock, key: &[u8]) -> Result<Reported, Error> {
+fn returned(filter: &FilterBlock, key: &[u8]) -> Result<Reported, Error> {
     let hash = Builder::<Global>::get_hash(key);
     let clone: FilterBlock = filter.clone()?;
     let clone_admits = clone.maybe_contains_hash(hash);
@@ -45,9 +45,9 @@ fn told(filter: &FilterBlock, key: &[u8]) -> Result<Reported, Error> {
 // The size and the answers of the filter that is loaded from a payload.
 fn told_of(alloc: Global, payload: &[u8], key: &[u8]) -> Result<Reported, Error> {
     let filter = load(alloc, payload)?;
-    let told = told(&filter, key);
+    let returned = returned(&filter, key);
     drop(filter);
-    told
+    returned
 }
 
 // A payload, a key, and the results of the filter, or the error.

@@ -11,11 +11,11 @@ use test_support::Refusing;
 /// The result of a load: the kind and the size of the block's payload.
 pub(crate) type Answer = Result<(BlockType, usize), Error>;
 
-fn told<A: Allocator>(loaded: Result<Block<A>, Error>) -> Answer {
+fn returned<A: Allocator>(loaded: Result<Block<A>, Error>) -> Answer {
     let block = loaded?;
-    let told = (block.kind(), block.size());
+    let returned = (block.kind(), block.size());
     drop(block);
-    Ok(told)
+    Ok(returned)
 }
 
 /// Loads the block at an offset, of this size, or of the size in its header.
@@ -26,7 +26,7 @@ pub(crate) fn loaded(
     kind: BlockType,
     opened: &mut Opened,
 ) -> Answer {
-    told(match size {
+    returned(match size {
         Some(size) => source.load(&handle(offset, size), kind, opened),
         None => source.load_at(offset, kind, opened),
     })
@@ -319,8 +319,8 @@ fn a_block_loads_again(rt: HostRuntime) {
 type Counts = (Answer, Answer, Opened);
 
 fn both_loaded<L: LoadBlocks>(blocks: &mut L) -> (Answer, Answer) {
-    let first = told(blocks.load(&handle(0, 45), Data));
-    (first, told(blocks.load(&handle(45, 51), Index)))
+    let first = returned(blocks.load(&handle(0, 45), Data));
+    (first, returned(blocks.load(&handle(45, 51), Index)))
 }
 
 fn counted<A: Allocator + Copy>(source: &BlockSource<A>) -> Counts {

@@ -245,7 +245,7 @@ type Cut = (
 );
 
 // The number of entries and the highest sequence number of each table of a run, of three.
-fn told<A: Allocator + Clone>(run: &Option<Run<Table<A>, A>>) -> [(u64, SeqNo); 3] {
+fn returned<A: Allocator + Clone>(run: &Option<Run<Table<A>, A>>) -> [(u64, SeqNo); 3] {
     let mut all = [(0, 0); 3];
     if let Some(run) = run {
         for (slot, table) in all.iter_mut().zip(run.as_slice().iter()) {
@@ -267,7 +267,7 @@ fn is_cut<A: Allocator + Copy>(alloc: A, cut: &Cut) -> Result<bool, Error> {
     let items = list_of(alloc, rows_at(place))?;
     let writer = MultiWriter::new(alloc, TableIds::new(5), target, 0, Timestamp::from(0))?;
     let (tables, run, mut ids) = write_run_with(alloc, writer, items, &how)?;
-    Ok(tables.len() == count && told(&run).as_slice() == entries && ids.next() == next)
+    Ok(tables.len() == count && returned(&run).as_slice() == entries && ids.next() == next)
 }
 
 // The length of the blocks of the versions of `a`. Each has a header of 24 bytes, a count of 4, and

@@ -50,7 +50,7 @@ const TWO_LEVELS: u8 = 2;
 // The kind of an index, and where its readers start, from a key within it and from one after it.
 type Reported = (u8, Option<Option<SeqNo>>, Option<Option<SeqNo>>);
 
-fn told(index: &BlockIndexImpl) -> Result<Reported, Error> {
+fn returned(index: &BlockIndexImpl) -> Result<Reported, Error> {
     let kind = match index {
         BlockIndexImpl::Full(_) => FULL,
         BlockIndexImpl::VolatileFull(_) => ON_DEMAND,
@@ -97,15 +97,15 @@ const INDEXES: &[(Of, Pins, Reported)] = &[
 ];
 
 // Whether a table's index has its kind and readers, after the table is dropped.
-fn tells(alloc: Global, of: Of, pins: Pins, expected: Reported) -> bool {
+fn states(alloc: Global, of: Of, pins: Pins, expected: Reported) -> bool {
     let index = asked(opened(alloc, &(of, &[], pins, 0)), index_in);
-    asked(index, told) == Ok(expected)
+    asked(index, returned) == Ok(expected)
 }
 
 #[test]
 fn readers_of_the_index_of_each_kind(rt: HostRuntime) {
     for &(of, pins, expected) in INDEXES {
-        assert!(rt; tells(rt.alloc(), of, pins, expected));
+        assert!(rt; states(rt.alloc(), of, pins, expected));
     }
 }
 

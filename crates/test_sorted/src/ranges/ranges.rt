@@ -83,7 +83,7 @@ fn overlaps(low: Bound<&[u8]>, high: Bound<&[u8]>) -> bool {
 impl Example for Asked {
     fn is_so(&self, heap: &Refusing, may_fail: bool) -> bool {
         match self {
-            Asked::Of(range, other, told) => told_of(range, other) == (*told, true),
+            Asked::Of(range, other, returned) => told_of(range, other) == (*returned, true),
             Asked::Together(all, disjoint, wanted) => match tables_of(heap, all) {
                 Ok(tables) => reach_together(&tables, &range_of(wanted)) == (*disjoint, true),
                 Err(_) => may_fail,

@@ -1,7 +1,7 @@
 //! Each step refused in turn: the old file or the whole new one stands.
 use crate::files::memory::Memory;
 use crate::files::written::{
-    Asked, LINES, NEVER, compact, entries_of, keep_all, sources, told, write, write_options,
+    Asked, LINES, NEVER, compact, entries_of, keep_all, returned, sources, write, write_options,
 };
 use lsm_tables::block::Error;
 use std::alloc::Global;
@@ -82,7 +82,7 @@ fn folder_stands_whole_or_is_absent(rt: HostRuntime) {
 // Why a compaction is refused, 0 where it is not.
 fn why_not(place: &mut Memory, alloc: Global, paths: &[&str]) -> u8 {
     let asked = Asked::Compact(paths, "to", &keep_all(None));
-    told(place, alloc, asked).err().unwrap_or(0)
+    returned(place, alloc, asked).err().unwrap_or(0)
 }
 
 #[test]
@@ -101,7 +101,7 @@ fn why_unwritten(place: &mut Memory, alloc: Global, lines: &str, block_size: u32
     let mut options = write_options(None);
     options.block_size = block_size;
     let asked = Asked::Write(lines, "t", &options);
-    told(place, alloc, asked).err().unwrap_or(0)
+    returned(place, alloc, asked).err().unwrap_or(0)
 }
 
 #[test]

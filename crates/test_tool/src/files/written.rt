@@ -104,7 +104,11 @@ fn perform<P: Place>(place: &mut P, alloc: Global, asked: Asked<'_>) -> Result<(
 }
 
 /// Does what is asked of a place in memory.
-pub(crate) fn told(place: &mut Memory, alloc: Global, asked: Asked<'_>) -> Result<(u64, u64), u8> {
+pub(crate) fn returned(
+    place: &mut Memory,
+    alloc: Global,
+    asked: Asked<'_>,
+) -> Result<(u64, u64), u8> {
     perform(place, alloc, asked)
 }
 
@@ -116,7 +120,7 @@ pub(crate) fn write(
     path: &str,
     target: Option<u64>,
 ) -> Option<(u64, u64)> {
-    told(
+    returned(
         place,
         alloc,
         Asked::Write(lines, path, &write_options(target)),
@@ -132,7 +136,7 @@ pub(crate) fn compact(
     folder: &str,
     target: Option<u64>,
 ) -> Option<(u64, u64)> {
-    told(
+    returned(
         place,
         alloc,
         Asked::Compact(&["b", "a"], folder, &keep_all(target)),
@@ -142,7 +146,7 @@ pub(crate) fn compact(
 
 /// How many entries a file's table tells; none where it does not open.
 pub(crate) fn entries_of(place: &mut Memory, alloc: Global, path: &str) -> Option<u64> {
-    match told(place, alloc, Asked::Open(path)) {
+    match returned(place, alloc, Asked::Open(path)) {
         Ok((_, entries)) => Some(entries),
         Err(_) => None,
     }

@@ -408,12 +408,12 @@ fn a_key_too_long_is_refused_by_the_table(rt: HostRuntime) -> Result<(), Fail> {
 }
 
 // Whether input that fails behind a script ends it there, once that much was shown and told.
-fn ends_where_input_fails(alloc: Global, script: &[u8], shown: &[u8], told: &[u8]) -> bool {
+fn ends_where_input_fails(alloc: Global, script: &[u8], shown: &[u8], returned: &[u8]) -> bool {
     let mut output = Vec::new(alloc);
     let mut errors = Vec::new(alloc);
     let input = FailingReader::new(script);
     let status = run_script(alloc, input, &mut output, &mut errors);
-    status == 2 && output.as_slice() == shown && errors.as_slice() == told
+    status == 2 && output.as_slice() == shown && errors.as_slice() == returned
 }
 
 // Scripts behind which input fails, what is shown, and what is told.
@@ -427,17 +427,17 @@ const BEFORE_FAILING_INPUT: &[(&[u8], &[u8], &[u8])] = &[
 #[test]
 fn failing_input_ends_the_script(rt: HostRuntime) -> Result<(), Fail> {
     let alloc = rt.alloc();
-    for &(script, shown, told) in BEFORE_FAILING_INPUT {
-        assert!(rt; ends_where_input_fails(alloc, script, shown, told));
+    for &(script, shown, returned) in BEFORE_FAILING_INPUT {
+        assert!(rt; ends_where_input_fails(alloc, script, shown, returned));
     }
     Ok(())
 }
 
 // Whether output that fails ends a script, and that much is told.
-fn ends_where_output_fails(alloc: Global, script: &[u8], told: &[u8]) -> bool {
+fn ends_where_output_fails(alloc: Global, script: &[u8], returned: &[u8]) -> bool {
     let mut errors = Vec::new(alloc);
     let status = run_script(alloc, script, &mut FailingWriter, &mut errors);
-    status == 2 && errors.as_slice() == told
+    status == 2 && errors.as_slice() == returned
 }
 
 // The status where neither output nor errors can be written.
@@ -456,8 +456,8 @@ const WITH_FAILING_OUTPUT: &[(&[u8], &[u8])] = &[
 #[test]
 fn failing_output_ends_the_script(rt: HostRuntime) -> Result<(), Fail> {
     let alloc = rt.alloc();
-    for &(script, told) in WITH_FAILING_OUTPUT {
-        assert!(rt; ends_where_output_fails(alloc, script, told));
+    for &(script, returned) in WITH_FAILING_OUTPUT {
+        assert!(rt; ends_where_output_fails(alloc, script, returned));
         // Where errors cannot be told either, the status is the same.
         assert_eq!(rt; status_untold(alloc, script), 2);
     }
@@ -467,19 +467,19 @@ fn failing_output_ends_the_script(rt: HostRuntime) -> Result<(), Fail> {
 
 // Whether output that takes every byte, and fails where it is flushed, ends a script with this
 // status.
-fn ends_unflushed(alloc: Global, script: &[u8], told: &[u8], wanted: u8) -> bool {
+fn ends_unflushed(alloc: Global, script: &[u8], returned: &[u8], wanted: u8) -> bool {
     let mut errors = Vec::new(alloc);
     let status = run_script(alloc, script, &mut UnflushedWriter, &mut errors);
-    status == wanted && errors.as_slice() == told
+    status == wanted && errors.as_slice() == returned
 }
 
 // Whether a script ends with this status where its output is kept until it is flushed, and then
 // takes no byte.
-fn ends_unkept(alloc: Global, script: &[u8], told: &[u8], wanted: u8) -> io::Result<bool> {
+fn ends_unkept(alloc: Global, script: &[u8], returned: &[u8], wanted: u8) -> io::Result<bool> {
     let mut errors = Vec::new(alloc);
     let mut output = BufWriter::new(alloc, FailingWriter)?;
     let status = run_script(alloc, script, &mut output, &mut errors);
-    Ok(status == wanted && errors.as_slice() == told)
+    Ok(status == wanted && errors.as_slice() == returned)
 }
 
 // Scripts whose output fails only where it is flushed, what they report, and their status.
@@ -494,9 +494,9 @@ const UNFLUSHED: &[(&[u8], &[u8], u8)] = &[
 #[test]
 fn output_that_fails_when_flushed_ends_the_script(rt: HostRuntime) -> Result<(), Fail> {
     let alloc = rt.alloc();
-    for &(script, told, status) in UNFLUSHED {
-        assert!(rt; ends_unflushed(alloc, script, told, status));
-        assert!(rt; ends_unkept(alloc, script, told, status)?);
+    for &(script, returned, status) in UNFLUSHED {
+        assert!(rt; ends_unflushed(alloc, script, returned, status));
+        assert!(rt; ends_unkept(alloc, script, returned, status)?);
     }
     Ok(())
 }

@@ -34,14 +34,14 @@ returns-in_err-found-clause-refused g c =
     let a = c.args in
     let e = c.in_err-found.field-0.0 in
     faults_refusal c.from_residual.result e (reads_fault a.table.now a.key.now a.seqno) c.from_residual.ensures.1
-    (λ memory. or_first _ _ e (ap (λ r. fault_of r) (c.in_err-found.ensures.told memory)))
+    (λ memory. or_first _ _ e (ap (λ r. fault_of r) (c.in_err-found.ensures.returned memory)))
 
 pub returns-in_err-scan-clause-refused : goal.returns-in_err-scan-clause-refused
 returns-in_err-scan-clause-refused g c =
     let a = c.args in
     let e = c.in_err-scan.field-0.0 in
     faults_refusal c.from_residual-in_err-scan.result e (reads_fault a.table.now a.key.now a.seqno) c.from_residual-in_err-scan.ensures.1
-    (λ memory. or_second _ _ e (ap (λ r. fault_of r) c.in_ok-found.ensures.told) (c.in_err-scan.ensures.refused memory))
+    (λ memory. or_second _ _ e (ap (λ r. fault_of r) c.in_ok-found.ensures.returned) (c.in_err-scan.ensures.refused memory))
 
 pub returns-clause-refused : goal.returns-clause-refused
-returns-clause-refused g c = or_fine _ _ (ap (λ r. fault_of r) c.in_ok-found.ensures.told) c.in_ok-scan.ensures.refused
+returns-clause-refused g c = or_fine _ _ (ap (λ r. fault_of r) c.in_ok-found.ensures.returned) c.in_ok-scan.ensures.refused

@@ -19,10 +19,10 @@ returns-clause-taken g c es n h =
     let held = run_held es n a.run h _ (ap (λ (r : List OpenTable). r ∷ []) c.in_ok-new.ensures.ok) in
     c.read_runs.ensures.taken (h.lists ∷ []) held
 
-pub returns-clause-told : goal.returns-clause-told
-returns-clause-told g c =
+pub returns-clause-returned : goal.returns-clause-returned
+returns-clause-returned g c =
     let a = c.args in
-    of_one (λ (rs : List (List OpenTable)). IfOk c.read_runs.result (λ read. runs_result a.key.now a.seqno None rs ≡ Ok read.0)) _ a.run (ap (λ (r : List OpenTable). r ∷ []) c.in_ok-new.ensures.ok) c.read_runs.ensures.told
+    of_one (λ (rs : List (List OpenTable)). IfOk c.read_runs.result (λ read. runs_result a.key.now a.seqno None rs ≡ Ok read.0)) _ a.run (ap (λ (r : List OpenTable). r ∷ []) c.in_ok-new.ensures.ok) c.read_runs.ensures.returned
 
 pub returns-clause-fails : goal.returns-clause-fails
 returns-clause-fails g c =

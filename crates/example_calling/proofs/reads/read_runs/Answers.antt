@@ -13,15 +13,15 @@ returns-clause-list g c lists held = record {
 pub returns-in_err-found-clause-fails : goal.returns-in_err-found-clause-fails
 returns-in_err-found-clause-fails g c order =
     let r = c.from_residual in
-    fails_refusal r.result c.in_err-found.field-0.0 _ r.ensures.1 (c.in_err-found.ensures.told order)
+    fails_refusal r.result c.in_err-found.field-0.0 _ r.ensures.1 (c.in_err-found.ensures.returned order)
 
 pub returns-in_err-stream-clause-fails : goal.returns-in_err-stream-clause-fails
 returns-in_err-stream-clause-fails g c order =
     let r = c.from_residual-in_err-stream in
     memory_fails r.result c.in_err-stream.field-0.0 _ r.ensures.1 c.in_err-stream.ensures.err
 
-pub returns-clause-told : goal.returns-clause-told
-returns-clause-told g c order = c.in_ok-found.ensures.told order
+pub returns-clause-returned : goal.returns-clause-returned
+returns-clause-returned g c order = c.in_ok-found.ensures.returned order
 
 pub returns-clause-steps : goal.returns-clause-steps
 returns-clause-steps g c order = c.in_ok-stream.ensures.steps order

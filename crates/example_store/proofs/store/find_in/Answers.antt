@@ -8,15 +8,15 @@ use Rattle.example_store.proofs.store.find_in.Goals as goal
 pub returns-in-Some : goal.returns-in-Some
 returns-in-Some g c lists hold =
     let key = c.args.key.now in
-    let told : point c.args.memtable.now key c.args.seqno ≡ c.in_ok-item.field-0 = let given = c.in_ok-item.ensures in cc in
+    let returned : point c.args.memtable.now key c.args.seqno ≡ c.in_ok-item.field-0 = let given = c.in_ok-item.ensures in cc in
     ap (λ (o : Option Entry). Ok o) (point_behind key c.args.seqno c.args.memtable.now (union_in lists)
-    ∙ ap (λ (o : Option Entry). option_or o (point (union_in lists) key c.args.seqno)) (told ∙ c.in-Some.is))
+    ∙ ap (λ (o : Option Entry). option_or o (point (union_in lists) key c.args.seqno)) (returned ∙ c.in-Some.is))
 
 pub returns : goal.returns
 returns g c lists hold =
     let key = c.args.key.now in
-    let told : point c.args.memtable.now key c.args.seqno ≡ c.in_ok-item.field-0 = let given = c.in_ok-item.ensures in cc in
+    let returned : point c.args.memtable.now key c.args.seqno ≡ c.in_ok-item.field-0 = let given = c.in_ok-item.ensures in cc in
     subst (λ (o : Option Entry). Gives (λ (x : Option Entry). x) c.get_runs_by_age.result (Ok o))
     (sym (point_behind key c.args.seqno c.args.memtable.now (union_in lists)
-    ∙ ap (λ (o : Option Entry). option_or o (point (union_in lists) key c.args.seqno)) (told ∙ c.in_default.is)))
+    ∙ ap (λ (o : Option Entry). option_or o (point (union_in lists) key c.args.seqno)) (returned ∙ c.in_default.is)))
     (c.get_runs_by_age.ensures.list lists hold)

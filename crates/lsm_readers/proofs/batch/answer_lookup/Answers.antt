@@ -8,19 +8,19 @@ use Rattle.lsm_readers.specs.point.Table.{parts_of}
 use Rattle.lsm_readers.proofs.BatchReads.{lookup_result}
 use Rattle.lsm_readers.proofs.batch.answer_lookup.Goals as goal
 
-pub returns-in-Some-clause-told : goal.returns-in-Some-clause-told
-returns-in-Some-clause-told g c =
+pub returns-in-Some-clause-returned : goal.returns-in-Some-clause-returned
+returns-in-Some-clause-returned g c =
     let body = g.S.LoadBlocks.body c.args.source.now in
     let inner = c.args.inner.now in
     let query = c.args.query.now in
     let low = c.saturating_sub-low.result in
-    let read = (c.read_in.ensures.read).told in
-    let found = subst (λ (key : List ℕ). Gives (λ (x : Option Entry). x) c.read_in.result (match_at body inner.global_seqno key low c.in-Some.handle).told) c.as_slice.ensures read in
-    let told = lookup_result body inner.global_seqno (parts_of inner) query.key query.seqno low (Some c.in-Some.handle) c.saturating_sub-low.ensures (rw c.in-Some.is at c.requires) in
-    subst (λ (told : Result (Option Entry) Error). Gives (λ (x : Option Entry). x) c.read_in.result told) (sym told) found
+    let read = (c.read_in.ensures.read).returned in
+    let found = subst (λ (key : List ℕ). Gives (λ (x : Option Entry). x) c.read_in.result (match_at body inner.global_seqno key low c.in-Some.handle).returned) c.as_slice.ensures read in
+    let returned = lookup_result body inner.global_seqno (parts_of inner) query.key query.seqno low (Some c.in-Some.handle) c.saturating_sub-low.ensures (rw c.in-Some.is at c.requires) in
+    subst (λ (returned : Result (Option Entry) Error). Gives (λ (x : Option Entry). x) c.read_in.result returned) (sym returned) found
 
-pub returns-in-None-clause-told : goal.returns-in-None-clause-told
-returns-in-None-clause-told g c =
+pub returns-in-None-clause-returned : goal.returns-in-None-clause-returned
+returns-in-None-clause-returned g c =
     let inner = c.args.inner.now in
     let query = c.args.query.now in
     lookup_result (g.S.LoadBlocks.body c.args.source.now) inner.global_seqno (parts_of inner) query.key query.seqno c.saturating_sub-low.result None c.saturating_sub-low.ensures (rw c.in-None.is at c.requires)

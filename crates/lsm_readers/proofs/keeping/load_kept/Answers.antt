@@ -9,5 +9,5 @@ pub returns-clause-kept : goal.returns-clause-kept
 returns-clause-kept g c =
     let body = body_of c.args.source.now in
     let place = c.args.handle.now in
-    let is = kept_as body place c.args.kind c.in_ok-block.block (is_loaded body place c.args.kind c.in_ok-block.block c.in_ok-block.ensures.told c.in_ok-block.ensures.first) in
+    let is = kept_as body place c.args.kind c.in_ok-block.block (is_loaded body place c.args.kind c.in_ok-block.block c.in_ok-block.ensures.returned c.in_ok-block.ensures.first) in
     subst (λ (b : Loaded). IsLoaded body place b.kind b) (sym c.in_ok-again.ensures.cases) is

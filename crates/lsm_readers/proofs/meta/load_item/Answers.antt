@@ -4,7 +4,7 @@ use Rattle.lsm_readers.proofs.Loads.{meta_holds}
 use Rattle.lsm_readers.proofs.meta.load_item.Goals as goal
 
 pub new-block-requires : goal.new-block-requires
-new-block-requires g c = meta_holds _ (load_kind _ _ _ _ _ c.in_ok-block.ensures.told)
+new-block-requires g c = meta_holds _ (load_kind _ _ _ _ _ c.in_ok-block.ensures.returned)
 
 pub returns-in_err-block-clause-early : goal.returns-in_err-block-clause-early
 returns-in_err-block-clause-early g c =

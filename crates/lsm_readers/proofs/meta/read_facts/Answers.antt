@@ -27,8 +27,8 @@ returns-in_err-numbers g c =
 pub returns : goal.returns
 unfolding facts_result
 returns g c =
-    let told =
+    let returned =
     goes_on _ _ _ _ c.in_ok-table_version.ensures
     (goes_on _ _ _ _ c.in_ok-test_kinds.ensures
     (goes_on _ _ _ _ c.in_ok-numbers.ensures refl)) in
-    subst (λ (r : Result Facts Error). Gives (facts_of {A = g.row.A.Denot}) c.read_rest.result r) (sym told) c.read_rest.ensures
+    subst (λ (r : Result Facts Error). Gives (facts_of {A = g.row.A.Denot}) c.read_rest.result r) (sym returned) c.read_rest.ensures

@@ -35,7 +35,7 @@ returns g c =
     let seqnos = c.in_ok-key_range-2.seqnos in
     let one = c.in_ok-key_range-2.ensures.both in
     let same = beside_first first c.seqno_items.result second seqnos one in
-    subst (λ (told : Result Facts Error). Gives (facts_of {A = g.row.A.Denot}) c.and.result told)
+    subst (λ (returned : Result Facts Error). Gives (facts_of {A = g.row.A.Denot}) c.and.result returned)
     (sym (goes_on _ _ _ _ (c.in_ok-created_at.ensures ∙ ap (λ (n : ℕ). Ok n) (sym c.from.ensures))
     (goes_on _ _ _ _ c.in_ok-key_range.ensures
     (goes_on _ _ _ _ (beside_gives _ first c.seqno_items.result _ second seqnos c.seqno_items.ensures one)

@@ -3,7 +3,7 @@ use Rattle.lsm_readers.proofs.Recovered.{first_from}
 use Rattle.lsm_readers.proofs.pinned.load_handles.Goals as goal
 
 pub new-requires : goal.new-requires
-new-requires g c = load_kind _ _ _ _ _ c.in_ok-block.ensures.told
+new-requires g c = load_kind _ _ _ _ _ c.in_ok-block.ensures.returned
 
 pub returns-in_err-block-clause-early : goal.returns-in_err-block-clause-early
 returns-in_err-block-clause-early g c =

@@ -6,4 +6,4 @@ use Rattle.lsm_readers.proofs.point.block_admits.Goals as goal
 pub returns-clause-read : goal.returns-clause-read
 returns-clause-read g c =
     let asks = c.maybe_contains_hash.ensures in
-    asked (maybe_in c.args.key_hash) (g.S.LoadBlocks.body c.args.source.now) c.args.handle.now Filter _ _ c.maybe_contains_hash.result asks.counted asks.told asks.first
+    asked (maybe_in c.args.key_hash) (g.S.LoadBlocks.body c.args.source.now) c.args.handle.now Filter _ _ c.maybe_contains_hash.result asks.counted asks.returned asks.first

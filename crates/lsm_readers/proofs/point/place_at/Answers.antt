@@ -16,16 +16,16 @@ pub lifted_place-requires : goal.lifted_place-requires
 lifted_place-requires g c =
     let bytes = c.args.source.now in
     let place = c.args.handle.now in
-    let told = load_result (body_of bytes) place.offset place.size Data in
+    let returned = load_result (body_of bytes) place.offset place.size Data in
     let found = c.in_ok-found.found in
-    some_seen (entry_placed bytes) _ found (lift_fits told c.args.key.now c.args.seqno c.args.global_seqno (option_map (entry_placed bytes) found) c.requires (sym c.in_ok-found.ensures.told))
+    some_seen (entry_placed bytes) _ found (lift_fits returned c.args.key.now c.args.seqno c.args.global_seqno (option_map (entry_placed bytes) found) c.requires (sym c.in_ok-found.ensures.returned))
 
 pub returns-in_err-found-clause-read : goal.returns-in_err-found-clause-read
 returns-in_err-found-clause-read g c =
     let bytes = c.args.source.now in
     let e = c.in_err-found.field-0.0 in
     match_fails (body_of bytes) c.args.global_seqno c.args.key.now c.args.seqno c.args.handle.now _ _ c.in_err-found.ensures.counted
-    e _ (err_seen (option_map (entry_placed bytes)) c.from_residual.result e c.from_residual.ensures.1) (λ memory. sym c.in_err-found.ensures.told) c.in_err-found.ensures.first
+    e _ (err_seen (option_map (entry_placed bytes)) c.from_residual.result e c.from_residual.ensures.1) (λ memory. sym c.in_err-found.ensures.returned) c.in_err-found.ensures.first
 
 pub returns-in_err-found-clause-placed : goal.returns-in_err-found-clause-placed
 returns-in_err-found-clause-placed g c = err_not_ok c.from_residual.result c.in_err-found.field-0.0 _ c.from_residual.ensures.1
@@ -39,7 +39,7 @@ returns-clause-read g c =
     let add = c.args.global_seqno in
     let place = c.args.handle.now in
     let found = option_map (entry_placed bytes) c.in_ok-found.found in
-    let goes = match_goes body add key n place _ _ c.in_ok-found.ensures.counted found (sym c.in_ok-found.ensures.told) c.in_ok-found.ensures.first in
+    let goes = match_goes body add key n place _ _ c.in_ok-found.ensures.counted found (sym c.in_ok-found.ensures.returned) c.in_ok-found.ensures.first in
     subst (λ (o : Option Entry). DoesRead (result o) (match_at body add key n place) c.args.opened.now c.point_place.new.opened) (sym (c.lifted_place.ensures.entry bytes)) goes
 
 pub returns-clause-placed : goal.returns-clause-placed

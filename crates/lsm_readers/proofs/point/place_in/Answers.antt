@@ -6,8 +6,8 @@ use Rattle.lsm_readers.proofs.FewLoads.{answer_few}
 use Rattle.lsm_readers.proofs.ReadViews.{first_seen, gives_seen, ok_seen, opens_seen}
 use Rattle.lsm_readers.proofs.point.place_in.Goals as goal
 
-pub returns-clause-told : goal.returns-clause-told
-returns-clause-told g c = gives_seen (option_map (entry_placed c.args.source.now)) c.read_place.result.0 _ c.read_place.ensures.read.told
+pub returns-clause-returned : goal.returns-clause-returned
+returns-clause-returned g c = gives_seen (option_map (entry_placed c.args.source.now)) c.read_place.result.0 _ c.read_place.ensures.read.returned
 
 pub returns-clause-early : goal.returns-clause-early
 returns-clause-early g c = first_seen (option_map (entry_placed c.args.source.now)) c.read_place.result.0 _ c.read_place.ensures.read.early

@@ -3,12 +3,12 @@ use Rattle.lsm_readers.proofs.FewLoads.{answer_few}
 use Rattle.lsm_readers.proofs.Points.{answer_at, answer_fails, answer_none}
 use Rattle.lsm_readers.proofs.point.point_in.Goals as goal
 
-pub returns-in_err-handle-clause-told : goal.returns-in_err-handle-clause-told
-returns-in_err-handle-clause-told g c =
+pub returns-in_err-handle-clause-returned : goal.returns-in_err-handle-clause-returned
+returns-in_err-handle-clause-returned g c =
     let inner = c.args.inner.now in
     let does = answer_fails (g.S.LoadBlocks.body c.args.source.now) inner.global_seqno (parts_of inner) c.args.key.now c.args.seqno c.saturating_sub-low.result c.saturating_sub-low.ensures c.from_residual.result
     c.in_err-handle.field-0.0 _ _ c.in_err-handle.ensures.read c.from_residual.ensures.1 in
-    does.told
+    does.returned
 
 pub returns-in_err-handle-clause-early : goal.returns-in_err-handle-clause-early
 returns-in_err-handle-clause-early g c =
@@ -31,13 +31,13 @@ returns-in_err-handle-clause-opened g c =
     c.in_err-handle.field-0.0 _ _ c.in_err-handle.ensures.read c.from_residual.ensures.1 in
     does.opens
 
-pub returns-in-Some-clause-told : goal.returns-in-Some-clause-told
-returns-in-Some-clause-told g c =
+pub returns-in-Some-clause-returned : goal.returns-in-Some-clause-returned
+returns-in-Some-clause-returned g c =
     let inner = c.args.inner.now in
     let found = rw c.in-Some.is at c.in_ok-handle.ensures.read in
     let does = answer_at (g.S.LoadBlocks.body c.args.source.now) inner.global_seqno (parts_of inner) c.args.key.now c.args.seqno c.saturating_sub-low.result c.saturating_sub-low.ensures c.read_in.result
     c.in-Some.handle _ _ _ _ found c.admitted_handle.ensures.body c.read_in.ensures.read in
-    does.told
+    does.returned
 
 pub returns-in-Some-clause-early : goal.returns-in-Some-clause-early
 returns-in-Some-clause-early g c =
@@ -63,12 +63,12 @@ returns-in-Some-clause-opened g c =
     c.in-Some.handle _ _ _ _ found c.admitted_handle.ensures.body c.read_in.ensures.read in
     does.opens
 
-pub returns-in-None-clause-told : goal.returns-in-None-clause-told
-returns-in-None-clause-told g c =
+pub returns-in-None-clause-returned : goal.returns-in-None-clause-returned
+returns-in-None-clause-returned g c =
     let inner = c.args.inner.now in
     let found = rw c.in-None.is at c.in_ok-handle.ensures.read in
     let does = answer_none (g.S.LoadBlocks.body c.args.source.now) inner.global_seqno (parts_of inner) c.args.key.now c.args.seqno c.saturating_sub-low.result c.saturating_sub-low.ensures _ _ found in
-    does.told
+    does.returned
 
 pub returns-in-None-clause-early : goal.returns-in-None-clause-early
 returns-in-None-clause-early g c =

@@ -11,13 +11,13 @@ use Rattle.lsm_readers.proofs.point.read_in.Goals as goal
 pub lifted_found-requires : goal.lifted_found-requires
 lifted_found-requires g c =
     let place = c.args.handle in
-    let told = load_result (g.S.LoadBlocks.body c.args.source.now) place.offset place.size Data in
-    lift_fits told c.args.key.now c.args.seqno c.args.global_seqno c.in_ok-found.found c.requires c.in_ok-found.ensures.told
+    let returned = load_result (g.S.LoadBlocks.body c.args.source.now) place.offset place.size Data in
+    lift_fits returned c.args.key.now c.args.seqno c.args.global_seqno c.in_ok-found.found c.requires c.in_ok-found.ensures.returned
 
 pub returns-in_err-found-clause-read : goal.returns-in_err-found-clause-read
 returns-in_err-found-clause-read g c =
     match_fails (g.S.LoadBlocks.body c.args.source.now) c.args.global_seqno c.args.key.now c.args.seqno c.args.handle _ _ c.in_err-found.ensures.counted
-    c.in_err-found.field-0.0 c.from_residual.result c.from_residual.ensures.1 c.in_err-found.ensures.told c.in_err-found.ensures.first
+    c.in_err-found.field-0.0 c.from_residual.result c.from_residual.ensures.1 c.in_err-found.ensures.returned c.in_err-found.ensures.first
 
 pub returns-clause-read : goal.returns-clause-read
 returns-clause-read g c =
@@ -27,5 +27,5 @@ returns-clause-read g c =
     let add = c.args.global_seqno in
     let o = g.S.LoadBlocks.opened c.args.source.now in
     let o' = g.S.LoadBlocks.opened c.point_read.new.self in
-    let goes = match_goes body add key n c.args.handle o o' c.in_ok-found.ensures.counted c.in_ok-found.found c.in_ok-found.ensures.told c.in_ok-found.ensures.first in
+    let goes = match_goes body add key n c.args.handle o o' c.in_ok-found.ensures.counted c.in_ok-found.found c.in_ok-found.ensures.returned c.in_ok-found.ensures.first in
     subst (λ (found : Option Entry). DoesRead (result found) (match_at body add key n c.args.handle) o o') (sym c.lifted_found.ensures) goes

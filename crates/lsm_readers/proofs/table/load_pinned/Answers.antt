@@ -15,8 +15,8 @@ use Rattle.lsm_readers.proofs.Steps.{beside_first, beside_gives}
 use Rattle.lsm_readers.proofs.table.load_pinned.Goals as goal
 
 -- what is told, by what stays loaded
-abbrev told : {A : Type 0} → PinnedBlockIndex A → Option (List Handle) → Option BloomFilter → Result Pinned Error
-told index tops filter = Ok (record { index = pinned_index_of index; filter_tops = tops; filter = filter })
+abbrev returned : {A : Type 0} → PinnedBlockIndex A → Option (List Handle) → Option BloomFilter → Result Pinned Error
+returned index tops filter = Ok (record { index = pinned_index_of index; filter_tops = tops; filter = filter })
 
 pub returns-in_err-index : goal.returns-in_err-index
 unfolding pinned_result
@@ -51,5 +51,5 @@ returns g c =
     goes_on _ _ _ _ c.in_ok-index.ensures
     (goes_on _ _ _ _ (beside_gives (λ (tops : Option (List Handle)). tops) first c.load_filter_index.result _ second.index second.filter_index c.load_filter_index.ensures second.ensures.both)
     (goes_on _ _ _ _ (beside_gives (λ (f : Option BloomFilter). f) (second.index, second.filter_index) c.load_filter.result _ third.tops third.filter_block filter third.ensures.both)
-    (ap (λ (index : PinnedBlockIndex g.row.A.Denot). told index second.filter_index third.filter_block) (sym (beside_first first c.load_filter_index.result second.index second.filter_index second.ensures.both))
-    ∙ ap (λ (p : PinnedBlockIndex g.row.A.Denot × Option (List Handle)). told p.0 p.1 third.filter_block) (sym (beside_first (second.index, second.filter_index) c.load_filter.result third.tops third.filter_block third.ensures.both)))))
+    (ap (λ (index : PinnedBlockIndex g.row.A.Denot). returned index second.filter_index third.filter_block) (sym (beside_first first c.load_filter_index.result second.index second.filter_index second.ensures.both))
+    ∙ ap (λ (p : PinnedBlockIndex g.row.A.Denot × Option (List Handle)). returned p.0 p.1 third.filter_block) (sym (beside_first (second.index, second.filter_index) c.load_filter.result third.tops third.filter_block third.ensures.both)))))

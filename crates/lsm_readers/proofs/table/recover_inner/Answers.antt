@@ -20,9 +20,9 @@ use Rattle.lsm_readers.proofs.table.recover_inner.Goals as goal
 abbrev reported_parts : Facts → ParsedRegions → Pinned → Result Parts Error
 reported_parts facts regions pinned = Ok (record { facts = facts; regions = regions; pinned = pinned })
 
-pub returns-in_err-regions-clause-told : goal.returns-in_err-regions-clause-told
+pub returns-in_err-regions-clause-returned : goal.returns-in_err-regions-clause-returned
 unfolding parts_result
-returns-in_err-regions-clause-told g c =
+returns-in_err-regions-clause-returned g c =
     passes_fault (parts_of {A = g.row.A.Denot}) c.from_residual.result _ c.in_err-regions.field-0.0 c.from_residual.ensures.1
     (fails_here _ _ _ (λ memory. ap regions_result (sym c.toc.ensures.toc) ∙ sym c.in_err-regions.ensures))
 
@@ -35,11 +35,11 @@ returns-in_err-regions-clause-tree g c = IfOk-from_err _ _ c.from_residual.ensur
 pub returns-in_err-regions-clause-checksum : goal.returns-in_err-regions-clause-checksum
 returns-in_err-regions-clause-checksum g c = IfOk-from_err _ _ c.from_residual.ensures.0
 
-pub returns-in_err-metadata-clause-told : goal.returns-in_err-metadata-clause-told
+pub returns-in_err-metadata-clause-returned : goal.returns-in_err-metadata-clause-returned
 unfolding parts_result
-returns-in_err-metadata-clause-told g c =
+returns-in_err-metadata-clause-returned g c =
     passes_fault (parts_of {A = g.row.A.Denot}) c.from_residual-in_err-metadata.result _ c.in_err-metadata.field-0.0 c.from_residual-in_err-metadata.ensures.1
-    (fails_later _ _ _ _ (ap regions_result (sym c.toc.ensures.toc) ∙ sym c.in_ok-regions.ensures) (both_fail (meta_result (body_of c.args.source.now) (c.in_ok-regions.regions).metadata) (λ (facts : Facts). facts_fitting facts c.args.global_seqno) _ _ c.in_err-metadata.ensures.told))
+    (fails_later _ _ _ _ (ap regions_result (sym c.toc.ensures.toc) ∙ sym c.in_ok-regions.ensures) (both_fail (meta_result (body_of c.args.source.now) (c.in_ok-regions.regions).metadata) (λ (facts : Facts). facts_fitting facts c.args.global_seqno) _ _ c.in_err-metadata.ensures.returned))
 
 pub returns-in_err-metadata-clause-number : goal.returns-in_err-metadata-clause-number
 returns-in_err-metadata-clause-number g c = IfOk-from_err _ _ c.from_residual-in_err-metadata.ensures.0
@@ -50,15 +50,15 @@ returns-in_err-metadata-clause-tree g c = IfOk-from_err _ _ c.from_residual-in_e
 pub returns-in_err-metadata-clause-checksum : goal.returns-in_err-metadata-clause-checksum
 returns-in_err-metadata-clause-checksum g c = IfOk-from_err _ _ c.from_residual-in_err-metadata.ensures.0
 
-pub returns-in_err-metadata-2-clause-told : goal.returns-in_err-metadata-2-clause-told
+pub returns-in_err-metadata-2-clause-returned : goal.returns-in_err-metadata-2-clause-returned
 unfolding parts_result
-returns-in_err-metadata-2-clause-told g c =
+returns-in_err-metadata-2-clause-returned g c =
     let regions = c.in_ok-regions.regions in
     let body = body_of c.args.source.now in
     let e = c.in_err-metadata-2.field-0.0 in
     let fails = beside_fails (pinned_of {A = g.row.A.Denot}) c.in_ok-metadata.metadata c.load_pinned-pinned.result (pinned_result body regions c.args.pin_filter c.args.pin_index) e c.load_pinned-pinned.ensures c.in_err-metadata-2.ensures.both in
     passes_fault (parts_of {A = g.row.A.Denot}) c.from_residual-in_err-metadata-2.result _ e c.from_residual-in_err-metadata-2.ensures.1
-    (fails_later _ _ _ _ (ap regions_result (sym c.toc.ensures.toc) ∙ sym c.in_ok-regions.ensures) (both_later (meta_result body regions.metadata) (λ (facts : Facts). facts_fitting facts c.args.global_seqno) _ _ _ c.in_ok-metadata.ensures.told (fails_here _ _ _ fails)))
+    (fails_later _ _ _ _ (ap regions_result (sym c.toc.ensures.toc) ∙ sym c.in_ok-regions.ensures) (both_later (meta_result body regions.metadata) (λ (facts : Facts). facts_fitting facts c.args.global_seqno) _ _ _ c.in_ok-metadata.ensures.returned (fails_here _ _ _ fails)))
 
 pub returns-in_err-metadata-2-clause-number : goal.returns-in_err-metadata-2-clause-number
 returns-in_err-metadata-2-clause-number g c = IfOk-from_err _ _ c.from_residual-in_err-metadata-2.ensures.0
@@ -69,9 +69,9 @@ returns-in_err-metadata-2-clause-tree g c = IfOk-from_err _ _ c.from_residual-in
 pub returns-in_err-metadata-2-clause-checksum : goal.returns-in_err-metadata-2-clause-checksum
 returns-in_err-metadata-2-clause-checksum g c = IfOk-from_err _ _ c.from_residual-in_err-metadata-2.ensures.0
 
-pub returns-clause-told : goal.returns-clause-told
+pub returns-clause-returned : goal.returns-clause-returned
 unfolding parts_result
-returns-clause-told g c =
+returns-clause-returned g c =
     let regions = c.in_ok-regions.regions in
     let body = body_of c.args.source.now in
     let kept = c.in_ok-metadata-2.metadata in
@@ -80,7 +80,7 @@ returns-clause-told g c =
     let gives = beside_gives (pinned_of {A = g.row.A.Denot}) c.in_ok-metadata.metadata call.result (pinned_result body regions c.args.pin_filter c.args.pin_index) kept pinned call.ensures c.in_ok-metadata-2.ensures.both in
     let same = beside_first c.in_ok-metadata.metadata call.result kept pinned c.in_ok-metadata-2.ensures.both in
     goes_on _ _ _ _ (ap regions_result (sym c.toc.ensures.toc) ∙ sym c.in_ok-regions.ensures)
-    (both_on (meta_result body regions.metadata) (λ (facts : Facts). facts_fitting facts c.args.global_seqno) _ _ _ c.in_ok-metadata.ensures.told (goes_on _ _ _ _ gives (ap (λ (m : ParsedMeta g.row.A.Denot). reported_parts (facts_of m) regions (pinned_of pinned)) (sym same))))
+    (both_on (meta_result body regions.metadata) (λ (facts : Facts). facts_fitting facts c.args.global_seqno) _ _ _ c.in_ok-metadata.ensures.returned (goes_on _ _ _ _ gives (ap (λ (m : ParsedMeta g.row.A.Denot). reported_parts (facts_of m) regions (pinned_of pinned)) (sym same))))
 
 pub returns-in_err-regions-clause-early : goal.returns-in_err-regions-clause-early
 returns-in_err-regions-clause-early g c =

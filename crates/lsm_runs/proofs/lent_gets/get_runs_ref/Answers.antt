@@ -1,7 +1,7 @@
 use Rattle.lsm_runs.proofs.lent_gets.get_runs_ref.Goals as goal
 
-pub returns-clause-told : goal.returns-clause-told
-returns-clause-told g c order = c.get_runs_ref_counted.ensures.told order
+pub returns-clause-returned : goal.returns-clause-returned
+returns-clause-returned g c order = c.get_runs_ref_counted.ensures.returned order
 
 pub returns-clause-list : goal.returns-clause-list
 returns-clause-list g c lists held = c.get_runs_ref_counted.ensures.list lists held

@@ -11,8 +11,8 @@ use Rattle.lsm_runs.specs.SeveralRuns.{runs_read}
 use Rattle.lsm_runs.proofs.RunPlaces.{lent_does, lent_gives}
 use Rattle.lsm_runs.proofs.lent_gets.get_runs_ref_counted.Goals as goal
 
-pub returns-clause-told : goal.returns-clause-told
-returns-clause-told g c order = lent_gives (placed_in_runs (map arc_value c.args.runs.now)) c.place_in_runs_counted-found.result.0 c.borrowed.result c.borrowed.ensures _ (c.place_in_runs_counted-found.ensures.told order)
+pub returns-clause-returned : goal.returns-clause-returned
+returns-clause-returned g c order = lent_gives (placed_in_runs (map arc_value c.args.runs.now)) c.place_in_runs_counted-found.result.0 c.borrowed.result c.borrowed.ensures _ (c.place_in_runs_counted-found.ensures.returned order)
 
 pub returns-clause-list : goal.returns-clause-list
 returns-clause-list g c lists held = lent_gives (placed_in_runs (map arc_value c.args.runs.now)) c.place_in_runs_counted-found.result.0 c.borrowed.result c.borrowed.ensures _ (c.place_in_runs_counted-found.ensures.list lists held)
@@ -20,23 +20,23 @@ returns-clause-list g c lists held = lent_gives (placed_in_runs (map arc_value c
 pub returns-clause-early : goal.returns-clause-early
 returns-clause-early g c order =
     let all = map arc_value c.args.runs.now in
-    let told = c.place_in_runs_counted-found.ensures in
+    let returned = c.place_in_runs_counted-found.ensures in
     let read = runs_read c.args.key.now c.args.seqno None all in
-    let does = lent_does (placed_in_runs all) c.place_in_runs_counted-found.result.0 c.borrowed.result c.borrowed.ensures read none_opened c.place_in_runs_counted-found.result.1 (told.told order) (told.early order) (told.opened order) (told.calm order) in
+    let does = lent_does (placed_in_runs all) c.place_in_runs_counted-found.result.0 c.borrowed.result c.borrowed.ensures read none_opened c.place_in_runs_counted-found.result.1 (returned.returned order) (returned.early order) (returned.opened order) (returned.calm order) in
     first_seen (option_map entry_of_ref) c.borrowed.result read.early does.early
 
 pub returns-clause-calm : goal.returns-clause-calm
 returns-clause-calm g c order none =
     let all = map arc_value c.args.runs.now in
-    let told = c.place_in_runs_counted-found.ensures in
+    let returned = c.place_in_runs_counted-found.ensures in
     let read = runs_read c.args.key.now c.args.seqno None all in
-    let does = lent_does (placed_in_runs all) c.place_in_runs_counted-found.result.0 c.borrowed.result c.borrowed.ensures read none_opened c.place_in_runs_counted-found.result.1 (told.told order) (told.early order) (told.opened order) (told.calm order) in
+    let does = lent_does (placed_in_runs all) c.place_in_runs_counted-found.result.0 c.borrowed.result c.borrowed.ensures read none_opened c.place_in_runs_counted-found.result.1 (returned.returned order) (returned.early order) (returned.opened order) (returned.calm order) in
     ok_seen (option_map entry_of_ref) c.borrowed.result (does.calm none)
 
 pub returns-clause-opened : goal.returns-clause-opened
 returns-clause-opened g c order =
     let all = map arc_value c.args.runs.now in
-    let told = c.place_in_runs_counted-found.ensures in
+    let returned = c.place_in_runs_counted-found.ensures in
     let read = runs_read c.args.key.now c.args.seqno None all in
-    let does = lent_does (placed_in_runs all) c.place_in_runs_counted-found.result.0 c.borrowed.result c.borrowed.ensures read none_opened c.place_in_runs_counted-found.result.1 (told.told order) (told.early order) (told.opened order) (told.calm order) in
+    let does = lent_does (placed_in_runs all) c.place_in_runs_counted-found.result.0 c.borrowed.result c.borrowed.ensures read none_opened c.place_in_runs_counted-found.result.1 (returned.returned order) (returned.early order) (returned.opened order) (returned.calm order) in
     opens_seen (option_map entry_of_ref) c.borrowed.result read.loads none_opened c.place_in_runs_counted-found.result.1 does.opens

@@ -27,13 +27,13 @@ returns-clause-read g c order =
     let t = c.in-Some-get.table.now in
     let key = c.args.key.now in
     let n = c.args.seqno in
-    let told = c.get_place-found.ensures in
+    let returned = c.get_place-found.ensures in
     let found = c.get_place-found.result.0 in
     let own = c.get_place-found.result.1 in
     let is = table-there g c in
     let here = sym is ∙ c.in-Some.ensures order in
-    let does = does_by (option_map (entry_placed t.bytes)) found (table_answer t key n) none_opened own told.told told.early told.opened told.calm in
-    let seen = ap (result_map (option_and_then (placed_in_run c.args.run.now))) c.found_in.ensures ∙ seen_there c.args.run.now t c.args.number c.in-Some.index is found told.placed in
+    let does = does_by (option_map (entry_placed t.bytes)) found (table_answer t key n) none_opened own returned.returned returned.early returned.opened returned.calm in
+    let seen = ap (result_map (option_and_then (placed_in_run c.args.run.now))) c.found_in.ensures ∙ seen_there c.args.run.now t c.args.number c.in-Some.index is found returned.placed in
     subst (λ (r : Result (Option Entry) Error). DoesRead r (run_read key n c.args.run.now) none_opened own) (sym seen)
     (subst (λ (o : Option OpenTable). DoesRead (result_map (option_map (entry_placed t.bytes)) found) (table_read key n o) none_opened own) here does)
 

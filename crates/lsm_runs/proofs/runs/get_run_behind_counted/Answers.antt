@@ -11,11 +11,11 @@ use Rattle.lsm_runs.proofs.runs.get_run_behind_counted.Goals as goal
 
 pub returns-clause-read : goal.returns-clause-read
 returns-clause-read g c order =
-    let told = c.get_counted.ensures in
+    let returned = c.get_counted.ensures in
     let is = asked c.args.found.now c.in-Some.table.now (sym c.is_older.ensures ∙ c.if-is_older.false) in
     subst (λ (o : Option OpenTable). DoesRead c.get_counted.result.0 (table_read c.args.key.now c.args.seqno (worth_asking c.args.found.now o)) none_opened c.get_counted.result.1) (c.in-Some.ensures.found order)
     (subst (λ (o : Option OpenTable). DoesRead c.get_counted.result.0 (table_read c.args.key.now c.args.seqno o) none_opened c.get_counted.result.1) (sym is)
-    (record { told = told.told; early = told.early; opens = told.opened; calm = told.calm }))
+    (record { returned = returned.returned; early = returned.early; opens = returned.opened; calm = returned.calm }))
 
 pub returns-clause-few : goal.returns-clause-few
 returns-clause-few g c = few_each _ c.get_counted.result.1 c.get_counted.ensures.few

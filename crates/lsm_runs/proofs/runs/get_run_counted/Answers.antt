@@ -10,9 +10,9 @@ use Rattle.lsm_runs.proofs.runs.get_run_counted.Goals as goal
 
 pub returns-in-Some-clause-read : goal.returns-in-Some-clause-read
 returns-in-Some-clause-read g c order =
-    let told = c.get_counted.ensures in
+    let returned = c.get_counted.ensures in
     subst (λ (o : Option OpenTable). DoesRead c.get_counted.result.0 (table_read c.args.key.now c.args.seqno o) none_opened c.get_counted.result.1) (c.in-Some.ensures.found order)
-    (record { told = told.told; early = told.early; opens = told.opened; calm = told.calm })
+    (record { returned = returned.returned; early = returned.early; opens = returned.opened; calm = returned.calm })
 
 pub returns-in-Some-clause-few : goal.returns-in-Some-clause-few
 returns-in-Some-clause-few g c = few_each _ c.get_counted.result.1 c.get_counted.ensures.few

@@ -1,7 +1,7 @@
 use Rattle.lsm_runs.proofs.runs.get_runs_by_age.Goals as goal
 
-pub returns-clause-told : goal.returns-clause-told
-returns-clause-told g c order = c.get_runs_by_age_counted.ensures.told order
+pub returns-clause-returned : goal.returns-clause-returned
+returns-clause-returned g c order = c.get_runs_by_age_counted.ensures.returned order
 
 pub returns-clause-list : goal.returns-clause-list
 returns-clause-list g c lists held = c.get_runs_by_age_counted.ensures.list lists held

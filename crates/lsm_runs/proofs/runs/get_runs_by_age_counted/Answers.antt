@@ -21,78 +21,78 @@ loop-run-preserved g c =
     let runs = c.args.runs.now in
     let i = c.loop-run.run-index in
     let before = c.loop-run.invariant in
-    let told = c.get_run_behind_counted-told in
+    let returned = c.get_run_behind_counted-returned in
     rw (c.leading-best.ensures, c.together-loads.ensures) (record {
       reads = λ order.
           let own = all_at arc_value (IsInOrder range_of) runs i c.run-item.result order c.loop-run-test.true c.run-item.is in
-          let here = rw c.in-Ok.is at (rw c.deref.ensures at (told.ensures.read (rw c.deref.ensures own))) in
-          reads_next arc_value (run_read_behind c.args.key.now c.args.seqno) runs i c.run-item.result c.loop-run-test.true c.run-item.is c.loop-run.best c.loop-run.loads told.result.1 before.small (before.reads order) c.in-Ok.next here;
-      small = together_small c.loop-run.loads told.result.1;
-      few = more_each i (length runs) c.loop-run.loads told.result.1 c.loop-run-test.true before.few told.ensures.few;
+          let here = rw c.in-Ok.is at (rw c.deref.ensures at (returned.ensures.read (rw c.deref.ensures own))) in
+          reads_next arc_value (run_read_behind c.args.key.now c.args.seqno) runs i c.run-item.result c.loop-run-test.true c.run-item.is c.loop-run.best c.loop-run.loads returned.result.1 before.small (before.reads order) c.in-Ok.next here;
+      small = together_small c.loop-run.loads returned.result.1;
+      few = more_each i (length runs) c.loop-run.loads returned.result.1 c.loop-run-test.true before.few returned.ensures.few;
     })
 
-pub returns-in-Err-clause-told : goal.returns-in-Err-clause-told
-returns-in-Err-clause-told g c order =
+pub returns-in-Err-clause-returned : goal.returns-in-Err-clause-returned
+returns-in-Err-clause-returned g c order =
     let runs = c.args.runs.now in
     let i = c.loop-run.run-index in
     let before = c.loop-run.invariant in
-    let told = c.get_run_behind_counted-told in
+    let returned = c.get_run_behind_counted-returned in
     let own = all_at arc_value (IsInOrder range_of) runs i c.run-item.result order c.loop-run-test.true c.run-item.is in
-    let here = rw c.in-Err.is at (rw c.deref.ensures at (told.ensures.read (rw c.deref.ensures own))) in
-    (reads_fault arc_value (run_read_behind c.args.key.now c.args.seqno) runs i c.run-item.result c.loop-run-test.true c.run-item.is c.loop-run.best c.loop-run.loads told.result.1 before.small (before.reads order) c.in-Err.error here).told
+    let here = rw c.in-Err.is at (rw c.deref.ensures at (returned.ensures.read (rw c.deref.ensures own))) in
+    (reads_fault arc_value (run_read_behind c.args.key.now c.args.seqno) runs i c.run-item.result c.loop-run-test.true c.run-item.is c.loop-run.best c.loop-run.loads returned.result.1 before.small (before.reads order) c.in-Err.error here).returned
 
 pub returns-in-Err-clause-list : goal.returns-in-Err-clause-list
 returns-in-Err-clause-list g c lists held =
     let runs = map arc_value c.args.runs.now in
-    subst (λ (told : Result (Option Entry) Error). Gives (λ (x : Option Entry). x) (refused_by c.in-Err.error) told) (age_point c.args.key.now c.args.seqno None runs lists held tt)
-    (returns-in-Err-clause-told g c (runs_in_order runs lists held))
+    subst (λ (returned : Result (Option Entry) Error). Gives (λ (x : Option Entry). x) (refused_by c.in-Err.error) returned) (age_point c.args.key.now c.args.seqno None runs lists held tt)
+    (returns-in-Err-clause-returned g c (runs_in_order runs lists held))
 
 pub returns-in-Err-clause-early : goal.returns-in-Err-clause-early
 returns-in-Err-clause-early g c order =
     let runs = c.args.runs.now in
     let i = c.loop-run.run-index in
     let before = c.loop-run.invariant in
-    let told = c.get_run_behind_counted-told in
+    let returned = c.get_run_behind_counted-returned in
     let own = all_at arc_value (IsInOrder range_of) runs i c.run-item.result order c.loop-run-test.true c.run-item.is in
-    let here = rw c.in-Err.is at (rw c.deref.ensures at (told.ensures.read (rw c.deref.ensures own))) in
-    (reads_fault arc_value (run_read_behind c.args.key.now c.args.seqno) runs i c.run-item.result c.loop-run-test.true c.run-item.is c.loop-run.best c.loop-run.loads told.result.1 before.small (before.reads order) c.in-Err.error here).early
+    let here = rw c.in-Err.is at (rw c.deref.ensures at (returned.ensures.read (rw c.deref.ensures own))) in
+    (reads_fault arc_value (run_read_behind c.args.key.now c.args.seqno) runs i c.run-item.result c.loop-run-test.true c.run-item.is c.loop-run.best c.loop-run.loads returned.result.1 before.small (before.reads order) c.in-Err.error here).early
 
 pub returns-in-Err-clause-calm : goal.returns-in-Err-clause-calm
 returns-in-Err-clause-calm g c order none =
     let runs = c.args.runs.now in
     let i = c.loop-run.run-index in
     let before = c.loop-run.invariant in
-    let told = c.get_run_behind_counted-told in
+    let returned = c.get_run_behind_counted-returned in
     let own = all_at arc_value (IsInOrder range_of) runs i c.run-item.result order c.loop-run-test.true c.run-item.is in
-    let here = rw c.in-Err.is at (rw c.deref.ensures at (told.ensures.read (rw c.deref.ensures own))) in
-    (reads_fault arc_value (run_read_behind c.args.key.now c.args.seqno) runs i c.run-item.result c.loop-run-test.true c.run-item.is c.loop-run.best c.loop-run.loads told.result.1 before.small (before.reads order) c.in-Err.error here).calm none
+    let here = rw c.in-Err.is at (rw c.deref.ensures at (returned.ensures.read (rw c.deref.ensures own))) in
+    (reads_fault arc_value (run_read_behind c.args.key.now c.args.seqno) runs i c.run-item.result c.loop-run-test.true c.run-item.is c.loop-run.best c.loop-run.loads returned.result.1 before.small (before.reads order) c.in-Err.error here).calm none
 
 pub returns-in-Err-clause-opened : goal.returns-in-Err-clause-opened
 returns-in-Err-clause-opened g c order =
     let runs = c.args.runs.now in
     let i = c.loop-run.run-index in
     let before = c.loop-run.invariant in
-    let told = c.get_run_behind_counted-told in
+    let returned = c.get_run_behind_counted-returned in
     let own = all_at arc_value (IsInOrder range_of) runs i c.run-item.result order c.loop-run-test.true c.run-item.is in
-    let here = rw c.in-Err.is at (rw c.deref.ensures at (told.ensures.read (rw c.deref.ensures own))) in
+    let here = rw c.in-Err.is at (rw c.deref.ensures at (returned.ensures.read (rw c.deref.ensures own))) in
     rw c.together-loads.ensures
-    (reads_fault arc_value (run_read_behind c.args.key.now c.args.seqno) runs i c.run-item.result c.loop-run-test.true c.run-item.is c.loop-run.best c.loop-run.loads told.result.1 before.small (before.reads order) c.in-Err.error here).opens
+    (reads_fault arc_value (run_read_behind c.args.key.now c.args.seqno) runs i c.run-item.result c.loop-run-test.true c.run-item.is c.loop-run.best c.loop-run.loads returned.result.1 before.small (before.reads order) c.in-Err.error here).opens
 
 pub returns-in-Err-clause-few : goal.returns-in-Err-clause-few
 returns-in-Err-clause-few g c =
     let runs = c.args.runs.now in
     let i = c.loop-run.run-index in
-    let told = c.get_run_behind_counted-told in
-    rw c.together-loads.ensures (all_each (i + 1) (length runs) (loads_together c.loop-run.loads told.result.1)
-    (more_each i (length runs) c.loop-run.loads told.result.1 c.loop-run-test.true c.loop-run.invariant.few told.ensures.few))
+    let returned = c.get_run_behind_counted-returned in
+    rw c.together-loads.ensures (all_each (i + 1) (length runs) (loads_together c.loop-run.loads returned.result.1)
+    (more_each i (length runs) c.loop-run.loads returned.result.1 c.loop-run-test.true c.loop-run.invariant.few returned.ensures.few))
 
-pub returns-clause-told : goal.returns-clause-told
-returns-clause-told g c order = (reads_all arc_value (run_read_behind c.args.key.now c.args.seqno) c.args.runs.now c.loop-run.run-index c.loop-run.best c.loop-run.loads (c.loop-run.invariant.reads order) c.loop-run-test.false).told
+pub returns-clause-returned : goal.returns-clause-returned
+returns-clause-returned g c order = (reads_all arc_value (run_read_behind c.args.key.now c.args.seqno) c.args.runs.now c.loop-run.run-index c.loop-run.best c.loop-run.loads (c.loop-run.invariant.reads order) c.loop-run-test.false).returned
 
 pub returns-clause-list : goal.returns-clause-list
 returns-clause-list g c lists held =
     let runs = map arc_value c.args.runs.now in
-    subst (λ (told : Result (Option Entry) Error). Gives (λ (x : Option Entry). x) (found_is c.loop-run.best) told) (age_point c.args.key.now c.args.seqno None runs lists held tt) (returns-clause-told g c (runs_in_order runs lists held))
+    subst (λ (returned : Result (Option Entry) Error). Gives (λ (x : Option Entry). x) (found_is c.loop-run.best) returned) (age_point c.args.key.now c.args.seqno None runs lists held tt) (returns-clause-returned g c (runs_in_order runs lists held))
 
 pub returns-clause-opened : goal.returns-clause-opened
 returns-clause-opened g c order = (reads_all arc_value (run_read_behind c.args.key.now c.args.seqno) c.args.runs.now c.loop-run.run-index c.loop-run.best c.loop-run.loads (c.loop-run.invariant.reads order) c.loop-run-test.false).opens

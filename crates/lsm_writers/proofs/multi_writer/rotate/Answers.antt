@@ -12,7 +12,7 @@ pub returns-in_err-next-clause-refused : goal.returns-in_err-next-clause-refused
 returns-in_err-next-clause-refused g c = faults_memory c.from_residual.result c.in_err-next.field-0.0 _ c.from_residual.ensures.1 c.in_err-next.ensures.err
 
 pub returns-in_err-next-clause-first : goal.returns-in_err-next-clause-first
-returns-in_err-next-clause-first g c = λ x told. absurd (ids_fine_first c.in-Some.id c.args.ids.now c.in-Some.ensures.id x told)
+returns-in_err-next-clause-first g c = λ x returned. absurd (ids_fine_first c.in-Some.id c.args.ids.now c.in-Some.ensures.id x returned)
 
 pub returns-clause-first : goal.returns-clause-first
-returns-clause-first g c = λ x told. absurd (ids_fine_first c.in-Some.id c.args.ids.now c.in-Some.ensures.id x told)
+returns-clause-first g c = λ x returned. absurd (ids_fine_first c.in-Some.id c.args.ids.now c.in-Some.ensures.id x returned)

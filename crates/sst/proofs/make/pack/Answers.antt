@@ -19,7 +19,7 @@ returns-clause-does g c =
           of_files.2;
       packed = c.in_ok-packed.packed;
       least = of_files.3;
-      told = subst (λ (names : List (Bor (List ℕ))).
+      returned = subst (λ (names : List (Bor (List ℕ))).
           Appends old new (packed_text names c.in_ok-packed.packed)) are
           c.in_ok-print_packed.ensures;
     }

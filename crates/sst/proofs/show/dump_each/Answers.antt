@@ -20,7 +20,7 @@ loop-name-preserved g c =
     dumps_more c.args.options.now (g.P.Place.content c.args.place.now) c.args.names.now
     c.loop-name.name-index _ c.in_ok-file.file.table c.args.left c.loop-name.left c.in_ok-left.left
     _ _ _ c.loop-name-test.true c.loop-name.invariant c.if-left-eq0.false
-    c.in_ok-file.ensures.told c.in_ok-file.ensures.content printed.told printed.rest
+    c.in_ok-file.ensures.returned c.in_ok-file.ensures.content printed.returned printed.rest
 
 pub returns-clause-dumps : goal.returns-clause-dumps
 returns-clause-dumps g c = (
@@ -62,7 +62,7 @@ returns-in_err-left-clause-refused g c =
     (failure.Show e) old now new c.loop-name-test.true c.loop-name.invariant c.if-left-eq0.false
     (inr (
       c.in_ok-file.file,
-      record { named = file.name; told = file.told; has = file.content },
+      record { named = file.name; returned = file.returned; has = file.content },
       e,
       refl,
       c.in_err-left.ensures.named,

@@ -46,10 +46,10 @@ returns-clause-does g c =
       files = files;
       named = subst (λ (names : List (Bor (List ℕ))). AreNamed content names files)
           c.as_slice-2.ensures.value c.in_ok-tables.ensures.named;
-      told = subst (λ (fs : List (NamedTable Global)). AllByRecursion (IsInOrder range_of) (runs_in fs)
+      returned = subst (λ (fs : List (NamedTable Global)). AllByRecursion (IsInOrder range_of) (runs_in fs)
           → (found : Option Entry)
           × (runs_result options.key.now (seen_below options) None (runs_in fs) ≡ Ok found)
-          × (c.in_ok-found.found ≡ is_some found)) seen c.in_ok-found.ensures.told;
+          × (c.in_ok-found.found ≡ is_some found)) seen c.in_ok-found.ensures.returned;
       printed = subst (λ (fs : List (NamedTable Global)).
           AllByRecursion (IsInOrder range_of) (runs_in fs) → (found : Option Entry)
           × (runs_result options.key.now (seen_below options) None (runs_in fs) ≡ Ok found)

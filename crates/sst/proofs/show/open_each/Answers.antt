@@ -9,7 +9,7 @@ loop-name-preserved g c =
     rw c.in_ok-push.ensures.items
     (named_more (g.P.Place.content c.args.place.now) c.args.names.now c.loop-name.name-index _
     c.loop-name.tables.items c.in_ok-open_named.field-0 c.loop-name-test.true c.loop-name.invariant
-    file.name file.told file.content)
+    file.name file.returned file.content)
 
 pub returns-in_err-open_named-clause-refused : goal.returns-in_err-open_named-clause-refused
 returns-in_err-open_named-clause-refused g c =

@@ -10,4 +10,4 @@ returns-in_err-table-clause-refused g c =
     let e = c.in_err-table.field-0.0 in
     passed_failure (RefusesFile (g.P.Place.content c.args.place.now name) name)
     c.from_residual.result (failure_of_file e) c.from_residual.ensures.1
-    (e, refl, c.in_err-table.ensures.named, c.in_err-table.ensures.told)
+    (e, refl, c.in_err-table.ensures.named, c.in_err-table.ensures.returned)

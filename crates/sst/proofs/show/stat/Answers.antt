@@ -21,7 +21,7 @@ loop-name-preserved g c =
     let read = c.as_slice-name-items.result.now in
     let step : StatsEach task.json content (take i read) old now
     → StatsEach task.json content (take (i + 1) read) old new = λ before.
-    stats_more task.json content read i _ table old now new c.loop-name-test.true before file.told
+    stats_more task.json content read i _ table old now new c.loop-name-test.true before file.returned
     file.content
     (subst (λ (name : Bor (List ℕ)). PrintsText (IsStatAs task.json table name.now) now new)
     file.name (stat_printed task.json c.format_of.result table c.in_ok-file.file.name.now now new
@@ -82,7 +82,7 @@ returns-in_err-stat-clause-refused g c =
     stats_stop task.json content read i _ e old now new c.loop-name-test.true before
     (inr (
       c.in_ok-file.file,
-      record { named = file.name; told = file.told; has = file.content },
+      record { named = file.name; returned = file.returned; has = file.content },
       error,
       refl,
       c.in_err-stat.ensures.named,

@@ -8,5 +8,5 @@ pub returns-clause-checks : goal.returns-clause-checks
 returns-clause-checks g c =
     no_table c.args.bytes c.args.name.now c.in-Err.error c.print_unopened.result _ _
     (subst (λ (bytes : List ℕ). Gives (λ (t : OpenTable). t.parts) (Err c.in-Err.error)
-    (recovered_result bytes 0 false false)) c.in_ok-shared.ensures.cases c.in-Err.ensures.told)
+    (recovered_result bytes 0 false false)) c.in_ok-shared.ensures.cases c.in-Err.ensures.returned)
     c.print_unopened.ensures.count c.print_unopened.ensures.memory c.print_unopened.ensures.printed

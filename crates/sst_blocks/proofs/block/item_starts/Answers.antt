@@ -54,8 +54,8 @@ returns-in-Data-clause-found g c =
 pub returns-in-Data-clause-refused : goal.returns-in-Data-clause-refused
 unfolding entries_in
 returns-in-Data-clause-refused g c =
-    let told = refused _ (entries_in c.args.version c.args.payload.now) _ _ c.starts_in.result c.starts_in.ensures.found c.starts_in.ensures.fault in
-    at_entries (λ k. Faults c.starts_in.result (grammar_fault c.args.version k c.args.payload.now)) c.args.kind c.in-Data.is told told
+    let returned = refused _ (entries_in c.args.version c.args.payload.now) _ _ c.starts_in.result c.starts_in.ensures.found c.starts_in.ensures.fault in
+    at_entries (λ k. Faults c.starts_in.result (grammar_fault c.args.version k c.args.payload.now)) c.args.kind c.in-Data.is returned returned
 
 pub returns-in-Index-clause-found : goal.returns-in-Index-clause-found
 unfolding handles_in
@@ -65,5 +65,5 @@ returns-in-Index-clause-found g c =
 pub returns-in-Index-clause-refused : goal.returns-in-Index-clause-refused
 unfolding handles_in
 returns-in-Index-clause-refused g c =
-    let told = refused _ (handles_in c.args.version c.args.payload.now) _ _ c.starts_in-in-Index.result c.starts_in-in-Index.ensures.found c.starts_in-in-Index.ensures.fault in
-    subst (λ k. Faults c.starts_in-in-Index.result (grammar_fault c.args.version k c.args.payload.now)) (sym c.in-Index.is) told
+    let returned = refused _ (handles_in c.args.version c.args.payload.now) _ _ c.starts_in-in-Index.result c.starts_in-in-Index.ensures.found c.starts_in-in-Index.ensures.fault in
+    subst (λ k. Faults c.starts_in-in-Index.result (grammar_fault c.args.version k c.args.payload.now)) (sym c.in-Index.is) returned

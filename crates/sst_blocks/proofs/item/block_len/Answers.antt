@@ -16,8 +16,8 @@ loop-item-preserved g c =
 
 pub returns-in_err-test-clause-refused : goal.returns-in_err-test-clause-refused
 returns-in_err-test-clause-refused g c =
-    let told = fault_at g.T.Item.fault_or g.T.Item.bound c.args.items.now _ c.item-item.result c.in_err-test.field-0.0 c.loop-item.invariant.fine c.loop-item-test.true c.item-item.is c.in_err-test.ensures.refused in
-    passed_on c.from_residual.result c.in_err-test.field-0.0 _ c.from_residual.ensures.1 told
+    let returned = fault_at g.T.Item.fault_or g.T.Item.bound c.args.items.now _ c.item-item.result c.in_err-test.field-0.0 c.loop-item.invariant.fine c.loop-item-test.true c.item-item.is c.in_err-test.ensures.refused in
+    passed_on c.from_residual.result c.in_err-test.field-0.0 _ c.from_residual.ensures.1 returned
 
 pub returns-then-bound-from-clause-refused : goal.returns-then-bound-from-clause-refused
 returns-then-bound-from-clause-refused g c =

@@ -23,18 +23,18 @@ returns-in_default-clause-fault g c _ =
 pub returns-then-not-may_follow-clause-fault : goal.returns-then-not-may_follow-clause-fault
 returns-then-not-may_follow-clause-fault g c _ =
     let f = g.R.ItemRef.format c.args.version in
-    let told = g.R.ItemRef.told in
-    let some : f.read c.loop.rest.now ≡ Some (told c.in-Some.read.0, c.in-Some.read.1.now) = search rules in
-    let early : may_follow (option_map (λ x. f.key (told x)) c.loop.last) (f.key (told c.in-Some.read.0)) ≡ false = search rules in
+    let returned = g.R.ItemRef.returned in
+    let some : f.read c.loop.rest.now ≡ Some (returned c.in-Some.read.0, c.in-Some.read.1.now) = search rules in
+    let early : may_follow (option_map (λ x. f.key (returned x)) c.loop.last) (f.key (returned c.in-Some.read.0)) ≡ false = search rules in
     let lt : c.loop.counter < num4 c.args.payload.now = omega (arith, c.loop-test.true, c.u32_at-count.ensures) in
     (refl, walk_unordered f _ _ _ _ _ _ _ c.loop.invariant lt some early)
 
 pub loop-preserved : goal.loop-preserved
 loop-preserved g c =
     let f = g.R.ItemRef.format c.args.version in
-    let told = g.R.ItemRef.told in
-    let some : f.read c.loop.rest.now ≡ Some (told c.in-Some.read.0, c.in-Some.read.1.now) = search rules in
-    let follows : may_follow (option_map (λ x. f.key (told x)) c.loop.last) (f.key (told c.in-Some.read.0)) ≡ true = elim c.else-not-is_tested.branch [
+    let returned = g.R.ItemRef.returned in
+    let some : f.read c.loop.rest.now ≡ Some (returned c.in-Some.read.0, c.in-Some.read.1.now) = search rules in
+    let follows : may_follow (option_map (λ x. f.key (returned x)) c.loop.last) (f.key (returned c.in-Some.read.0)) ≡ true = elim c.else-not-is_tested.branch [
       | else-not-is_tested-via-then-not-is_tested+else-not-may_follow w ↦ search rules
       | else-not-is_tested-via-else-not-is_tested w ↦
           let lt : c.loop.counter < num4 c.args.payload.now = omega (arith, c.loop-test.true, c.u32_at-count.ensures) in

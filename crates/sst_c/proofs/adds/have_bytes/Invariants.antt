@@ -4,6 +4,6 @@ use Rattle.std.specs.List.{sum}
 use Rattle.sst_c.specs.Adds.{size_of}
 use Rattle.sst_c.proofs.adds.have_bytes.Given as goal
 
-abbrev pub invariant-loop-told : goal.invariant-loop-told
-invariant-loop-told l =
-    l.left + sum (map size_of l.entries) ≡ l.fn.count + sum (map size_of (drop l.told-index l.entries))
+abbrev pub invariant-loop-returned : goal.invariant-loop-returned
+invariant-loop-returned l =
+    l.left + sum (map size_of l.entries) ≡ l.fn.count + sum (map size_of (drop l.returned-index l.entries))

@@ -7,8 +7,8 @@ use Rattle.sst_c.specs.Compact.{ReportsOutcome}
 use Rattle.sst_c.proofs.Compacting.{outcome_tables}
 use Rattle.sst_c.proofs.compactions.tell_outcome.Goals as goal
 
-pub returns-in-Ok-Tables-clause-told : goal.returns-in-Ok-Tables-clause-told
-returns-in-Ok-Tables-clause-told c =
+pub returns-in-Ok-Tables-clause-returned : goal.returns-in-Ok-Tables-clause-returned
+returns-in-Ok-Tables-clause-returned c =
     let code = c.tell_tables.result in
     let held = c.tell_tables.new.files.boxed.value in
     let next = c.tell_tables.new.next_id in

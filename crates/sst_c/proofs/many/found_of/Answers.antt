@@ -15,4 +15,4 @@ pub returns-clause-count : goal.returns-clause-count
 returns-clause-count c =
     counted (λ found. found.items) c.get_many.result (found_result c.args.table.now) c.args.keys.now
     c.args.lens.now c.args.seqno c.deref.result.now
-    (c.deref.ensures.value ∙ c.in_ok-queries.ensures.ok) c.get_many.ensures.told
+    (c.deref.ensures.value ∙ c.in_ok-queries.ensures.ok) c.get_many.ensures.returned

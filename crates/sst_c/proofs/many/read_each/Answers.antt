@@ -7,4 +7,4 @@ pub returns-clause-list : goal.returns-clause-list
 returns-clause-list c es stores =
     let all = lift es c.args.table.now.global_seqno in
     let each = map (λ k. point all k c.args.seqno) (keys_cut c.args.lens.now c.args.keys.now) in
-    c.keep_found.ensures.told (Ok each) (c.found_of-found.ensures.list es stores)
+    c.keep_found.ensures.returned (Ok each) (c.found_of-found.ensures.list es stores)

@@ -3,7 +3,7 @@ use Rattle.sst_c.specs.declared.held.Held.{Held}
 use Rattle.sst_c.proofs.Verifying.{same_held}
 use Rattle.sst_c.proofs.memory.sst_table_memory.Goals as goal
 
-pub returns-clause-told : goal.returns-clause-told
-returns-clause-told c h t same is =
+pub returns-clause-returned : goal.returns-clause-returned
+returns-clause-returned c h t same is =
     let one = same_held c.args.table.now.boxed.value c.in-Some.held.value h c.in-Some.ensures.taken same in
-    c.tell_memory-code.ensures.told t (ap (λ (x : Held). x.what) (c.deref.ensures ∙ one) ∙ is)
+    c.tell_memory-code.ensures.returned t (ap (λ (x : Held). x.what) (c.deref.ensures ∙ one) ∙ is)

@@ -8,12 +8,12 @@ use Rattle.sst_c.proofs.Placing.{at_runs}
 use Rattle.sst_c.proofs.runs.get.Goals as goal
 
 -- the runs that are read are those that are held
-pub returns-in-Runs-clause-told : goal.returns-in-Runs-clause-told
-returns-in-Runs-clause-told c are =
+pub returns-in-Runs-clause-returned : goal.returns-in-Runs-clause-returned
+returns-in-Runs-clause-returned c are =
     let P : What → List (List OpenTable) → Type 0 = λ w rs.
     AnswersRead c.get_in.result (found_at c.get_in.new.found w)
     (runs_result c.args.key.now c.args.seqno None rs) in
-    at_runs P c.args.held.now.what c.in-Runs.runs c.in-Runs.is c.get_in.ensures.told
+    at_runs P c.args.held.now.what c.in-Runs.runs c.in-Runs.is c.get_in.ensures.returned
 
 pub returns-in-Runs-clause-early : goal.returns-in-Runs-clause-early
 returns-in-Runs-clause-early c are =

@@ -12,8 +12,8 @@ use Rattle.sst_c.proofs.Placing.{run_place_answers}
 use Rattle.sst_c.proofs.runs.get_in.Goals as goal
 
 -- the position that is kept is that of the entry that the runs have
-pub returns-clause-told : goal.returns-clause-told
-returns-clause-told c =
+pub returns-clause-returned : goal.returns-clause-returned
+returns-clause-returned c =
     let runs = map arc_value c.as_slice.result.now in
     let order = subst (AreInOrder range_of) (sym c.as_slice.ensures.runs) c.as_slice.ensures.order in
     let P : List (List OpenTable) → Type 0 =
@@ -22,7 +22,7 @@ returns-clause-told c =
     subst P c.as_slice.ensures.runs
     (run_place_answers runs c.place_in_runs.result (runs_result c.args.key.now c.args.seqno None runs)
     c.keep_place.result c.keep_place.new.found c.keep_place.ensures.code c.keep_place.ensures.found
-    (c.place_in_runs.ensures.told order))
+    (c.place_in_runs.ensures.returned order))
 
 pub returns-clause-list : goal.returns-clause-list
 returns-clause-list c lists holds =

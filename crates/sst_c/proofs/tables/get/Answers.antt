@@ -7,11 +7,11 @@ use Rattle.sst_c.specs.Reported.{AnswersRead, found_at}
 use Rattle.sst_c.specs.declared.held.What.{What}
 
 -- the table that is read is the one that is held
-pub returns-in-Table-clause-told : goal.returns-in-Table-clause-told
-returns-in-Table-clause-told c t same =
+pub returns-in-Table-clause-returned : goal.returns-in-Table-clause-returned
+returns-in-Table-clause-returned c t same =
     let P : What → OpenTable → Type 0 = λ w u.
-    AnswersRead c.get_in.result (found_at c.get_in.new.found w) (table_answer u c.args.key.now c.args.seqno).told in
-    at_table P c.args.held.now.what c.in-Table.table t c.in-Table.is same c.get_in.ensures.told
+    AnswersRead c.get_in.result (found_at c.get_in.new.found w) (table_answer u c.args.key.now c.args.seqno).returned in
+    at_table P c.args.held.now.what c.in-Table.table t c.in-Table.is same c.get_in.ensures.returned
 
 pub returns-in-Table-clause-early : goal.returns-in-Table-clause-early
 returns-in-Table-clause-early c t same =

@@ -5,12 +5,12 @@ use Rattle.sst_c.proofs.Placing.{place_answers}
 use Rattle.sst_c.proofs.tables.get_in.Goals as goal
 
 -- the position that is kept is that of the entry that the table finds
-pub returns-clause-told : goal.returns-clause-told
-returns-clause-told c =
+pub returns-clause-returned : goal.returns-clause-returned
+returns-clause-returned c =
     place_answers c.args.table.now c.get_place.result.0
-    (table_answer c.args.table.now c.args.key.now c.args.seqno).told c.keep_place.result
+    (table_answer c.args.table.now c.args.key.now c.args.seqno).returned c.keep_place.result
     c.keep_place.new.found c.keep_place.ensures.code c.keep_place.ensures.found
-    c.get_place.ensures.told c.get_place.ensures.placed
+    c.get_place.ensures.returned c.get_place.ensures.placed
 
 pub returns-clause-list : goal.returns-clause-list
 returns-clause-list c es stores =

@@ -11,19 +11,19 @@ pub returns : goal.returns
 returns c =
     let r = c.verify.result in
     let code = c.tell.result in
-    let told = c.tell.new.told in
+    let returned = c.tell.new.returned in
     let one = c.tell.ensures.code in
-    let two = c.tell.ensures.told in
+    let two = c.tell.ensures.returned in
     let t = c.args.table.now in
     let found = table_found (body_of t.bytes) t.parts in
     let early = table_early (body_of t.bytes) t.parts in
     let First = IsFirstFinding (body_of t.bytes) t.parts in
     record {
-      told = at_both (λ n v. VerifyAnswers n v found) code (verify_code r) told (verify_result r) one two
-          (came_answers r found c.verify.ensures.told);
-      early = at_both (λ n v. ReportsFinding n v early) code (verify_code r) told (verify_result r) one two
+      returned = at_both (λ n v. VerifyAnswers n v found) code (verify_code r) returned (verify_result r) one two
+          (came_answers r found c.verify.ensures.returned);
+      early = at_both (λ n v. ReportsFinding n v early) code (verify_code r) returned (verify_result r) one two
           (came_early r early c.verify.ensures.early);
-      first = at_both (λ n v. ReportsWrong First n v) code (verify_code r) told (verify_result r) one two
+      first = at_both (λ n v. ReportsWrong First n v) code (verify_code r) returned (verify_result r) one two
           (came_wrong r First c.verify.ensures.first);
       sound = λ zero. subst (λ (v : VerifyReport). ReportsCounts t.bytes v) (sym two)
           (came_counts r t.bytes c.verify.ensures.sound (sym one ∙ zero));

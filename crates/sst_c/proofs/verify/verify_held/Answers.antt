@@ -17,18 +17,18 @@ pub returns-in-Table-clause-early : goal.returns-in-Table-clause-early
 returns-in-Table-clause-early c t same =
     let one = same_table c.args.held.now.what c.in-Table.table t c.in-Table.is same in
     let P : OpenTable → Type 0 =
-    λ u. ReportsFinding c.verify.result c.verify.new.told (table_early (body_of u.bytes) u.parts) in
+    λ u. ReportsFinding c.verify.result c.verify.new.returned (table_early (body_of u.bytes) u.parts) in
     subst P one c.verify.ensures.early
 
 pub returns-in-Table-clause-first : goal.returns-in-Table-clause-first
 returns-in-Table-clause-first c t same =
     let one = same_table c.args.held.now.what c.in-Table.table t c.in-Table.is same in
     let P : OpenTable → Type 0 =
-    λ u. ReportsWrong (IsFirstFinding (body_of u.bytes) u.parts) c.verify.result c.verify.new.told in
+    λ u. ReportsWrong (IsFirstFinding (body_of u.bytes) u.parts) c.verify.result c.verify.new.returned in
     subst P one c.verify.ensures.first
 
 pub returns-in-Table-clause-sound : goal.returns-in-Table-clause-sound
 returns-in-Table-clause-sound c t same zero =
     let one = same_table c.args.held.now.what c.in-Table.table t c.in-Table.is same in
-    let P : OpenTable → Type 0 = λ u. ReportsCounts u.bytes c.verify.new.told in
+    let P : OpenTable → Type 0 = λ u. ReportsCounts u.bytes c.verify.new.returned in
     subst P one (c.verify.ensures.sound zero)

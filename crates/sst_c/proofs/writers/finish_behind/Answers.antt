@@ -6,8 +6,8 @@ use Rattle.lsm_writers.specs.declared.writer.FinishedTable.{FinishedTable}
 use Rattle.sst_c.proofs.Answering.{finish_unplaced}
 use Rattle.sst_c.proofs.writers.finish_behind.Goals as goal
 
-pub returns-in-Err-push-clause-told : goal.returns-in-Err-push-clause-told
-returns-in-Err-push-clause-told c =
+pub returns-in-Err-push-clause-returned : goal.returns-in-Err-push-clause-returned
+returns-in-Err-push-clause-returned c =
     let w = c.args.writer in
     let finished = c.in-Ok-Some.ensures in
     let P : Option (FinishedTable Global) → Type 0 =

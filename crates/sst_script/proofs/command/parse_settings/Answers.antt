@@ -20,5 +20,5 @@ returns-in-Some-4-clause-none c =
     let no_evict : pointwise nat_eq rest (codes "evict") ≡ false = search rules in
     let no_zero : pointwise nat_eq rest (codes "zero") ≡ false = search rules in
     let no_both : pointwise nat_eq rest (codes "evict zero") ≡ false = search rules in
-    λ evict zero told.
-    no_settings rest (λ e. let h = rw e at no_evict in absurd cc) (λ e. let h = rw e at no_zero in absurd cc) (λ e. let h = rw e at no_both in absurd cc) evict zero (words ∙ told)
+    λ evict zero returned.
+    no_settings rest (λ e. let h = rw e at no_evict in absurd cc) (λ e. let h = rw e at no_zero in absurd cc) (λ e. let h = rw e at no_both in absurd cc) evict zero (words ∙ returned)

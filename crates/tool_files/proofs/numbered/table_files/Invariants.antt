@@ -6,7 +6,7 @@ use Rattle.tool_files.proofs.numbered.table_files.Given as goal
 abbrev pub invariant-loop-table : goal.invariant-loop-table
 invariant-loop-table g l = record {
   many : length l.wanted.items ≡ l.table-index;
-  told : map named_bytes l.wanted.items
+  returned : map named_bytes l.wanted.items
       ≡ numbered_files (numbered_path l.fn.name) 1
       (map (λ table. table.bytes) (take l.table-index l.tables));
 }

@@ -21,11 +21,11 @@ loop-path-preserved g c =
 
 pub returns-in_err-table-clause-stops : goal.returns-in_err-table-clause-stops
 returns-in_err-table-clause-stops g c =
-    let told = c.in_err-table.ensures in
-    stops_opening c.args.pinned (g.P.Place.content c.args.place.now) c.from_residual.result c.args.paths.now c.loop-path.path-index _ c.loop-path.tables.items c.in_err-table.field-0.0 c.loop-path-test.true c.loop-path.invariant.opened told.named told.told c.from_residual.ensures.1
+    let returned = c.in_err-table.ensures in
+    stops_opening c.args.pinned (g.P.Place.content c.args.place.now) c.from_residual.result c.args.paths.now c.loop-path.path-index _ c.loop-path.tables.items c.in_err-table.field-0.0 c.loop-path-test.true c.loop-path.invariant.opened returned.named returned.returned c.from_residual.ensures.1
 
 pub returns-in_err-add_table-clause-stops : goal.returns-in_err-add_table-clause-stops
 returns-in_err-add_table-clause-stops g c =
-    let told = c.in_err-add_table.ensures in
+    let returned = c.in_err-add_table.ensures in
     let error = c.in_err-add_table.field-0.0 in
-    stops_opening c.args.pinned (g.P.Place.content c.args.place.now) c.from_residual-in_err-add_table.result c.args.paths.now c.loop-path.path-index _ c.loop-path.tables.items error c.loop-path-test.true c.loop-path.invariant.opened told.named (told_memory c.args.pinned _ error.fault told.memory) c.from_residual-in_err-add_table.ensures.1
+    stops_opening c.args.pinned (g.P.Place.content c.args.place.now) c.from_residual-in_err-add_table.result c.args.paths.now c.loop-path.path-index _ c.loop-path.tables.items error c.loop-path-test.true c.loop-path.invariant.opened returned.named (told_memory c.args.pinned _ error.fault returned.memory) c.from_residual-in_err-add_table.ensures.1

@@ -16,18 +16,18 @@ pub returns-in_err-seqno-clause-refused : goal.returns-in_err-seqno-clause-refus
 returns-in_err-seqno-clause-refused g c = λ line strict.
     let m = c.in_ok-members.members in
     let four = four_members line (value_view c.args.object.now) (value_view m.key.now) (value_view m.seqno.now) (value_view m.kind.now) (value_view m.value.now) strict c.in_ok-members.ensures.ok in
-    let told = c.in_err-seqno.ensures.refused in
+    let returned = c.in_err-seqno.ensures.refused in
     passed_on (IsObjectFault line) c.from_residual-in_err-seqno.result c.in_err-seqno.field-0.0 c.from_residual-in_err-seqno.ensures.1
-    (subst (IsObjectFault line) (sym told.0) (four, λ number. told.1 number.0 number.1))
+    (subst (IsObjectFault line) (sym returned.0) (four, λ number. returned.1 number.0 number.1))
 
 pub returns-in_err-kind-clause-refused : goal.returns-in_err-kind-clause-refused
 returns-in_err-kind-clause-refused g c = λ line strict.
     let m = c.in_ok-members.members in
     let four = four_members line (value_view c.args.object.now) (value_view m.key.now) (value_view m.seqno.now) (value_view m.kind.now) (value_view m.value.now) strict c.in_ok-members.ensures.ok in
-    let told = c.in_err-kind.ensures.refused in
+    let returned = c.in_err-kind.ensures.refused in
     passed_on (IsObjectFault line) c.from_residual-in_err-kind.result c.in_err-kind.field-0.0 c.from_residual-in_err-kind.ensures.1
-    (subst (IsObjectFault line) (sym told.0)
-    (four, (c.in_ok-seqno.seqno, c.in_ok-seqno.ensures.ok), λ kind. told.1 kind.0 kind.1))
+    (subst (IsObjectFault line) (sym returned.0)
+    (four, (c.in_ok-seqno.seqno, c.in_ok-seqno.ensures.ok), λ kind. returned.1 kind.0 kind.1))
 
 pub returns-in_err-key-clause-refused : goal.returns-in_err-key-clause-refused
 returns-in_err-key-clause-refused g c = λ line strict.
@@ -36,13 +36,13 @@ returns-in_err-key-clause-refused g c = λ line strict.
     let e = c.in_err-key.field-0.0 in
     passed_on (IsObjectFault line) c.from_residual-in_err-key.result e c.from_residual-in_err-key.ensures.1
     (fault_by (IsObjectFault line) e fault.KeyMember strict.utf8 (λ fine.
-    let told = c.in_err-key.ensures.refused fine in (
-      told.0,
+    let returned = c.in_err-key.ensures.refused fine in (
+      returned.0,
       (
         four,
         (c.in_ok-seqno.seqno, c.in_ok-seqno.ensures.ok),
         (c.in_ok-kind.kind, c.in_ok-kind.ensures.ok),
-        no_bytes (value_view m.key.now) told.1,
+        no_bytes (value_view m.key.now) returned.1,
       ),
     )))
 
@@ -62,13 +62,13 @@ returns-in-Err-clause-refused g c = λ line strict.
     let m = c.in_ok-members.members in
     let four = four_members line (value_view c.args.object.now) (value_view m.key.now) (value_view m.seqno.now) (value_view m.kind.now) (value_view m.value.now) strict c.in_ok-members.ensures.ok in
     fault_by (IsObjectFault line) c.in-Err.error fault.ValueMember strict.utf8 (λ fine.
-    let told = c.in-Err.ensures.refused fine in (
-      told.0,
+    let returned = c.in-Err.ensures.refused fine in (
+      returned.0,
       (
         four,
         (c.in_ok-seqno.seqno, c.in_ok-seqno.ensures.ok),
         (c.in_ok-kind.kind, c.in_ok-kind.ensures.ok),
         (c.in_ok-key.key, c.in_ok-key.ensures.ok),
-        no_bytes (value_view m.value.now) told.1,
+        no_bytes (value_view m.value.now) returned.1,
       ),
     ))

@@ -17,14 +17,14 @@ use Rattle.tool_make.proofs.compact.compact_tables.Goals as goal
 -- a run's entries are those of what it came to
 count_told : {A : Type 0} (o : CompactionOutcome A) (r : Option (List OpenTable)) (n : ℕ)
     → HasRunBy default_opening o r → MatchOption r (n ≡ 0) (λ ts. n ≡ counted ts) → HasCount o n
-count_told {A} (Tables fs left) None n none told = (
+count_told {A} (Tables fs left) None n none returned = (
   [],
   subst (λ (xs : List (FinishedTable A)). AreOpenedBy default_opening xs []) (sym none) tt,
-  told,
+  returned,
 )
-count_told (Tables fs left) (Some ts) n opened told = (ts, opened.1, told)
-count_told OutOfOrder r n opened told = tt
-count_told Stopped r n opened told = tt
+count_told (Tables fs left) (Some ts) n opened returned = (ts, opened.1, returned)
+count_told OutOfOrder r n opened returned = tt
+count_told Stopped r n opened returned = tt
 
 pub returns-clause-count : goal.returns-clause-count
 returns-clause-count g c =

@@ -8,13 +8,13 @@ use Rattle.tool_make.proofs.scanned.has_order.Goals as goal
 
 pub returns-in-Ok-clause-order : goal.returns-in-Ok-clause-order
 returns-in-Ok-clause-order g c =
-    c.is_in_order-told.ensures.order (table_scan c.args.table.now) c.in-Ok.ensures.lends
+    c.is_in_order-returned.ensures.order (table_scan c.args.table.now) c.in-Ok.ensures.lends
 
 pub returns-in-Ok-clause-list : goal.returns-in-Ok-clause-list
 returns-in-Ok-clause-list g c = λ es stored.
     let t = c.args.table.now in
     let lifted = lift es t.global_seqno in
-    order_told c.is_in_order-told.result lifted (stored_strict t.bytes es t.global_seqno stored) (c.is_in_order-told.ensures.order (ok_results lifted) (c.in-Ok.ensures.lends_list es stored))
+    order_told c.is_in_order-returned.result lifted (stored_strict t.bytes es t.global_seqno stored) (c.is_in_order-returned.ensures.order (ok_results lifted) (c.in-Ok.ensures.lends_list es stored))
 
 pub returns-in-Err-clause-order : goal.returns-in-Err-clause-order
 returns-in-Err-clause-order g c =

@@ -5,8 +5,8 @@ use Rattle.tool_make.proofs.write.put_tables.Goals as goal
 
 pub returns-clause-placed : goal.returns-clause-placed
 returns-clause-placed g c =
-    let told = c.in_ok-place_tables.ensures in
-    tables_placed c.args.path.now c.args.target c.args.tables.now c.in_ok-wanted.wanted.items c.deref.result.now (g.P.Place.there c.args.place.now) (g.P.Place.done c.args.place.now) (g.P.Place.done c.place_tables.new.place) c.in_ok-wanted.ensures.files c.deref.ensures.value told.placed told.free
+    let returned = c.in_ok-place_tables.ensures in
+    tables_placed c.args.path.now c.args.target c.args.tables.now c.in_ok-wanted.wanted.items c.deref.result.now (g.P.Place.there c.args.place.now) (g.P.Place.done c.args.place.now) (g.P.Place.done c.place_tables.new.place) c.in_ok-wanted.ensures.files c.deref.ensures.value returned.placed returned.free
 
 pub returns-in_err-place_tables-clause-refused :
     goal.returns-in_err-place_tables-clause-refused

@@ -14,8 +14,8 @@ returns-clause-reads g c = rw c.in-Ok.ensures.ok at c.look_on-looked.ensures.rea
 pub returns-clause-whole : goal.returns-clause-whole
 returns-clause-whole g c = rw c.in-Ok.ensures.ok at c.look_on-looked.ensures.whole
 
-pub returns-clause-told : goal.returns-clause-told
-returns-clause-told g c = rw c.in-Ok.ensures.ok at c.look_on-looked.ensures.told
+pub returns-clause-returned : goal.returns-clause-returned
+returns-clause-returned g c = rw c.in-Ok.ensures.ok at c.look_on-looked.ensures.returned
 
 pub returns-clause-sound : goal.returns-clause-sound
 returns-clause-sound g c = rw c.in-Ok.ensures.ok at c.look_on-looked.ensures.sound

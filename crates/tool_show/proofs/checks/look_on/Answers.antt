@@ -24,7 +24,7 @@ loop-blocks-preserved g c =
     went_more c.args.verification.now w x (g.P.Progress.moves c.args.progress.now) left new
     c.loop-blocks.blocks c.saturating_add-blocks.result went (c.step.ensures.table, reads)
     (reported_at c.args.verification.now w x went.steps left new c.bytes_read.result c.args.all went.reached
-    c.step.ensures.table c.bytes_read.ensures c.requires c.moved.ensures.told)
+    c.step.ensures.table c.bytes_read.ensures c.requires c.moved.ensures.returned)
     c.saturating_add-blocks.ensures falls
 
 pub returns-in-Err-clause-complete : goal.returns-in-Err-clause-complete
@@ -34,8 +34,8 @@ returns-in-Err-clause-complete g c = λ es stores.
     (subst (λ (t : OpenTable). StoresList t.bytes es)
     (sym (same_table c.args.verification.now went.steps c.loop-blocks.verification went.reached)) stores)
 
-pub returns-in-Err-clause-told : goal.returns-in-Err-clause-told
-returns-in-Err-clause-told g c =
+pub returns-in-Err-clause-returned : goal.returns-in-Err-clause-returned
+returns-in-Err-clause-returned g c =
     let went = c.loop-blocks.invariant in
     subst (λ (t : OpenTable). Misses c.in-Err.error (table_found (body_of t.bytes) t.parts))
     (same_table c.args.verification.now went.steps c.loop-blocks.verification went.reached)
@@ -47,12 +47,12 @@ returns-in-Err-clause-reads g c =
     (g.P.Progress.moves c.args.progress.now) (g.P.Progress.moves c.loop-blocks.progress)
     c.loop-blocks.blocks _ c.loop-blocks.invariant c.in-Err.ensures.next
 
-pub returns-in-Ok-Some-clause-told : goal.returns-in-Ok-Some-clause-told
-returns-in-Ok-Some-clause-told g c =
+pub returns-in-Ok-Some-clause-returned : goal.returns-in-Ok-Some-clause-returned
+returns-in-Ok-Some-clause-returned g c =
     let went = c.loop-blocks.invariant in
-    let told = rw c.in-Ok-Some.field-0-is at c.in-Ok-Some.ensures.told in
+    let returned = rw c.in-Ok-Some.field-0-is at c.in-Ok-Some.ensures.returned in
     subst (λ (t : OpenTable). table_found (body_of t.bytes) t.parts ≡ Ok c.in-Ok-Some.verified)
-    (same_table c.args.verification.now went.steps c.loop-blocks.verification went.reached) told
+    (same_table c.args.verification.now went.steps c.loop-blocks.verification went.reached) returned
 
 pub returns-in-Ok-Some-clause-sound : goal.returns-in-Ok-Some-clause-sound
 returns-in-Ok-Some-clause-sound g c =

@@ -16,16 +16,16 @@ pub returns-in_ok-print_unloaded_line-in-Ok-Some-2-clause-printed :
 returns-in_ok-print_unloaded_line-in-Ok-Some-2-clause-printed g c =
     let body = body_of c.args.source.now in
     let block = c.args.block.now in
-    let told = option_map (λ (f : Bor Finding). f.now) c.args.finding in
+    let returned = option_map (λ (f : Bor Finding). f.now) c.args.finding in
     let error = c.in-Ok-Some.field-0-0 in
     let old = g.W.Write.contents c.args.output.now in
     let new = g.W.Write.contents c.print_unloaded_line.new.output in
     let fault : block_fault body block ≡ Some error = search rules in
-    let not : is_told told block ≡ false = search rules in
+    let not : is_told returned block ≡ false = search rules in
     let line = subst (λ (place : BlockPlace).
     PrintsText (IsUnloadedLine c.args.name.now (place, error)) old new) c.begin_of.ensures
     c.in_ok-print_unloaded_line-in-Ok-Some-2.ensures in
     subst (λ (fs : List (BlockPlace × Error)).
     PrintsText (AreJoined (IsUnloadedLine c.args.name.now) fs) old new)
-    (sym (further_one body told block error not fault))
+    (sym (further_one body returned block error not fault))
     (joined_one (IsUnloadedLine c.args.name.now) _ old new line)

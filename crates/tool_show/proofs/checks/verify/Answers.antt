@@ -12,12 +12,12 @@ pub returns-in_ok-print_sound-in-Ok-clause-printed :
 returns-in_ok-print_sound-in-Ok-clause-printed g c =
     let t = c.args.file.now.table in
     let looked = c.look_at-looked in
-    let told : table_found (body_of t.bytes) t.parts ≡ Ok c.in-Ok.verified
-    = rw c.in-Ok.is at looked.ensures.told in
+    let returned : table_found (body_of t.bytes) t.parts ≡ Ok c.in-Ok.verified
+    = rw c.in-Ok.is at looked.ensures.returned in
     let whole = rw c.in-Ok.is at looked.ensures.whole in
     checks_sound t c.args.file.now.name.now (g.P.Progress.moves c.args.progress.now)
     (g.P.Progress.moves looked.new.progress) _ _ looked.result.blocks c.in-Ok.verified
-    looked.result.verdict told looked.ensures.reads whole c.in_ok-print_sound-in-Ok.ensures
+    looked.result.verdict returned looked.ensures.reads whole c.in_ok-print_sound-in-Ok.ensures
 
 pub returns-in-Err-Found-clause-printed : goal.returns-in-Err-Found-clause-printed
 returns-in-Err-Found-clause-printed g c =
@@ -25,12 +25,12 @@ returns-in-Err-Found-clause-printed g c =
     let looked = c.look_at-looked in
     let found : c.in-Err-Found.field-0 ≡ Found c.in-Err-Found.finding
     = rw c.in-Err-Found.is at c.in-Err-Found.field-0-is in
-    let told : table_found (body_of t.bytes) t.parts ≡ Err c.in-Err-Found.finding
-    = (rw c.in-Err-Found.is at looked.ensures.told) c.in-Err-Found.finding found in
+    let returned : table_found (body_of t.bytes) t.parts ≡ Err c.in-Err-Found.finding
+    = (rw c.in-Err-Found.is at looked.ensures.returned) c.in-Err-Found.finding found in
     checks_faulty c.print_faults.result t c.args.file.now.name.now
     (g.P.Progress.moves c.args.progress.now) (g.P.Progress.moves looked.new.progress) _ _
     looked.result.blocks c.in-Err-Found.finding c.in-Err-Found.field-0 looked.result.verdict
-    c.in-Err-Found.is found told looked.ensures.reads c.print_faults.ensures.printed
+    c.in-Err-Found.is found returned looked.ensures.reads c.print_faults.ensures.printed
 
 pub returns-in-Err-Found-clause-complete : goal.returns-in-Err-Found-clause-complete
 returns-in-Err-Found-clause-complete g c = λ sound.

@@ -2,8 +2,8 @@ use Rattle.std.proofs.Common.{refl, sym, true}
 use Rattle.tool_show.proofs.DumpLemmas.{deals_to_error, entries_left, entries_printed}
 use Rattle.tool_show.proofs.dumps.dump_table.Goals as goal
 
-pub returns-clause-told : goal.returns-clause-told
-returns-clause-told g c =
+pub returns-clause-returned : goal.returns-clause-returned
+returns-clause-returned g c =
     rw (sym c.in_ok-bounds.ensures.lower, sym c.in_ok-bounds.ensures.upper)
     (c.dump_items.ensures.printed _ (deals_to_error _ _ _ _ _ _ c.in_ok-items.ensures.lends))
 

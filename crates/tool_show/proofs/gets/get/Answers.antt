@@ -12,11 +12,11 @@ use Rattle.tool_show.specs.Printed.{seen_below}
 use Rattle.tool_show.proofs.TextLemmas.{answer_text}
 use Rattle.tool_show.proofs.gets.get.Goals as goal
 
-pub returns-clause-told : goal.returns-clause-told
-returns-clause-told g c = λ order.
+pub returns-clause-returned : goal.returns-clause-returned
+returns-clause-returned g c = λ order.
     let same : map arc_value c.deref.result.now ≡ runs_in c.args.files.now
     = ap (map arc_value) c.deref.ensures.value ∙ c.in_ok-runs.ensures.ok in
-    let read = c.in_ok-is_there.ensures.told
+    let read = c.in_ok-is_there.ensures.returned
     (subst (λ (ts : List (List OpenTable)). AllByRecursion (IsInOrder range_of) ts) (sym same) order)
     in
     (read.0, ap (runs_result c.args.options.now.key.now (seen_below c.args.options.now) None) (sym same) ∙ read.1, read.2)
@@ -25,7 +25,7 @@ pub returns-clause-shown : goal.returns-clause-shown
 returns-clause-shown g c = λ order.
     let same : map arc_value c.deref.result.now ≡ runs_in c.args.files.now
     = ap (map arc_value) c.deref.ensures.value ∙ c.in_ok-runs.ensures.ok in
-    let read = c.in_ok-is_there.ensures.told
+    let read = c.in_ok-is_there.ensures.returned
     (subst (λ (ts : List (List OpenTable)). AllByRecursion (IsInOrder range_of) ts) (sym same) order)
     in (
       read.0,

@@ -13,10 +13,10 @@ use Rattle.tool_show.proofs.gets.print_loads.Goals as goal
 loads_all : {A : Type 0} (o : GetOptions) (fs : List (NamedTable A)) (i : ℕ)
     (a b : Option (List ℕ)) → o.loads ≡ true → length fs ≤ i
     → Appends a b (flat_map (file_loads o) (take i fs)) → Appends a b (loads_text o fs)
-loads_all {A} o fs i a b asked whole told =
+loads_all {A} o fs i a b asked whole returned =
     subst (λ (so : Bool). Appends a b (if so then flat_map (file_loads o) fs else [])) (sym asked)
     (subst (λ (gs : List (NamedTable A)). Appends a b (flat_map (file_loads o) gs))
-    (take_all i fs whole) told)
+    (take_all i fs whole) returned)
 
 pub loop-file-preserved : goal.loop-file-preserved
 loop-file-preserved g c =

@@ -5,7 +5,7 @@ use Rattle.tool_show.proofs.gets.refused_by.Goals as goal
 pub returns-clause-blamed : goal.returns-clause-blamed
 returns-clause-blamed g c =
     read_blamed c.args.key.now c.args.seqno c.args.file.now c.in_ok-error.error c.of_file.result
-    c.in_ok-error.ensures.told c.in_ok-error.ensures.faulty c.of_file.ensures
+    c.in_ok-error.ensures.returned c.in_ok-error.ensures.faulty c.of_file.ensures
 
 pub returns-clause-early : goal.returns-clause-early
 returns-clause-early g c = λ e early other.

@@ -11,9 +11,9 @@ invariant_of-self-2 g c =
     valid_more c.self.inside.memtable c.insert.new.self _ _ _ c.self.inside.next _ _ _ c.args.item c.self.invariant c.in_ok-insert.ensures.put (c.requires.number ∙ sym next) c.requires.kind (subst (λ (n : ℕ). n < 2 ^ 64 - 2) (sym next) c.requires.room)
 
 pub returns-clause-written : goal.returns-clause-written
-returns-clause-written g c ws told =
+returns-clause-written g c ws returned =
     let is = c.self.view_is in
-    reports_more c.args.self.now _ c.args.item ws told
+    reports_more c.args.self.now _ c.args.item ws returned
     (subst (λ (es : List Entry). IsPut c.args.item es c.insert.new.self) (ap (λ (h : Holding). h.recent) is) c.in_ok-insert.ensures.put)
     c.requires.number
     (ap (λ (h : Holding). h.next + 1) is)

@@ -52,15 +52,15 @@ invariant_of-self g c =
     (omega (arith, kept, lowest, highest))
 
 pub returns-clause-story : goal.returns-clause-story
-returns-clause-story g c ws told =
+returns-clause-story g c ws returned =
     let is = c.self.view_is in
     let s = c.args.self.now in
     let same : map arc_value c.deref.result.now ≡ s.runs = ap (map arc_value) c.deref.ensures.value ∙ ap (λ (h : Holding). h.runs) is in
-    let hold = subst (λ (rs : List (List OpenTable)). RunsHoldLists rs told.lists) (sym same) told.hold in
+    let hold = subst (λ (rs : List (List OpenTable)). RunsHoldLists rs returned.lists) (sym same) returned.hold in
     let highest : c.max-self-inside.result ≡ max c.self.inside.oldest c.min-watermark.result = search rules in
     let oldest = ap (λ (h : Holding). h.oldest) is in
-    reports_compacted s _ ws (rules_by c.min-watermark.result true false) (subst IsStore is c.self.invariant) told
-    (c.in_ok-runs.ensures.kept told.lists hold)
+    reports_compacted s _ ws (rules_by c.min-watermark.result true false) (subst IsStore is c.self.invariant) returned
+    (c.in_ok-runs.ensures.kept returned.lists hold)
     (ap (λ (h : Holding). h.recent) is)
     (ap (λ (h : Holding). h.next) is)
     (omega (arith, highest, oldest))

@@ -45,7 +45,7 @@ invariant_of-self g c =
     (omega (arith, kept, lowest, highest))
 
 pub returns-clause-story : goal.returns-clause-story
-returns-clause-story g c ws told =
+returns-clause-story g c ws returned =
     let is = c.self.view_is in
     let s = c.args.self.now in
     let from = c.args.from in
@@ -58,7 +58,7 @@ returns-clause-story g c ws told =
     (c.cut_out.ensures.front ∙ ap (front_runs from to) given) (ap (map arc_value) c.deref-2.ensures.value) (c.cut_out.ensures.behind ∙ ap (drop to) given) in
     let highest : c.max-self-inside.result ≡ max c.self.inside.oldest c.min-watermark.result = search rules in
     let oldest = ap (λ (h : Holding). h.oldest) is in
-    reports_part s _ ws from to c.min-watermark.result made (subst IsStore is c.self.invariant) told
+    reports_part s _ ws from to c.min-watermark.result made (subst IsStore is c.self.invariant) returned
     (λ ps hold. c.in_ok-made.ensures.kept ps (subst (λ (rs : List (List OpenTable)). RunsHoldLists rs ps) part hold))
     placed
     (ap (λ (h : Holding). h.recent) is)

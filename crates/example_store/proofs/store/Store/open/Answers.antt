@@ -82,11 +82,11 @@ returns-clause-lists g c =
     )
 
 pub returns-clause-story : goal.returns-clause-story
-returns-clause-story g c s ws sound closed told =
+returns-clause-story g c s ws sound closed returned =
     let n = c.args.closed.now.next in
     let own = c.in_ok-runs.ensures.own in
     let same = sym closed.files ∙ ap (map (λ run. run.items)) (sym c.deref.ensures.value) ∙ sym c.in_ok-runs.ensures.files in
-    reports_alike s.flushed n s _ ws told sound.runs.own own same (closed.none ∙ sym c.new-memtable.ensures) closed.next closed.oldest
+    reports_alike s.flushed n s _ ws returned sound.runs.own own same (closed.none ∙ sym c.new-memtable.ensures) closed.next closed.oldest
 
 pub returns-in_err-test_numbers-clause-refused : goal.returns-in_err-test_numbers-clause-refused
 returns-in_err-test_numbers-clause-refused g c =

@@ -24,12 +24,12 @@ invariant_of-self g c =
     c.self.invariant.kept
 
 pub returns-clause-story : goal.returns-clause-story
-returns-clause-story g c ws told =
+returns-clause-story g c ws returned =
     let is = c.self.view_is in
     let s = c.args.self.now in
     let same : map arc_value c.deref.result.now ≡ s.runs = ap (map arc_value) c.deref.ensures.value ∙ ap (λ (h : Holding). h.runs) is in
-    let hold = subst (λ (rs : List (List OpenTable)). RunsHoldLists rs told.lists) (sym same) told.hold in
-    reports_packed s _ ws told (c.in_ok-packed.ensures.list told.lists hold)
+    let hold = subst (λ (rs : List (List OpenTable)). RunsHoldLists rs returned.lists) (sym same) returned.hold in
+    reports_packed s _ ws returned (c.in_ok-packed.ensures.list returned.lists hold)
     (ap (λ (h : Holding). h.recent) is)
     (ap (λ (h : Holding). h.next) is)
     (ap (λ (h : Holding). h.oldest) is)

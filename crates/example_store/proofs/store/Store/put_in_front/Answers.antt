@@ -20,9 +20,9 @@ invariant_of-self-2 g c =
     (ap (map arc_value) c.in_ok-insert.ensures.items)
 
 pub returns-clause-story : goal.returns-clause-story
-returns-clause-story g c ws told =
+returns-clause-story g c ws returned =
     let is = c.self.view_is in
-    reports_flushed c.args.self.now _ (arc_value c.args.run) ws (subst IsStore is c.self.invariant) c.requires.strict c.requires.list told
+    reports_flushed c.args.self.now _ (arc_value c.args.run) ws (subst IsStore is c.self.invariant) c.requires.strict c.requires.list returned
     c.clear.ensures
     (ap (map arc_value) c.in_ok-insert.ensures.items ∙ ap (λ (h : Holding). arc_value c.args.run ∷ h.runs) is)
     (ap (λ (h : Holding). h.next) is)

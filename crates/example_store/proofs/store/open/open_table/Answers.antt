@@ -8,5 +8,5 @@ returns-in-Err-clause-taken g c es stored =
 
 pub returns-in-Err-clause-named : goal.returns-in-Err-clause-named
 returns-in-Err-clause-named g c next =
-    names_unopened next c.args.bytes c.args.place.0 c.args.place.1 c.in-Err.error c.unopened.result c.unopened.ensures.memory c.unopened.ensures.named c.in-Err.ensures.told
+    names_unopened next c.args.bytes c.args.place.0 c.args.place.1 c.in-Err.error c.unopened.result c.unopened.ensures.memory c.unopened.ensures.named c.in-Err.ensures.returned
     (λ es stored. stored_opens c.args.bytes es stored c.in-Err.error (c.in-Err.ensures.stores es stored))

@@ -21,4 +21,4 @@ returns-clause-memory g c lists held some =
     let same : ts ≡ arc_value c.args.run.now = c.in_ok-clone.ensures.cases in
     let is = whole_run ts (subst (λ (us : List OpenTable). 0 < length us) (sym same) c.requires) ∙ same in
     scan_wants (arc_value c.args.run.now) lists held some c.culled.result
-    (subst (λ (us : List OpenTable). IfErr c.culled.result (λ (e : Error). is_memory e ≡ false → first (tables_scan us) ≡ Some (Err e))) is c.culled.ensures.told)
+    (subst (λ (us : List OpenTable). IfErr c.culled.result (λ (e : Error). is_memory e ≡ false → first (tables_scan us) ≡ Some (Err e))) is c.culled.ensures.returned)

@@ -9,4 +9,4 @@ read_kept-requires g c =
     let body = body_of c.self.inside.source.now in
     let place = c.args.handle.now in
     let is : IsLoaded body place Data c.in-Some.block.now = c.in-Some.ensures body c.self.invariant.1.1 in
-    data_holds _ (load_kind body place.offset place.size Data c.in-Some.block.now is.told)
+    data_holds _ (load_kind body place.offset place.size Data c.in-Some.block.now is.returned)

@@ -29,7 +29,7 @@ returns-clause-lends_end g c stops s t e step = lends_end stops s t e step
 pub returns-clause-left : goal.returns-clause-left
 returns-clause-left g c =
     let body = body_of c.args.source.now in
-    let first = first_left body c.args.global_seqno c.args.block_count c.in_ok-block.block c.in_ok-block.position c.in_ok-block.ensures.told in
+    let first = first_left body c.args.global_seqno c.args.block_count c.in_ok-block.block c.in_ok-block.position c.in_ok-block.ensures.returned in
     let kept = c.in_ok-block-2.ensures.both in
     let rest = same_left body (body_of c.in_ok-block-2.source) c.args.global_seqno c.in_ok-block.block c.into_cursor.result.behind c.in_ok-block.position (c.args.block_count - 1) c.saturating_sub.result
     (ap body_of (sym (beside_is _ _ c.in_ok-block.block c.clone.result c.in_ok-block-2.block c.in_ok-block-2.source c.clone.ensures.cases kept))) (sym (ap (λ (k : Cursor). k.behind) c.into_cursor.ensures ∙ beside_first c.in_ok-block.block c.clone.result c.in_ok-block-2.block c.in_ok-block-2.source kept)) (sym c.saturating_sub.ensures) in
@@ -38,7 +38,7 @@ returns-clause-left g c =
 pub returns-clause-yields : goal.returns-clause-yields
 returns-clause-yields g c stops memory =
     let body = body_of c.args.source.now in
-    let left = first_left body c.args.global_seqno c.args.block_count c.in_ok-block.block c.in_ok-block.position c.in_ok-block.ensures.told in
+    let left = first_left body c.args.global_seqno c.args.block_count c.in_ok-block.block c.in_ok-block.position c.in_ok-block.ensures.returned in
     let kept = c.in_ok-block-2.ensures.both in
     let rest = same_left body (body_of c.in_ok-block-2.source) c.args.global_seqno c.in_ok-block.block c.into_cursor.result.behind c.in_ok-block.position (c.args.block_count - 1) c.saturating_sub.result
     (ap body_of (sym (beside_is _ _ c.in_ok-block.block c.clone.result c.in_ok-block-2.block c.in_ok-block-2.source c.clone.ensures.cases kept))) (sym (ap (λ (k : Cursor). k.behind) c.into_cursor.ensures ∙ beside_first c.in_ok-block.block c.clone.result c.in_ok-block-2.block c.in_ok-block-2.source kept)) (sym c.saturating_sub.ensures) in
@@ -47,7 +47,7 @@ returns-clause-yields g c stops memory =
 pub returns-clause-lends : goal.returns-clause-lends
 returns-clause-lends g c stops memory =
     let body = body_of c.args.source.now in
-    let left = first_left body c.args.global_seqno c.args.block_count c.in_ok-block.block c.in_ok-block.position c.in_ok-block.ensures.told in
+    let left = first_left body c.args.global_seqno c.args.block_count c.in_ok-block.block c.in_ok-block.position c.in_ok-block.ensures.returned in
     let kept = c.in_ok-block-2.ensures.both in
     let rest = same_left body (body_of c.in_ok-block-2.source) c.args.global_seqno c.in_ok-block.block c.into_cursor.result.behind c.in_ok-block.position (c.args.block_count - 1) c.saturating_sub.result
     (ap body_of (sym (beside_is _ _ c.in_ok-block.block c.clone.result c.in_ok-block-2.block c.in_ok-block-2.source c.clone.ensures.cases kept))) (sym (ap (λ (k : Cursor). k.behind) c.into_cursor.ensures ∙ beside_first c.in_ok-block.block c.clone.result c.in_ok-block-2.block c.in_ok-block-2.source kept)) (sym c.saturating_sub.ensures) in

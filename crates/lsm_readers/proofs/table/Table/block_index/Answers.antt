@@ -17,13 +17,13 @@ use Rattle.lsm_readers.proofs.table.Table.block_index.Goals as goal
 all_name : {A : Type 0} (t : OpenTable) → IsOpen t → (index : Index) → index ≡ table_index t → (r : Result (BlockIndexImpl A) Error) → IfOk r (λ i. index_of i ≡ index)
     → (es : List Entry) (file : StoresList t.bytes es) → IfOk r (λ i. NamesBlocksOf file (index_of i))
 all_name t held index is (Ok i) made es file = λ lower upper.
-    ap (λ (x : Index). x.told lower upper) (made ∙ is) ∙ names_blocks t held es file lower upper
+    ap (λ (x : Index). x.returned lower upper) (made ∙ is) ∙ names_blocks t held es file lower upper
 all_name t held index is (Err e) made es file = tt
 
 -- and of a kind that is told
 all_of_kind : {A : Type 0} (kind said : Kind) → kind ≡ said → (r : Result (BlockIndexImpl A) Error) → IfOk r (λ i. index_kind_of i ≡ kind) → IfOk r (λ i. index_kind_of i ≡ said)
-all_of_kind kind said told (Ok i) made = made ∙ told
-all_of_kind kind said told (Err e) made = tt
+all_of_kind kind said returned (Ok i) made = made ∙ returned
+all_of_kind kind said returned (Err e) made = tt
 
 pub returns-clause-list : goal.returns-clause-list
 returns-clause-list g c =
@@ -32,7 +32,7 @@ returns-clause-list g c =
     all_name t (subst IsOpen c.self.view_is c.self.invariant) _ (ap table_index shown) c.over.result c.over.ensures.index
 
 pub returns-clause-kind : goal.returns-clause-kind
-returns-clause-kind g c pin_filter pin_index told =
+returns-clause-kind g c pin_filter pin_index returned =
     let t = c.args.self.now in
     let shown = ap (table_of c.self.inside.source) c.deref-inner.ensures ∙ c.self.view_is in
-    all_of_kind _ _ (ap (λ (u : OpenTable). kind_kept u.parts.pinned.index) shown ∙ opened_kind t pin_filter pin_index told) c.over.result c.over.ensures.kind
+    all_of_kind _ _ (ap (λ (u : OpenTable). kind_kept u.parts.pinned.index) shown ∙ opened_kind t pin_filter pin_index returned) c.over.result c.over.ensures.kind

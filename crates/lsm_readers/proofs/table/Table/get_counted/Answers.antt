@@ -13,11 +13,11 @@ use Rattle.lsm_readers.proofs.Points.{table_read}
 use Rattle.lsm_readers.proofs.StoredParts.{stored_answers}
 use Rattle.lsm_readers.proofs.table.Table.get_counted.Goals as goal
 
-pub returns-clause-told : goal.returns-clause-told
-returns-clause-told g c =
+pub returns-clause-returned : goal.returns-clause-returned
+returns-clause-returned g c =
     let same = ap (table_of c.self.inside.source) c.deref-inner.ensures ∙ c.self.view_is in
     let is = table_read c.new-source.result.0 c.self.inside.source c.deref-inner.result.now c.args.self.now c.args.key.now c.args.seqno c.new-source.ensures.source same in
-    subst (λ (r : Read (Option Entry)). Gives (λ (x : Option Entry). x) c.point_in-found.result r.told) is c.point_in-found.ensures.told
+    subst (λ (r : Read (Option Entry)). Gives (λ (x : Option Entry). x) c.point_in-found.result r.returned) is c.point_in-found.ensures.returned
 
 pub returns-clause-early : goal.returns-clause-early
 returns-clause-early g c =
@@ -37,8 +37,8 @@ returns-clause-opened g c =
     let is = table_read c.new-source.result.0 c.self.inside.source c.deref-inner.result.now c.args.self.now c.args.key.now c.args.seqno c.new-source.ensures.source same in
     let loads = (table_answer c.args.self.now c.args.key.now c.args.seqno).loads in
     let made = subst (λ (r : Read (Option Entry)). Opens c.point_in-found.result r.loads c.new-source.result.1 c.point_in-found.new.source.1) is c.point_in-found.ensures.opened in
-    let told = subst (λ (o : Opened). Opens c.point_in-found.result loads c.new-source.result.1 o) (sym c.opened.ensures) made in
-    subst (λ (o : Opened). Opens c.point_in-found.result loads o c.opened.result) c.new-source.ensures.none told
+    let returned = subst (λ (o : Opened). Opens c.point_in-found.result loads c.new-source.result.1 o) (sym c.opened.ensures) made in
+    subst (λ (o : Opened). Opens c.point_in-found.result loads o c.opened.result) c.new-source.ensures.none returned
 
 pub returns-clause-few : goal.returns-clause-few
 returns-clause-few g c =
@@ -49,5 +49,5 @@ pub returns-clause-list : goal.returns-clause-list
 returns-clause-list g c es is =
     let t = c.args.self.now in
     let held = subst IsOpen c.self.view_is c.self.invariant in
-    let same = stored_answers t.bytes es is t.global_seqno held.recovered.pin_filter held.recovered.pin_index t.parts held.recovered.told c.args.key.now c.args.seqno in
-    subst (λ (told : Result (Option Entry) Error). Gives (λ (x : Option Entry). x) c.point_in-found.result told) same (returns-clause-told g c)
+    let same = stored_answers t.bytes es is t.global_seqno held.recovered.pin_filter held.recovered.pin_index t.parts held.recovered.returned c.args.key.now c.args.seqno in
+    subst (λ (returned : Result (Option Entry) Error). Gives (λ (x : Option Entry). x) c.point_in-found.result returned) same (returns-clause-returned g c)

@@ -12,10 +12,10 @@ use Rattle.lsm_readers.specs.point.Table.{IsOpen, OpenTable, table_of}
 use Rattle.lsm_readers.proofs.StoredParts.{stored_answers}
 use Rattle.lsm_readers.proofs.table.Table.get_place.Goals as goal
 
-pub returns-clause-told : goal.returns-clause-told
-returns-clause-told g c =
+pub returns-clause-returned : goal.returns-clause-returned
+returns-clause-returned g c =
     let same = ap (table_of c.self.inside.source) c.deref-inner.ensures ∙ c.self.view_is in
-    subst (λ (t : OpenTable). Gives (option_map (entry_placed t.bytes)) c.place_in.result.0 (table_answer t c.args.key.now c.args.seqno).told) same c.place_in.ensures.told
+    subst (λ (t : OpenTable). Gives (option_map (entry_placed t.bytes)) c.place_in.result.0 (table_answer t c.args.key.now c.args.seqno).returned) same c.place_in.ensures.returned
 
 pub returns-clause-early : goal.returns-clause-early
 returns-clause-early g c =
@@ -46,5 +46,5 @@ pub returns-clause-list : goal.returns-clause-list
 returns-clause-list g c es is =
     let t = c.args.self.now in
     let held = subst IsOpen c.self.view_is c.self.invariant in
-    let same = stored_answers t.bytes es is t.global_seqno held.recovered.pin_filter held.recovered.pin_index t.parts held.recovered.told c.args.key.now c.args.seqno in
-    subst (λ (told : Result (Option Entry) Error). Gives (option_map (entry_placed t.bytes)) c.place_in.result.0 told) same (returns-clause-told g c)
+    let same = stored_answers t.bytes es is t.global_seqno held.recovered.pin_filter held.recovered.pin_index t.parts held.recovered.returned c.args.key.now c.args.seqno in
+    subst (λ (returned : Result (Option Entry) Error). Gives (option_map (entry_placed t.bytes)) c.place_in.result.0 returned) same (returns-clause-returned g c)

@@ -1,7 +1,7 @@
 use Rattle.lsm_readers.proofs.table.Table.get_ref.Goals as goal
 
-pub returns-clause-told : goal.returns-clause-told
-returns-clause-told g c = c.get_ref_counted.ensures.told
+pub returns-clause-returned : goal.returns-clause-returned
+returns-clause-returned g c = c.get_ref_counted.ensures.returned
 
 pub returns-clause-early : goal.returns-clause-early
 returns-clause-early g c = c.get_ref_counted.ensures.early

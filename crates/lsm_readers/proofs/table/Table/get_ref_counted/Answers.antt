@@ -6,28 +6,28 @@ use Rattle.lsm_readers.proofs.ReadViews.{first_seen, ok_seen, opens_seen}
 use Rattle.lsm_readers.proofs.LentReads.{lent_does, lent_gives}
 use Rattle.lsm_readers.proofs.table.Table.get_ref_counted.Goals as goal
 
-pub returns-clause-told : goal.returns-clause-told
-returns-clause-told g c = lent_gives c.args.self.now.bytes c.get_place-found.result.0 c.found_at.result c.found_at.ensures _ c.get_place-found.ensures.told
+pub returns-clause-returned : goal.returns-clause-returned
+returns-clause-returned g c = lent_gives c.args.self.now.bytes c.get_place-found.result.0 c.found_at.result c.found_at.ensures _ c.get_place-found.ensures.returned
 
 pub returns-clause-early : goal.returns-clause-early
 returns-clause-early g c =
-    let told = c.get_place-found.ensures in
+    let returned = c.get_place-found.ensures in
     let read = table_answer c.args.self.now c.args.key.now c.args.seqno in
-    let does = lent_does c.args.self.now.bytes c.get_place-found.result.0 c.found_at.result c.found_at.ensures read none_opened c.get_place-found.result.1 told.told told.early told.opened told.calm in
+    let does = lent_does c.args.self.now.bytes c.get_place-found.result.0 c.found_at.result c.found_at.ensures read none_opened c.get_place-found.result.1 returned.returned returned.early returned.opened returned.calm in
     first_seen (option_map entry_of_ref) c.found_at.result read.early does.early
 
 pub returns-clause-calm : goal.returns-clause-calm
 returns-clause-calm g c none =
-    let told = c.get_place-found.ensures in
+    let returned = c.get_place-found.ensures in
     let read = table_answer c.args.self.now c.args.key.now c.args.seqno in
-    let does = lent_does c.args.self.now.bytes c.get_place-found.result.0 c.found_at.result c.found_at.ensures read none_opened c.get_place-found.result.1 told.told told.early told.opened told.calm in
+    let does = lent_does c.args.self.now.bytes c.get_place-found.result.0 c.found_at.result c.found_at.ensures read none_opened c.get_place-found.result.1 returned.returned returned.early returned.opened returned.calm in
     ok_seen (option_map entry_of_ref) c.found_at.result (does.calm none)
 
 pub returns-clause-opened : goal.returns-clause-opened
 returns-clause-opened g c =
-    let told = c.get_place-found.ensures in
+    let returned = c.get_place-found.ensures in
     let read = table_answer c.args.self.now c.args.key.now c.args.seqno in
-    let does = lent_does c.args.self.now.bytes c.get_place-found.result.0 c.found_at.result c.found_at.ensures read none_opened c.get_place-found.result.1 told.told told.early told.opened told.calm in
+    let does = lent_does c.args.self.now.bytes c.get_place-found.result.0 c.found_at.result c.found_at.ensures read none_opened c.get_place-found.result.1 returned.returned returned.early returned.opened returned.calm in
     opens_seen (option_map entry_of_ref) c.found_at.result read.loads none_opened c.get_place-found.result.1 does.opens
 
 pub returns-clause-list : goal.returns-clause-list

@@ -16,22 +16,22 @@ use Rattle.lsm_readers.proofs.Steps.{beside_none, beside_second, passes_fault, s
 use Rattle.lsm_readers.proofs.Steps.{shared_gives, shared_has}
 use Rattle.lsm_readers.proofs.table.Table.recover.Goals as goal
 
-pub returns-in_err-source-clause-told : goal.returns-in_err-source-clause-told
-returns-in_err-source-clause-told g c =
+pub returns-in_err-source-clause-returned : goal.returns-in_err-source-clause-returned
+returns-in_err-source-clause-returned g c =
     passes_fault (λ (t : OpenTable). t.parts) c.from_residual.result _ c.in_err-source.field-0.0 c.from_residual.ensures.1
     (opening_fails c.args.bytes c.args.global_seqno c.args.pin_filter c.args.pin_index _ (λ _. c.in_err-source.ensures.refused))
 
 pub returns-in_err-source-clause-early : goal.returns-in_err-source-clause-early
 returns-in_err-source-clause-early g c = trailer_first c.from_residual.result c.args.bytes c.in_err-source.field-0.0 c.from_residual.ensures.1 c.in_err-source.ensures.refused
 
-pub returns-in_err-source-2-clause-told : goal.returns-in_err-source-2-clause-told
-returns-in_err-source-2-clause-told g c =
+pub returns-in_err-source-2-clause-returned : goal.returns-in_err-source-2-clause-returned
+returns-in_err-source-2-clause-returned g c =
     let made = c.recover_inner-inner in
     let call = c.share-shared in
     let e = c.in_err-source-2.field-0.0 in
     passes_fault (λ (t : OpenTable). t.parts) c.from_residual-in_err-source-2.result _ e c.from_residual-in_err-source-2.ensures.1
     (λ memory. opening_result c.args.bytes c.in_ok-source.source c.args.global_seqno c.args.pin_filter c.args.pin_index _ c.in_ok-source.ensures.refused c.in_ok-source.ensures.ok
-    (beside_fails _ c.in_ok-source.source call.result _ e (shared_gives arc_value parts_of made.result call.result _ call.ensures.ok call.ensures.err made.ensures.told) c.in_err-source-2.ensures.both memory))
+    (beside_fails _ c.in_ok-source.source call.result _ e (shared_gives arc_value parts_of made.result call.result _ call.ensures.ok call.ensures.err made.ensures.returned) c.in_err-source-2.ensures.both memory))
 
 pub returns-in_err-source-2-clause-early : goal.returns-in_err-source-2-clause-early
 returns-in_err-source-2-clause-early g c =
@@ -61,42 +61,42 @@ invariant_of-result g c =
     (IfOk-at_ok _ (beside_second c.in_ok-source.source call.result source inner both) (shared_has arc_value _ made.result call.result call.ensures.ok made.ensures.number))
     c.in_ok-source.ensures.short
     (opening_result c.args.bytes c.in_ok-source.source c.args.global_seqno c.args.pin_filter c.args.pin_index _ c.in_ok-source.ensures.refused c.in_ok-source.ensures.ok
-    (beside_gives _ c.in_ok-source.source call.result _ source inner (shared_gives arc_value parts_of made.result call.result _ call.ensures.ok call.ensures.err made.ensures.told) both))
+    (beside_gives _ c.in_ok-source.source call.result _ source inner (shared_gives arc_value parts_of made.result call.result _ call.ensures.ok call.ensures.err made.ensures.returned) both))
 
-pub returns-clause-told : goal.returns-clause-told
-returns-clause-told g c =
+pub returns-clause-returned : goal.returns-clause-returned
+returns-clause-returned g c =
     let made = c.recover_inner-inner in
     let call = c.share-shared in
     opening_result c.args.bytes c.in_ok-source.source c.args.global_seqno c.args.pin_filter c.args.pin_index _ c.in_ok-source.ensures.refused c.in_ok-source.ensures.ok
-    (beside_gives _ c.in_ok-source.source call.result _ c.in_ok-source-2.source c.in_ok-source-2.inner (shared_gives arc_value parts_of made.result call.result _ call.ensures.ok call.ensures.err made.ensures.told) c.in_ok-source-2.ensures.both)
+    (beside_gives _ c.in_ok-source.source call.result _ c.in_ok-source-2.source c.in_ok-source-2.inner (shared_gives arc_value parts_of made.result call.result _ call.ensures.ok call.ensures.err made.ensures.returned) c.in_ok-source-2.ensures.both)
 
-by_list : {X : Type 0} (view : X → Parts) (r : Result X Error) (told list : Result Parts Error) → Gives view r told → told ≡ list → Gives view r list
-by_list view r told list gives same = subst (λ (x : Result Parts Error). Gives view r x) same gives
+by_list : {X : Type 0} (view : X → Parts) (r : Result X Error) (returned list : Result Parts Error) → Gives view r returned → returned ≡ list → Gives view r list
+by_list view r returned list gives same = subst (λ (x : Result Parts Error). Gives view r x) same gives
 
 pub returns-in_err-source-clause-list : goal.returns-in_err-source-clause-list
 returns-in_err-source-clause-list g c es t one =
-    by_list (λ (x : OpenTable). x.parts) c.from_residual.result _ _ (returns-in_err-source-clause-told g c)
+    by_list (λ (x : OpenTable). x.parts) c.from_residual.result _ _ (returns-in_err-source-clause-returned g c)
     (table_result c.args.bytes es t c.in_err-source.ensures.short c.args.global_seqno c.args.pin_filter c.args.pin_index one)
 
 pub returns-in_err-source-2-clause-list : goal.returns-in_err-source-2-clause-list
 returns-in_err-source-2-clause-list g c es t one =
-    by_list (λ (x : OpenTable). x.parts) c.from_residual-in_err-source-2.result _ _ (returns-in_err-source-2-clause-told g c)
+    by_list (λ (x : OpenTable). x.parts) c.from_residual-in_err-source-2.result _ _ (returns-in_err-source-2-clause-returned g c)
     (table_result c.args.bytes es t c.in_ok-source.ensures.short c.args.global_seqno c.args.pin_filter c.args.pin_index one)
 
 pub returns-clause-list : goal.returns-clause-list
 returns-clause-list g c es t one =
-    sym (table_result c.args.bytes es t c.in_ok-source.ensures.short c.args.global_seqno c.args.pin_filter c.args.pin_index one) ∙ returns-clause-told g c
+    sym (table_result c.args.bytes es t c.in_ok-source.ensures.short c.args.global_seqno c.args.pin_filter c.args.pin_index one) ∙ returns-clause-returned g c
 
 pub returns-in_err-source-clause-stores : goal.returns-in_err-source-clause-stores
 returns-in_err-source-clause-stores g c es t =
-    opens_by c.args.bytes es t (λ (x : OpenTable). x.parts) c.from_residual.result c.args.global_seqno c.args.pin_filter c.args.pin_index (returns-in_err-source-clause-told g c)
+    opens_by c.args.bytes es t (λ (x : OpenTable). x.parts) c.from_residual.result c.args.global_seqno c.args.pin_filter c.args.pin_index (returns-in_err-source-clause-returned g c)
 
 pub returns-in_err-source-2-clause-stores : goal.returns-in_err-source-2-clause-stores
 returns-in_err-source-2-clause-stores g c es t =
-    opens_by c.args.bytes es t (λ (x : OpenTable). x.parts) c.from_residual-in_err-source-2.result c.args.global_seqno c.args.pin_filter c.args.pin_index (returns-in_err-source-2-clause-told g c)
+    opens_by c.args.bytes es t (λ (x : OpenTable). x.parts) c.from_residual-in_err-source-2.result c.args.global_seqno c.args.pin_filter c.args.pin_index (returns-in_err-source-2-clause-returned g c)
 
 pub returns-clause-stores : goal.returns-clause-stores
-returns-clause-stores g c es t = stored_fits c.args.bytes es t c.args.global_seqno c.args.pin_filter c.args.pin_index _ (returns-clause-told g c)
+returns-clause-stores g c es t = stored_fits c.args.bytes es t c.args.global_seqno c.args.pin_filter c.args.pin_index _ (returns-clause-returned g c)
 
 pub returns-clause-number : goal.returns-clause-number
 returns-clause-number g c =

@@ -21,7 +21,7 @@ returns-clause-list g c es is =
     let t = c.args.self.now in
     let seen = ap (table_of c.self.inside.source) c.deref-inner.ensures ∙ c.self.view_is in
     let held = subst IsOpen c.self.view_is c.self.invariant in
-    stored_scans t.bytes es is t.global_seqno held.recovered.pin_filter held.recovered.pin_index t.parts held.recovered.told c.new.result
+    stored_scans t.bytes es is t.global_seqno held.recovered.pin_filter held.recovered.pin_index t.parts held.recovered.returned c.new.result
     (λ stops memory. subst (λ (u : OpenTable). IfOk c.new.result (λ (s : Scan). YieldsExactly (answer_stops stops) ScansNext nowhere s (scan_results (body_of u.bytes) u.parts.facts.data_block_count u.global_seqno))) seen (c.new.ensures.yields stops memory))
     (subst (λ (u : OpenTable). Faults c.new.result (fault_of (load_at_result (body_of u.bytes) 0 Data))) seen c.new.ensures.refused)
 
@@ -35,7 +35,7 @@ returns-clause-lends_list g c es is =
     let t = c.args.self.now in
     let seen = ap (table_of c.self.inside.source) c.deref-inner.ensures ∙ c.self.view_is in
     let held = subst IsOpen c.self.view_is c.self.invariant in
-    stored_lends t.bytes es is t.global_seqno held.recovered.pin_filter held.recovered.pin_index t.parts held.recovered.told c.new.result
+    stored_lends t.bytes es is t.global_seqno held.recovered.pin_filter held.recovered.pin_index t.parts held.recovered.returned c.new.result
     (λ stops memory. subst (λ (u : OpenTable). IfOk c.new.result (λ (s : Scan). YieldsExactly (answer_stops stops) ScansLent nowhere s (scan_results (body_of u.bytes) u.parts.facts.data_block_count u.global_seqno))) seen (c.new.ensures.lends stops memory))
     (subst (λ (u : OpenTable). Faults c.new.result (fault_of (load_at_result (body_of u.bytes) 0 Data))) seen c.new.ensures.refused)
 

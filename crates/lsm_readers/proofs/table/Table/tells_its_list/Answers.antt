@@ -12,13 +12,13 @@ returns-clause-parts g c es t =
     let seen = c.args.self.now in
     let held = subst IsOpen c.self.view_is c.self.invariant in
     let pins = held.recovered in
-    record { pin_filter = pins.pin_filter; pin_index = pins.pin_index; is = table_parts seen.bytes es t held.short seen.global_seqno pins.pin_filter pins.pin_index seen.parts pins.told }
+    record { pin_filter = pins.pin_filter; pin_index = pins.pin_index; is = table_parts seen.bytes es t held.short seen.global_seqno pins.pin_filter pins.pin_index seen.parts pins.returned }
 
 pub returns-clause-facts : goal.returns-clause-facts
 returns-clause-facts g c es t =
     let seen = c.args.self.now in
     let pins = (subst IsOpen c.self.view_is c.self.invariant).recovered in
-    bears_out seen.bytes es t seen.global_seqno pins.pin_filter pins.pin_index seen.parts pins.told
+    bears_out seen.bytes es t seen.global_seqno pins.pin_filter pins.pin_index seen.parts pins.returned
 
 pub returns-clause-range : goal.returns-clause-range
 returns-clause-range g c es t =

@@ -6,11 +6,11 @@ use Rattle.lsm_readers.specs.Verify.{Finds, FindsFirst, table_early, table_found
 use Rattle.lsm_readers.proofs.VerifyTables.{all_complete, all_first, all_valid}
 use Rattle.lsm_readers.proofs.table.Table.verify.Goals as goal
 
-pub returns-clause-told : goal.returns-clause-told
-returns-clause-told g c =
+pub returns-clause-returned : goal.returns-clause-returned
+returns-clause-returned g c =
     let shown = ap (table_of c.self.inside.source) c.deref-inner.ensures ∙ c.self.view_is in
     subst (λ (u : OpenTable). Finds (λ (v : Verified). v) c.verify_table.result
-    (table_found (body_of u.bytes) u.parts)) shown c.verify_table.ensures.told
+    (table_found (body_of u.bytes) u.parts)) shown c.verify_table.ensures.returned
 
 pub returns-clause-early : goal.returns-clause-early
 returns-clause-early g c =
@@ -21,12 +21,12 @@ returns-clause-early g c =
 pub returns-clause-sound : goal.returns-clause-sound
 returns-clause-sound g c =
     let held = subst IsOpen c.self.view_is c.self.invariant in
-    all_valid c.args.self.now held c.verify_table.result (returns-clause-told g c)
+    all_valid c.args.self.now held c.verify_table.result (returns-clause-returned g c)
 
 pub returns-clause-complete : goal.returns-clause-complete
 returns-clause-complete g c es is =
     let held = subst IsOpen c.self.view_is c.self.invariant in
-    all_complete c.args.self.now held c.verify_table.result (returns-clause-told g c) es is
+    all_complete c.args.self.now held c.verify_table.result (returns-clause-returned g c) es is
 
 pub returns-clause-first : goal.returns-clause-first
-returns-clause-first g c = all_first c.args.self.now c.verify_table.result (returns-clause-told g c)
+returns-clause-first g c = all_first c.args.self.now c.verify_table.result (returns-clause-returned g c)

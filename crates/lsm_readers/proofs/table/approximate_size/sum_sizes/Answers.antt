@@ -12,7 +12,7 @@ loop-handle-init g c =
       can = rw same c.requires.can;
       finite = rw same c.requires.finite;
       fits = omega arith;
-      told = rw same (added_none (yielded (g.I.BlockIndexIter.left c.args.handles).results));
+      returned = rw same (added_none (yielded (g.I.BlockIndexIter.left c.args.handles).results));
     }
 
 pub loop-handle-preserved : goal.loop-handle-preserved
@@ -30,7 +30,7 @@ loop-handle-preserved g c =
       can = c.in-Some.ensures.goes.keeps;
       finite = (c.in-Some.ensures.goes.on c.loop-handle.invariant.finite).1;
       fits = c.saturating_add-size.type_inv;
-      told = ap (λ (n : ℕ). added n (yielded (left t).results)) size ∙ sym more ∙ c.loop-handle.invariant.told;
+      returned = ap (λ (n : ℕ). added n (yielded (left t).results)) size ∙ sym more ∙ c.loop-handle.invariant.returned;
     }
 
 pub returns-in_err-handle : goal.returns-in_err-handle
@@ -41,12 +41,12 @@ returns-in_err-handle g c =
     let e = c.in_err-handle.field-0.0 in
     let step = rw c.in_err-handle.was at c.in-Some.ensures.steps in
     passes_fault (λ (n : ℕ). n) c.from_residual.result (sizes_result (left c.args.handles).results) e c.from_residual.ensures.1
-    (λ memory. sym c.loop-handle.invariant.told ∙ added_fault c.loop-handle.size (left s) (left t) e (c.requires.steps s (Some (Err e)) t step) memory)
+    (λ memory. sym c.loop-handle.invariant.returned ∙ added_fault c.loop-handle.size (left s) (left t) e (c.requires.steps s (Some (Err e)) t step) memory)
 
 pub returns : goal.returns
 returns g c =
     let left = g.I.BlockIndexIter.left in
     let s = c.loop-handle.handle-iterator in
     let t = c.next.new.self in
-    sym c.loop-handle.invariant.told
+    sym c.loop-handle.invariant.returned
     ∙ added_last c.loop-handle.size (left s) (left t) c.loop-handle.invariant.fits (c.requires.steps s None t c.in-None.ensures.steps)

@@ -9,6 +9,6 @@ invariant-loop-handle g l = record {
   can : (goal.iterator-loop-handle g).can_next l.handle-iterator;
   finite : (goal.iterator-loop-handle g).is_finite l.handle-iterator;
   fits : l.size < 2 ^ 64;
-  told : added l.size (yielded (g.I.BlockIndexIter.left l.handle-iterator).results)
+  returned : added l.size (yielded (g.I.BlockIndexIter.left l.handle-iterator).results)
       ≡ sizes_result (g.I.BlockIndexIter.left l.fn.handles).results;
 }

@@ -8,6 +8,6 @@ use Rattle.lsm_readers.proofs.table.queries.get_many.Goals as goal
 
 pub returns-clause-list : goal.returns-clause-list
 returns-clause-list g c es is =
-    subst (λ (told : Result (List (Option Entry)) Error). Gives (λ found. found.items) c.answers.result told)
+    subst (λ (returned : Result (List (Option Entry)) Error). Gives (λ found. found.items) c.answers.result returned)
     (many_of_list c.args.table.now c.answers.ensures.open es is c.args.queries.now)
-    c.answers.ensures.told
+    c.answers.ensures.returned

@@ -10,7 +10,7 @@ pub new-block-requires : goal.new-block-requires
 new-block-requires g c =
     let place = c.args.handle.now in
     data_holds _ (load_kind (body_of c.args.source.now) place.offset place.size Data c.in-Ok.block
-    c.in-Ok.ensures.told)
+    c.in-Ok.ensures.returned)
 
 pub returns-in-Err-clause-early : goal.returns-in-Err-clause-early
 returns-in-Err-clause-early g c =

@@ -22,8 +22,8 @@ returns g c =
     let key : c.as_slice.result.now ≡ last.end_key = c.as_slice.ensures ∙ c.end_key.ensures in
     let at : c.len-count.result - 1 + 1 ≡ length hs =
     omega (arith, c.len-count.ensures.value, c.if-count-eq0.false) in
-    let told = top_at top hs (c.len-count.result - 1) last c.in_ok-last.ensures.ok at in
+    let returned = top_at top hs (c.len-count.result - 1) last c.in_ok-last.ensures.ok at in
     subst (λ (r : Result (Unit {0}) Finding). Finds (λ (_ : Unit {0}). tt) c.test_end.result r)
     (ap (λ (k : List ℕ). end_named Index top k c.seqno.result) key
-    ∙ ap (λ (n : ℕ). end_named Index top last.end_key n) c.seqno.ensures ∙ sym told)
-    c.test_end.ensures.told
+    ∙ ap (λ (n : ℕ). end_named Index top last.end_key n) c.seqno.ensures ∙ sym returned)
+    c.test_end.ensures.returned

@@ -21,19 +21,19 @@ loop-index-preserved g c =
     let here = c.place_at.ensures in
     record {
       rest = sym (tops_next body tops c.loop-index.index c.place_at.result here tt
-          c.in_ok-test_filter.ensures.told)
+          c.in_ok-test_filter.ensures.returned)
           ∙ c.loop-index.invariant.rest;
       passed = passed_more body tops c.loop-index.index c.place_at.result here
           c.loop-index.invariant.passed c.in_ok-test_filter.ensures.early;
     }
 
-pub returns-in_err-test_filter-clause-told : goal.returns-in_err-test_filter-clause-told
-returns-in_err-test_filter-clause-told g c =
+pub returns-in_err-test_filter-clause-returned : goal.returns-in_err-test_filter-clause-returned
+returns-in_err-test_filter-clause-returned g c =
     let e = c.in_err-test_filter.field-0.0 in
     passes _ c.from_residual.result _ e c.from_residual.ensures.1
     (subst (λ (r : Result (Unit {0}) Finding). Misses e r) c.loop-index.invariant.rest
     (tops_miss (body_of c.args.source.now) c.args.tops.now c.loop-index.index c.place_at.result
-    c.place_at.ensures e c.in_err-test_filter.ensures.told))
+    c.place_at.ensures e c.in_err-test_filter.ensures.returned))
 
 pub returns-in_err-test_filter-clause-early : goal.returns-in_err-test_filter-clause-early
 returns-in_err-test_filter-clause-early g c =
@@ -46,8 +46,8 @@ pub returns-in_err-test_filter-clause-calm : goal.returns-in_err-test_filter-cla
 returns-in_err-test_filter-clause-calm g c = λ none.
     absurd (some_place c.args.tops.now c.loop-index.index c.place_at.result c.place_at.ensures none)
 
-pub returns-clause-told : goal.returns-clause-told
-returns-clause-told g c =
+pub returns-clause-returned : goal.returns-clause-returned
+returns-clause-returned g c =
     let body = body_of c.args.source.now in
     let far : length c.args.tops.now ≤ c.loop-index.index =
     omega (arith, c.len-index-end.ensures.value, c.loop-index-test.false) in

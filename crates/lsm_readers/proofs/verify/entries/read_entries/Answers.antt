@@ -12,7 +12,7 @@ loop-index-preserved g c =
     let parts = parts_of c.args.inner.now in
     let body = body_of c.args.source.now in
     sym (entries_next body parts c.args.at c.loop-index.left c.args.block.now c.loop-index.index
-    c.in_ok-entry.entry _ c.in_ok-entry.ensures.ok c.in_ok-read_entry.ensures.told)
+    c.in_ok-entry.entry _ c.in_ok-entry.ensures.ok c.in_ok-read_entry.ensures.returned)
     ∙ c.loop-index.invariant
 
 pub returns-in_err-read_entry : goal.returns-in_err-read_entry
@@ -24,7 +24,7 @@ returns-in_err-read_entry g c =
     passes _ passed.result _ e passed.ensures.1
     (subst (λ (r : Result Unread Finding). Misses e r) c.loop-index.invariant
     (entries_miss body parts c.args.at c.loop-index.left c.args.block.now c.loop-index.index
-    c.in_ok-entry.entry e c.in_ok-entry.ensures.ok c.in_err-read_entry.ensures.told))
+    c.in_ok-entry.entry e c.in_ok-entry.ensures.ok c.in_err-read_entry.ensures.returned))
 
 pub returns : goal.returns
 returns g c =

@@ -11,18 +11,18 @@ use Rattle.lsm_readers.proofs.VerifyReads.{handles_misses, place_is, same_found,
 use Rattle.lsm_readers.proofs.VerifyReads.{top_misses}
 use Rattle.lsm_readers.proofs.verify.steps.load_partition.Goals as goal
 
-pub returns-in_err-handles-clause-told : goal.returns-in_err-handles-clause-told
-returns-in_err-handles-clause-told g c = λ top here.
+pub returns-in_err-handles-clause-returned : goal.returns-in_err-handles-clause-returned
+returns-in_err-handles-clause-returned g c = λ top here.
     let body = body_of c.args.source.now in
     let at = place_is c.args.tops.now c.args.index c.place_at.result top c.place_at.ensures here in
     let e = c.in_err-handles.field-0.0 in
     passes _ c.from_residual.result (partition_found body top) e c.from_residual.ensures.1
     (handles_misses body top e
     (subst (λ (p : Place). Misses e (handles_found body section.Index p)) at
-    c.in_err-handles.ensures.told))
+    c.in_err-handles.ensures.returned))
 
-pub returns-in_err-test_top-clause-told : goal.returns-in_err-test_top-clause-told
-returns-in_err-test_top-clause-told g c = λ top here.
+pub returns-in_err-test_top-clause-returned : goal.returns-in_err-test_top-clause-returned
+returns-in_err-test_top-clause-returned g c = λ top here.
     let body = body_of c.args.source.now in
     let hs = c.in_ok-handles.handles in
     let at = place_is c.args.tops.now c.args.index c.place_at.result top c.place_at.ensures here in
@@ -33,11 +33,11 @@ returns-in_err-test_top-clause-told g c = λ top here.
     passes _ passed.result (partition_found body top) e passed.ensures.1
     (top_misses body top hs e
     (subst (λ (p : Place). handles_found body section.Index p ≡ Ok hs) at
-    c.in_ok-handles.ensures.told)
+    c.in_ok-handles.ensures.returned)
     (subst (λ (h : Handle). Misses e (top_named h hs)) same c.in_err-test_top.ensures))
 
-pub returns-clause-told : goal.returns-clause-told
-returns-clause-told g c = λ top here.
+pub returns-clause-returned : goal.returns-clause-returned
+returns-clause-returned g c = λ top here.
     let body = body_of c.args.source.now in
     let hs = c.in_ok-handles.handles in
     let at = place_is c.args.tops.now c.args.index c.place_at.result top c.place_at.ensures here in
@@ -45,5 +45,5 @@ returns-clause-told g c = λ top here.
     here in
     top_goes body top hs
     (subst (λ (p : Place). handles_found body section.Index p ≡ Ok hs) at
-    c.in_ok-handles.ensures.told)
+    c.in_ok-handles.ensures.returned)
     (subst (λ (h : Handle). top_named h hs ≡ Ok tt) same c.in_ok-test_top.ensures)

@@ -13,8 +13,8 @@ use Rattle.lsm_readers.proofs.VerifyReads.{chunk_misses, contents_goes, contents
 use Rattle.lsm_readers.proofs.VerifyReads.{counted_misses, place_is, same_found}
 use Rattle.lsm_readers.proofs.verify.steps.read_at.Goals as goal
 
-pub returns-in_err-counts-clause-told : goal.returns-in_err-counts-clause-told
-returns-in_err-counts-clause-told g c = λ h here.
+pub returns-in_err-counts-clause-returned : goal.returns-in_err-counts-clause-returned
+returns-in_err-counts-clause-returned g c = λ h here.
     let parts = parts_of c.args.inner.now in
     let body = body_of c.args.source.now in
     let left = c.args.left.now in
@@ -26,10 +26,10 @@ returns-in_err-counts-clause-told g c = λ h here.
     (counted_misses body parts left h e
     (subst (λ (k : Counts). Misses e (counted_found parts k (place_of h))) spent
     (subst (λ (p : Place). Misses e (counted_found parts c.left.inside.counts p)) at
-    c.in_err-counts.ensures.told)))
+    c.in_err-counts.ensures.returned)))
 
-pub returns-in_err-block-clause-told : goal.returns-in_err-block-clause-told
-returns-in_err-block-clause-told g c = λ h here.
+pub returns-in_err-block-clause-returned : goal.returns-in_err-block-clause-returned
+returns-in_err-block-clause-returned g c = λ h here.
     let parts = parts_of c.args.inner.now in
     let body = body_of c.args.source.now in
     let left = c.args.left.now in
@@ -43,11 +43,11 @@ returns-in_err-block-clause-told g c = λ h here.
     (chunk_misses body parts left h counts e
     (subst (λ (k : Counts). counted_found parts k (place_of h) ≡ Ok counts) spent
     (subst (λ (p : Place). counted_found parts c.left.inside.counts p ≡ Ok counts) at
-    c.in_ok-counts.ensures.told))
-    (subst (λ (p : Place). Misses e (chunk_found body p)) at c.in_err-block.ensures.told))
+    c.in_ok-counts.ensures.returned))
+    (subst (λ (p : Place). Misses e (chunk_found body p)) at c.in_err-block.ensures.returned))
 
-pub returns-in_err-read_contents-clause-told : goal.returns-in_err-read_contents-clause-told
-returns-in_err-read_contents-clause-told g c = λ h here.
+pub returns-in_err-read_contents-clause-returned : goal.returns-in_err-read_contents-clause-returned
+returns-in_err-read_contents-clause-returned g c = λ h here.
     let parts = parts_of c.args.inner.now in
     let body = body_of c.args.source.now in
     let left = c.args.left.now in
@@ -65,15 +65,15 @@ returns-in_err-read_contents-clause-told g c = λ h here.
     (contents_misses body parts left h counts chunk e
     (subst (λ (k : Counts). counted_found parts k (place_of h) ≡ Ok counts) spent
     (subst (λ (p : Place). counted_found parts c.left.inside.counts p ≡ Ok counts) at
-    c.in_ok-counts.ensures.told))
-    (subst (λ (p : Place). chunk_found body p ≡ Ok chunk) at c.in_ok-block.ensures.told)
+    c.in_ok-counts.ensures.returned))
+    (subst (λ (p : Place). chunk_found body p ≡ Ok chunk) at c.in_ok-block.ensures.returned)
     (subst (λ (last : Option Entry). Misses e (contents_found body parts (begun last) h chunk))
     (ap (λ (u : Unread). u.last) (c.read.view_is ∙ c.in_ok-read.ensures.ok))
     (subst (λ (x : Handle). Misses e (contents_found body parts (begun c.read.inside.last) x
     chunk)) same c.in_err-read_contents.ensures)))
 
-pub returns-clause-told : goal.returns-clause-told
-returns-clause-told g c = λ h here.
+pub returns-clause-returned : goal.returns-clause-returned
+returns-clause-returned g c = λ h here.
     let parts = parts_of c.args.inner.now in
     let body = body_of c.args.source.now in
     let left = c.args.left.now in
@@ -89,8 +89,8 @@ returns-clause-told g c = λ h here.
     contents_goes body parts left h counts chunk new
     (subst (λ (k : Counts). counted_found parts k (place_of h) ≡ Ok counts) spent
     (subst (λ (p : Place). counted_found parts c.left.inside.counts p ≡ Ok counts) at
-    c.in_ok-counts.ensures.told))
-    (subst (λ (p : Place). chunk_found body p ≡ Ok chunk) at c.in_ok-block.ensures.told)
+    c.in_ok-counts.ensures.returned))
+    (subst (λ (p : Place). chunk_found body p ≡ Ok chunk) at c.in_ok-block.ensures.returned)
     (subst (λ (last : Option Entry). contents_found body parts (begun last) h chunk ≡ Ok new)
     (ap (λ (u : Unread). u.last) (c.read.view_is ∙ c.in_ok-read.ensures.ok))
     (subst (λ (x : Handle). contents_found body parts (begun c.read.inside.last) x chunk

@@ -26,7 +26,7 @@ returns-in_err-read-clause-refused g c =
     let e = c.in_err-read.field-0.0 in
     refuses c.from_residual.result e (blocks_found body parts left hs) c.from_residual.ensures.1
     (λ f found. ap (blocks_found body parts left) first.2
-    ∙ first_misses body parts h (drop 1 hs) left e (c.in_err-read.ensures.told h first.1) f found)
+    ∙ first_misses body parts h (drop 1 hs) left e (c.in_err-read.ensures.returned h first.1) f found)
 
 pub returns-clause-read : goal.returns-clause-read
 returns-clause-read g c = λ yes.
@@ -36,7 +36,7 @@ returns-clause-read g c = λ yes.
     let h = first.0 in (
       h,
       first.2 ∙ ap (λ (xs : List Handle). h ∷ xs) (sym c.pass.ensures),
-      c.in_ok-read.ensures.told h first.1,
+      c.in_ok-read.ensures.returned h first.1,
     )
 
 pub returns-in_err-read-clause-calm : goal.returns-in_err-read-clause-calm
@@ -53,5 +53,5 @@ returns-in_err-read-clause-next g c = λ h rest is.
     let e = c.in_err-read.field-0.0 in
     refuses c.from_residual.result e (block_found body parts c.args.left.now h)
     c.from_residual.ensures.1
-    (c.in_err-read.ensures.told h
+    (c.in_err-read.ensures.returned h
     (c.in-Some.ensures.some ∙ ap (λ (hs : List Handle). slice_get hs 0) is))

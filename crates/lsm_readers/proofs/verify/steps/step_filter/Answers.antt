@@ -27,7 +27,7 @@ returns-in_err-test_filter-in-Some-clause-refused g c = λ left.
     c.from_residual.ensures.1
     (λ f found. ap (λ (ps : List Place). rest_found body parts (before_index ps) left) head
     ∙ filter_misses body parts place (drop (i + 1) places) left e
-    c.in_err-test_filter-in-Some.ensures.told f found)
+    c.in_err-test_filter-in-Some.ensures.returned f found)
 
 pub returns-in_ok-test_filter-in-Some-clause-goes :
     goal.returns-in_ok-test_filter-in-Some-clause-goes
@@ -41,7 +41,7 @@ returns-in_ok-test_filter-in-Some-clause-goes g c = λ left.
     let head = drop_at places i place (sym c.filter_at.ensures.place ∙ c.in-Some.is) in
     subst (λ (ps : List Place). GoesOne body parts (before_index ps) left (before_index more) left)
     (sym head)
-    (filter_goes body parts place more left tt c.in_ok-test_filter-in-Some.ensures.told)
+    (filter_goes body parts place more left tt c.in_ok-test_filter-in-Some.ensures.returned)
 
 pub returns-in-None-clause-goes : goal.returns-in-None-clause-goes
 returns-in-None-clause-goes g c = λ left.
@@ -110,7 +110,7 @@ returns-in_err-test_filter-in-Some-clause-next g c = λ left.
     subst (λ (ps : List Place). IfErr c.from_residual.result (λ e.
     Misses e (next_found body parts (before_index ps) left))) (sym head)
     (refuses c.from_residual.result c.in_err-test_filter-in-Some.field-0.0 (filter_found body place)
-    c.from_residual.ensures.1 c.in_err-test_filter-in-Some.ensures.told)
+    c.from_residual.ensures.1 c.in_err-test_filter-in-Some.ensures.returned)
 
 pub returns-in-None-clause-next : goal.returns-in-None-clause-next
 returns-in-None-clause-next g c = λ left.

@@ -60,7 +60,7 @@ returns-in_err-test_left-in-None-clause-refused g c =
     let ahead = in_index c.args.handles.now c.args.tops.now in
     refuses passed.result e (rest_found body parts ahead c.args.left.now) passed.ensures.1
     (rw (none.0, last.0, sym none.2)
-    (end_misses body parts c.step_block.new.left e c.in_err-test_left-in-None.ensures.told))
+    (end_misses body parts c.step_block.new.left e c.in_err-test_left-in-None.ensures.returned))
 
 pub returns-in-Some-clause-goes : goal.returns-in-Some-clause-goes
 returns-in-Some-clause-goes g c = λ no.
@@ -79,7 +79,7 @@ returns-in_ok-test_left-in-None-clause-ends g c = λ yes.
     let none = c.in_ok-step_block.ensures.none c.if-branch.false in
     let last = at_none _ c.in_ok-block.field-0 c.in_ok-block.ensures.none c.in-None.is in
     rw (none.0, last.0, sym none.2)
-    (ends_here body parts c.step_block.new.left tt c.in_ok-test_left-in-None.ensures.told)
+    (ends_here body parts c.step_block.new.left tt c.in_ok-test_left-in-None.ensures.returned)
 
 pub returns-in_err-step_block-clause-early : goal.returns-in_err-step_block-clause-early
 returns-in_err-step_block-clause-early g c =
@@ -148,4 +148,4 @@ returns-in_err-test_left-in-None-clause-next g c =
     let last = at_none _ c.in_ok-block.field-0 c.in_ok-block.ensures.none c.in-None.is in
     let ahead = in_index c.args.handles.now c.args.tops.now in
     refuses passed.result e (next_found body parts ahead c.args.left.now) passed.ensures.1
-    (rw (none.0, last.0, sym none.2) c.in_err-test_left-in-None.ensures.told)
+    (rw (none.0, last.0, sym none.2) c.in_err-test_left-in-None.ensures.returned)

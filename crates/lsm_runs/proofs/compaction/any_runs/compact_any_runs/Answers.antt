@@ -75,4 +75,4 @@ returns-clause-any g c ascend =
     inl (came_kept _ a.rules _ _ _ _ (merge_of (scans_of (map arc_value a.runs.now))) a.writer c.in_ok-outcome.outcome _ (c.in_ok-outcome.ensures.any ascend))
 
 pub returns-clause-through : goal.returns-clause-through
-returns-clause-through g c = through_kept c.args.writer _ _ c.in_ok-outcome.outcome c.in_ok-outcome.ensures.told
+returns-clause-through g c = through_kept c.args.writer _ _ c.in_ok-outcome.outcome c.in_ok-outcome.ensures.returned

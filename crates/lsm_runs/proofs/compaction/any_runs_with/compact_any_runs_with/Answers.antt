@@ -39,7 +39,7 @@ returns-in_err-source-clause-until g c lists held some =
 pub returns-in_err-source-clause-any : goal.returns-in_err-source-clause-any
 returns-in_err-source-clause-any g c ascend =
     let a = c.args in
-    came_or_begun g.F.LentFilter.gives g.C.LentCallback.gets a.rules a.filter a.callback (merge_of (scans_of (map arc_value a.runs.now))) a.writer g.O.CompactionObserver.says a.observer.now (map arc_value a.runs.now) _ c.from_residual.result c.in_err-source.field-0.0 c.from_residual.ensures.1 c.in_err-source.ensures.told
+    came_or_begun g.F.LentFilter.gives g.C.LentCallback.gets a.rules a.filter a.callback (merge_of (scans_of (map arc_value a.runs.now))) a.writer g.O.CompactionObserver.says a.observer.now (map arc_value a.runs.now) _ c.from_residual.result c.in_err-source.field-0.0 c.from_residual.ensures.1 c.in_err-source.ensures.returned
 
 pub returns-in_err-source-clause-refused : goal.returns-in_err-source-clause-refused
 returns-in_err-source-clause-refused g c lists held some =
@@ -63,7 +63,7 @@ returns-in_err-source-clause-fits g c able lists held calm fits =
 pub returns-in_err-outcome-clause-heard : goal.returns-in_err-outcome-clause-heard
 returns-in_err-outcome-clause-heard g c =
     let u = (err_at _ c.write_observed-written.result _ c.in_err-outcome.was c.write_observed-written.ensures.refused) in
-    err_any c.from_residual-in_err-outcome.result (u.list, u.told)
+    err_any c.from_residual-in_err-outcome.result (u.list, u.returned)
 
 pub returns-in_err-outcome-clause-until : goal.returns-in_err-outcome-clause-until
 returns-in_err-outcome-clause-until g c lists held some =
@@ -129,5 +129,5 @@ returns-clause-opens g c some = absurd (some c.in_ok-source.ensures.opens)
 pub returns-clause-made : goal.returns-clause-made
 returns-clause-made g c = ok_at _ c.write_observed-written.result _ c.in_ok-outcome.was c.write_observed-written.ensures.made
 
-pub returns-clause-told : goal.returns-clause-told
-returns-clause-told g c = ok_at _ c.write_observed-written.result _ c.in_ok-outcome.was c.write_observed-written.ensures.told
+pub returns-clause-returned : goal.returns-clause-returned
+returns-clause-returned g c = ok_at _ c.write_observed-written.result _ c.in_ok-outcome.was c.write_observed-written.ensures.returned

@@ -15,8 +15,8 @@ returns-clause-list g c able = c.compacted_from.ensures.list able.lists (c.in_ok
 pub returns-clause-any : goal.returns-clause-any
 returns-clause-any g c ascend = c.compacted_from.ensures.any _ c.in_ok-scanners.ensures.any ascend
 
-pub returns-clause-told : goal.returns-clause-told
-returns-clause-told g c = memory_reports _ c.compacted_from.result c.compacted_from.ensures.err
+pub returns-clause-returned : goal.returns-clause-returned
+returns-clause-returned g c = memory_reports _ c.compacted_from.result c.compacted_from.ensures.err
 
 pub returns-in_err-scanners-clause-opens : goal.returns-in_err-scanners-clause-opens
 returns-in_err-scanners-clause-opens g c =

@@ -9,8 +9,8 @@ use Rattle.lsm_runs.proofs.Observing.{none_finished, one_finished, other_ids, sa
 use Rattle.lsm_runs.proofs.Observing.{some_counted, reported_more_tables}
 use Rattle.lsm_runs.proofs.compaction.any_runs_with.write_and_tell.Goals as goal
 
-pub returns-then-written-eq0-clause-told : goal.returns-then-written-eq0-clause-told
-returns-then-written-eq0-clause-told g c counted begun =
+pub returns-then-written-eq0-clause-returned : goal.returns-then-written-eq0-clause-returned
+returns-then-written-eq0-clause-returned g c counted begun =
     let m = c.args.writer.now in
     let e = entry_of_ref c.args.entry.now in
     let fine = c.in_ok-write_ref.ensures.refused in
@@ -27,8 +27,8 @@ returns-then-eq-clause-counts g c counted begun =
     let same : c.write_ref.new.self.tables ≡ m.tables = ap (λ (x : TablesWriting). x.tables) c.in_ok-write_ref.ensures.ok ∙ none_finished m e fine begun (inr ids) in
     counted_same m c.write_ref.new.self e c.args.progress.now counted c.in_ok-write_ref.ensures.listed c.saturating_add-progress.result c.saturating_add-progress.ensures same
 
-pub returns-then-eq-clause-told : goal.returns-then-eq-clause-told
-returns-then-eq-clause-told g c counted begun =
+pub returns-then-eq-clause-returned : goal.returns-then-eq-clause-returned
+returns-then-eq-clause-returned g c counted begun =
     let m = c.args.writer.now in
     let e = entry_of_ref c.args.entry.now in
     let fine = c.in_ok-write_ref.ensures.refused in
@@ -47,8 +47,8 @@ returns-clause-counts g c counted begun =
     (λ same. other_ids _ _ (sym c.if-eq.ensures) (c.table_ids.ensures ∙ ap (λ (x : TablesWriting). x.ids) c.in_ok-write_ref.ensures.ok ∙ same ∙ sym c.table_ids-ids.ensures)) in
     counted_one_more m n e c.args.progress.now counted c.in_ok-write_ref.ensures.listed c.saturating_add-progress.result c.saturating_add-progress.ensures (written m.present) c.saturating_add-progress-2.result more c.saturating_add-progress-2.ensures
 
-pub returns-clause-told : goal.returns-clause-told
-returns-clause-told g c counted begun =
+pub returns-clause-returned : goal.returns-clause-returned
+returns-clause-returned g c counted begun =
     let m = c.args.writer.now in
     let e = entry_of_ref c.args.entry.now in
     let n = c.write_ref.new.self in

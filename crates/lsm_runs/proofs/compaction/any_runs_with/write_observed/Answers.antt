@@ -13,11 +13,11 @@ returns-clause-made g c =
     let e = c.write_while_observed-ending in
     (ends_so _ g.O.CompactionObserver.says c.args.writer e.new.writer c.args.source.now c.args.observer.now e.new.source e.new.observer c.requires.fresh c.requires.next e.result c.ended.result o.tables o.refused o.disorder o.stop o.passed e.ensures.took e.ensures.wrote e.ensures.refused).made
 
-pub returns-clause-told : goal.returns-clause-told
-returns-clause-told g c =
+pub returns-clause-returned : goal.returns-clause-returned
+returns-clause-returned g c =
     let o = c.ended.ensures in
     let e = c.write_while_observed-ending in
-    (ends_so _ g.O.CompactionObserver.says c.args.writer e.new.writer c.args.source.now c.args.observer.now e.new.source e.new.observer c.requires.fresh c.requires.next e.result c.ended.result o.tables o.refused o.disorder o.stop o.passed e.ensures.took e.ensures.wrote e.ensures.refused).told
+    (ends_so _ g.O.CompactionObserver.says c.args.writer e.new.writer c.args.source.now c.args.observer.now e.new.source e.new.observer c.requires.fresh c.requires.next e.result c.ended.result o.tables o.refused o.disorder o.stop o.passed e.ensures.took e.ensures.wrote e.ensures.refused).returned
 
 pub returns-clause-refused : goal.returns-clause-refused
 returns-clause-refused g c =

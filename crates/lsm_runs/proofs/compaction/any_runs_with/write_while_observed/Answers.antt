@@ -50,7 +50,7 @@ returns-then-not-can_follow_ref-clause-wrote g c =
       led = l.source;
       gave = l.invariant.observing.gave;
       ends = (entry_of_ref c.in-Some.entry, step, sym c.can_follow_ref.ensures ∙ c.if-not-can_follow_ref.true);
-      told = reported_of_part next says c.args.writer.now c.args.source.now c.args.observer.now l.writer l.source l.source l.progress l.observer l.invariant.observing c.requires.fresh;
+      returned = reported_of_part next says c.args.writer.now c.args.source.now c.args.observer.now l.writer l.source l.source l.progress l.observer l.invariant.observing c.requires.fresh;
     }
 
 pub returns-in_err-goes_on-clause-refused : goal.returns-in_err-goes_on-clause-refused
@@ -88,10 +88,10 @@ returns-then-not-goes_on-clause-wrote g c =
       led = c.advance.new.self;
       gave = gave_more next says c.args.writer.now c.args.source.now c.args.observer.now l.writer l.source c.advance.new.self l.progress l.observer h e n o.listed step;
       ends = refl;
-      told = reported_stopped next says c.args.writer.now c.args.source.now c.args.observer.now l.writer l.source l.source l.progress l.observer h c.requires.fresh e n c.write_and_tell.new.observer o.ok
+      returned = reported_stopped next says c.args.writer.now c.args.source.now c.args.observer.now l.writer l.source l.source l.progress l.observer h c.requires.fresh e n c.write_and_tell.new.observer o.ok
           (subst (Since c.args.writer.now) (sym o.ok) (since_more c.args.writer.now l.writer c.requires.fresh e h.since o.refused))
           (subst CutSoFar (sym o.ok) (cut_so_more l.writer e h.cut))
-          (subst (λ (b : Bool). NotifiesNext says l.writer n l.observer b c.write_and_tell.new.observer) c.if-not-goes_on.true (o.told h.counted h.cut.begun));
+          (subst (λ (b : Bool). NotifiesNext says l.writer n l.observer b c.write_and_tell.new.observer) c.if-not-goes_on.true (o.returned h.counted h.cut.begun));
     }
 
 pub loop-source-preserved-else-not-goes_on : goal.loop-source-preserved-else-not-goes_on
@@ -109,7 +109,7 @@ loop-source-preserved-else-not-goes_on g c =
       observing = observing_more next says c.args.writer.now c.args.source.now c.args.observer.now l.writer n l.source c.advance.new.self l.progress c.write_and_tell.new.progress l.observer c.write_and_tell.new.observer e c.requires.fresh h step o.ok o.refused o.listed
           (sym c.can_follow_ref.ensures ∙ c.if-not-can_follow_ref.false)
           (o.counts h.counted h.cut.begun)
-          (subst (λ (b : Bool). NotifiesNext says l.writer n l.observer b c.write_and_tell.new.observer) c.if-not-goes_on.false (o.told h.counted h.cut.begun));
+          (subst (λ (b : Bool). NotifiesNext says l.writer n l.observer b c.write_and_tell.new.observer) c.if-not-goes_on.false (o.returned h.counted h.cut.begun));
       took = took_more c.args.writer.now l.writer n e l.invariant.took o.ok o.listed;
     }
 
@@ -125,5 +125,5 @@ returns-clause-wrote g c =
       led = l.source;
       gave = l.invariant.observing.gave;
       ends = lent_over next _ _ _ _ c.if-branch.false c.in_ok-advance.ensures.more c.in_ok-advance.ensures.goes;
-      told = reported_of_part next says c.args.writer.now c.args.source.now c.args.observer.now l.writer l.source l.source l.progress l.observer l.invariant.observing c.requires.fresh;
+      returned = reported_of_part next says c.args.writer.now c.args.source.now c.args.observer.now l.writer l.source l.source l.progress l.observer l.invariant.observing c.requires.fresh;
     }

@@ -29,7 +29,7 @@ returns-clause-refused g c lists held some =
     let same : ts ≡ arc_value c.args.run.now = c.in_ok-clone.ensures.cases in
     let is = whole_run ts (subst (λ (us : List OpenTable). 0 < length us) (sym same) c.requires) ∙ same in
     scan_wants (arc_value c.args.run.now) lists held some c.culled.result
-    (subst (λ (us : List OpenTable). IfErr c.culled.result (λ (e : Error). is_memory e ≡ false → first (tables_scan us) ≡ Some (Err e))) is c.culled.ensures.told)
+    (subst (λ (us : List OpenTable). IfErr c.culled.result (λ (e : Error). is_memory e ≡ false → first (tables_scan us) ≡ Some (Err e))) is c.culled.ensures.returned)
 
 pub returns-clause-any : goal.returns-clause-any
 returns-clause-any g c =
@@ -39,12 +39,12 @@ returns-clause-any g c =
     scanned_any RunScansNext (arc_value c.args.run.now) c.culled.result
     (subst (λ (us : List OpenTable). IfOk c.culled.result (λ s. YieldsEnding RunScansNext nowhere (λ _. Unit {0}) (λ _. Unit {0}) s (tables_scan us))) is c.culled.ensures.yields)
 
-pub returns-clause-told : goal.returns-clause-told
-returns-clause-told g c =
+pub returns-clause-returned : goal.returns-clause-returned
+returns-clause-returned g c =
     let ts = arc_value c.in_ok-clone.field-0 in
     let same : ts ≡ arc_value c.args.run.now = c.in_ok-clone.ensures.cases in
     let is = whole_run ts (subst (λ (us : List OpenTable). 0 < length us) (sym same) c.requires) ∙ same in
-    subst (λ (us : List OpenTable). IfErr c.culled.result (λ (e : Error). is_memory e ≡ false → first (tables_scan us) ≡ Some (Err e))) is c.culled.ensures.told
+    subst (λ (us : List OpenTable). IfErr c.culled.result (λ (e : Error). is_memory e ≡ false → first (tables_scan us) ≡ Some (Err e))) is c.culled.ensures.returned
 
 pub returns-clause-opens : goal.returns-clause-opens
 returns-clause-opens g c =

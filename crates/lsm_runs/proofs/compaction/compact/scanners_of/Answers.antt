@@ -60,13 +60,13 @@ returns-in_err-scanner_of-clause-err g c able =
 pub returns-clause-list : goal.returns-clause-list
 returns-clause-list g c able = scanned_all arc_value c.args.runs.now able c.loop-run.run-index RunScansNext nowhere c.loop-run.scanners.items (c.loop-run.invariant.held able) c.loop-run-test.false
 
-pub returns-in_err-scanner_of-clause-told : goal.returns-in_err-scanner_of-clause-told
-returns-in_err-scanner_of-clause-told g c =
+pub returns-in_err-scanner_of-clause-returned : goal.returns-in_err-scanner_of-clause-returned
+returns-in_err-scanner_of-clause-returned g c =
     err_passed (λ (e : Error). is_memory e ≡ false → BeginsWith (map arc_value c.args.runs.now) e) c.from_residual.result c.in_err-scanner_of.field-0.0 c.from_residual.ensures.1
     (λ fine. scan_begins arc_value RunScansNext c.args.runs.now c.loop-run.run-index c.run-item.result c.loop-run-test.true c.run-item.is c.in_err-scanner_of.field-0.0
     (some_table (arc_value c.run-item.result) (grind (arith, c.is_empty.ensures, c.if-not-is_empty.true)))
     c.loop-run.invariant.loads (c.in_err-scanner_of.ensures.opens fine)
-    (c.in_err-scanner_of.ensures.told fine))
+    (c.in_err-scanner_of.ensures.returned fine))
 
 pub returns-clause-any : goal.returns-clause-any
 returns-clause-any g c = scan_all arc_value RunScansNext c.args.runs.now c.loop-run.scanners.items c.loop-run.run-index c.loop-run.invariant.any c.loop-run-test.false

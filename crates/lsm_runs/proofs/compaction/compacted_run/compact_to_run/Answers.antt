@@ -28,9 +28,9 @@ returns-in_err-writer-clause-refused g c lists held =
 
 pub returns-in_err-writer-clause-taken : goal.returns-in_err-writer-clause-taken
 returns-in_err-writer-clause-taken g c lists held fits =
-    let told = ids_fault c.args.ids in
+    let returned = ids_fault c.args.ids in
     let r = c.from_residual-in_err-writer in
-    memory_alone r.result told (ap ids_fault fits.first_is) (faults_refusal r.result c.in_err-writer.field-0.0 told r.ensures.1 c.in_err-writer.ensures.refused)
+    memory_alone r.result returned (ap ids_fault fits.first_is) (faults_refusal r.result c.in_err-writer.field-0.0 returned r.ensures.1 c.in_err-writer.ensures.refused)
 
 pub returns-in_err-tables-clause-refused : goal.returns-in_err-tables-clause-refused
 returns-in_err-tables-clause-refused g c lists held =

@@ -23,8 +23,8 @@ returns-in_err-open_table-clause-taken g c label lists f small =
     let rest = c.next.new.self.rest.items in
     let before = rw c.in-Some.ensures.steps.0 at (c.loop-table.invariant label lists f) in
     let fits = next_fits seqno c.in-Some.table rest label lists c.loop-table.opened.items before small in
-    let told = number_fault fits.1 seqno in
-    memory_alone c.from_residual-in_err-open_table.result told fits.3 (faults_refusal c.from_residual-in_err-open_table.result c.in_err-open_table.field-0.0 told c.from_residual-in_err-open_table.ensures.1 (c.in_err-open_table.ensures.refused fits.0 fits.1 fits.2))
+    let returned = number_fault fits.1 seqno in
+    memory_alone c.from_residual-in_err-open_table.result returned fits.3 (faults_refusal c.from_residual-in_err-open_table.result c.in_err-open_table.field-0.0 returned c.from_residual-in_err-open_table.ensures.1 (c.in_err-open_table.ensures.refused fits.0 fits.1 fits.2))
 
 pub returns-clause-opened : goal.returns-clause-opened
 returns-clause-opened g c label lists f =

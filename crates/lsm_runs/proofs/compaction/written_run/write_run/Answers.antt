@@ -42,9 +42,9 @@ returns-in_err-opened-clause-taken g c fits small =
 pub returns-in_err-tables-clause-refused : goal.returns-in_err-tables-clause-refused
 returns-in_err-tables-clause-refused g c =
     let a = c.args in
-    let told = number_fault a.items.items a.global_seqno in
+    let returned = number_fault a.items.items a.global_seqno in
     faults_refusal c.from_residual-in_err-tables.result c.in_err-tables.field-0.0 (chain_fault a.ids a.target_size a.created_at a.items.items a.global_seqno) c.from_residual-in_err-tables.ensures.1
-    (λ memory. ap (λ (x : Option Error). option_or x told) (c.in_err-tables.ensures.refused memory))
+    (λ memory. ap (λ (x : Option Error). option_or x returned) (c.in_err-tables.ensures.refused memory))
 
 pub returns-in_err-opened-clause-refused : goal.returns-in_err-opened-clause-refused
 returns-in_err-opened-clause-refused g c =

@@ -19,8 +19,8 @@ returns-in_err-writer-clause-refused g c =
 
 pub returns-in_err-writer-clause-taken : goal.returns-in_err-writer-clause-taken
 returns-in_err-writer-clause-taken g c fits =
-    let told = ids_fault c.args.ids in
-    memory_alone c.from_residual.result told (ap ids_fault fits.first_is) (faults_refusal c.from_residual.result c.in_err-writer.field-0.0 told c.from_residual.ensures.1 c.in_err-writer.ensures.refused)
+    let returned = ids_fault c.args.ids in
+    memory_alone c.from_residual.result returned (ap ids_fault fits.first_is) (faults_refusal c.from_residual.result c.in_err-writer.field-0.0 returned c.from_residual.ensures.1 c.in_err-writer.ensures.refused)
 
 pub write_by-requires-clause-next : goal.write_by-requires-clause-next
 write_by-requires-clause-next g c =

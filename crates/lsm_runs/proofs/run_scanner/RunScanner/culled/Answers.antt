@@ -24,8 +24,8 @@ returns-clause-is g c =
     ap (λ (us : List OpenTable). slice_get us c.ends_in-lo.result.0) (c.as_slice-2.ensures ∙ c.deref-2.ensures) ∙ ap (slice_get ts) lo ∙ t.1 in
     begun ts ends t.0 c.in_ok-reader.reader (c.ends_in-lo.result.0 + 1) c.place_behind-hi.result (omega (arith, lo)) (omega (arith, hi, c.place_behind-hi.ensures)) c.requires.0 t.1 (c.in_ok-reader.ensures.begins t.0 there)
 
-pub returns-in_err-reader-clause-told : goal.returns-in_err-reader-clause-told
-returns-in_err-reader-clause-told g c =
+pub returns-in_err-reader-clause-returned : goal.returns-in_err-reader-clause-returned
+returns-in_err-reader-clause-returned g c =
     let ts = arc_value c.args.run in
     let ends = ends_given ts c.args.span in
     let given : c.ends_in-lo.result ≡ ends = c.ends_in-lo.ensures ∙ ap (λ (us : List OpenTable). ends_given us c.args.span) (c.as_slice.ensures ∙ c.deref.ensures) in

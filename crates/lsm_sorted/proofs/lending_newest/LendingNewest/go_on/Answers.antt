@@ -26,7 +26,7 @@ returns-in_err-advance-clause-goes g c =
       may = can_front g.L.Lending.advances nowhere can can m.source _ c.advance.new.self before.may c.in_err-advance.ensures.goes;
       gives = λ stops. gives_fault stops g.L.Lending.advances g.L.Lending.lent c.args.self.now _ m.source (before.still stops) (before.live ∙ c.requires.live)
           (last_same m c.args.self.now before.key before.has) c.in_err-advance.field-0.0 c.in_err-advance.ensures.goes;
-      tells = record {
+      states = record {
         live = λ o. hears_fault g.L.Lending.advances c.args.self.now _ m.source before.skipped c.in_err-advance.field-0.0 (before.live ∙ c.requires.live) c.in_err-advance.ensures.goes;
         ended = λ o. let no : false ≡ true = sym c.requires.live ∙ o in absurd cc;
       };
@@ -40,7 +40,7 @@ returns-in-Err-clause-goes g c =
       may = subst (CanYield g.L.Lending.advances nowhere can can) (sym c.in-Err.ensures.source)
           (can_front g.L.Lending.advances nowhere can can c.loop-self.self.source _ c.advance.new.self before.may c.in_ok-advance.ensures.goes);
       gives = λ stops. gives_memory stops g.L.Lending.advances c.args.self.now _ c.in-Err.error c.in-Err.ensures.err;
-      tells = record {
+      states = record {
         live = λ o. hears_memory g.L.Lending.advances c.args.self.now _ c.loop-self.self.source before.skipped c.advance.new.self c.in-Err.ensures.source c.in_ok-advance.field-0 (g.L.Lending.lent c.advance.new.self) c.in-Err.error c.in_ok-advance.ensures.more c.if-branch.true c.in-Err.ensures.err refl c.in_ok-advance.ensures.goes;
         ended = λ o. let no : false ≡ true = sym c.requires.live ∙ o in absurd cc;
       };
@@ -61,7 +61,7 @@ returns-then-is_other-clause-goes g c =
           (can_front g.L.Lending.advances nowhere can can m.source _ t before.may c.in_ok-advance.ensures.goes);
       gives = λ stops. gives_kept stops g.L.Lending.advances lent c.args.self.now c.remember.new.self m.source (before.still stops) (c.in_default.ensures.over ∙ before.live ∙ c.requires.live)
           t c.in_default.ensures.source c.in_ok-advance.field-0 c.in_default.ensures.has c.in_ok-advance.ensures.more c.if-branch.true other c.in_default.ensures.key c.in_ok-advance.ensures.goes;
-      tells = record {
+      states = record {
         live = λ o. hears_lent g.L.Lending.advances c.args.self.now c.remember.new.self m.source before.skipped t c.in_default.ensures.source lent c.in_ok-advance.field-0 (lent t) refl c.in_ok-advance.ensures.more c.if-branch.true (c.in_default.ensures.over ∙ before.live ∙ c.requires.live) c.in_default.ensures.has c.in_ok-advance.ensures.goes;
         ended = λ o. let no : false ≡ true = sym c.requires.live ∙ o in absurd cc;
       };
@@ -96,7 +96,7 @@ returns-clause-goes g c =
       may = can_front g.L.Lending.advances nowhere can can m.source _ c.advance.new.self before.may c.in_ok-advance.ensures.goes;
       gives = λ stops. gives_end stops g.L.Lending.advances g.L.Lending.lent c.args.self.now _ m.source (before.still stops) (before.live ∙ c.requires.live)
           (last_same m c.args.self.now before.key before.has) c.in_ok-advance.field-0 c.in_ok-advance.ensures.more c.if-branch.false c.in_ok-advance.ensures.goes;
-      tells = record {
+      states = record {
         live = λ o. hears_end g.L.Lending.advances c.args.self.now _ m.source before.skipped g.L.Lending.lent c.in_ok-advance.field-0 (g.L.Lending.lent c.advance.new.self) refl c.in_ok-advance.ensures.more c.if-branch.false (before.live ∙ c.requires.live) c.in_ok-advance.ensures.goes;
         ended = λ o. let no : false ≡ true = sym c.requires.live ∙ o in absurd cc;
       };

@@ -21,9 +21,9 @@ returns-clause-can g c may =
 pub returns-clause-faults : goal.returns-clause-faults
 returns-clause-faults g c =
     always_passes g.L.Lending.advances newest_lender (λ n. n.is_over) (λ n. true)
-    (AdvancesNewest g.L.Lending.advances g.L.Lending.can_advance) (λ s r t step. step.tells) _ refl
+    (AdvancesNewest g.L.Lending.advances g.L.Lending.can_advance) (λ s r t step. step.states) _ refl
 
 pub returns-clause-over : goal.returns-clause-over
 returns-clause-over g c =
     always_stays g.L.Lending.advances newest_lender (λ n. n.is_over) (λ n. true)
-    (AdvancesNewest g.L.Lending.advances g.L.Lending.can_advance) (λ s r t step. step.tells) _ refl
+    (AdvancesNewest g.L.Lending.advances g.L.Lending.can_advance) (λ s r t step. step.states) _ refl

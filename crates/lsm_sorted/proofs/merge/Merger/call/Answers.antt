@@ -72,7 +72,7 @@ returns-in-Ok-clause-calls g c =
                 pops = subst (λ (e : Direction). Pops e c.fill_once.new.self c.in-Some.lead c.pop.new.self) c.end.ensures c.in-Some.ensures.some;
                 answer = Ok tt;
                 asks = c.in-Ok.ensures.asks;
-                told = rw c.into_item.ensures refl;
+                returned = rw c.into_item.ensures refl;
               });
             };
             answer = refl;
@@ -119,7 +119,7 @@ returns-in-Err-take-clause-calls g c = rw (c.fail-in-Err-take.ensures.answer, c.
             pops = subst (λ (e : Direction). Pops e c.fill_once.new.self c.in-Some.lead c.pop.new.self) c.end.ensures c.in-Some.ensures.some;
             answer = Err c.in-Err-take.error;
             asks = c.in-Err-take.ensures.asks;
-            told = refl;
+            returned = refl;
           });
         };
         answer = refl;

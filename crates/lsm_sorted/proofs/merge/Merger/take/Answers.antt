@@ -56,7 +56,7 @@ returns-in-Some-Ok-clause-asks g c = record {
   asked = rw c.in-Some-Ok.field-0-is at c.in-Some-Ok.ensures.asked;
   written = refl;
   puts = (c.new.result, c.new.ensures.entry, c.new.ensures.source, c.new.ensures.end ∙ c.end.ensures, c.push.ensures.items);
-  told = refl;
+  returned = refl;
   same = returns-in-Some-Ok-clause-same g c;
 }
 
@@ -70,7 +70,7 @@ returns-in-Some-Err-clause-asks g c = record {
   asked = rw c.in-Some-Err.field-0-is at c.in-Some-Err.ensures.asked;
   written = refl;
   puts = refl;
-  told = refl;
+  returned = refl;
   same = record { count = length-set c.args.self.now.sources.items c.args.i c.ask.new.self; room = refl; front_ready = refl; back_ready = refl; failed = refl };
 }
 
@@ -84,6 +84,6 @@ returns-in-None-clause-asks g c = record {
   asked = c.in-None.ensures.asked;
   written = refl;
   puts = refl;
-  told = refl;
+  returned = refl;
   same = returns-in-None-clause-same g c;
 }

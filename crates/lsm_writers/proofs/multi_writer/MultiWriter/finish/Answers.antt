@@ -59,7 +59,7 @@ returns-in_err-add_table-clause-refused g c =
 pub returns-in_err-add_table-clause-first : goal.returns-in_err-add_table-clause-first
 returns-in_err-add_table-clause-first g c =
     let i = c.self.inside in
-    rw (← c.self.view_is) (λ x told. absurd (works_first i.target_size i.ids i.finished.items i.writer i.failed c.if-self.false x told))
+    rw (← c.self.view_is) (λ x returned. absurd (works_first i.target_size i.ids i.finished.items i.writer i.failed c.if-self.false x returned))
 
 pub returns-in_err-add_table-clause-memory : goal.returns-in_err-add_table-clause-memory
 returns-in_err-add_table-clause-memory g c =

@@ -20,4 +20,4 @@ pub returns-in_err-writer-clause-refused : goal.returns-in_err-writer-clause-ref
 returns-in_err-writer-clause-refused g c = faults_memory c.from_residual-in_err-writer.result c.in_err-writer.field-0.0 _ c.from_residual-in_err-writer.ensures.1 c.in_err-writer.ensures.err
 
 pub returns-in_err-writer-clause-first : goal.returns-in_err-writer-clause-first
-returns-in_err-writer-clause-first g c = λ x told. absurd (ids_fine_first c.in-Some.id c.args.ids c.in-Some.ensures.id x told)
+returns-in_err-writer-clause-first g c = λ x returned. absurd (ids_fine_first c.in-Some.id c.args.ids c.in-Some.ensures.id x returned)

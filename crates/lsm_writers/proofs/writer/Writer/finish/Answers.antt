@@ -105,10 +105,10 @@ returns-in_err-table-clause-refused g c =
     (λ memory. sym (sections_fault_is c.args.self _ c.in_default.ensures.ok c.in_default.ensures.refused) ∙ c.in_err-table.ensures.refused memory)
 
 pub returns-in_err-table-clause-first : goal.returns-in_err-table-clause-first
-returns-in_err-table-clause-first g c = λ x told. absurd (none_some x (sym c.in_default.ensures.refused ∙ told))
+returns-in_err-table-clause-first g c = λ x returned. absurd (none_some x (sym c.in_default.ensures.refused ∙ returned))
 
 pub returns-then-item_count-eq0-clause-first : goal.returns-then-item_count-eq0-clause-first
-returns-then-item_count-eq0-clause-first g c = λ x told. absurd (none_some x (sym c.in_default.ensures.refused ∙ told))
+returns-then-item_count-eq0-clause-first g c = λ x returned. absurd (none_some x (sym c.in_default.ensures.refused ∙ returned))
 
 pub returns-clause-first : goal.returns-clause-first
-returns-clause-first g c = λ x told. absurd (none_some x (sym c.in_default.ensures.refused ∙ told))
+returns-clause-first g c = λ x returned. absurd (none_some x (sym c.in_default.ensures.refused ∙ returned))

@@ -108,7 +108,7 @@ returns-in_err-take_entry-clause-refused g c = faults_memory c.from_residual-in_
 pub returns-in_err-take_entry-clause-first : goal.returns-in_err-take_entry-clause-first
 returns-in_err-take_entry-clause-first g c =
     let i = c.self.inside in
-    rw (← c.self.view_is) (λ x told. absurd (none_some x (sym (write_fault_none i.label i.options i.blocks i.chunk i.failed (entry_of_ref c.args.entry.now) c.if-self.false c.in_ok-tally.ensures.refused) ∙ told)))
+    rw (← c.self.view_is) (λ x returned. absurd (none_some x (sym (write_fault_none i.label i.options i.blocks i.chunk i.failed (entry_of_ref c.args.entry.now) c.if-self.false c.in_ok-tally.ensures.refused) ∙ returned)))
 
 pub returns-in_err-take_entry-clause-failed : goal.returns-in_err-take_entry-clause-failed
 returns-in_err-take_entry-clause-failed g c =
@@ -127,7 +127,7 @@ returns-clause-refused g c =
 pub returns-clause-first : goal.returns-clause-first
 returns-clause-first g c =
     let i = c.self.inside in
-    rw (← c.self.view_is) (λ x told. absurd (none_some x (sym (write_fault_none i.label i.options i.blocks i.chunk i.failed (entry_of_ref c.args.entry.now) c.if-self.false c.in_ok-tally.ensures.refused) ∙ told)))
+    rw (← c.self.view_is) (λ x returned. absurd (none_some x (sym (write_fault_none i.label i.options i.blocks i.chunk i.failed (entry_of_ref c.args.entry.now) c.if-self.false c.in_ok-tally.ensures.refused) ∙ returned)))
 
 pub take_entry-requires-clause-short : goal.take_entry-requires-clause-short
 take_entry-requires-clause-short g c = short_entry c.self.inside.chunk (entry_of_ref c.args.entry.now) c.in_ok-tally.ensures.refused

@@ -33,9 +33,9 @@ returns-clause-added g c =
     let w = c.args.file_writer.now in
     let es = c.args.entries.now in
     let readable = c.write_into.ensures.readable in
-    let told = reported_handle es c.write_into.new.self (length w.bytes) c.in_ok-block.block c.write_into.ensures.same c.in_ok-block.ensures.handle in
+    let returned = reported_handle es c.write_into.new.self (length w.bytes) c.in_ok-block.block c.write_into.ensures.same c.in_ok-block.ensures.handle in
     on_ok _ _ c.register_block.result c.register_block.ensures.ok (λ more chunks before are strict.
-    let hs = more ∙ ap (λ (h : Handle). c.args.index_writer.now.handles ++ h ∷ []) told in
+    let hs = more ∙ ap (λ (h : Handle). c.args.index_writer.now.handles ++ h ∷ []) returned in
     cut_more chunks w c.write_into.new.file_writer c.args.index_writer.now.handles c.register_block.new.index_writer.handles before (Some (last_entry es)) c.args.index_writer.now.failed c.register_block.new.index_writer.failed es are c.requires.cut.works strict readable c.in_ok-block.ensures.ok hs refl)
 
 pub returns-in_err-block-clause-left : goal.returns-in_err-block-clause-left

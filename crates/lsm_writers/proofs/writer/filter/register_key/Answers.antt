@@ -24,8 +24,8 @@ returns-in-Err-clause-err g c =
     let wide = c.is_registered.ensures.few in
     let has = c.in_ok-writer.ensures.ok in
     let fits = c.small_partitions_fit.ensures kind policy _ c.args.key.now wide c.requires.small in
-    let told = memory_alone c.register_key_bytes-2.result _ (no_register_fault kind policy c.in_ok-writer.writer _ c.args.key.now has fits) (c.register_key_bytes-2.ensures.refused _ has.holds) in
-    refused_alone c.register_key_bytes-2.result c.in-Err.error c.in-Err.is told
+    let returned = memory_alone c.register_key_bytes-2.result _ (no_register_fault kind policy c.in_ok-writer.writer _ c.args.key.now has fits) (c.register_key_bytes-2.ensures.refused _ has.holds) in
+    refused_alone c.register_key_bytes-2.result c.in-Err.error c.in-Err.is returned
 
 pub returns-in-Some-clause-ok : goal.returns-in-Some-clause-ok
 returns-in-Some-clause-ok g c =

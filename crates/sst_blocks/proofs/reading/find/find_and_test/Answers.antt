@@ -30,24 +30,24 @@ returns-in_default-clause-fault g c =
 pub returns-then-not-may_follow-clause-fault : goal.returns-then-not-may_follow-clause-fault
 returns-then-not-may_follow-clause-fault g c =
     let f = g.R.ItemRef.format c.args.version in
-    let told = g.R.ItemRef.told in
-    let some : f.read c.loop.rest.now ≡ Some (told c.in-Some.read.0, c.in-Some.read.1.now) = search rules in
-    let early : may_follow (option_map (λ x. f.key (told x)) c.loop.last) (f.key (told c.in-Some.read.0)) ≡ false = search rules in
+    let returned = g.R.ItemRef.returned in
+    let some : f.read c.loop.rest.now ≡ Some (returned c.in-Some.read.0, c.in-Some.read.1.now) = search rules in
+    let early : may_follow (option_map (λ x. f.key (returned x)) c.loop.last) (f.key (returned c.in-Some.read.0)) ≡ false = search rules in
     (refl, walk_unordered f _ _ _ _ _ _ _ c.loop.invariant.search.walk (omega arith) some early)
 
 pub loop-preserved : goal.loop-preserved
 loop-preserved g c =
     let f = g.R.ItemRef.format c.args.version in
-    let told = g.R.ItemRef.told in
+    let returned = g.R.ItemRef.returned in
     let p = λ (x : g.R.ItemRef.Reported). is_before (read_place c.args.key.now c.args.seqno) (f.key x) in
-    let some : f.read c.loop.rest.now ≡ Some (told c.in-Some.read.0, c.in-Some.read.1.now) = search rules in
-    let follows : may_follow (option_map (λ x. f.key (told x)) c.loop.last) (f.key (told c.in-Some.read.0)) ≡ true = search rules in
+    let some : f.read c.loop.rest.now ≡ Some (returned c.in-Some.read.0, c.in-Some.read.1.now) = search rules in
+    let follows : may_follow (option_map (λ x. f.key (returned x)) c.loop.last) (f.key (returned c.in-Some.read.0)) ≡ true = search rules in
     let start = length c.args.payload.now - length c.loop.rest.now in
-    let next = map_next (λ x. told x.1) c.loop.found c.put_first.new.found (p (told c.in-Some.read.0)) (start, c.in-Some.read.0) (c.put_first.ensures c.args.version) in
+    let next = map_next (λ x. returned x.1) c.loop.found c.put_first.new.found (p (returned c.in-Some.read.0)) (start, c.in-Some.read.0) (c.put_first.ensures c.args.version) in
     let here = search_place f p _ _ _ _ _ _ _ c.loop.invariant.search some in
     record {
       search = search_on f p (g.R.ItemRef.Fits c.args.version) c.is_format.ensures.law c.is_format.ensures.advances _ _ _ _ _ _ _ _ c.loop.invariant.search some follows next;
-      place = keeps_next (λ x. option_map (λ y. y.0) (f.read (drop x.0 c.args.payload.now)) ≡ Some (told x.1)) c.loop.found c.put_first.new.found _ (start, c.in-Some.read.0) (c.put_first.ensures c.args.version) c.loop.invariant.place here;
+      place = keeps_next (λ x. option_map (λ y. y.0) (f.read (drop x.0 c.args.payload.now)) ≡ Some (returned x.1)) c.loop.found c.put_first.new.found _ (start, c.in-Some.read.0) (c.put_first.ensures c.args.version) c.loop.invariant.place here;
     }
 
 pub returns-then-not-is_empty-clause-fault : goal.returns-then-not-is_empty-clause-fault

@@ -11,10 +11,10 @@ use Rattle.sst_blocks.proofs.reading.find.find_and_test.Given as goal
 abbrev pub invariant-loop : goal.invariant-loop
 invariant-loop g l =
     let f = g.R.ItemRef.format l.version in
-    let told = g.R.ItemRef.told in
+    let returned = g.R.ItemRef.returned in
     record {
       search : Search f (λ x. is_before (read_place l.key l.seqno) (f.key x)) l.payload l.rest
-          (option_map (λ x. f.key (told x)) l.last) l.counter (option_map (λ x. told x.1) l.found);
+          (option_map (λ x. f.key (returned x)) l.last) l.counter (option_map (λ x. returned x.1) l.found);
       place : IfSome l.found (λ x. option_map (λ y. y.0) (f.read (drop x.0 l.payload))
-          ≡ Some (told x.1));
+          ≡ Some (returned x.1));
     }

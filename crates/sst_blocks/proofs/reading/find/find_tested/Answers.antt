@@ -23,31 +23,31 @@ returns-in_default-clause-found g c =
 pub returns-then-is_past-clause-found : goal.returns-then-is_past-clause-found
 returns-then-is_past-clause-found g c =
     let f = g.R.ItemRef.format c.args.version in
-    let told = g.R.ItemRef.told in
+    let returned = g.R.ItemRef.returned in
     let p = λ (x : g.R.ItemRef.Reported). is_before (read_place c.args.key.now c.args.seqno) (f.key x) in
-    let some : f.read c.loop.rest.now ≡ Some (told c.in-Some.read.0, c.in-Some.read.1.now) = search rules in
+    let some : f.read c.loop.rest.now ≡ Some (returned c.in-Some.read.0, c.in-Some.read.1.now) = search rules in
     let follows = walk_tested f _ _ _ _ _ _ _ c.loop.invariant.1.walk (omega arith) some c.requires.tested in
-    let next = is_next None (p (told c.in-Some.read.0)) c.is_past.result (told c.in-Some.read.0) refl (c.is_past.ensures c.args.version) c.if-is_past.true in
+    let next = is_next None (p (returned c.in-Some.read.0)) c.is_past.result (returned c.in-Some.read.0) refl (c.is_past.ensures c.args.version) c.if-is_past.true in
     let s = search_on f p (g.R.ItemRef.Fits c.args.version) c.is_format.ensures.law c.is_format.ensures.advances _ _ _ _ _ _ _ _ c.loop.invariant.1 some follows next in
     search_stops f p c.is_format.ensures.advances _ _ _ _ _ s (omega arith) c.requires.tested refl
 
 pub returns-then-is_past-clause-place : goal.returns-then-is_past-clause-place
 returns-then-is_past-clause-place g c =
     let f = g.R.ItemRef.format c.args.version in
-    let told = g.R.ItemRef.told in
+    let returned = g.R.ItemRef.returned in
     let p = λ (x : g.R.ItemRef.Reported). is_before (read_place c.args.key.now c.args.seqno) (f.key x) in
-    let some : f.read c.loop.rest.now ≡ Some (told c.in-Some.read.0, c.in-Some.read.1.now) = search rules in
+    let some : f.read c.loop.rest.now ≡ Some (returned c.in-Some.read.0, c.in-Some.read.1.now) = search rules in
     search_place f p _ _ _ _ _ _ _ c.loop.invariant.1 some
 
 pub loop-preserved : goal.loop-preserved
 loop-preserved g c =
     let f = g.R.ItemRef.format c.args.version in
-    let told = g.R.ItemRef.told in
+    let returned = g.R.ItemRef.returned in
     let p = λ (x : g.R.ItemRef.Reported). is_before (read_place c.args.key.now c.args.seqno) (f.key x) in
-    let some : f.read c.loop.rest.now ≡ Some (told c.in-Some.read.0, c.in-Some.read.1.now) = search rules in
+    let some : f.read c.loop.rest.now ≡ Some (returned c.in-Some.read.0, c.in-Some.read.1.now) = search rules in
     let follows = walk_tested f _ _ _ _ _ _ _ c.loop.invariant.1.walk (omega arith) some c.requires.tested in
-    let next = is_not_next None (p (told c.in-Some.read.0)) c.is_past.result (told c.in-Some.read.0) refl (c.is_past.ensures c.args.version) c.if-is_past.false in
-    (Some (f.key (told c.in-Some.read.0)), search_on f p (g.R.ItemRef.Fits c.args.version) c.is_format.ensures.law c.is_format.ensures.advances _ _ _ _ _ _ _ _ c.loop.invariant.1 some follows next)
+    let next = is_not_next None (p (returned c.in-Some.read.0)) c.is_past.result (returned c.in-Some.read.0) refl (c.is_past.ensures c.args.version) c.if-is_past.false in
+    (Some (f.key (returned c.in-Some.read.0)), search_on f p (g.R.ItemRef.Fits c.args.version) c.is_format.ensures.law c.is_format.ensures.advances _ _ _ _ _ _ _ _ c.loop.invariant.1 some follows next)
 
 pub returns-clause-found : goal.returns-clause-found
 returns-clause-found g c =

@@ -10,5 +10,5 @@ remember_test-requires-clause-sum g c =
 
 pub remember_test-requires-clause-items : goal.remember_test-requires-clause-items
 remember_test-requires-clause-items g c =
-    let items = given_items c.args.header.version c.args.header.checksum c.args.kind (slice_range (body_of c.args.self.now) c.args.start c.args.end) c.in_ok-block.block c.in_ok-block.ensures.told in
+    let items = given_items c.args.header.version c.args.header.checksum c.args.kind (slice_range (body_of c.args.self.now) c.args.start c.args.end) c.in_ok-block.block c.in_ok-block.ensures.returned in
     there_items c.args.self.now c.args.start c.args.end c.args.header.version c.args.kind c.args.header.checksum c.requires.headed c.requires.within items

@@ -22,7 +22,7 @@ returns-in_err-first g c =
     let part : slice_range c.body.result.now s.start s.end ≡ slice_range (body_of c.args.self.now) s.start s.end = ap (λ (b : List ℕ). slice_range b s.start s.end) c.body.ensures.body in
     let p = err_from_is_err_and c.from_residual.result c.from_residual.ensures.1 in
     let fault = c.in_err-first.ensures.fault in
-    rw (p.1, p.2, fault.0) (record { told = sym (handles_wrong s.header.version s.header.checksum _ _ part c.requires.sound.sum c.args.key.now c.args.seqno fault.1) })
+    rw (p.1, p.2, fault.0) (record { returned = sym (handles_wrong s.header.version s.header.checksum _ _ part c.requires.sound.sum c.args.key.now c.args.seqno fault.1) })
 
 pub returns-in-Some : goal.returns-in-Some
 returns-in-Some g c =
@@ -30,11 +30,11 @@ returns-in-Some g c =
     let part : slice_range c.body.result.now s.start s.end ≡ slice_range (body_of c.args.self.now) s.start s.end = ap (λ (b : List ℕ). slice_range b s.start s.end) c.body.ensures.body in
     let found = sym (ap (option_map handle_of_ref) c.in-Some.is) ∙ c.in_ok-first.ensures.found in
     let place : c.new.result ≡ place_of (handle_of_ref c.in-Some.found) = rw (c.new.ensures.offset, c.new.ensures.size) refl in
-    record { told = ap (λ (p : Place). Ok (Some p)) place ∙ handles_result s.header.version s.header.checksum _ _ part c.requires.sound.sum c.args.key.now c.args.seqno (Some (handle_of_ref c.in-Some.found)) c.in_ok-first.ensures.whole found }
+    record { returned = ap (λ (p : Place). Ok (Some p)) place ∙ handles_result s.header.version s.header.checksum _ _ part c.requires.sound.sum c.args.key.now c.args.seqno (Some (handle_of_ref c.in-Some.found)) c.in_ok-first.ensures.whole found }
 
 pub returns-in-None : goal.returns-in-None
 returns-in-None g c =
     let s = c.args.sound.now in
     let part : slice_range c.body.result.now s.start s.end ≡ slice_range (body_of c.args.self.now) s.start s.end = ap (λ (b : List ℕ). slice_range b s.start s.end) c.body.ensures.body in
     let found = sym (ap (option_map handle_of_ref) c.in-None.is) ∙ c.in_ok-first.ensures.found in
-    record { told = handles_result s.header.version s.header.checksum _ _ part c.requires.sound.sum c.args.key.now c.args.seqno None c.in_ok-first.ensures.whole found }
+    record { returned = handles_result s.header.version s.header.checksum _ _ part c.requires.sound.sum c.args.key.now c.args.seqno None c.in_ok-first.ensures.whole found }

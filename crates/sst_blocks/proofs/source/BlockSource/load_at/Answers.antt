@@ -13,48 +13,48 @@ use Rattle.sst_blocks.proofs.LoadLemmas.{load_at_truncated, load_at_fault, load_
 use Rattle.sst_blocks.proofs.source.BlockSource.load_at.Goals as goal
 use Rattle.sst_blocks.proofs.source.BlockSource.load_at.Goals.{then-body-lt-HEADER_LEN-via-then-body-lt-HEADER_LEN, then-body-lt-HEADER_LEN-via-else-body-lt-HEADER_LEN+then-body-position}
 
-pub returns-then-body-lt-HEADER_LEN-clause-told : goal.returns-then-body-lt-HEADER_LEN-clause-told
-returns-then-body-lt-HEADER_LEN-clause-told g c =
-    let told = load_at_truncated c.body-body.result.now c.args.position c.args.kind (λ within. elim c.then-body-lt-HEADER_LEN.branch [
+pub returns-then-body-lt-HEADER_LEN-clause-returned : goal.returns-then-body-lt-HEADER_LEN-clause-returned
+returns-then-body-lt-HEADER_LEN-clause-returned g c =
+    let returned = load_at_truncated c.body-body.result.now c.args.position c.args.kind (λ within. elim c.then-body-lt-HEADER_LEN.branch [
       | then-body-lt-HEADER_LEN-via-then-body-lt-HEADER_LEN w ↦ omega arith
       | then-body-lt-HEADER_LEN-via-else-body-lt-HEADER_LEN+then-body-position w ↦ omega arith
     ]) in
     λ _. cc c.body-body.ensures.body
 
-pub returns-in_err-header-clause-told : goal.returns-in_err-header-clause-told
-returns-in_err-header-clause-told g c =
+pub returns-in_err-header-clause-returned : goal.returns-in_err-header-clause-returned
+returns-in_err-header-clause-returned g c =
     let p = err_from_is_err_and c.from_residual.result c.from_residual.ensures.1 in
-    let told = load_at_fault c.body-body.result.now c.args.position c.args.kind c.in_err-header.field-0.0 (omega arith) c.in_err-header.ensures.fault in
+    let returned = load_at_fault c.body-body.result.now c.args.position c.args.kind c.in_err-header.field-0.0 (omega arith) c.in_err-header.ensures.fault in
     rw (p.1, p.2) (λ _. cc c.body-body.ensures.body)
 
-pub returns-then-header-clause-told : goal.returns-then-header-clause-told
-returns-then-header-clause-told g c =
-    let told = load_at_lengths c.body-body.result.now c.args.position c.args.kind (omega arith) c.in_ok-header.ensures.fault (λ same. omega (arith, c.in_ok-header.ensures.data_len, c.in_ok-header.ensures.uncompressed_len)) in
+pub returns-then-header-clause-returned : goal.returns-then-header-clause-returned
+returns-then-header-clause-returned g c =
+    let returned = load_at_lengths c.body-body.result.now c.args.position c.args.kind (omega arith) c.in_ok-header.ensures.fault (λ same. omega (arith, c.in_ok-header.ensures.data_len, c.in_ok-header.ensures.uncompressed_len)) in
     λ _. cc c.body-body.ensures.body
 
-pub returns-then-body-start-clause-told : goal.returns-then-body-start-clause-told
-returns-then-body-start-clause-told g c =
-    let told = load_at_passes c.body-body.result.now c.args.position c.args.kind (omega arith) c.in_ok-header.ensures.fault (omega (arith, c.in_ok-header.ensures.data_len, c.in_ok-header.ensures.uncompressed_len)) (omega (arith, c.in_ok-header.ensures.data_len)) in
+pub returns-then-body-start-clause-returned : goal.returns-then-body-start-clause-returned
+returns-then-body-start-clause-returned g c =
+    let returned = load_at_passes c.body-body.result.now c.args.position c.args.kind (omega arith) c.in_ok-header.ensures.fault (omega (arith, c.in_ok-header.ensures.data_len, c.in_ok-header.ensures.uncompressed_len)) (omega (arith, c.in_ok-header.ensures.data_len)) in
     λ _. cc c.body-body.ensures.body
 
-pub returns-clause-told : goal.returns-clause-told
-returns-clause-told g c =
-    let told = load_at_checked c.body-body.result.now c.args.position c.args.kind (omega arith) c.in_ok-header.ensures.fault (omega (arith, c.in_ok-header.ensures.data_len, c.in_ok-header.ensures.uncompressed_len)) (omega (arith, c.in_ok-header.ensures.data_len)) in
+pub returns-clause-returned : goal.returns-clause-returned
+returns-clause-returned g c =
+    let returned = load_at_checked c.body-body.result.now c.args.position c.args.kind (omega arith) c.in_ok-header.ensures.fault (omega (arith, c.in_ok-header.ensures.data_len, c.in_ok-header.ensures.uncompressed_len)) (omega (arith, c.in_ok-header.ensures.data_len)) in
     let whole : load_at_result (body_of c.args.self.now) c.args.position c.args.kind ≡ checked_payload c.in_ok-header.header.version c.in_ok-header.header.checksum c.args.kind (slice_range (body_of c.args.self.now) (c.args.position + 24) (c.args.position + 24 + c.in_ok-header.header.data_len)) = cc (c.body-body.ensures.body, c.in_ok-header.ensures.version, c.in_ok-header.ensures.checksum, c.in_ok-header.ensures.data_len) in
-    subst (λ (told : Result Loaded Error). Gives {X = Loaded} {Y = Loaded} (λ b. b) c.block.result told) (sym whole) c.block.ensures.told
+    subst (λ (returned : Result Loaded Error). Gives {X = Loaded} {Y = Loaded} (λ b. b) c.block.result returned) (sym whole) c.block.ensures.returned
 
 pub returns-clause-within : goal.returns-clause-within
 returns-clause-within g c =
     let from = c.args.position + 24 in
     let to = from + c.in_ok-header.header.data_len in
     let size = range_short (body_of c.args.self.now) from c.in_ok-header.header.data_len in
-    loaded_within c.in_ok-header.header.version c.in_ok-header.header.checksum c.args.kind (slice_range (body_of c.args.self.now) from to) from (2 ^ 63) c.block.result c.block.ensures.told (omega (arith, size, c.body-body.ensures.bound))
+    loaded_within c.in_ok-header.header.version c.in_ok-header.header.checksum c.args.kind (slice_range (body_of c.args.self.now) from to) from (2 ^ 63) c.block.result c.block.ensures.returned (omega (arith, size, c.body-body.ensures.bound))
 
 -- what is found before the payload
 
 pub returns-then-body-lt-HEADER_LEN-clause-first : goal.returns-then-body-lt-HEADER_LEN-clause-first
 returns-then-body-lt-HEADER_LEN-clause-first g c =
-    let told = position_truncated c.body-body.result.now c.args.position c.args.kind (λ within. elim c.then-body-lt-HEADER_LEN.branch [
+    let returned = position_truncated c.body-body.result.now c.args.position c.args.kind (λ within. elim c.then-body-lt-HEADER_LEN.branch [
       | then-body-lt-HEADER_LEN-via-then-body-lt-HEADER_LEN w ↦ omega arith
       | then-body-lt-HEADER_LEN-via-else-body-lt-HEADER_LEN+then-body-position w ↦ omega arith
     ]) in
@@ -64,25 +64,25 @@ returns-then-body-lt-HEADER_LEN-clause-first g c =
 pub returns-in_err-header-clause-first : goal.returns-in_err-header-clause-first
 returns-in_err-header-clause-first g c =
     let p = err_from_is_err_and c.from_residual.result c.from_residual.ensures.1 in
-    let told = position_header c.body-body.result.now c.args.position c.args.kind c.in_err-header.field-0.0 (omega arith) c.in_err-header.ensures.fault in
+    let returned = position_header c.body-body.result.now c.args.position c.args.kind c.in_err-header.field-0.0 (omega arith) c.in_err-header.ensures.fault in
     let fault : position_fault (body_of c.args.self.now) c.args.position c.args.kind ≡ Some c.in_err-header.field-0.0 = cc c.body-body.ensures.body in
     rw (p.1, p.2) (λ f is. sym is ∙ fault)
 
 pub returns-then-header-clause-first : goal.returns-then-header-clause-first
 returns-then-header-clause-first g c =
-    let told = position_lengths c.body-body.result.now c.args.position c.args.kind (omega arith) c.in_ok-header.ensures.fault (λ same. omega (arith, c.in_ok-header.ensures.data_len, c.in_ok-header.ensures.uncompressed_len)) in
+    let returned = position_lengths c.body-body.result.now c.args.position c.args.kind (omega arith) c.in_ok-header.ensures.fault (λ same. omega (arith, c.in_ok-header.ensures.data_len, c.in_ok-header.ensures.uncompressed_len)) in
     let fault : position_fault (body_of c.args.self.now) c.args.position c.args.kind ≡ Some InvalidHeader = cc c.body-body.ensures.body in
     λ f is. sym is ∙ fault
 
 pub returns-then-body-start-clause-first : goal.returns-then-body-start-clause-first
 returns-then-body-start-clause-first g c =
-    let told = position_passes c.body-body.result.now c.args.position c.args.kind (omega arith) c.in_ok-header.ensures.fault (omega (arith, c.in_ok-header.ensures.data_len, c.in_ok-header.ensures.uncompressed_len)) (omega (arith, c.in_ok-header.ensures.data_len)) in
+    let returned = position_passes c.body-body.result.now c.args.position c.args.kind (omega arith) c.in_ok-header.ensures.fault (omega (arith, c.in_ok-header.ensures.data_len, c.in_ok-header.ensures.uncompressed_len)) (omega (arith, c.in_ok-header.ensures.data_len)) in
     let fault : position_fault (body_of c.args.self.now) c.args.position c.args.kind ≡ Some Truncated = cc c.body-body.ensures.body in
     λ f is. sym is ∙ fault
 
 pub returns-clause-first : goal.returns-clause-first
 returns-clause-first g c =
-    let told = position_checked c.body-body.result.now c.args.position c.args.kind (omega arith) c.in_ok-header.ensures.fault (omega (arith, c.in_ok-header.ensures.data_len, c.in_ok-header.ensures.uncompressed_len)) (omega (arith, c.in_ok-header.ensures.data_len)) in
+    let returned = position_checked c.body-body.result.now c.args.position c.args.kind (omega arith) c.in_ok-header.ensures.fault (omega (arith, c.in_ok-header.ensures.data_len, c.in_ok-header.ensures.uncompressed_len)) (omega (arith, c.in_ok-header.ensures.data_len)) in
     let payload = slice_range (body_of c.args.self.now) (c.args.position + 24) (c.args.position + 24 + c.in_ok-header.header.data_len) in
     let next = option_or (checksum_fault c.in_ok-header.header.checksum payload) (room_fault c.in_ok-header.header.version c.args.kind payload) in
     let whole : position_fault (body_of c.args.self.now) c.args.position c.args.kind ≡ next = cc (c.body-body.ensures.body, c.in_ok-header.ensures.version, c.in_ok-header.ensures.checksum, c.in_ok-header.ensures.data_len) in

@@ -33,5 +33,5 @@ returns g c =
     let cut : c.in_ok-payload.payload ≡ slice_range bytes c.args.start c.args.end =
     ◌∙◌ {b = slice_range c.self.inside.bytes c.args.start c.args.end} c.in_ok-payload.ensures.ok (ap (λ (xs : List ℕ). slice_range xs c.args.start c.args.end) c.self.view_is) in
     let right = checksum_right c.args.header.now.version c.args.header.now.checksum c.args.kind payload c.requires.sum in
-    let told = ap (λ (p : List ℕ). unless (grammar_fault c.args.header.now.version c.args.kind p) (Ok (loaded c.args.header.now.version c.args.kind p))) (cut ∙ sym part) ∙ sym right in
-    record { told = subst (λ (r : Result Loaded Error). Gives {X = Loaded} {Y = Loaded} (λ b. b) c.open.result r) told c.open.ensures }
+    let returned = ap (λ (p : List ℕ). unless (grammar_fault c.args.header.now.version c.args.kind p) (Ok (loaded c.args.header.now.version c.args.kind p))) (cut ∙ sym part) ∙ sym right in
+    record { returned = subst (λ (r : Result Loaded Error). Gives {X = Loaded} {Y = Loaded} (λ b. b) c.open.result r) returned c.open.ensures }

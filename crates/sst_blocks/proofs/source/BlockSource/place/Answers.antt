@@ -10,25 +10,25 @@ use Rattle.sst_blocks.proofs.LoadLemmas.{load_truncated, load_fault, load_length
 use Rattle.sst_blocks.proofs.source.BlockSource.place.Goals as goal
 use Rattle.sst_blocks.proofs.source.BlockSource.place.Goals.{then-size-lt-HEADER_LEN-via-then-size-lt-HEADER_LEN, then-size-lt-HEADER_LEN-via-else-size-lt-HEADER_LEN+then-body-size, then-size-lt-HEADER_LEN-via-else-size-lt-HEADER_LEN+else-body-size+then-body-size-2, then-header-via-then-header, then-header-via-else-header+then-header-size}
 
-pub returns-then-size-lt-HEADER_LEN-clause-told : goal.returns-then-size-lt-HEADER_LEN-clause-told
-returns-then-size-lt-HEADER_LEN-clause-told g c =
-    let told = load_truncated c.body-body.result.now c.args.handle.now.offset c.args.handle.now.size c.args.kind (λ long within. elim c.then-size-lt-HEADER_LEN.branch [
+pub returns-then-size-lt-HEADER_LEN-clause-returned : goal.returns-then-size-lt-HEADER_LEN-clause-returned
+returns-then-size-lt-HEADER_LEN-clause-returned g c =
+    let returned = load_truncated c.body-body.result.now c.args.handle.now.offset c.args.handle.now.size c.args.kind (λ long within. elim c.then-size-lt-HEADER_LEN.branch [
       | then-size-lt-HEADER_LEN-via-then-size-lt-HEADER_LEN w ↦ omega arith
       | then-size-lt-HEADER_LEN-via-else-size-lt-HEADER_LEN+then-body-size w ↦ omega arith
       | then-size-lt-HEADER_LEN-via-else-size-lt-HEADER_LEN+else-body-size+then-body-size-2 w ↦ omega arith
     ]) in
     cc c.body-body.ensures.body
 
-pub returns-in_err-header-clause-told : goal.returns-in_err-header-clause-told
-returns-in_err-header-clause-told g c =
+pub returns-in_err-header-clause-returned : goal.returns-in_err-header-clause-returned
+returns-in_err-header-clause-returned g c =
     let p = err_from_is_err_and c.from_residual.result c.from_residual.ensures.1 in
-    let told = load_fault c.body-body.result.now c.offset-start.result.0 c.args.handle.now.size c.args.kind c.in_err-header.field-0.0 (omega arith) (omega arith) c.in_err-header.ensures.fault in
+    let returned = load_fault c.body-body.result.now c.offset-start.result.0 c.args.handle.now.size c.args.kind c.in_err-header.field-0.0 (omega arith) (omega arith) c.in_err-header.ensures.fault in
     let same : load_result (body_of c.args.self.now) c.args.handle.now.offset c.args.handle.now.size c.args.kind ≡ Err c.in_err-header.field-0.0 = cc (c.body-body.ensures.body, c.offset-start.ensures) in
     rw (p.1, p.2) same
 
-pub returns-then-header-clause-told : goal.returns-then-header-clause-told
-returns-then-header-clause-told g c =
-    let told = load_lengths c.body-body.result.now c.offset-start.result.0 c.args.handle.now.size c.args.kind (omega arith) (omega arith) c.in_ok-header.ensures.fault (λ same whole. elim c.then-header.branch [
+pub returns-then-header-clause-returned : goal.returns-then-header-clause-returned
+returns-then-header-clause-returned g c =
+    let returned = load_lengths c.body-body.result.now c.offset-start.result.0 c.args.handle.now.size c.args.kind (omega arith) (omega arith) c.in_ok-header.ensures.fault (λ same whole. elim c.then-header.branch [
       | then-header-via-then-header w ↦ omega (arith, c.in_ok-header.ensures.data_len, c.in_ok-header.ensures.uncompressed_len)
       | then-header-via-else-header+then-header-size w ↦ omega (arith, c.in_ok-header.ensures.data_len, c.in_ok-header.ensures.uncompressed_len)
     ]) in
@@ -38,7 +38,7 @@ returns-then-header-clause-told g c =
 
 pub returns-then-size-lt-HEADER_LEN-clause-first : goal.returns-then-size-lt-HEADER_LEN-clause-first
 returns-then-size-lt-HEADER_LEN-clause-first g c =
-    let told = place_truncated c.body-body.result.now c.args.handle.now.offset c.args.handle.now.size c.args.kind (λ long within. elim c.then-size-lt-HEADER_LEN.branch [
+    let returned = place_truncated c.body-body.result.now c.args.handle.now.offset c.args.handle.now.size c.args.kind (λ long within. elim c.then-size-lt-HEADER_LEN.branch [
       | then-size-lt-HEADER_LEN-via-then-size-lt-HEADER_LEN w ↦ omega arith
       | then-size-lt-HEADER_LEN-via-else-size-lt-HEADER_LEN+then-body-size w ↦ omega arith
       | then-size-lt-HEADER_LEN-via-else-size-lt-HEADER_LEN+else-body-size+then-body-size-2 w ↦ omega arith
@@ -48,13 +48,13 @@ returns-then-size-lt-HEADER_LEN-clause-first g c =
 pub returns-in_err-header-clause-first : goal.returns-in_err-header-clause-first
 returns-in_err-header-clause-first g c =
     let p = err_from_is_err_and c.from_residual.result c.from_residual.ensures.1 in
-    let told = place_header c.body-body.result.now c.offset-start.result.0 c.args.handle.now.size c.args.kind c.in_err-header.field-0.0 (omega arith) (omega arith) c.in_err-header.ensures.fault in
+    let returned = place_header c.body-body.result.now c.offset-start.result.0 c.args.handle.now.size c.args.kind c.in_err-header.field-0.0 (omega arith) (omega arith) c.in_err-header.ensures.fault in
     let same : place_fault (body_of c.args.self.now) c.args.handle.now.offset c.args.handle.now.size c.args.kind ≡ Some c.in_err-header.field-0.0 = cc (c.body-body.ensures.body, c.offset-start.ensures) in
     rw (p.1, p.2) same
 
 pub returns-then-header-clause-first : goal.returns-then-header-clause-first
 returns-then-header-clause-first g c =
-    let told = place_lengths c.body-body.result.now c.offset-start.result.0 c.args.handle.now.size c.args.kind (omega arith) (omega arith) c.in_ok-header.ensures.fault (λ same whole. elim c.then-header.branch [
+    let returned = place_lengths c.body-body.result.now c.offset-start.result.0 c.args.handle.now.size c.args.kind (omega arith) (omega arith) c.in_ok-header.ensures.fault (λ same whole. elim c.then-header.branch [
       | then-header-via-then-header w ↦ omega (arith, c.in_ok-header.ensures.data_len, c.in_ok-header.ensures.uncompressed_len)
       | then-header-via-else-header+then-header-size w ↦ omega (arith, c.in_ok-header.ensures.data_len, c.in_ok-header.ensures.uncompressed_len)
     ]) in
@@ -68,13 +68,13 @@ returns-clause-placed g c =
     let payload = slice_range (body_of c.args.self.now) (c.offset-start.result.0 + 24) (c.offset-start.result.0 + c.size-size.result) in
     let load = load_checked c.body-body.result.now c.offset-start.result.0 c.size-size.result c.args.kind (omega arith) (omega arith) c.in_ok-header.ensures.fault (omega (arith, c.in_ok-header.ensures.data_len, c.in_ok-header.ensures.uncompressed_len)) (omega (arith, c.in_ok-header.ensures.data_len, c.in_ok-header.ensures.uncompressed_len)) in
     let fault = place_checked c.body-body.result.now c.offset-start.result.0 c.size-size.result c.args.kind (omega arith) (omega arith) c.in_ok-header.ensures.fault (omega (arith, c.in_ok-header.ensures.data_len, c.in_ok-header.ensures.uncompressed_len)) (omega (arith, c.in_ok-header.ensures.data_len, c.in_ok-header.ensures.uncompressed_len)) in
-    let told : load_result (body_of c.args.self.now) c.args.handle.now.offset c.args.handle.now.size c.args.kind ≡ checked_payload header.version header.checksum c.args.kind payload = cc (c.body-body.ensures.body, c.offset-start.ensures, c.size-size.ensures, c.in_ok-header.ensures.version, c.in_ok-header.ensures.checksum) in
+    let returned : load_result (body_of c.args.self.now) c.args.handle.now.offset c.args.handle.now.size c.args.kind ≡ checked_payload header.version header.checksum c.args.kind payload = cc (c.body-body.ensures.body, c.offset-start.ensures, c.size-size.ensures, c.in_ok-header.ensures.version, c.in_ok-header.ensures.checksum) in
     let first : place_fault (body_of c.args.self.now) c.args.handle.now.offset c.args.handle.now.size c.args.kind ≡ option_or (checksum_fault header.checksum payload) (room_fault header.version c.args.kind payload) = cc (c.body-body.ensures.body, c.offset-start.ensures, c.size-size.ensures, c.in_ok-header.ensures.version, c.in_ok-header.ensures.checksum) in
     record {
       ordered = omega arith;
       within = omega (arith, ap length c.body-body.ensures.body);
       short = omega arith;
-      told = told;
+      returned = returned;
       first = first;
     }
 

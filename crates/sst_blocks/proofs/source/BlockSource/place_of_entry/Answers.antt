@@ -19,23 +19,23 @@ find_entry-requires-clause-long g c =
     let part : slice_range c.body.result.now s.start s.end ≡ slice_range (body_of c.args.self.now) s.start s.end = ap (λ (b : List ℕ). slice_range b s.start s.end) c.body.ensures.body in
     subst (λ (p : List ℕ). 4 ≤ length p) (sym part) (room_long (13 + key_width s.header.version) _ c.requires.sound.room)
 
-pub returns-in_err-first-clause-told : goal.returns-in_err-first-clause-told
-returns-in_err-first-clause-told g c =
+pub returns-in_err-first-clause-returned : goal.returns-in_err-first-clause-returned
+returns-in_err-first-clause-returned g c =
     let s = c.args.sound.now in
     let part : slice_range c.body.result.now s.start s.end ≡ slice_range (body_of c.args.self.now) s.start s.end = ap (λ (b : List ℕ). slice_range b s.start s.end) c.body.ensures.body in
     let p = err_from_is_err_and c.from_residual.result c.from_residual.ensures.1 in
     let fault = c.in_err-first.ensures.fault in
     rw (p.1, p.2, fault.0) (sym (entries_wrong s.header.version s.header.checksum _ _ part c.requires.sound.sum c.args.key.now c.args.seqno fault.1))
 
-pub returns-in_default-clause-told : goal.returns-in_default-clause-told
-returns-in_default-clause-told g c =
+pub returns-in_default-clause-returned : goal.returns-in_default-clause-returned
+returns-in_default-clause-returned g c =
     let s = c.args.sound.now in
     let part : slice_range c.body.result.now s.start s.end ≡ slice_range (body_of c.args.self.now) s.start s.end = ap (λ (b : List ℕ). slice_range b s.start s.end) c.body.ensures.body in
     let none = sym c.in_ok-first.ensures.found ∙ ap (option_map (λ (x : ℕ × EntryRef). entry_of_ref x.1)) c.in_default.is in
     sym (entries_results s.header.version s.header.checksum _ _ part c.requires.sound.sum c.args.key.now c.args.seqno None c.in_ok-first.ensures.whole (found_none _ c.args.key.now c.args.seqno none))
 
-pub returns-then-ne-clause-told : goal.returns-then-ne-clause-told
-returns-then-ne-clause-told g c =
+pub returns-then-ne-clause-returned : goal.returns-then-ne-clause-returned
+returns-then-ne-clause-returned g c =
     let s = c.args.sound.now in
     let part : slice_range c.body.result.now s.start s.end ≡ slice_range (body_of c.args.self.now) s.start s.end = ap (λ (b : List ℕ). slice_range b s.start s.end) c.body.ensures.body in
     let first : c.in_ok-first.first ≡ Some (c.in-Some.at, c.in-Some.entry) = search rules in
@@ -68,8 +68,8 @@ of-requires g c =
     let shares = shares_there s.header.version c.args.self.now s.start s.end c.in-Some.at _ (entry_of_ref c.in-Some.entry) c.requires.sound.ordered c.requires.sound.within refl (rw c.body.ensures.body at place) in
     omega (arith, shares.within, c.requires.sound.within, c.body.ensures.bound, ap length c.body.ensures.body, c.head_len.ensures)
 
-pub returns-clause-told : goal.returns-clause-told
-returns-clause-told g c =
+pub returns-clause-returned : goal.returns-clause-returned
+returns-clause-returned g c =
     let s = c.args.sound.now in
     let e = entry_of_ref c.in-Some.entry in
     let key_at = s.start + c.in-Some.at + c.head_len.result in

@@ -15,5 +15,5 @@ returns-clause-said g c =
 
 pub returns-clause-tested : goal.returns-clause-tested
 returns-clause-tested g c =
-    let told = position_checked c.body-body.result.now c.args.position c.args.kind (omega arith) c.in-Ok.ensures.fault (omega (arith, c.in-Ok.ensures.data_len, c.in-Ok.ensures.uncompressed_len)) (omega (arith, c.in-Ok.ensures.data_len)) in
+    let returned = position_checked c.body-body.result.now c.args.position c.args.kind (omega arith) c.in-Ok.ensures.fault (omega (arith, c.in-Ok.ensures.data_len, c.in-Ok.ensures.uncompressed_len)) (omega (arith, c.in-Ok.ensures.data_len)) in
     cc (c.body-body.ensures.body, c.in-Ok.ensures.checksum, c.in-Ok.ensures.data_len)

@@ -8,9 +8,9 @@ pub returns : goal.returns
 returns c =
     let is = c.step-answer.ensures in
     let code = c.tell_answer.result in
-    let told = c.tell_answer.new.told in
+    let returned = c.tell_answer.new.returned in
     let left = c.step-answer.new.self in
-    subst (λ (v : Verifying). ReportsStep v code c.progress.result told left) c.self.view_is (
+    subst (λ (v : Verifying). ReportsStep v code c.progress.result returned left) c.self.view_is (
       c.step-answer.result,
       record {
         table = is.table;
@@ -18,7 +18,7 @@ returns c =
         reads = is.reads;
         sizes = is.sizes;
         ends = is.ends;
-        told = is.told;
+        returned = is.returned;
         refused = is.refused;
         next = is.next;
         early = is.early;
@@ -30,6 +30,6 @@ returns c =
         complete = is.complete;
       },
       c.tell_answer.ensures.code,
-      c.tell_answer.ensures.told,
+      c.tell_answer.ensures.returned,
       c.progress.ensures ∙ ap (progress_result left) c.end_of.ensures,
     )

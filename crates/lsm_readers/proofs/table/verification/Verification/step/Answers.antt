@@ -39,12 +39,12 @@ pub returns-then-branch-clause-sound : goal.returns-then-branch-clause-sound
 returns-then-branch-clause-sound g c =
     let shown = ap (λ (v : Verifying). v.table) c.self.view_is in
     let ends = c.in_ok-read_next.ensures.ends c.if-branch.true in
-    let told = sym c.self.invariant ∙ ends.rest
+    let returned = sym c.self.invariant ∙ ends.rest
     ∙ ap (λ (v : Verified). answer v) (sym c.says.ensures) in
     let held = subst IsOpen shown c.read_next.ensures.open in
     all_valid c.args.self.now.table held (Ok c.says.result)
     (subst (λ (t : OpenTable). table_found (body_of t.bytes) t.parts ≡ answer c.says.result) shown
-    told)
+    returned)
 
 pub returns-in_err-read_next-clause-early : goal.returns-in_err-read_next-clause-early
 returns-in_err-read_next-clause-early g c =

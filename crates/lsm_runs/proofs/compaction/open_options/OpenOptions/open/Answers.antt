@@ -19,7 +19,7 @@ returns-clause-opened g c =
       checksum_is = o.checksum;
       number_is = o.number;
       tree_is = o.tree;
-      told = subst (λ (b : List ℕ). recovered_result b how.global_seqno how.pin_filter how.pin_index ≡ Ok t.parts) (sym o.bytes) o.told;
+      returned = subst (λ (b : List ℕ). recovered_result b how.global_seqno how.pin_filter how.pin_index ≡ Ok t.parts) (sym o.bytes) o.returned;
       opened = c.tells_its_list.ensures.open;
     }
 
@@ -35,7 +35,7 @@ returns-clause-refused g c label options es f =
     let short : length own < 2 ^ 63 = omega (arith, c.len-len.ensures.value, c.len-len.ensures.bound) in
     let opened = c.in_ok-opened in
     opened_fits label options es c.args.table.now.id c.args.table.now.checksum.0 c.args.table.now.bytes own same f short how.global_seqno how.pin_filter how.pin_index
-    opened.opened.parts opened.ensures.told
+    opened.opened.parts opened.ensures.returned
     (λ one. let t = with_bytes label options es c.args.table.now.id c.args.table.now.checksum.0 c.args.table.now.bytes own same f one in
     fits_by es how.global_seqno own t.0 how.pin_filter how.pin_index opened.opened.parts (opened.ensures.list es t.0 t.1))
 
@@ -48,6 +48,6 @@ returns-in_err-opened-clause-refused g c label options es f =
     let short : length own < 2 ^ 63 = omega (arith, c.len-len.ensures.value, c.len-len.ensures.bound) in
     faults_refusal c.from_residual-in_err-opened.result e (opens_fault options es how.global_seqno) c.from_residual-in_err-opened.ensures.1
     (λ memory. refused_so label options es c.args.table.now.id c.args.table.now.checksum.0 c.args.table.now.bytes own same f short how.global_seqno how.pin_filter how.pin_index
-    e (c.in_err-opened.ensures.told memory)
+    e (c.in_err-opened.ensures.returned memory)
     (λ one. let t = with_bytes label options es c.args.table.now.id c.args.table.now.checksum.0 c.args.table.now.bytes own same f one in
     passes_by es how.global_seqno own t.0 how.pin_filter how.pin_index e (c.in_err-opened.ensures.list es t.0 t.1 memory)))

@@ -60,7 +60,7 @@ returns-then-waits-clause-settles g c = λ x lends.
     (let one = c.settle.ensures.settles in record {
       answers = one.answers;
       gave = one.gave;
-      told = one.told;
+      returned = one.returned;
       rules = one.rules;
       does = λ z live rest more f d ends will. record { at = (one.does z live rest more f d ends will).at };
     }))

@@ -37,7 +37,7 @@ returns-clause-settles g c =
     record {
       answers = one.answers;
       gave = one.gave;
-      told = one.told;
+      returned = one.returned;
       rules = one.rules;
       does = λ z live rest more f d ends will.
           one.does z live rest more f d ends will;

@@ -10,7 +10,7 @@ returns-then-is_tombstone-clause-filters g c = filters_tombstone _ _ c.args.head
 
 pub returns-clause-filters : goal.returns-clause-filters
 returns-clause-filters g c =
-    filters_asked _ _ c.args.head _ _ (Ok (verdict_of c.in_ok-verdict.verdict)) _ _ _ (sym c.is_tombstone.ensures ∙ c.if-is_tombstone.false) c.in_ok-verdict.ensures c.apply_verdict.ensures.told c.apply_verdict.ensures.reports
+    filters_asked _ _ c.args.head _ _ (Ok (verdict_of c.in_ok-verdict.verdict)) _ _ _ (sym c.is_tombstone.ensures ∙ c.if-is_tombstone.false) c.in_ok-verdict.ensures c.apply_verdict.ensures.returned c.apply_verdict.ensures.reports
 
 pub returns-in_err-verdict-clause-filters : goal.returns-in_err-verdict-clause-filters
 returns-in_err-verdict-clause-filters g c =

@@ -9,7 +9,7 @@ pub returns-then-self-clause-refused : goal.returns-then-self-clause-refused
 returns-then-self-clause-refused g c = λ keys h memory. spent_result c.self.inside.failed c.args.self.now.failed _ (ap (λ (w : Hashes). w.failed) c.self.view_is) c.if-self.true
 
 pub returns-then-self-clause-first : goal.returns-then-self-clause-first
-returns-then-self-clause-first g c = λ e told. spent_first c.self.inside.failed c.args.self.now.failed e (ap (λ (w : Hashes). w.failed) c.self.view_is) c.if-self.true told
+returns-then-self-clause-first g c = λ e returned. spent_first c.self.inside.failed c.args.self.now.failed e (ap (λ (w : Hashes). w.failed) c.self.view_is) c.if-self.true returned
 
 pub returns-in_err-push-clause-first : goal.returns-in_err-push-clause-first
 returns-in_err-push-clause-first g c = works_first c.from_residual.result c.self.inside.failed c.args.self.now.failed (ap (λ (w : Hashes). w.failed) c.self.view_is) c.if-self.false

@@ -137,7 +137,7 @@ pub returns-then-self-clause-refused : goal.returns-then-self-clause-refused
 returns-then-self-clause-refused g c = λ keys h memory. spent_result c.self.inside.failed c.args.self.failed _ (ap (λ (w : CutParts). w.failed) c.self.view_is) c.if-self.true
 
 pub returns-then-self-clause-first : goal.returns-then-self-clause-first
-returns-then-self-clause-first g c = λ e told. spent_first c.self.inside.failed c.args.self.failed e (ap (λ (w : CutParts). w.failed) c.self.view_is) c.if-self.true told
+returns-then-self-clause-first g c = λ e returned. spent_first c.self.inside.failed c.args.self.failed e (ap (λ (w : CutParts). w.failed) c.self.view_is) c.if-self.true returned
 
 pub returns-then-self-clause-idle : goal.returns-then-self-clause-idle
 returns-then-self-clause-idle g c = λ h. sym (ap (λ (w : CutParts). w.failed) c.self.view_is) ∙ c.if-self.true
