@@ -1,10 +1,7 @@
 //! The entries of a loaded block within bounds.
 ghost use Rattle.std.specs.Prelude.{◌≡◌, ◌≤◌, IfErr, IfOk, Some, is_some, length};
 ghost use Rattle.std.specs.Prelude.{slice_range, true};
-ghost use Rattle.std.specs.Option.{option_map};
-ghost use Rattle.sst_entries.specs.Lending.{entry_of_ref};
-ghost use Rattle.sst_entries.specs.declared.error.Error.TheVariants.{OutOfMemory};
-ghost use Rattle.lsm_iters.specs.Words.{cursor_of, cursor_remains, taken_at, unlent};
+ghost use Rattle.lsm_iters.specs.Words as spec;
 
 use crate::Ends;
 use sst_blocks::{DataBlock, DataBlockCursor, EntryRef, Error, InternalValue, IterItem};
@@ -33,7 +30,7 @@ impl<A: Allocator> BlockCursor<A> {
     /// `to` must not exceed the number of entries.
     pub fn new(block: DataBlock<A>, from: usize, to: usize) -> BlockCursor<A>
         requires { to ≤ length block }
-        ensures { result ≡ cursor_of (slice_range block from to) }
+        ensures { result ≡ spec.cursor_of (slice_range block from to) }
     {
         BlockCursor {
             cursor: block.into_cursor_of(from, to),
@@ -43,7 +40,7 @@ impl<A: Allocator> BlockCursor<A> {
     /// Moves to the next entry at an end and returns whether there is one.
     #[inline(always)]
     pub fn move_to(&mut self, at: Direction) -> bool
-        ensures taken { (self.new.lent, self.new.behind) ≡ taken_at at self.old.behind }
+        ensures taken { (self.new.lent, self.new.behind) ≡ spec.taken_at at self.old.behind }
         ensures more { result ≡ is_some self.new.lent }
     {
         match at {
@@ -55,7 +52,7 @@ impl<A: Allocator> BlockCursor<A> {
     /// Returns the current entry, borrowed from the block.
     #[inline(always)]
     pub fn entry(&self) -> Option<EntryRef<'_>>
-        ensures { option_map entry_of_ref result ≡ self.now.lent }
+        ensures { spec.option_map spec.entry_of_ref result ≡ self.now.lent }
     {
         self.cursor.entry()
     }
@@ -71,7 +68,7 @@ impl<A: Allocator> BlockCursor<A> {
     pub fn share(&self) -> Result<InternalValue<A>, Error>
         requires { is_some self.now.lent ≡ true }
         ensures found { IfOk result (λ e. self.now.lent ≡ Some e) }
-        ensures err { IfErr result (λ e. e ≡ OutOfMemory) }
+        ensures err { IfErr result (λ e. e ≡ spec.OutOfMemory) }
     {
         self.cursor.share()
     }
@@ -79,7 +76,7 @@ impl<A: Allocator> BlockCursor<A> {
     /// Clears the current entry until the next move.
     #[inline(always)]
     pub fn unlend(&mut self)
-        ensures { self.new ≡ unlent self.old }
+        ensures { self.new ≡ spec.unlent self.old }
     {
         self.cursor.unlend();
     }
@@ -88,7 +85,7 @@ impl<A: Allocator> BlockCursor<A> {
 impl<A: Allocator> Ends for BlockCursor<A> {
     type Item = InternalValue<A>;
 
-    ghost left = { cursor_remains };
+    ghost left = { spec.cursor_remains };
 
     #[inline(always)]
     fn step(&mut self, at: Direction) -> Option<IterItem<A>> {

@@ -1,12 +1,6 @@
 //! The data blocks of a table that are not loaded yet.
 ghost use Rattle.std.specs.Prelude.{◌≡◌, ◌∷◌, [], Err, IfErr, IfOk, OnErr, OnOk, false, true};
-ghost use Rattle.sst_entries.specs.Error.{is_memory};
-ghost use Rattle.sst_entries.specs.Stream.{ok_results};
-ghost use Rattle.sst_blocks.specs.declared.block_type.BlockType.TheVariants.{Data};
-ghost use Rattle.sst_entries.specs.declared.error.Error.TheVariants.{OutOfMemory};
-ghost use Rattle.lsm_iters.specs.Words.{EndsBlocks, FaultsFirst, KeepsBlocks, LoadsNone};
-ghost use Rattle.lsm_iters.specs.Words.{SeeksOnce, coming_blocks, data_loaded, left_in, lower_edge};
-ghost use Rattle.lsm_iters.specs.Words.{place_fault, stored_rows, upper_edge};
+ghost use Rattle.lsm_iters.specs.Words as spec;
 
 use crate::block_cursor::BlockCursor;
 use crate::cut::cut;
@@ -54,21 +48,22 @@ impl<A: Allocator + Clone> Blocks<A> {
     /// [`Error::OutOfMemory`] only.
     #[inline(always)]
     pub fn initialize(&mut self) -> Result<(), Error>
-        ensures ok { let low = lower_edge self.old.of.low in
-            let high = upper_edge self.old.of.high in
-            OnOk result (SeeksOnce self.old.handles self.new.handles low high) }
-        ensures none { LoadsNone (left_in self.old.handles) (left_in self.new.handles) }
+        ensures ok { let low = spec.lower_edge self.old.of.low in
+            let high = spec.upper_edge self.old.of.high in
+            OnOk result (spec.SeeksOnce self.old.handles self.new.handles low high) }
+        ensures none { spec.LoadsNone (spec.left_in self.old.handles)
+            (spec.left_in self.new.handles) }
         ensures sought { self.new.handles.sought ≡ true }
         ensures is { self.new ≡ record self.old { handles = self.new.handles } }
         ensures once { OnErr result (self.old.handles.sought ≡ false) }
-        ensures err { IfErr result (λ e. e ≡ OutOfMemory) }
+        ensures err { IfErr result (λ e. e ≡ spec.OutOfMemory) }
     {
         self.index.seek(&self.range.0, &self.range.1)
     }
 
     /// Returns how many blocks of each kind were loaded, index blocks included.
     pub fn all_opened(&self) -> Opened
-        ensures { let index = (left_in self.now.handles).opened in
+        ensures { let index = (spec.left_in self.now.handles).opened in
             result ≡ record index { data_loads = self.now.opened.data_loads } }
     {
         let mut opened = self.index.opened();
@@ -79,12 +74,13 @@ impl<A: Allocator + Clone> Blocks<A> {
     /// Loads the block of a handle and returns its entries within the bounds.
     fn read(&mut self, handle: KeyedBlockHandle<A>) -> Result<BlockCursor<A>, Error>
         ensures ok { let of = self.old.of in
-            IfOk result (λ c. ok_results c.behind ≡ stored_rows of handle) }
+            IfOk result (λ c. spec.ok_results c.behind ≡ spec.stored_rows of handle) }
         ensures err { let of = self.old.of in
-            IfErr result (λ e. is_memory e ≡ false → Err e ∷ [] ≡ stored_rows of handle) }
+            IfErr result (λ e. spec.is_memory e ≡ false → Err e ∷ [] ≡ spec.stored_rows of handle) }
         ensures first { let body = self.old.of.body in
-            FaultsFirst result (place_fault body handle.offset handle.size Data) }
-        ensures counted { self.new ≡ record self.old { opened = data_loaded 1 self.old.opened } }
+            spec.FaultsFirst result (spec.place_fault body handle.offset handle.size spec.Data) }
+        ensures counted { self.new
+            ≡ record self.old { opened = spec.data_loaded 1 self.old.opened } }
     {
         let handle = handle.into_inner();
         let block = self
@@ -108,11 +104,11 @@ impl<A: Allocator + Clone> Blocks<A> {
 impl<A: Allocator + Clone> Parts for Blocks<A> {
     type Part = BlockCursor<A>;
 
-    ghost coming = { coming_blocks };
+    ghost coming = { spec.coming_blocks };
 
-    ghost keeps = { KeepsBlocks };
+    ghost keeps = { spec.KeepsBlocks };
 
-    ghost ends = { EndsBlocks };
+    ghost ends = { spec.EndsBlocks };
 
     #[inline(never)]
     fn load(&mut self, at: Direction) -> Option<Result<BlockCursor<A>, Error>> {

@@ -1,6 +1,6 @@
 //! A bound of a range.
 ghost use Rattle.std.specs.Prelude.{◌≡◌};
-ghost use Rattle.lsm_iters.specs.Words.{key_of};
+ghost use Rattle.lsm_iters.specs.Words as spec;
 
 use sst_blocks::UserKey;
 use std::alloc::{Allocator, Global};
@@ -17,7 +17,7 @@ pub enum Bound<A: Allocator = Global> {
 impl<A: Allocator> Bound<A> {
     /// Returns the key, for a seek in the index.
     pub(crate) fn key(&self) -> &[u8]
-        ensures { result.now ≡ key_of self.now }
+        ensures { result.now ≡ spec.key_of self.now }
     {
         match self {
             Bound::Included(key) => key.as_slice(),

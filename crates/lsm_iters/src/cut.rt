@@ -1,7 +1,6 @@
 //! Cutting a loaded block to bounds.
 ghost use Rattle.std.specs.Prelude.{◌≡◌};
-ghost use Rattle.std.specs.declared.ops.Bound.TheVariants.{Unbounded};
-ghost use Rattle.lsm_iters.specs.Words.{edge_in, rest_in, within};
+ghost use Rattle.lsm_iters.specs.Words as spec;
 
 use crate::{Bound, OwnedDataBlockIter};
 use sst_blocks::{DataBlock, SeqNo};
@@ -9,7 +8,7 @@ use std::alloc::Allocator;
 
 /// Returns the entries of a block from a lower bound on.
 fn from_lower<A: Allocator>(block: DataBlock<A>, lower: &Option<Bound<A>>) -> OwnedDataBlockIter<A>
-    ensures { rest_in result ≡ within (edge_in lower.now) Unbounded block }
+    ensures { spec.rest_in result ≡ spec.within (spec.edge_in lower.now) spec.Unbounded block }
 {
     let mut iter = OwnedDataBlockIter::new(block);
     match lower {
@@ -27,7 +26,8 @@ pub fn cut<A: Allocator>(
     lower: &Option<Bound<A>>,
     upper: &Option<Bound<A>>,
 ) -> OwnedDataBlockIter<A>
-    ensures { rest_in result ≡ within (edge_in lower.now) (edge_in upper.now) block }
+    ensures { spec.rest_in result ≡ spec.within (spec.edge_in lower.now) (spec.edge_in upper.now)
+        block }
 {
     let mut iter = from_lower(block, lower);
     match upper {

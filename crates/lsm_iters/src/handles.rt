@@ -1,11 +1,7 @@
 //! The handles of the blocks that are not loaded yet.
 ghost use Rattle.std.specs.Prelude.{◌≡◌, ◌↔◌, None, true, false, OnOk, OnErr, IfErr, List, ℕ};
 ghost use Rattle.std.specs.Prelude.{Option};
-ghost use Rattle.sst_entries.specs.declared.error.Error.TheVariants.{OutOfMemory};
-ghost use Rattle.lsm_iters.specs.Words.{IsSought, LeftGives, LoadsNone, SeeksOnce, TakesMemory};
-ghost use Rattle.lsm_iters.specs.Words.{all_over};
-ghost use Rattle.lsm_iters.specs.Words.{edge_in, left_in, left_of, lower_edge, taken_at};
-ghost use Rattle.lsm_iters.specs.Words.{upper_edge};
+ghost use Rattle.lsm_iters.specs.Words as spec;
 
 use crate::{BlockIndexIter, BlockIndexIterImpl, Bound};
 use sst_blocks::{Error, KeyedBlockHandle, Opened, SeqNo};
@@ -42,7 +38,7 @@ impl<A: Allocator + Clone> Handles<A> {
     /// Its bounds are still to be sought exactly if no bound was sought and no step was made.
     pub fn new(iter: BlockIndexIterImpl<A>) -> Handles<A>
         ensures is { result ≡ record { iter = iter; sought = result.sought; ended = false } }
-        ensures unsought { (result.sought ≡ false) ↔ IsSought iter None None }
+        ensures unsought { (result.sought ≡ false) ↔ spec.IsSought iter None None }
     {
         let sought = !iter.is_unsought();
         Handles {
@@ -61,15 +57,15 @@ impl<A: Allocator + Clone> Handles<A> {
     /// [`Error::OutOfMemory`] only, and never with a pinned full index.
     #[inline(always)]
     pub fn seek(&mut self, lower: &Option<Bound<A>>, upper: &Option<Bound<A>>) -> Result<(), Error>
-        ensures ok { let low = lower_edge (edge_in lower.now) in
-            let high = upper_edge (edge_in upper.now) in
-            OnOk result (SeeksOnce self.old self.new low high) }
-        ensures none { LoadsNone (left_in self.old) (left_in self.new) }
+        ensures ok { let low = spec.lower_edge (spec.edge_in lower.now) in
+            let high = spec.upper_edge (spec.edge_in upper.now) in
+            OnOk result (spec.SeeksOnce self.old self.new low high) }
+        ensures none { spec.LoadsNone (spec.left_in self.old) (spec.left_in self.new) }
         ensures sought { self.new.sought ≡ true }
         ensures once { OnErr result (self.old.sought ≡ false) }
         // A pinned full index never fails.
-        ensures refused { OnErr result (TakesMemory self.old.iter) }
-        ensures err { IfErr result (λ e. e ≡ OutOfMemory) }
+        ensures refused { OnErr result (spec.TakesMemory self.old.iter) }
+        ensures err { IfErr result (λ e. e ≡ spec.OutOfMemory) }
     {
         if self.sought {
             return Ok(());
@@ -85,13 +81,13 @@ impl<A: Allocator + Clone> Handles<A> {
         upper: &Option<Bound<A>>,
     ) -> Result<(), Error>
         requires { self.old.sought ≡ false }
-        ensures ok { let low = lower_edge (edge_in lower.now) in
-            let high = upper_edge (edge_in upper.now) in
-            OnOk result (SeeksOnce self.old self.new low high) }
-        ensures none { LoadsNone (left_in self.old) (left_in self.new) }
+        ensures ok { let low = spec.lower_edge (spec.edge_in lower.now) in
+            let high = spec.upper_edge (spec.edge_in upper.now) in
+            OnOk result (spec.SeeksOnce self.old self.new low high) }
+        ensures none { spec.LoadsNone (spec.left_in self.old) (spec.left_in self.new) }
         ensures sought { self.new.sought ≡ true }
-        ensures refused { OnErr result (TakesMemory self.old.iter) }
-        ensures err { IfErr result (λ e. e ≡ OutOfMemory) }
+        ensures refused { OnErr result (spec.TakesMemory self.old.iter) }
+        ensures err { IfErr result (λ e. e ≡ spec.OutOfMemory) }
     {
         self.sought = true;
         seek_lower(&mut self.iter, lower)?;
@@ -100,7 +96,8 @@ impl<A: Allocator + Clone> Handles<A> {
 
     /// Takes the next handle at an end.
     pub fn take(&mut self, at: Direction) -> Option<Result<KeyedBlockHandle<A>, Error>>
-        ensures gives { LeftGives (taken_at at) (left_in self.old) result (left_in self.new) }
+        ensures gives { spec.LeftGives (spec.taken_at at) (spec.left_in self.old) result
+            (spec.left_in self.new) }
         ensures sought { self.new.sought ≡ true }
     {
         self.sought = true;
@@ -115,7 +112,7 @@ impl<A: Allocator + Clone> Handles<A> {
 
     /// Drops the handles that are left.
     pub fn end(&mut self)
-        ensures { self.new ≡ all_over self.old }
+        ensures { self.new ≡ spec.all_over self.old }
     {
         self.sought = true;
         self.ended = true;
@@ -123,7 +120,7 @@ impl<A: Allocator + Clone> Handles<A> {
 
     /// Returns how many blocks of each kind the index iterator loaded.
     pub fn opened(&self) -> Opened
-        ensures { result ≡ (left_in self.now).opened }
+        ensures { result ≡ (spec.left_in self.now).opened }
     {
         self.iter.opened()
     }
@@ -134,12 +131,12 @@ fn seek_lower<A: Allocator + Clone>(
     iter: &mut BlockIndexIterImpl<A>,
     lower: &Option<Bound<A>>,
 ) -> Result<(), Error>
-    ensures sought { let low = lower_edge (edge_in lower.now) in
-        IsSought iter.old None None → OnOk result (IsSought iter.new low None) }
-    ensures none { LoadsNone (left_of iter.old) (left_of iter.new) }
-    ensures refused { OnErr result (TakesMemory iter.old) }
-    ensures wants { TakesMemory iter.new → TakesMemory iter.old }
-    ensures err { IfErr result (λ e. e ≡ OutOfMemory) }
+    ensures sought { let low = spec.lower_edge (spec.edge_in lower.now) in
+        spec.IsSought iter.old None None → OnOk result (spec.IsSought iter.new low None) }
+    ensures none { spec.LoadsNone (spec.left_of iter.old) (spec.left_of iter.new) }
+    ensures refused { OnErr result (spec.TakesMemory iter.old) }
+    ensures wants { spec.TakesMemory iter.new → spec.TakesMemory iter.old }
+    ensures err { IfErr result (λ e. e ≡ spec.OutOfMemory) }
 {
     match lower {
         Some(bound) => iter.seek_lower(bound.key(), SeqNo::MAX).and(Ok(())),
@@ -152,12 +149,12 @@ fn seek_upper<A: Allocator + Clone>(
     iter: &mut BlockIndexIterImpl<A>,
     upper: &Option<Bound<A>>,
 ) -> Result<(), Error>
-    ensures sought { let high = upper_edge (edge_in upper.now) in
-        (low : Option (List ℕ × ℕ)) → IsSought iter.old low None →
-        OnOk result (IsSought iter.new low high) }
-    ensures none { LoadsNone (left_of iter.old) (left_of iter.new) }
-    ensures refused { OnErr result (TakesMemory iter.old) }
-    ensures err { IfErr result (λ e. e ≡ OutOfMemory) }
+    ensures sought { let high = spec.upper_edge (spec.edge_in upper.now) in
+        (low : Option (List ℕ × ℕ)) → spec.IsSought iter.old low None →
+        OnOk result (spec.IsSought iter.new low high) }
+    ensures none { spec.LoadsNone (spec.left_of iter.old) (spec.left_of iter.new) }
+    ensures refused { OnErr result (spec.TakesMemory iter.old) }
+    ensures err { IfErr result (λ e. e ≡ spec.OutOfMemory) }
 {
     match upper {
         Some(bound) => iter.seek_upper(bound.key(), SeqNo::MAX).and(Ok(())),

@@ -1,13 +1,6 @@
 //! The entries of a table within bounds, from both ends.
 ghost use Rattle.std.specs.Prelude.{◌≡◌, ◌↔◌, None, Some, IfOk, IfErr, false, is_some, true};
-ghost use Rattle.std.specs.Iterator.{at_most};
-ghost use Rattle.sst_entries.specs.declared.error.Error.TheVariants.{OutOfMemory};
-ghost use Rattle.sst_entries.specs.declared.stream.Direction.TheVariants.{Back};
-ghost use Rattle.lsm_iters.specs.Words.{YieldsEnding, IsSought, RangeGives, RangeLends, RangeLendsAt};
-ghost use Rattle.lsm_iters.specs.Words.{back_next, back_of, body_of, came, edge_of, front_next};
-ghost use Rattle.lsm_iters.specs.Words.{front_of, new_range, next_at, opened_in, range_left};
-ghost use Rattle.lsm_iters.specs.Words.{range_remains, range_size, taken_at, with_sought};
-ghost use Rattle.lsm_iters.specs.Words.{without_lent};
+ghost use Rattle.lsm_iters.specs.Words as spec;
 
 use crate::blocks::Blocks;
 use crate::handles::Handles;
@@ -78,21 +71,23 @@ impl<A: Allocator + Clone> Iter<A> {
         compression: CompressionType,
     ) -> Result<Iter<A>, Error>
         // Nothing is loaded and no bound is set, in any state of the index iterator.
-        ensures is { let range = new_range (body_of source.now) global_seqno index_iter in
-            IfOk result (λ i. i ≡ with_sought i.handles.sought range) }
+        ensures is { let range = spec.new_range (spec.body_of source.now) global_seqno index_iter in
+            IfOk result (λ i. i ≡ spec.with_sought i.handles.sought range) }
         // The bounds are still to be sought exactly if no bound was sought and no step was made.
         ensures unsought { IfOk result
-            (λ i. (i.handles.sought ≡ false) ↔ IsSought index_iter None None) }
-        ensures whole { let range = new_range (body_of source.now) global_seqno index_iter in
-            IsSought index_iter None None → IfOk result (λ i. i ≡ range) }
+            (λ i. (i.handles.sought ≡ false) ↔ spec.IsSought index_iter None None) }
+        ensures whole { let range = spec.new_range (spec.body_of source.now) global_seqno
+            index_iter in spec.IsSought index_iter None None → IfOk result (λ i. i ≡ range) }
         // Otherwise its handles are those that the index iterator still yields.
-        ensures rest { let range = new_range (body_of source.now) global_seqno index_iter in
-            (IsSought index_iter None None → ⊥) → IfOk result (λ i. i ≡ with_sought true range) }
+        ensures rest { let range = spec.new_range (spec.body_of source.now) global_seqno
+            index_iter in
+            (spec.IsSought index_iter None None → ⊥) →
+            IfOk result (λ i. i ≡ spec.with_sought true range) }
         ensures yields { let gives = ⟦<Iter<A> as Iterator>⟧.next_gives in
             let back_gives = ⟦<Iter<A> as DoubleEndedIterator>⟧.next_back_gives in
-            IfOk result (λ i. YieldsEnding gives back_gives (λ _. Unit {0}) (λ _. Unit {0}) i
-            (range_left i)) }
-        ensures err { IfErr result (λ e. e ≡ OutOfMemory) }
+            IfOk result (λ i. spec.YieldsEnding gives back_gives (λ _. Unit {0}) (λ _. Unit {0}) i
+            (spec.range_left i)) }
+        ensures err { IfErr result (λ e. e ≡ spec.OutOfMemory) }
     {
         match compression {
             CompressionType::None => {}
@@ -115,12 +110,12 @@ impl<A: Allocator + Clone> Iter<A> {
     ///
     /// It replaces an earlier lower bound. Call it before the first step.
     pub fn set_lower_bound(&mut self, bound: Bound<A>)
-        ensures set { let of = record self.old.of { low = edge_of bound } in
+        ensures set { let of = record self.old.of { low = spec.edge_of bound } in
             self.new ≡ record self.old { of = of } }
         ensures yields { let gives = ⟦<Iter<A> as Iterator>⟧.next_gives in
             let back_gives = ⟦<Iter<A> as DoubleEndedIterator>⟧.next_back_gives in
-            YieldsEnding gives back_gives (λ _. Unit {0}) (λ _. Unit {0}) self.new
-            (range_left self.new) }
+            spec.YieldsEnding gives back_gives (λ _. Unit {0}) (λ _. Unit {0}) self.new
+            (spec.range_left self.new) }
     {
         drop(self.walk.parts.range.0.replace(bound));
     }
@@ -129,19 +124,19 @@ impl<A: Allocator + Clone> Iter<A> {
     ///
     /// It replaces an earlier upper bound. Call it before the first step.
     pub fn set_upper_bound(&mut self, bound: Bound<A>)
-        ensures set { let of = record self.old.of { high = edge_of bound } in
+        ensures set { let of = record self.old.of { high = spec.edge_of bound } in
             self.new ≡ record self.old { of = of } }
         ensures yields { let gives = ⟦<Iter<A> as Iterator>⟧.next_gives in
             let back_gives = ⟦<Iter<A> as DoubleEndedIterator>⟧.next_back_gives in
-            YieldsEnding gives back_gives (λ _. Unit {0}) (λ _. Unit {0}) self.new
-            (range_left self.new) }
+            spec.YieldsEnding gives back_gives (λ _. Unit {0}) (λ _. Unit {0}) self.new
+            (spec.range_left self.new) }
     {
         drop(self.walk.parts.range.1.replace(bound));
     }
 
     /// Returns how many blocks of each kind were loaded.
     pub fn opened(&self) -> Opened
-        ensures { result ≡ opened_in self.now }
+        ensures { result ≡ spec.opened_in self.now }
     {
         self.walk.parts.all_opened()
     }
@@ -155,7 +150,8 @@ impl<A: Allocator + Clone> Iter<A> {
     /// Those of [`Lending::advance`].
     #[inline]
     pub fn advance_back(&mut self) -> Result<bool, Error>
-        ensures goes { RangeLendsAt Back self.old (came result self.new.lent) self.new }
+        ensures goes { spec.RangeLendsAt spec.Back self.old (spec.came result self.new.lent)
+            self.new }
         ensures more { IfOk result (λ more. more ≡ is_some self.new.lent) }
         ensures none { IfErr result (λ _. self.new.lent ≡ None) }
     {
@@ -164,7 +160,7 @@ impl<A: Allocator + Clone> Iter<A> {
 
     /// Clears the lent entry until the next call.
     pub fn unlend(&mut self)
-        ensures { self.new ≡ without_lent self.old }
+        ensures { self.new ≡ spec.without_lent self.old }
     {
         match self.end {
             Direction::Front => unlend_in(&mut self.walk.front),
@@ -175,7 +171,7 @@ impl<A: Allocator + Clone> Iter<A> {
     /// Advances to the next entry at an end and returns whether there is one.
     #[inline(always)]
     fn go_on(&mut self, at: Direction) -> Result<bool, Error>
-        ensures goes { RangeLendsAt at self.old (came result self.new.lent) self.new }
+        ensures goes { spec.RangeLendsAt at self.old (spec.came result self.new.lent) self.new }
         ensures more { IfOk result (λ more. more ≡ is_some self.new.lent) }
         ensures none { IfErr result (λ _. self.new.lent ≡ None) }
     {
@@ -195,7 +191,7 @@ impl<A: Allocator + Clone> Iter<A> {
     fn share(&self) -> IterItem<A>
         requires { is_some self.now.lent ≡ true }
         ensures found { IfOk result (λ e. self.now.lent ≡ Some e) }
-        ensures err { IfErr result (λ e. e ≡ OutOfMemory) }
+        ensures err { IfErr result (λ e. e ≡ spec.OutOfMemory) }
     {
         let mut item = share_in(near(&self.walk, self.end))?;
         item.key.seqno += self.walk.parts.global_seqno;
@@ -205,7 +201,7 @@ impl<A: Allocator + Clone> Iter<A> {
     /// Returns the next item at an end.
     #[inline(always)]
     fn answer(&mut self, at: Direction) -> Option<IterItem<A>>
-        ensures { RangeGives (taken_at at) (next_at at) self.old result self.new }
+        ensures { spec.RangeGives (spec.taken_at at) (spec.next_at at) self.old result self.new }
     {
         match self.go_on(at) {
             Ok(true) => match self.share() {
@@ -226,9 +222,9 @@ impl<A: Allocator + Clone> Iterator for Iter<A> {
 
     ghost can_next = { λ _. Unit {0} };
 
-    ghost next_gives = { RangeGives front_of front_next };
+    ghost next_gives = { spec.RangeGives spec.front_of spec.front_next };
 
-    ghost remaining = { λ s. at_most (range_size s) };
+    ghost remaining = { λ s. spec.at_most (spec.range_size s) };
 
     fn next(&mut self) -> Option<IterItem<A>> {
         self.answer(Direction::Front)
@@ -238,7 +234,7 @@ impl<A: Allocator + Clone> Iterator for Iter<A> {
 impl<A: Allocator + Clone> DoubleEndedIterator for Iter<A> {
     ghost can_next_back = { λ _. Unit {0} };
 
-    ghost next_back_gives = { RangeGives back_of back_next };
+    ghost next_back_gives = { spec.RangeGives spec.back_of spec.back_next };
 
     fn next_back(&mut self) -> Option<IterItem<A>> {
         self.answer(Direction::Back)
@@ -248,11 +244,11 @@ impl<A: Allocator + Clone> DoubleEndedIterator for Iter<A> {
 impl<A: Allocator + Clone> Lending for Iter<A> {
     ghost can_advance = { λ _. Unit {0} };
 
-    ghost advances = { RangeLends };
+    ghost advances = { spec.RangeLends };
 
     ghost lent = { λ s. s.lent };
 
-    ghost left = { range_size };
+    ghost left = { spec.range_size };
 
     #[inline]
     fn advance(&mut self) -> Result<bool, Error> {
@@ -275,7 +271,7 @@ impl<A: Allocator + Clone> Lending for Iter<A> {
 impl<A: Allocator + Clone> Ends for Iter<A> {
     type Item = InternalValue<A>;
 
-    ghost left = { range_remains };
+    ghost left = { spec.range_remains };
 
     #[inline(always)]
     fn step(&mut self, at: Direction) -> Option<IterItem<A>> {

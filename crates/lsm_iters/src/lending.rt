@@ -1,14 +1,7 @@
 //! One step of a lending range of a table, at either end.
 ghost use Rattle.std.specs.Prelude.{◌≡◌, ◌+◌, ◌<◌, ◌^◌, Ok, Err, IfErr, IfOk, MatchOption, None};
 ghost use Rattle.std.specs.Prelude.{Option, Some, is_some, true};
-ghost use Rattle.std.specs.Option.{option_map};
-ghost use Rattle.sst_entries.specs.Entry.{Entry};
-ghost use Rattle.sst_entries.specs.Lending.{entry_of_ref};
-ghost use Rattle.sst_entries.specs.declared.error.Error.TheVariants.{OutOfMemory};
-ghost use Rattle.lsm_iters.specs.Words.{KeepsBlocks, LendsAt, RangeLendsAt, WalkTakes, behind_in};
-ghost use Rattle.lsm_iters.specs.Words.{came, coming_blocks, cursor_remains, far, lent_at, lent_in};
-ghost use Rattle.lsm_iters.specs.Words.{lifted_answer, near, over, range_at};
-ghost use Rattle.lsm_iters.specs.Words.{range_lending, swapped, taken_at, with_near};
+ghost use Rattle.lsm_iters.specs.Words as spec;
 
 use crate::block_cursor::BlockCursor;
 use crate::blocks::Blocks;
@@ -24,8 +17,8 @@ pub(crate) type RangeWalk<A> = Walk<Blocks<A>, BlockCursor<A>>;
 // Moves to the next entry at an end of a loaded block and returns whether there is one.
 #[inline(always)]
 fn move_in<A: Allocator>(part: &mut Option<BlockCursor<A>>, at: Direction) -> bool
-    ensures moved { LendsAt at part.old part.new }
-    ensures more { result ≡ is_some (lent_in part.new) }
+    ensures moved { spec.LendsAt at part.old part.new }
+    ensures more { result ≡ is_some (spec.lent_in part.new) }
 {
     match part {
         Some(part) => part.move_to(at),
@@ -36,9 +29,9 @@ fn move_in<A: Allocator>(part: &mut Option<BlockCursor<A>>, at: Direction) -> bo
 // Moves to the next entry of the block loaded at an end and returns whether there is one.
 #[inline(always)]
 fn move_near<A: Allocator>(walk: &mut RangeWalk<A>, at: Direction) -> bool
-    ensures is { walk.new ≡ with_near at walk.old (near at walk.new) }
-    ensures moved { LendsAt at (near at walk.old) (near at walk.new) }
-    ensures more { result ≡ is_some (lent_in (near at walk.new)) }
+    ensures is { walk.new ≡ spec.with_near at walk.old (spec.near at walk.new) }
+    ensures moved { spec.LendsAt at (spec.near at walk.old) (spec.near at walk.new) }
+    ensures more { result ≡ is_some (spec.lent_in (spec.near at walk.new)) }
 {
     match at {
         Direction::Front => move_in(&mut walk.front, at),
@@ -49,7 +42,7 @@ fn move_near<A: Allocator>(walk: &mut RangeWalk<A>, at: Direction) -> bool
 // Replaces the block loaded at an end.
 #[inline(always)]
 fn put<A: Allocator>(walk: &mut RangeWalk<A>, part: BlockCursor<A>, at: Direction)
-    ensures { walk.new ≡ with_near at walk.old (Some part) }
+    ensures { walk.new ≡ spec.with_near at walk.old (Some part) }
 {
     match at {
         Direction::Front => drop(mem::replace(&mut walk.front, Some(part))),
@@ -60,9 +53,9 @@ fn put<A: Allocator>(walk: &mut RangeWalk<A>, part: BlockCursor<A>, at: Directio
 // Moves to the next entry of the block at the other end and returns whether there is one. The
 // blocks are swapped, since an end lends only from its own block.
 fn move_far<A: Allocator>(walk: &mut RangeWalk<A>, at: Direction) -> bool
-    ensures is { walk.new ≡ with_near at (swapped walk.old) (near at walk.new) }
-    ensures moved { LendsAt at (far at walk.old) (near at walk.new) }
-    ensures more { result ≡ is_some (lent_in (near at walk.new)) }
+    ensures is { walk.new ≡ spec.with_near at (spec.swapped walk.old) (spec.near at walk.new) }
+    ensures moved { spec.LendsAt at (spec.far at walk.old) (spec.near at walk.new) }
+    ensures more { result ≡ is_some (spec.lent_in (spec.near at walk.new)) }
 {
     mem::swap(&mut walk.front, &mut walk.back);
     move_near(walk, at)
@@ -71,7 +64,7 @@ fn move_far<A: Allocator>(walk: &mut RangeWalk<A>, at: Direction) -> bool
 /// Returns the current entry of a loaded block, as stored.
 #[inline(always)]
 pub(crate) fn entry_in<A: Allocator>(part: &Option<BlockCursor<A>>) -> Option<EntryRef<'_>>
-    ensures { option_map entry_of_ref result ≡ lent_in part.now }
+    ensures { spec.option_map spec.entry_of_ref result ≡ spec.lent_in part.now }
 {
     match part {
         Some(part) => part.entry(),
@@ -84,9 +77,9 @@ pub(crate) fn entry_in<A: Allocator>(part: &Option<BlockCursor<A>>) -> Option<En
 pub(crate) fn share_in<A: Allocator>(
     part: &Option<BlockCursor<A>>,
 ) -> Result<InternalValue<A>, Error>
-    requires { is_some (lent_in part.now) ≡ true }
-    ensures found { IfOk result (λ e. lent_in part.now ≡ Some e) }
-    ensures err { IfErr result (λ e. e ≡ OutOfMemory) }
+    requires { is_some (spec.lent_in part.now) ≡ true }
+    ensures found { IfOk result (λ e. spec.lent_in part.now ≡ Some e) }
+    ensures err { IfErr result (λ e. e ≡ spec.OutOfMemory) }
 {
     let Some(part) = part else { unreachable!() };
     part.share()
@@ -95,8 +88,8 @@ pub(crate) fn share_in<A: Allocator>(
 /// Clears the current entry of a loaded block until it moves.
 #[inline(always)]
 pub(crate) fn unlend_in<A: Allocator>(part: &mut Option<BlockCursor<A>>)
-    ensures none { lent_in part.new ≡ None }
-    ensures left { behind_in part.new ≡ behind_in part.old }
+    ensures none { spec.lent_in part.new ≡ None }
+    ensures left { spec.behind_in part.new ≡ spec.behind_in part.old }
 {
     if let Some(part) = part {
         part.unlend();
@@ -107,10 +100,10 @@ pub(crate) fn unlend_in<A: Allocator>(part: &mut Option<BlockCursor<A>>)
 // next block drops the loaded one with its current entry.
 #[inline(always)]
 fn step<A: Allocator + Clone>(walk: &mut RangeWalk<A>, at: Direction) -> Result<bool, Error>
-    ensures takes { WalkTakes cursor_remains coming_blocks KeepsBlocks at walk.old
-        (came result (lent_in (near at walk.new))) walk.new }
-    ensures there { (e : Entry) → (taken_at at (behind_in (near at walk.old))).0 ≡ Some e →
-        came result (lent_in (near at walk.new)) ≡ Some (Ok e) }
+    ensures takes { spec.WalkTakes spec.cursor_remains spec.coming_blocks spec.KeepsBlocks at
+        walk.old (spec.came result (spec.lent_in (spec.near at walk.new))) walk.new }
+    ensures there { (e : spec.Entry) → (spec.taken_at at (spec.behind_in (spec.near at walk.old))).0
+        ≡ Some e → spec.came result (spec.lent_in (spec.near at walk.new)) ≡ Some (Ok e) }
 {
     loop {
         if move_near(walk, at) {
@@ -127,7 +120,7 @@ fn step<A: Allocator + Clone>(walk: &mut RangeWalk<A>, at: Direction) -> Result<
 /// Returns the block that is loaded at an end.
 #[inline(always)]
 pub(crate) fn near<A: Allocator>(walk: &RangeWalk<A>, at: Direction) -> &Option<BlockCursor<A>>
-    ensures { result.now ≡ near at walk.now }
+    ensures { result.now ≡ spec.near at walk.now }
 {
     match at {
         Direction::Front => &walk.front,
@@ -139,11 +132,11 @@ pub(crate) fn near<A: Allocator>(walk: &RangeWalk<A>, at: Direction) -> &Option<
 // its sequence number overflows with the global one added.
 #[inline(always)]
 fn lends<A: Allocator>(walk: &RangeWalk<A>, at: Direction) -> Result<bool, Error>
-    ensures lifted { let stored = option_map (λ e. Ok e) (lent_in (near at walk.now)) in
-        came result (lent_at at walk.now)
-        ≡ lifted_answer walk.now.parts.of.global_seqno stored }
-    ensures more { IfOk result (λ more. more ≡ is_some (lent_at at walk.now)) }
-    ensures fits { IfOk result (λ _. MatchOption (lent_in (near at walk.now)) (Unit {0})
+    ensures lifted { let stored = spec.option_map (λ e. Ok e)
+        (spec.lent_in (spec.near at walk.now)) in spec.came result (spec.lent_at at walk.now)
+        ≡ spec.lifted_answer walk.now.parts.of.global_seqno stored }
+    ensures more { IfOk result (λ more. more ≡ is_some (spec.lent_at at walk.now)) }
+    ensures fits { IfOk result (λ _. MatchOption (spec.lent_in (spec.near at walk.now)) (Unit {0})
         (λ e. e.seqno + walk.now.parts.of.global_seqno < 2 ^ 64)) }
 {
     match entry_in(near(walk, at)) {
@@ -163,14 +156,14 @@ pub(crate) fn next_entry<A: Allocator + Clone>(
     walk: &mut RangeWalk<A>,
     at: Direction,
 ) -> Result<bool, Error>
-    ensures ok { (l : Option Entry) → IfOk result (λ _. RangeLendsAt at
-        (range_lending walk.old l) (came result (lent_at at walk.new))
-        (range_at at walk.new)) }
-    ensures more { IfOk result (λ more. more ≡ is_some (lent_at at walk.new)) }
-    ensures fits { IfOk result (λ _. MatchOption (lent_in (near at walk.new)) (Unit {0})
+    ensures ok { (l : Option spec.Entry) → IfOk result (λ _. spec.RangeLendsAt at
+        (spec.range_lending walk.old l) (spec.came result (spec.lent_at at walk.new))
+        (spec.range_at at walk.new)) }
+    ensures more { IfOk result (λ more. more ≡ is_some (spec.lent_at at walk.new)) }
+    ensures fits { IfOk result (λ _. MatchOption (spec.lent_in (spec.near at walk.new)) (Unit {0})
         (λ e. e.seqno + walk.new.parts.of.global_seqno < 2 ^ 64)) }
-    ensures err { (l : Option Entry) → IfErr result (λ e. RangeLendsAt at
-        (range_lending walk.old l) (Some (Err e)) (over (range_at at walk.new))) }
+    ensures err { (l : Option spec.Entry) → IfErr result (λ e. spec.RangeLendsAt at
+        (spec.range_lending walk.old l) (Some (Err e)) (spec.over (spec.range_at at walk.new))) }
 {
     if let Err(refusal) = walk.parts.initialize() {
         return Err(refusal);
@@ -183,8 +176,9 @@ pub(crate) fn next_entry<A: Allocator + Clone>(
 
 /// Drops the current entry and everything that is left.
 pub(crate) fn end<A: Allocator + Clone>(walk: &mut RangeWalk<A>)
-    ensures over { (at : Direction) → range_at at walk.new ≡ over (range_at at walk.old) }
-    ensures none { (at : Direction) → lent_in (near at walk.new) ≡ None }
+    ensures over { (at : Direction) →
+        spec.range_at at walk.new ≡ spec.over (spec.range_at at walk.old) }
+    ensures none { (at : Direction) → spec.lent_in (spec.near at walk.new) ≡ None }
 {
     walk.parts.end();
     walk.front = None;

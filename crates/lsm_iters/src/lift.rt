@@ -1,6 +1,6 @@
 //! Applying a table's global sequence number.
 ghost use Rattle.std.specs.Prelude.{◌≡◌};
-ghost use Rattle.lsm_iters.specs.Words.{global_seqno_result};
+ghost use Rattle.lsm_iters.specs.Words as spec;
 
 use sst_blocks::{Error, SeqNo};
 
@@ -13,7 +13,7 @@ use sst_blocks::{Error, SeqNo};
 /// [`Error::SeqNoOverflow`] if the sum exceeds `u64::MAX`.
 #[inline]
 pub fn lift_seqno(seqno: SeqNo, global_seqno: SeqNo) -> Result<SeqNo, Error>
-    ensures { result ≡ global_seqno_result global_seqno seqno }
+    ensures { result ≡ spec.global_seqno_result global_seqno seqno }
 {
     match seqno.checked_add(global_seqno) {
         Some(sum) => Ok(sum),

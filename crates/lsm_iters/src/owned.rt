@@ -1,11 +1,6 @@
 //! A double-ended iterator over the entries of a data block that it owns.
 ghost use Rattle.std.specs.Prelude.{◌≡◌, ◌-◌, ◌↔◌, [], IsTrue, length};
-ghost use Rattle.std.specs.Iterator.{at_most};
-ghost use Rattle.std.specs.declared.ops.Bound.TheVariants.{Unbounded};
-ghost use Rattle.lsm_iters.specs.Words.{YieldsLeft, IsStrict, KeepsLower, KeepsUpper, SpanGives};
-ghost use Rattle.lsm_iters.specs.Words.{back_of, cursor_of, edge_of, front_of, lower_place};
-ghost use Rattle.lsm_iters.specs.Words.{rest_in, span_from, span_to, upper_place, whole_span};
-ghost use Rattle.lsm_iters.specs.Words.{within};
+ghost use Rattle.lsm_iters.specs.Words as spec;
 
 use crate::Bound;
 use crate::block_cursor::BlockCursor;
@@ -39,8 +34,8 @@ impl<A: Allocator> Model for OwnedDataBlockIter<A> {
 impl<A: Allocator> OwnedDataBlockIter<A> {
     /// Returns an iterator over all entries of a block.
     pub fn new(block: DataBlock<A>) -> OwnedDataBlockIter<A>
-        ensures whole { result ≡ whole_span block }
-        ensures yields { YieldsLeft ⟦<OwnedDataBlockIter<A> as Iterator>⟧.next_gives
+        ensures whole { result ≡ spec.whole_span block }
+        ensures yields { spec.YieldsLeft ⟦<OwnedDataBlockIter<A> as Iterator>⟧.next_gives
             ⟦<OwnedDataBlockIter<A> as DoubleEndedIterator>⟧.next_back_gives result }
     {
         let to = block.len();
@@ -49,7 +44,7 @@ impl<A: Allocator> OwnedDataBlockIter<A> {
 
     /// Returns a cursor over the entries that are left.
     pub(crate) fn into_cursor(self) -> BlockCursor<A>
-        ensures { result ≡ cursor_of (rest_in self) }
+        ensures { result ≡ spec.cursor_of (spec.rest_in self) }
     {
         BlockCursor::new(self.block, self.from, self.to)
     }
@@ -58,12 +53,13 @@ impl<A: Allocator> OwnedDataBlockIter<A> {
     ///
     /// The sequence number is ignored.
     pub fn seek_lower_bound(&mut self, bound: &Bound<A>, _seqno: SeqNo) -> bool
-        ensures narrowed { let place = lower_place (edge_of bound.now) self.old.list in
-            self.new ≡ span_from place self.old }
-        ensures left { IsTrue result ↔ (rest_in self.new ≡ [] → ⊥) }
-        ensures kept { rest_in self.new ≡ within (edge_of bound.now) Unbounded (rest_in self.old) }
-        ensures both { KeepsUpper (edge_of bound.now) self.old self.new }
-        ensures yields { YieldsLeft ⟦<OwnedDataBlockIter<A> as Iterator>⟧.next_gives
+        ensures narrowed { let place = spec.lower_place (spec.edge_of bound.now) self.old.list in
+            self.new ≡ spec.span_from place self.old }
+        ensures left { IsTrue result ↔ (spec.rest_in self.new ≡ [] → ⊥) }
+        ensures kept { spec.rest_in self.new ≡ spec.within (spec.edge_of bound.now) spec.Unbounded
+            (spec.rest_in self.old) }
+        ensures both { spec.KeepsUpper (spec.edge_of bound.now) self.old self.new }
+        ensures yields { spec.YieldsLeft ⟦<OwnedDataBlockIter<A> as Iterator>⟧.next_gives
             ⟦<OwnedDataBlockIter<A> as DoubleEndedIterator>⟧.next_back_gives self.new }
     {
         self.from = self.from.max(first_behind(&self.block, bound));
@@ -74,12 +70,13 @@ impl<A: Allocator> OwnedDataBlockIter<A> {
     ///
     /// The sequence number is ignored.
     pub fn seek_upper_bound(&mut self, bound: &Bound<A>, _seqno: SeqNo) -> bool
-        ensures narrowed { let place = upper_place (edge_of bound.now) self.old.list in
-            self.new ≡ span_to place self.old }
-        ensures left { IsTrue result ↔ (rest_in self.new ≡ [] → ⊥) }
-        ensures kept { rest_in self.new ≡ within Unbounded (edge_of bound.now) (rest_in self.old) }
-        ensures both { KeepsLower (edge_of bound.now) self.old self.new }
-        ensures yields { YieldsLeft ⟦<OwnedDataBlockIter<A> as Iterator>⟧.next_gives
+        ensures narrowed { let place = spec.upper_place (spec.edge_of bound.now) self.old.list in
+            self.new ≡ spec.span_to place self.old }
+        ensures left { IsTrue result ↔ (spec.rest_in self.new ≡ [] → ⊥) }
+        ensures kept { spec.rest_in self.new ≡ spec.within spec.Unbounded (spec.edge_of bound.now)
+            (spec.rest_in self.old) }
+        ensures both { spec.KeepsLower (spec.edge_of bound.now) self.old self.new }
+        ensures yields { spec.YieldsLeft ⟦<OwnedDataBlockIter<A> as Iterator>⟧.next_gives
             ⟦<OwnedDataBlockIter<A> as DoubleEndedIterator>⟧.next_back_gives self.new }
     {
         self.to = self.to.min(first_past(&self.block, bound));
@@ -92,9 +89,9 @@ impl<A: Allocator> Iterator for OwnedDataBlockIter<A> {
 
     ghost can_next = { λ _. Unit {0} };
 
-    ghost next_gives = { SpanGives front_of };
+    ghost next_gives = { spec.SpanGives spec.front_of };
 
-    ghost remaining = { λ s. at_most (s.to - s.from) };
+    ghost remaining = { λ s. spec.at_most (s.to - s.from) };
 
     #[inline(always)]
     fn next(&mut self) -> Option<IterItem<A>> {
@@ -118,7 +115,7 @@ impl<A: Allocator> Iterator for OwnedDataBlockIter<A> {
 impl<A: Allocator> DoubleEndedIterator for OwnedDataBlockIter<A> {
     ghost can_next_back = { λ _. Unit {0} };
 
-    ghost next_back_gives = { SpanGives back_of };
+    ghost next_back_gives = { spec.SpanGives spec.back_of };
 
     #[inline(always)]
     fn next_back(&mut self) -> Option<IterItem<A>> {
@@ -142,8 +139,8 @@ impl<A: Allocator> DoubleEndedIterator for OwnedDataBlockIter<A> {
 /// Returns whether no entry is before a lower bound, by one comparison. An empty block returns
 /// true.
 fn begins_within<A: Allocator>(block: &DataBlock<A>, bound: &Bound<A>) -> bool
-    ensures place { IsTrue result → lower_place (edge_of bound.now) block.now ≡ 0 }
-    ensures strict { IsStrict block.now }
+    ensures place { IsTrue result → spec.lower_place (spec.edge_of bound.now) block.now ≡ 0 }
+    ensures strict { spec.IsStrict block.now }
 {
     if block.len() == 0 {
         return true;
@@ -158,8 +155,9 @@ fn begins_within<A: Allocator>(block: &DataBlock<A>, bound: &Bound<A>) -> bool
 /// Returns whether no entry is after an upper bound, by one comparison. An empty block returns
 /// true.
 fn ends_within<A: Allocator>(block: &DataBlock<A>, bound: &Bound<A>) -> bool
-    ensures place { IsTrue result → upper_place (edge_of bound.now) block.now ≡ length block.now }
-    ensures strict { IsStrict block.now }
+    ensures place { IsTrue result →
+        spec.upper_place (spec.edge_of bound.now) block.now ≡ length block.now }
+    ensures strict { spec.IsStrict block.now }
 {
     let len = block.len();
     if len == 0 {
@@ -174,8 +172,8 @@ fn ends_within<A: Allocator>(block: &DataBlock<A>, bound: &Bound<A>) -> bool
 
 /// Returns the number of entries before a lower bound. It searches only if the bound cuts off some.
 fn first_behind<A: Allocator>(block: &DataBlock<A>, bound: &Bound<A>) -> usize
-    ensures place { result ≡ lower_place (edge_of bound.now) block.now }
-    ensures strict { IsStrict block.now }
+    ensures place { result ≡ spec.lower_place (spec.edge_of bound.now) block.now }
+    ensures strict { spec.IsStrict block.now }
 {
     if begins_within(block, bound) {
         return 0;
@@ -188,8 +186,8 @@ fn first_behind<A: Allocator>(block: &DataBlock<A>, bound: &Bound<A>) -> usize
 
 /// Returns the number of entries up to an upper bound. It searches only if the bound cuts off some.
 fn first_past<A: Allocator>(block: &DataBlock<A>, bound: &Bound<A>) -> usize
-    ensures place { result ≡ upper_place (edge_of bound.now) block.now }
-    ensures strict { IsStrict block.now }
+    ensures place { result ≡ spec.upper_place (spec.edge_of bound.now) block.now }
+    ensures strict { spec.IsStrict block.now }
 {
     if ends_within(block, bound) {
         return block.len();

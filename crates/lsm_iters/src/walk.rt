@@ -1,8 +1,6 @@
 //! Double-ended iteration over the items of lazily loaded parts.
 ghost use Rattle.std.specs.Prelude.{◌≡◌, Some};
-ghost use Rattle.sst_entries.specs.declared.stream.Direction.{Direction};
-ghost use Rattle.lsm_iters.specs.walk.Words.{Ended, Remains, StepGives, WalkGives, WalkTakes, far};
-ghost use Rattle.lsm_iters.specs.walk.Words.{near, remains_in, walk_left, with_far, with_near};
+ghost use Rattle.lsm_iters.specs.Words as spec;
 
 use crate::ends::step_in;
 use crate::{Ends, Parts};
@@ -41,9 +39,9 @@ where
     /// Takes the next item of the part loaded at this end.
     #[inline(always)]
     fn step_near(&mut self, at: Direction) -> Option<Result<<P::Part as Ends>::Item, Error>>
-        ensures gives { let old = remains_in P.Part.left (near at self.old) in
-            StepGives at old result (remains_in P.Part.left (near at self.new)) }
-        ensures is { self.new ≡ with_near at self.old (near at self.new) }
+        ensures gives { let old = spec.remains_in P.Part.left (spec.near at self.old) in
+            spec.StepGives at old result (spec.remains_in P.Part.left (spec.near at self.new)) }
+        ensures is { self.new ≡ spec.with_near at self.old (spec.near at self.new) }
     {
         match at {
             Direction::Front => step_in(&mut self.front, at),
@@ -54,9 +52,9 @@ where
     /// Takes the next item of the part loaded at the other end.
     #[inline(always)]
     fn step_far(&mut self, at: Direction) -> Option<Result<<P::Part as Ends>::Item, Error>>
-        ensures gives { let old = remains_in P.Part.left (far at self.old) in
-            StepGives at old result (remains_in P.Part.left (far at self.new)) }
-        ensures is { self.new ≡ with_far at self.old (far at self.new) }
+        ensures gives { let old = spec.remains_in P.Part.left (spec.far at self.old) in
+            spec.StepGives at old result (spec.remains_in P.Part.left (spec.far at self.new)) }
+        ensures is { self.new ≡ spec.with_far at self.old (spec.far at self.new) }
     {
         match at {
             Direction::Front => step_in(&mut self.back, at),
@@ -67,7 +65,7 @@ where
     /// Replaces the part loaded at an end.
     #[inline(always)]
     fn put(&mut self, part: P::Part, at: Direction)
-        ensures { self.new ≡ with_near at self.old (Some part) }
+        ensures { self.new ≡ spec.with_near at self.old (Some part) }
     {
         match at {
             Direction::Front => drop(mem::replace(&mut self.front, Some(part))),
@@ -80,7 +78,7 @@ where
     /// After an error it is not exhausted yet; the caller must call [`Self::end`].
     #[inline(always)]
     pub fn take(&mut self, at: Direction) -> Option<Result<<P::Part as Ends>::Item, Error>>
-        ensures { WalkTakes P.Part.left P.coming P.keeps at self.old result self.new }
+        ensures { spec.WalkTakes P.Part.left P.coming P.keeps at self.old result self.new }
     {
         loop {
             if let Some(item) = self.step_near(at) {
@@ -96,7 +94,7 @@ where
 
     /// Drops everything that is left, at both ends.
     pub fn end(&mut self)
-        ensures { Ended P.coming P.ends self.old self.new }
+        ensures { spec.Ended P.coming P.ends self.old self.new }
     {
         self.parts.end();
         drop(self.front.take());
@@ -110,13 +108,14 @@ where
 {
     type Item = <P::Part as Ends>::Item;
 
-    ghost left = { walk_left P.Part.left P.coming };
+    ghost left = { spec.walk_left P.Part.left P.coming };
 
     #[inline(always)]
     fn step(&mut self, at: Direction) -> Option<Result<<P::Part as Ends>::Item, Error>>
-        ensures gives { let left = walk_left P.Part.left P.coming in
-            StepGives at (left self.old) result (left self.new) }
-        ensures walk { WalkGives P.Part.left P.coming P.keeps P.ends at self.old result self.new }
+        ensures gives { let left = spec.walk_left P.Part.left P.coming in
+            spec.StepGives at (left self.old) result (left self.new) }
+        ensures walk { spec.WalkGives P.Part.left P.coming P.keeps P.ends at self.old result
+            self.new }
     {
         match self.take(at) {
             Some(Ok(item)) => Some(Ok(item)),

@@ -1,11 +1,7 @@
 //! Point reads for a batch of queries in key order, over any block source.
 ghost use Rattle.std.specs.Prelude.{◌≡◌, ◌-◌, ◌<◌, ◌≤◌, Option, Ok, IfOk, IfSome, false};
 ghost use Rattle.std.specs.Prelude.{length, replicate, slice_set};
-ghost use Rattle.std.specs.List.{All};
-ghost use Rattle.lsm_readers.specs.point.Batch.{AreFound, IsLookup, query_result};
-ghost use Rattle.lsm_readers.specs.point.Words.{Entry, Gives, admitted_handle, parts_of};
-ghost use Rattle.lsm_readers.specs.point.Words.{with_load};
-ghost use Rattle.sst_blocks.specs.declared.block_type.BlockType.TheVariants.{Data};
+ghost use Rattle.lsm_readers.specs.Words as spec;
 
 use crate::order::Headed;
 use crate::point::{admitted_handle, read_in};
@@ -61,9 +57,9 @@ fn lookup_at<S: LoadBlocks>(
     queries: &[Query<S::Alloc>],
     at: usize,
 ) -> Option<Lookup>
-    ensures lookup { let parts = parts_of inner.now in
+    ensures lookup { let parts = spec.parts_of inner.now in
         IfSome result (λ p.
-        IsLookup (S.body source.old) inner.now.global_seqno parts queries.now p) }
+        spec.IsLookup (S.body source.old) inner.now.global_seqno parts queries.now p) }
     ensures body { S.body source.new ≡ S.body source.old }
 {
     let query = queries.get(at)?;
@@ -83,9 +79,10 @@ pub(crate) fn find_lookups<S: LoadBlocks>(
     order: &[Headed],
     alloc: S::Alloc,
 ) -> Result<Vec<Lookup, S::Alloc>, AllocError>
-    ensures lookups { let parts = parts_of inner.now in
+    ensures lookups { let parts = spec.parts_of inner.now in
         IfOk result (λ lookups.
-        All (IsLookup (S.body source.old) inner.now.global_seqno parts queries.now) lookups.items) }
+        spec.All (spec.IsLookup (S.body source.old) inner.now.global_seqno parts queries.now)
+        lookups.items) }
     ensures body { S.body source.new ≡ S.body source.old }
 {
     let mut lookups = Vec::with_capacity(alloc, order.len())?;
@@ -107,11 +104,11 @@ fn answer_lookup<S: LoadBlocks>(
     handle: Option<BlockHandle>,
 ) -> Result<Option<InternalValue<S::Alloc>>, Error>
     requires { let low = query.now.seqno - inner.now.global_seqno in
-        (admitted_handle (S.body source.old) (parts_of inner.now) query.now.key low).returned
-        ≡ Ok handle }
-    ensures returned { let parts = parts_of inner.now in
-        Gives (λ (found : Option Entry). found) result
-        (query_result (S.body source.old) inner.now.global_seqno parts query.now) }
+        (spec.admitted_handle (S.body source.old) (spec.parts_of inner.now) query.now.key
+        low).returned ≡ Ok handle }
+    ensures returned { let parts = spec.parts_of inner.now in
+        spec.Gives (λ (found : Option spec.Entry). found) result
+        (spec.query_result (S.body source.old) inner.now.global_seqno parts query.now) }
     ensures body { S.body source.new ≡ S.body source.old }
 {
     let low = query.seqno.saturating_sub(inner.global_seqno);
@@ -172,7 +169,7 @@ fn begins_several(lookups: &[Lookup], index: usize) -> bool {
 fn load_for_several<S: LoadBlocks>(source: &mut S, handle: Option<BlockHandle>)
     ensures body { S.body source.new ≡ S.body source.old }
     ensures opened { IfSome handle (λ _. S.opened source.new ≡
-        with_load Data (S.opened source.old)) }
+        spec.with_load spec.Data (S.opened source.old)) }
 {
     if let Some(handle) = handle {
         drop(source.load(&handle, BlockType::Data));
@@ -188,14 +185,15 @@ pub(crate) fn read_lookups<S: LoadBlocks>(
     lookups: &[Lookup],
     batch: &mut Batch<S::Alloc>,
 ) -> bool
-    requires lookups { let parts = parts_of inner.now in
-        All (IsLookup (S.body source.old) inner.now.global_seqno parts queries.now) lookups.now }
-    requires found { let parts = parts_of inner.now in
-        let returned = query_result (S.body source.old) inner.now.global_seqno parts in
-        AreFound returned queries.now batch.old.found.items batch.old.done.items }
-    ensures found { let parts = parts_of inner.now in
-        let returned = query_result (S.body source.old) inner.now.global_seqno parts in
-        AreFound returned queries.now batch.new.found.items batch.new.done.items }
+    requires lookups { let parts = spec.parts_of inner.now in
+        spec.All (spec.IsLookup (S.body source.old) inner.now.global_seqno parts queries.now)
+        lookups.now }
+    requires found { let parts = spec.parts_of inner.now in
+        let returned = spec.query_result (S.body source.old) inner.now.global_seqno parts in
+        spec.AreFound returned queries.now batch.old.found.items batch.old.done.items }
+    ensures found { let parts = spec.parts_of inner.now in
+        let returned = spec.query_result (S.body source.old) inner.now.global_seqno parts in
+        spec.AreFound returned queries.now batch.new.found.items batch.new.done.items }
     ensures body { S.body source.new ≡ S.body source.old }
 {
     for (index, lookup) in lookups.iter().enumerate() {

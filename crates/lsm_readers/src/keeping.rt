@@ -1,10 +1,7 @@
 //! A block source that caches its last filter, index and entry block.
 ghost use Rattle.std.specs.Prelude.{◌≡◌, List, ℕ, IfErr, IfOk, IfSome};
-ghost use Rattle.sst_blocks.specs.Starts.{HoldsEntries};
+ghost use Rattle.lsm_readers.specs.Words as spec;
 ghost use Rattle.sst_entries.specs.declared.error.Error.TheVariants.{OutOfMemory};
-ghost use Rattle.lsm_readers.specs.point.Keeping.{IsLoaded, KeepsOf};
-ghost use Rattle.lsm_readers.specs.point.Words.{FaultsFirst, Gives, Loaded, body_of, entries_of};
-ghost use Rattle.lsm_readers.specs.point.Words.{load_result, none_opened, place_fault, point};
 
 use sst_blocks::{
     Block, BlockHandle, BlockSource, BlockType, DataBlock, Error, InternalValue, LoadBlocks,
@@ -49,7 +46,7 @@ impl<'a, A: Allocator + Clone> Keeping<'a, A> {
     /// Returns a source with nothing cached.
     pub(crate) fn new(source: &'a BlockSource<A>) -> Keeping<'a, A>
         ensures source { result.0 ≡ source.now }
-        ensures none { result.1 ≡ none_opened }
+        ensures none { result.1 ≡ spec.none_opened }
     {
         Keeping {
             source,
@@ -104,8 +101,8 @@ fn kept_at<'k, A: Allocator>(
     handle: &BlockHandle,
     kind: BlockType,
 ) -> Option<&'k Block<A>>
-    ensures { (body : List ℕ) → KeepsOf body kept.now →
-        IfSome result (λ b. IsLoaded body handle.now kind b.now) }
+    ensures { (body : List ℕ) → spec.KeepsOf body kept.now →
+        IfSome result (λ b. spec.IsLoaded body handle.now kind b.now) }
 {
     match kept {
         Some(kept) if kept.handle == *handle && kept.block.kind() == kind => Some(&kept.block),
@@ -120,8 +117,8 @@ fn read_kept<A: Allocator>(
     key: &[u8],
     seqno: SeqNo,
 ) -> Result<Option<InternalValue<A>>, Error>
-    requires { HoldsEntries block.now.kind }
-    ensures found { let found = point (entries_of block.now) key.now seqno in
+    requires { spec.HoldsEntries block.now.kind }
+    ensures found { let found = spec.point (spec.entries_of block.now) key.now seqno in
         IfOk result (λ x. x ≡ found) }
     ensures err { IfErr result (λ e. e ≡ OutOfMemory) }
 {
@@ -139,13 +136,13 @@ fn load_kept<A: Allocator + Clone>(
     handle: &BlockHandle,
     kind: BlockType,
 ) -> Result<Block<A>, Error>
-    requires kept { KeepsOf (body_of source.now) kept.old }
-    ensures returned { let body = body_of source.now in
-        Gives (λ (b : Loaded). b) result
-        (load_result body handle.now.offset handle.now.size kind) }
-    ensures first { let body = body_of source.now in
-        FaultsFirst result (place_fault body handle.now.offset handle.now.size kind) }
-    ensures kept { KeepsOf (body_of source.now) kept.new }
+    requires kept { spec.KeepsOf (spec.body_of source.now) kept.old }
+    ensures returned { let body = spec.body_of source.now in
+        spec.Gives (λ (b : spec.Loaded). b) result
+        (spec.load_result body handle.now.offset handle.now.size kind) }
+    ensures first { let body = spec.body_of source.now in
+        spec.FaultsFirst result (spec.place_fault body handle.now.offset handle.now.size kind) }
+    ensures kept { spec.KeepsOf (spec.body_of source.now) kept.new }
 {
     if let Some(block) = kept_at(kept, handle, kind) {
         return Ok(block.clone()?);

@@ -1,9 +1,6 @@
 //! Point reads of many keys in one table.
 ghost use Rattle.std.specs.Prelude.{◌≡◌, IsOk, Option, []};
-ghost use Rattle.std.specs.List.{All};
-ghost use Rattle.lsm_readers.specs.point.Batch.{AreFound, IsLookup, query_result};
-ghost use Rattle.lsm_readers.specs.point.Many.{answers_to};
-ghost use Rattle.lsm_readers.specs.point.Words.{Entry, Gives, body_of, parts_of};
+ghost use Rattle.lsm_readers.specs.Words as spec;
 
 use crate::Inner;
 use crate::batch::{AHEAD, Batch, Lookup, find_lookups, gather_blocks, put, read_lookups};
@@ -29,9 +26,9 @@ fn get_one<A: Allocator + Clone>(
     inner: &Inner<A>,
     query: &Query<A>,
 ) -> Result<Option<InternalValue<A>>, Error>
-    ensures returned { let parts = parts_of inner.now in
-        Gives (λ (found : Option Entry). found) result
-        (query_result (body_of blocks.now) inner.now.global_seqno parts query.now) }
+    ensures returned { let parts = spec.parts_of inner.now in
+        spec.Gives (λ (found : Option spec.Entry). found) result
+        (spec.query_result (spec.body_of blocks.now) inner.now.global_seqno parts query.now) }
 {
     let key = query.key.as_slice();
     let mut source = Counted::new(blocks);
@@ -49,15 +46,16 @@ fn read_ahead<A: Allocator + Clone>(
     lookups: &[Lookup],
     batch: &mut Batch<A>,
 ) -> Result<(), AllocError>
-    requires source { body_of source.old.0 ≡ body_of blocks.now }
-    requires lookups { let parts = parts_of inner.now in
-        All (IsLookup (body_of blocks.now) inner.now.global_seqno parts queries.now) lookups.now }
-    requires found { let parts = parts_of inner.now in
-        let returned = query_result (body_of blocks.now) inner.now.global_seqno parts in
-        AreFound returned queries.now batch.old.found.items batch.old.done.items }
-    ensures found { let parts = parts_of inner.now in
-        let returned = query_result (body_of blocks.now) inner.now.global_seqno parts in
-        AreFound returned queries.now batch.new.found.items batch.new.done.items }
+    requires source { spec.body_of source.old.0 ≡ spec.body_of blocks.now }
+    requires lookups { let parts = spec.parts_of inner.now in
+        spec.All (spec.IsLookup (spec.body_of blocks.now) inner.now.global_seqno parts queries.now)
+        lookups.now }
+    requires found { let parts = spec.parts_of inner.now in
+        let returned = spec.query_result (spec.body_of blocks.now) inner.now.global_seqno parts in
+        spec.AreFound returned queries.now batch.old.found.items batch.old.done.items }
+    ensures found { let parts = spec.parts_of inner.now in
+        let returned = spec.query_result (spec.body_of blocks.now) inner.now.global_seqno parts in
+        spec.AreFound returned queries.now batch.new.found.items batch.new.done.items }
 {
     let mut named = Vec::with_capacity(blocks.allocator().clone()?, AHEAD)?;
     let mut from = 0;
@@ -82,13 +80,13 @@ fn read_ordered<A: Allocator + Clone>(
     order: &[Headed],
     batch: &mut Batch<A>,
 ) -> Result<(), AllocError>
-    requires source { body_of source.old.0 ≡ body_of blocks.now }
-    requires found { let parts = parts_of inner.now in
-        let returned = query_result (body_of blocks.now) inner.now.global_seqno parts in
-        AreFound returned queries.now batch.old.found.items batch.old.done.items }
-    ensures found { let parts = parts_of inner.now in
-        let returned = query_result (body_of blocks.now) inner.now.global_seqno parts in
-        AreFound returned queries.now batch.new.found.items batch.new.done.items }
+    requires source { spec.body_of source.old.0 ≡ spec.body_of blocks.now }
+    requires found { let parts = spec.parts_of inner.now in
+        let returned = spec.query_result (spec.body_of blocks.now) inner.now.global_seqno parts in
+        spec.AreFound returned queries.now batch.old.found.items batch.old.done.items }
+    ensures found { let parts = spec.parts_of inner.now in
+        let returned = spec.query_result (spec.body_of blocks.now) inner.now.global_seqno parts in
+        spec.AreFound returned queries.now batch.new.found.items batch.new.done.items }
 {
     let lookups = find_lookups(source, inner, queries, order, blocks.allocator().clone()?)?;
     read_ahead(blocks, inner, source, queries, &lookups, batch)
@@ -102,12 +100,12 @@ fn read_batch<A: Allocator + Clone>(
     queries: &[Query<A>],
     batch: &mut Batch<A>,
 ) -> Result<(), AllocError>
-    requires found { let parts = parts_of inner.now in
-        let returned = query_result (body_of blocks.now) inner.now.global_seqno parts in
-        AreFound returned queries.now batch.old.found.items batch.old.done.items }
-    ensures found { let parts = parts_of inner.now in
-        let returned = query_result (body_of blocks.now) inner.now.global_seqno parts in
-        AreFound returned queries.now batch.new.found.items batch.new.done.items }
+    requires found { let parts = spec.parts_of inner.now in
+        let returned = spec.query_result (spec.body_of blocks.now) inner.now.global_seqno parts in
+        spec.AreFound returned queries.now batch.old.found.items batch.old.done.items }
+    ensures found { let parts = spec.parts_of inner.now in
+        let returned = spec.query_result (spec.body_of blocks.now) inner.now.global_seqno parts in
+        spec.AreFound returned queries.now batch.new.found.items batch.new.done.items }
 {
     if queries.len() < 2 {
         // A single query has no neighbour to share a load with.
@@ -132,12 +130,12 @@ fn read_rest<A: Allocator + Clone>(
     queries: &[Query<A>],
     batch: Batch<A>,
 ) -> Result<Vec<Option<InternalValue<A>>, A>, Error>
-    requires { let parts = parts_of inner.now in
-        let returned = query_result (body_of blocks.now) inner.now.global_seqno parts in
-        AreFound returned queries.now batch.found.items batch.done.items }
-    ensures { let parts = parts_of inner.now in
-        let returned = query_result (body_of blocks.now) inner.now.global_seqno parts in
-        Gives (λ found. found.items) result (answers_to returned queries.now) }
+    requires { let parts = spec.parts_of inner.now in
+        let returned = spec.query_result (spec.body_of blocks.now) inner.now.global_seqno parts in
+        spec.AreFound returned queries.now batch.found.items batch.done.items }
+    ensures { let parts = spec.parts_of inner.now in
+        let returned = spec.query_result (spec.body_of blocks.now) inner.now.global_seqno parts in
+        spec.Gives (λ found. found.items) result (spec.answers_to returned queries.now) }
 {
     let Batch { mut found, done } = batch;
     for (at, query) in queries.iter().enumerate() {
@@ -166,9 +164,9 @@ pub fn many_in<A: Allocator + Clone>(
     inner: &Inner<A>,
     queries: &[Query<A>],
 ) -> Result<Vec<Option<InternalValue<A>>, A>, Error>
-    ensures returned { let parts = parts_of inner.now in
-        let returned = query_result (body_of blocks.now) inner.now.global_seqno parts in
-        Gives (λ found. found.items) result (answers_to returned queries.now) }
+    ensures returned { let parts = spec.parts_of inner.now in
+        let returned = spec.query_result (spec.body_of blocks.now) inner.now.global_seqno parts in
+        spec.Gives (λ found. found.items) result (spec.answers_to returned queries.now) }
     // Without queries it fails only if a clone of the allocator does.
     ensures calm { queries.now ≡ [] → ((alloc : A) → A.is_infallible alloc) → IsOk result }
 {

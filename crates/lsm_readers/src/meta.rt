@@ -1,20 +1,6 @@
 //! Parsing a table's meta block.
 ghost use Rattle.std.specs.Prelude.{◌≡◌, ◌-◌, List, ℕ, Result};
-ghost use Rattle.sst_entries.specs.Error.{FaultsFirst, Gives};
-ghost use Rattle.sst_blocks.specs.Block.{place_fault};
-ghost use Rattle.sst_blocks.specs.declared.block_type.BlockType.TheVariants.{Meta};
-ghost use Rattle.sst_blocks.specs.Sections.{body_of};
-ghost use Rattle.lsm_readers.specs.point.Meta.{item_result, number8_result, number16_result, u64_result};
-ghost use Rattle.lsm_readers.specs.point.Meta.{one_byte_result, byte_result, first_byte_result};
-ghost use Rattle.lsm_readers.specs.point.Meta.{first_result};
-ghost use Rattle.lsm_readers.specs.point.Meta.{version_number_result, version_result, kinds_result};
-ghost use Rattle.lsm_readers.specs.point.Meta.{compressions_result, created_result, numbers_result};
-ghost use Rattle.lsm_readers.specs.point.Meta.{keys_result};
-ghost use Rattle.lsm_readers.specs.point.Meta.{seqnos_result, rest_result, facts_of, facts_result};
-ghost use Rattle.lsm_readers.specs.point.Meta.{meta_result};
-ghost use Rattle.lsm_readers.specs.point.Meta.{meta_item_result};
-ghost use Rattle.lsm_readers.specs.declared.meta.Numbers.{Numbers};
-ghost use Rattle.lsm_sorted.specs.version.KeyRange.{Interval};
+ghost use Rattle.lsm_readers.specs.Words as spec;
 
 use byteorder::{ByteOrder, LittleEndian};
 use lsm_iters::beside;
@@ -63,7 +49,7 @@ pub struct ParsedMeta<A: Allocator = Global> {
 /// The value of an item. Fails with [`Error::MetaKeyMissing`] if there is none.
 #[tactic(auto, unfolding(crate::specs::point::Meta::item_result))]
 fn item<A: Allocator>(block: &DataBlock<A>, name: ItemName) -> Result<Slice<A>, Error>
-    ensures { Gives (λ (v : List ℕ). v) result (item_result block.now name) }
+    ensures { spec.Gives (λ (v : List ℕ). v) result (spec.item_result block.now name) }
 {
     match block.point_read(name.key(), SeqNo::MAX)? {
         Some(item) => Ok(item.value),
@@ -73,7 +59,7 @@ fn item<A: Allocator>(block: &DataBlock<A>, name: ItemName) -> Result<Slice<A>, 
 
 #[tactic(auto, unfolding(sst_blocks::specs::Number::num8))]
 fn number8(value: &[u8]) -> Result<u64, Error>
-    ensures { result ≡ number8_result value.now }
+    ensures { result ≡ spec.number8_result value.now }
 {
     if value.len() < 8 {
         return Err(Error::InvalidMetaValue);
@@ -83,7 +69,7 @@ fn number8(value: &[u8]) -> Result<u64, Error>
 
 #[tactic(auto, unfolding(sst_blocks::specs::Number::num16))]
 fn number16(value: &[u8]) -> Result<u128, Error>
-    ensures { result ≡ number16_result value.now }
+    ensures { result ≡ spec.number16_result value.now }
 {
     if value.len() < 16 {
         return Err(Error::InvalidMetaValue);
@@ -93,7 +79,7 @@ fn number16(value: &[u8]) -> Result<u128, Error>
 
 #[tactic(auto, unfolding(crate::specs::point::Meta::u64_result))]
 fn u64_item<A: Allocator>(block: &DataBlock<A>, name: ItemName) -> Result<u64, Error>
-    ensures { Gives (λ (n : ℕ). n) result (u64_result block.now name) }
+    ensures { spec.Gives (λ (n : ℕ). n) result (spec.u64_result block.now name) }
 {
     let value = item(block, name)?;
     let number = number8(value.as_slice());
@@ -102,7 +88,7 @@ fn u64_item<A: Allocator>(block: &DataBlock<A>, name: ItemName) -> Result<u64, E
 }
 
 fn test_byte(value: &[u8], byte: u8, fault: Error) -> Result<(), Error>
-    ensures { result ≡ one_byte_result value.now byte fault }
+    ensures { result ≡ spec.one_byte_result value.now byte fault }
 {
     if value == [byte].as_slice() {
         Ok(())
@@ -118,7 +104,7 @@ fn byte_item<A: Allocator>(
     byte: u8,
     fault: Error,
 ) -> Result<(), Error>
-    ensures { Gives (λ (_ : _). tt) result (byte_result block.now name byte fault) }
+    ensures { spec.Gives (λ (_ : _). tt) result (spec.byte_result block.now name byte fault) }
 {
     let value = item(block, name)?;
     let tested = test_byte(value.as_slice(), byte, fault);
@@ -127,7 +113,7 @@ fn byte_item<A: Allocator>(
 }
 
 fn test_first(value: &[u8], byte: u8, fault: Error) -> Result<(), Error>
-    ensures { result ≡ first_byte_result value.now byte fault }
+    ensures { result ≡ spec.first_byte_result value.now byte fault }
 {
     if value.is_empty() {
         return Err(Error::InvalidMetaValue);
@@ -142,7 +128,7 @@ fn first_item<A: Allocator>(
     byte: u8,
     fault: Error,
 ) -> Result<(), Error>
-    ensures { Gives (λ (_ : _). tt) result (first_result block.now name byte fault) }
+    ensures { spec.Gives (λ (_ : _). tt) result (spec.first_result block.now name byte fault) }
 {
     let value = item(block, name)?;
     let tested = test_first(value.as_slice(), byte, fault);
@@ -151,7 +137,7 @@ fn first_item<A: Allocator>(
 }
 
 fn version(value: &[u8]) -> Result<u8, Error>
-    ensures { result ≡ version_number_result value.now }
+    ensures { result ≡ spec.version_number_result value.now }
 {
     if value == [3].as_slice() || value == [4].as_slice() {
         Ok(value[0])
@@ -162,7 +148,7 @@ fn version(value: &[u8]) -> Result<u8, Error>
 
 #[tactic(auto, unfolding(crate::specs::point::Meta::version_result))]
 fn version_item<A: Allocator>(block: &DataBlock<A>) -> Result<u8, Error>
-    ensures { Gives (λ (n : ℕ). n) result (version_result block.now) }
+    ensures { spec.Gives (λ (n : ℕ). n) result (spec.version_result block.now) }
 {
     let value = item(block, ItemName::TableVersion)?;
     let number = version(value.as_slice());
@@ -172,7 +158,7 @@ fn version_item<A: Allocator>(block: &DataBlock<A>) -> Result<u8, Error>
 
 #[tactic(auto, unfolding(crate::specs::point::Meta::kinds_result))]
 fn test_kinds<A: Allocator>(block: &DataBlock<A>) -> Result<(), Error>
-    ensures { Gives (λ (_ : _). tt) result (kinds_result block.now) }
+    ensures { spec.Gives (λ (_ : _). tt) result (spec.kinds_result block.now) }
 {
     byte_item(
         block,
@@ -196,7 +182,7 @@ fn test_kinds<A: Allocator>(block: &DataBlock<A>) -> Result<(), Error>
 
 #[tactic(auto, unfolding(crate::specs::point::Meta::compressions_result))]
 fn test_compressions<A: Allocator>(block: &DataBlock<A>) -> Result<(), Error>
-    ensures { Gives (λ (_ : _). tt) result (compressions_result block.now) }
+    ensures { spec.Gives (λ (_ : _). tt) result (spec.compressions_result block.now) }
 {
     first_item(
         block,
@@ -214,7 +200,7 @@ fn test_compressions<A: Allocator>(block: &DataBlock<A>) -> Result<(), Error>
 
 #[tactic(auto, unfolding(crate::specs::point::Meta::created_result))]
 fn created_item<A: Allocator>(block: &DataBlock<A>) -> Result<u128, Error>
-    ensures { Gives (λ (n : ℕ). n) result (created_result block.now) }
+    ensures { spec.Gives (λ (n : ℕ). n) result (spec.created_result block.now) }
 {
     let value = item(block, ItemName::CreatedAt)?;
     let number = number16(value.as_slice());
@@ -238,7 +224,7 @@ struct Numbers {
 
 #[tactic(auto, unfolding(crate::specs::point::Meta::numbers_result))]
 fn number_items<A: Allocator>(block: &DataBlock<A>) -> Result<Numbers, Error>
-    ensures { Gives (λ (n : Numbers). n) result (numbers_result block.now) }
+    ensures { spec.Gives (λ (n : spec.Numbers). n) result (spec.numbers_result block.now) }
 {
     let id = u64_item(block, ItemName::TableId)?;
     let item_count = u64_item(block, ItemName::ItemCount)?;
@@ -263,7 +249,7 @@ fn number_items<A: Allocator>(block: &DataBlock<A>) -> Result<Numbers, Error>
 
 #[tactic(auto, unfolding(crate::specs::point::Meta::keys_result))]
 fn key_items<A: Allocator>(block: &DataBlock<A>) -> Result<KeyRange<A>, Error>
-    ensures { Gives (λ (r : Interval). r) result (keys_result block.now) }
+    ensures { spec.Gives (λ (r : spec.Interval). r) result (spec.keys_result block.now) }
 {
     let min = item(block, ItemName::KeyMin)?;
     let ends = beside(min, item(block, ItemName::KeyMax))?;
@@ -272,7 +258,7 @@ fn key_items<A: Allocator>(block: &DataBlock<A>) -> Result<KeyRange<A>, Error>
 
 #[tactic(auto, unfolding(crate::specs::point::Meta::seqnos_result))]
 fn seqno_items<A: Allocator>(block: &DataBlock<A>) -> Result<(SeqNo, SeqNo), Error>
-    ensures { Gives (λ (n : ℕ × ℕ). n) result (seqnos_result block.now) }
+    ensures { spec.Gives (λ (n : ℕ × ℕ). n) result (spec.seqnos_result block.now) }
 {
     let min = u64_item(block, ItemName::SeqnoMin)?;
     let max = u64_item(block, ItemName::SeqnoMax)?;
@@ -285,7 +271,7 @@ fn read_rest<A: Allocator>(
     table_version: u8,
     numbers: Numbers,
 ) -> Result<ParsedMeta<A>, Error>
-    ensures { Gives facts_of result (rest_result block.now table_version numbers) }
+    ensures { spec.Gives spec.facts_of result (spec.rest_result block.now table_version numbers) }
 {
     let created_at = created_item(block)?;
     let key_range = key_items(block)?;
@@ -310,7 +296,7 @@ fn read_rest<A: Allocator>(
 }
 
 fn read_facts<A: Allocator>(block: &DataBlock<A>) -> Result<ParsedMeta<A>, Error>
-    ensures { Gives facts_of result (facts_result block.now) }
+    ensures { spec.Gives spec.facts_of result (spec.facts_result block.now) }
 {
     let table_version = version_item(block)?;
     test_kinds(block)?;
@@ -336,9 +322,11 @@ impl<A: Allocator + Clone> ParsedMeta<A> {
         source: &BlockSource<A>,
         handle: &BlockHandle,
     ) -> Result<ParsedMeta<A>, Error>
-        ensures returned { Gives facts_of result (meta_result (body_of source.now) handle.now) }
-        ensures early { let body = body_of source.now in
-            FaultsFirst result (place_fault body handle.now.offset handle.now.size Meta) }
+        ensures returned { spec.Gives spec.facts_of result
+            (spec.meta_result (spec.body_of source.now) handle.now) }
+        ensures early { let body = spec.body_of source.now in
+            spec.FaultsFirst result
+            (spec.place_fault body handle.now.offset handle.now.size spec.Meta) }
     {
         let mut opened = Opened::none();
         let block = source.load(handle, BlockType::Meta, &mut opened)?;
@@ -360,10 +348,11 @@ pub fn load_item<A: Allocator + Clone>(
     handle: &BlockHandle,
     name: ItemName,
 ) -> Result<Slice<A>, Error>
-    ensures returned { Gives (λ (v : List ℕ). v) result
-        (meta_item_result (body_of source.now) handle.now name) }
-    ensures early { let body = body_of source.now in
-        FaultsFirst result (place_fault body handle.now.offset handle.now.size Meta) }
+    ensures returned { spec.Gives (λ (v : List ℕ). v) result
+        (spec.meta_item_result (spec.body_of source.now) handle.now name) }
+    ensures early { let body = spec.body_of source.now in
+        spec.FaultsFirst result
+        (spec.place_fault body handle.now.offset handle.now.size spec.Meta) }
 {
     let mut opened = Opened::none();
     let block = source.load(handle, BlockType::Meta, &mut opened)?;

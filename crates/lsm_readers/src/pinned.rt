@@ -1,14 +1,7 @@
 //! The pinned part of a table's index, and all that depends on the kind of index.
 ghost use Rattle.std.specs.Prelude.{◌≡◌, List, IfOk, IfErr};
-ghost use Rattle.sst_blocks.specs.declared.block_type.BlockType.TheVariants.{Index};
+ghost use Rattle.lsm_readers.specs.Words as spec;
 ghost use Rattle.sst_entries.specs.declared.error.Error.TheVariants.{OutOfMemory};
-ghost use Rattle.lsm_readers.specs.point.Words.{DoesRead, FaultsFirst, Gives, Handle, body_of};
-ghost use Rattle.lsm_readers.specs.point.Words.{handle_by, handle_in_block, place_fault};
-ghost use Rattle.lsm_readers.specs.point.Words.{handles_result, index_len, pinned_index_of};
-ghost use Rattle.lsm_readers.specs.point.Words.{index_over};
-ghost use Rattle.lsm_readers.specs.point.Words.{index_read, index_result, kind_kept, index_kind_of};
-ghost use Rattle.lsm_readers.specs.point.Words.{on_each_read, partitioned};
-ghost use Rattle.lsm_iters.specs.block_index.Index.{on_demand, two_level};
 
 use crate::ParsedRegions;
 use lsm_iters::{BlockIndexImpl, FullBlockIndex, TwoLevelBlockIndex, VolatileBlockIndex, beside};
@@ -37,10 +30,11 @@ pub fn load_handles<A: Allocator + Clone>(
     source: &BlockSource<A>,
     handle: &BlockHandle,
 ) -> Result<IndexBlock<A>, Error>
-    ensures returned { Gives (λ (handles : List Handle). handles) result
-        (handles_result (body_of source.now) handle.now) }
-    ensures early { let body = body_of source.now in
-        FaultsFirst result (place_fault body handle.now.offset handle.now.size Index) }
+    ensures returned { spec.Gives (λ (handles : List spec.Handle). handles) result
+        (spec.handles_result (spec.body_of source.now) handle.now) }
+    ensures early { let body = spec.body_of source.now in
+        spec.FaultsFirst result
+        (spec.place_fault body handle.now.offset handle.now.size spec.Index) }
 {
     let mut opened = Opened::none();
     let block = source.load(handle, BlockType::Index, &mut opened)?;
@@ -54,8 +48,8 @@ fn handle_at<S: LoadBlocks>(
     key: &[u8],
     seqno: SeqNo,
 ) -> Result<Option<BlockHandle>, Error>
-    ensures read { let read = handle_in_block (S.body source.old) key.now seqno handle.now in
-        DoesRead result read (S.opened source.old) (S.opened source.new) }
+    ensures read { let read = spec.handle_in_block (S.body source.old) key.now seqno handle.now in
+        spec.DoesRead result read (S.opened source.old) (S.opened source.new) }
     ensures body { S.body source.new ≡ S.body source.old }
 {
     source.find(handle, key, seqno)
@@ -66,9 +60,9 @@ fn volatile_index<A: Allocator + Clone>(
     source: &BlockSource<A>,
     handle: BlockHandle,
 ) -> Result<BlockIndexImpl<A>, Error>
-    ensures index { let read = on_demand (body_of source.now) handle in
-        IfOk result (λ index. index_read index ≡ read) }
-    ensures kind { IfOk result (λ index. index_kind_of index ≡ on_each_read) }
+    ensures index { let read = spec.on_demand (spec.body_of source.now) handle in
+        IfOk result (λ index. spec.index_read index ≡ read) }
+    ensures kind { IfOk result (λ index. spec.index_kind_of index ≡ spec.on_each_read) }
     ensures err { IfErr result (λ e. e ≡ OutOfMemory) }
 {
     let (alloc, source) = (source.allocator().clone()?, source.clone()?);
@@ -81,9 +75,9 @@ fn two_level_index<A: Allocator + Clone>(
     source: &BlockSource<A>,
     tops: &IndexBlock<A>,
 ) -> Result<BlockIndexImpl<A>, Error>
-    ensures index { let read = two_level (body_of source.now) tops.now in
-        IfOk result (λ index. index_read index ≡ read) }
-    ensures kind { IfOk result (λ index. index_kind_of index ≡ partitioned) }
+    ensures index { let read = spec.two_level (spec.body_of source.now) tops.now in
+        IfOk result (λ index. spec.index_read index ≡ read) }
+    ensures kind { IfOk result (λ index. spec.index_kind_of index ≡ spec.partitioned) }
     ensures err { IfErr result (λ e. e ≡ OutOfMemory) }
 {
     let (alloc, source) = (source.allocator().clone()?, source.clone()?);
@@ -106,8 +100,8 @@ impl<A: Allocator + Clone> PinnedBlockIndex<A> {
         regions: &ParsedRegions,
         pin_index: bool,
     ) -> Result<PinnedBlockIndex<A>, Error>
-        ensures { Gives pinned_index_of result
-            (index_result (body_of source.now) regions.now pin_index) }
+        ensures { spec.Gives spec.pinned_index_of result
+            (spec.index_result (spec.body_of source.now) regions.now pin_index) }
     {
         if regions.index.is_some() {
             return Ok(PinnedBlockIndex::TwoLevel(load_handles(source, &regions.tli)?));
@@ -132,11 +126,11 @@ impl<A: Allocator + Clone> PinnedBlockIndex<A> {
         source: &BlockSource<A>,
         tli: &BlockHandle,
     ) -> Result<BlockIndexImpl<A>, Error>
-        ensures index { let kept = pinned_index_of self.now in
-            let read = index_over (body_of source.now) kept tli.now in
-            IfOk result (λ index. index_read index ≡ read) }
-        ensures kind { let kept = pinned_index_of self.now in
-            IfOk result (λ index. index_kind_of index ≡ kind_kept kept) }
+        ensures index { let kept = spec.pinned_index_of self.now in
+            let read = spec.index_over (spec.body_of source.now) kept tli.now in
+            IfOk result (λ index. spec.index_read index ≡ read) }
+        ensures kind { let kept = spec.pinned_index_of self.now in
+            IfOk result (λ index. spec.index_kind_of index ≡ spec.kind_kept kept) }
         ensures err { IfErr result (λ e. e ≡ OutOfMemory) }
     {
         match self {
@@ -156,7 +150,7 @@ impl<A: Allocator> PinnedBlockIndex<A> {
     /// `tli` is the handle of that block.
     #[inline]
     pub fn payload_len(&self, tli: &BlockHandle) -> usize
-        ensures { result ≡ index_len (pinned_index_of self.now) tli.now }
+        ensures { result ≡ spec.index_len (spec.pinned_index_of self.now) tli.now }
     {
         match self {
             PinnedBlockIndex::VolatileFull => 0,
@@ -179,9 +173,9 @@ pub(crate) fn handle_by<S: LoadBlocks>(
     key: &[u8],
     seqno: SeqNo,
 ) -> Result<Option<BlockHandle>, Error>
-    ensures read { let kept = pinned_index_of index.now in
-        let read = handle_by (S.body source.old) kept tli.now key.now seqno in
-        DoesRead result read (S.opened source.old) (S.opened source.new) }
+    ensures read { let kept = spec.pinned_index_of index.now in
+        let read = spec.handle_by (S.body source.old) kept tli.now key.now seqno in
+        spec.DoesRead result read (S.opened source.old) (S.opened source.new) }
     ensures body { S.body source.new ≡ S.body source.old }
 {
     match index {

@@ -1,15 +1,6 @@
 //! Point reads over any block source.
 ghost use Rattle.std.specs.Prelude.{◌≡◌, ◌+◌, ◌<◌, ◌^◌, [], ℕ, List, Option, IfOk, IfSome, IsOk};
-ghost use Rattle.std.specs.Option.{option_map};
-ghost use Rattle.sst_blocks.specs.Asked.{result_map};
-ghost use Rattle.sst_blocks.specs.EntryPlace.{IsPlacedIn, entry_placed};
-ghost use Rattle.lsm_readers.specs.point.Words.{DoesRead, Entry, FaultsFirst, Gives, LoadsFew};
-ghost use Rattle.lsm_readers.specs.point.Words.{Opens};
-ghost use Rattle.lsm_readers.specs.point.Words.{admission};
-ghost use Rattle.lsm_readers.specs.point.Words.{admitted_handle, answer, block_admits};
-ghost use Rattle.lsm_readers.specs.point.Words.{filter_admits};
-ghost use Rattle.lsm_readers.specs.point.Words.{body_of, hash_of, lifted, match_at, none_opened};
-ghost use Rattle.lsm_readers.specs.point.Words.{parts_of};
+ghost use Rattle.lsm_readers.specs.Words as spec;
 
 use crate::Inner;
 use crate::pinned::handle_by;
@@ -21,7 +12,7 @@ use std::alloc::Allocator;
 // Applies the global seqno, which the caller has checked to fit.
 fn lift<A: Allocator>(item: InternalValue<A>, global_seqno: SeqNo) -> InternalValue<A>
     requires { item.seqno + global_seqno < 2 ^ 64 }
-    ensures { result ≡ lifted global_seqno item }
+    ensures { result ≡ spec.lifted global_seqno item }
 {
     let mut item = item;
     item.key.seqno += global_seqno;
@@ -34,8 +25,8 @@ fn block_admits<S: LoadBlocks>(
     handle: &BlockHandle,
     key_hash: u64,
 ) -> Result<bool, Error>
-    ensures read { let read = block_admits (S.body source.old) key_hash handle.now in
-        DoesRead result read (S.opened source.old) (S.opened source.new) }
+    ensures read { let read = spec.block_admits (S.body source.old) key_hash handle.now in
+        spec.DoesRead result read (S.opened source.old) (S.opened source.new) }
     ensures body { S.body source.new ≡ S.body source.old }
 {
     source.maybe_contains_hash(handle, key_hash)
@@ -48,10 +39,10 @@ fn filter_admits<S: LoadBlocks>(
     key: &[u8],
     key_hash: u64,
 ) -> Result<bool, Error>
-    ensures read { let parts = parts_of inner.now in
-        let read = filter_admits (S.body source.old) parts.pinned.filter_tops
+    ensures read { let parts = spec.parts_of inner.now in
+        let read = spec.filter_admits (S.body source.old) parts.pinned.filter_tops
         parts.pinned.filter parts.regions.filter key.now key_hash in
-        DoesRead result read (S.opened source.old) (S.opened source.new) }
+        spec.DoesRead result read (S.opened source.old) (S.opened source.new) }
     ensures body { S.body source.new ≡ S.body source.old }
 {
     if let Some(tops) = &inner.pinned_filter_index {
@@ -78,10 +69,10 @@ fn admission<S: LoadBlocks>(
     seqno: SeqNo,
     key_hash: u64,
 ) -> Result<bool, Error>
-    requires { key_hash ≡ hash_of key.now }
-    ensures read { let parts = parts_of inner.now in
-        let read = admission (S.body source.old) parts key.now seqno in
-        DoesRead result read (S.opened source.old) (S.opened source.new) }
+    requires { key_hash ≡ spec.hash_of key.now }
+    ensures read { let parts = spec.parts_of inner.now in
+        let read = spec.admission (S.body source.old) parts key.now seqno in
+        spec.DoesRead result read (S.opened source.old) (S.opened source.new) }
     ensures body { S.body source.new ≡ S.body source.old }
 {
     if seqno <= inner.metadata.seqnos.0 {
@@ -98,10 +89,10 @@ pub(crate) fn admitted_handle<S: LoadBlocks>(
     seqno: SeqNo,
     key_hash: u64,
 ) -> Result<Option<BlockHandle>, Error>
-    requires { key_hash ≡ hash_of key.now }
-    ensures read { let parts = parts_of inner.now in
-        let read = admitted_handle (S.body source.old) parts key.now seqno in
-        DoesRead result read (S.opened source.old) (S.opened source.new) }
+    requires { key_hash ≡ spec.hash_of key.now }
+    ensures read { let parts = spec.parts_of inner.now in
+        let read = spec.admitted_handle (S.body source.old) parts key.now seqno in
+        spec.DoesRead result read (S.opened source.old) (S.opened source.new) }
     ensures body { S.body source.new ≡ S.body source.old }
 {
     if admission(source, inner, key, seqno, key_hash)? {
@@ -118,7 +109,7 @@ fn lifted_found<A: Allocator>(
     global_seqno: SeqNo,
 ) -> Option<InternalValue<A>>
     requires { IfSome found (λ item. item.seqno + global_seqno < 2 ^ 64) }
-    ensures { result ≡ option_map (lifted global_seqno) found }
+    ensures { result ≡ spec.option_map (spec.lifted global_seqno) found }
 {
     match found {
         Some(item) => Some(lift(item, global_seqno)),
@@ -135,8 +126,8 @@ pub(crate) fn read_in<S: LoadBlocks>(
     seqno: SeqNo,
 ) -> Result<Option<InternalValue<S::Alloc>>, Error>
     requires { seqno + global_seqno < 2 ^ 64 }
-    ensures read { let read = match_at (S.body source.old) global_seqno key.now seqno handle in
-        DoesRead result read (S.opened source.old) (S.opened source.new) }
+    ensures read { let read = spec.match_at (S.body source.old) global_seqno key.now seqno handle in
+        spec.DoesRead result read (S.opened source.old) (S.opened source.new) }
     ensures body { S.body source.new ≡ S.body source.old }
 {
     let found = source.point_read(&handle, key, seqno)?;
@@ -161,25 +152,26 @@ pub fn point_in<S: LoadBlocks>(
     seqno: SeqNo,
     key_hash: u64,
 ) -> Result<Option<InternalValue<S::Alloc>>, Error>
-    requires { key_hash ≡ hash_of key.now }
-    ensures returned { let parts = parts_of inner.now in
-        let read = answer (S.body source.old) inner.now.global_seqno parts key.now seqno in
-        Gives (λ (found : Option Entry). found) result read.returned }
+    requires { key_hash ≡ spec.hash_of key.now }
+    ensures returned { let parts = spec.parts_of inner.now in
+        let read = spec.answer (S.body source.old) inner.now.global_seqno parts key.now seqno in
+        spec.Gives (λ (found : Option spec.Entry). found) result read.returned }
     // A fault that is found before any allocation takes precedence over `OutOfMemory`.
-    ensures early { let parts = parts_of inner.now in
-        let read = answer (S.body source.old) inner.now.global_seqno parts key.now seqno in
-        FaultsFirst result read.early }
+    ensures early { let parts = spec.parts_of inner.now in
+        let read = spec.answer (S.body source.old) inner.now.global_seqno parts key.now seqno in
+        spec.FaultsFirst result read.early }
     // Without a load it does not fail: memory is allocated only for a block.
-    ensures calm { let parts = parts_of inner.now in
-        let read = answer (S.body source.old) inner.now.global_seqno parts key.now seqno in
+    ensures calm { let parts = spec.parts_of inner.now in
+        let read = spec.answer (S.body source.old) inner.now.global_seqno parts key.now seqno in
         read.loads ≡ [] → IsOk result }
     ensures body { S.body source.new ≡ S.body source.old }
     // It makes the loads of the read, and no others.
-    ensures opened { let parts = parts_of inner.now in
-        let read = answer (S.body source.old) inner.now.global_seqno parts key.now seqno in
-        Opens result read.loads (S.opened source.old) (S.opened source.new) }
+    ensures opened { let parts = spec.parts_of inner.now in
+        let read = spec.answer (S.body source.old) inner.now.global_seqno parts key.now seqno in
+        spec.Opens result read.loads (S.opened source.old) (S.opened source.new) }
     // These are few, also if an allocation fails.
-    ensures few { LoadsFew (parts_of inner.now) (S.opened source.old) (S.opened source.new) }
+    ensures few { spec.LoadsFew (spec.parts_of inner.now) (S.opened source.old)
+        (S.opened source.new) }
 {
     let low = seqno.saturating_sub(inner.global_seqno);
     match admitted_handle(source, inner, key, low, key_hash)? {
@@ -192,8 +184,8 @@ pub fn point_in<S: LoadBlocks>(
 fn lift_place(place: EntryPlace, global_seqno: SeqNo) -> EntryPlace
     requires { place.seqno + global_seqno < 2 ^ 64 }
     ensures entry { (bytes : List ℕ) →
-        entry_placed bytes result ≡ lifted global_seqno (entry_placed bytes place) }
-    ensures placed { (bytes : List ℕ) → IsPlacedIn bytes place → IsPlacedIn bytes result }
+        spec.entry_placed bytes result ≡ spec.lifted global_seqno (spec.entry_placed bytes place) }
+    ensures placed { (bytes : List ℕ) → spec.IsPlacedIn bytes place → spec.IsPlacedIn bytes result }
 {
     let mut place = place;
     place.seqno += global_seqno;
@@ -203,10 +195,11 @@ fn lift_place(place: EntryPlace, global_seqno: SeqNo) -> EntryPlace
 // Applies the global seqno to the position found.
 fn lifted_place(found: Option<EntryPlace>, global_seqno: SeqNo) -> Option<EntryPlace>
     requires { IfSome found (λ place. place.seqno + global_seqno < 2 ^ 64) }
-    ensures entry { (bytes : List ℕ) → option_map (entry_placed bytes) result
-        ≡ option_map (lifted global_seqno) (option_map (entry_placed bytes) found) }
-    ensures placed { (bytes : List ℕ) → IfSome found (IsPlacedIn bytes) →
-        IfSome result (IsPlacedIn bytes) }
+    ensures entry { (bytes : List ℕ) → spec.option_map (spec.entry_placed bytes) result
+        ≡ spec.option_map (spec.lifted global_seqno)
+        (spec.option_map (spec.entry_placed bytes) found) }
+    ensures placed { (bytes : List ℕ) → IfSome found (spec.IsPlacedIn bytes) →
+        IfSome result (spec.IsPlacedIn bytes) }
 {
     match found {
         Some(place) => Some(lift_place(place, global_seqno)),
@@ -224,10 +217,11 @@ fn place_at<A: Allocator + Clone>(
     opened: &mut Opened,
 ) -> Result<Option<EntryPlace>, Error>
     requires { seqno + global_seqno < 2 ^ 64 }
-    ensures read { let found = result_map (option_map (entry_placed source.now)) result in
-        let read = match_at (body_of source.now) global_seqno key.now seqno handle.now in
-        DoesRead found read opened.old opened.new }
-    ensures placed { IfOk result (λ found. IfSome found (IsPlacedIn source.now)) }
+    ensures read { let found = spec.result_map (spec.option_map (spec.entry_placed source.now))
+        result in
+        let read = spec.match_at (spec.body_of source.now) global_seqno key.now seqno handle.now in
+        spec.DoesRead found read opened.old opened.new }
+    ensures placed { IfOk result (λ found. IfSome found (spec.IsPlacedIn source.now)) }
 {
     let found = source.point_place(handle, key, seqno, opened)?;
     Ok(lifted_place(found, global_seqno))
@@ -241,12 +235,12 @@ fn read_place<A: Allocator + Clone>(
     seqno: SeqNo,
     key_hash: u64,
 ) -> (Result<Option<EntryPlace>, Error>, Opened)
-    requires { key_hash ≡ hash_of key.now }
-    ensures read { let parts = parts_of inner.now in
-        let found = result_map (option_map (entry_placed source.now)) result.0 in
-        let read = answer (body_of source.now) inner.now.global_seqno parts key.now seqno in
-        DoesRead found read none_opened result.1 }
-    ensures placed { IfOk result.0 (λ found. IfSome found (IsPlacedIn source.now)) }
+    requires { key_hash ≡ spec.hash_of key.now }
+    ensures read { let parts = spec.parts_of inner.now in
+        let found = spec.result_map (spec.option_map (spec.entry_placed source.now)) result.0 in
+        let read = spec.answer (spec.body_of source.now) inner.now.global_seqno parts key.now
+        seqno in spec.DoesRead found read spec.none_opened result.1 }
+    ensures placed { IfOk result.0 (λ found. IfSome found (spec.IsPlacedIn source.now)) }
 {
     let add = inner.global_seqno;
     let low = seqno.saturating_sub(add);
@@ -281,22 +275,23 @@ pub fn place_in<A: Allocator + Clone>(
     seqno: SeqNo,
     key_hash: u64,
 ) -> (Result<Option<EntryPlace>, Error>, Opened)
-    requires { key_hash ≡ hash_of key.now }
-    ensures returned { let parts = parts_of inner.now in
-        let read = answer (body_of source.now) inner.now.global_seqno parts key.now seqno in
-        Gives (option_map (entry_placed source.now)) result.0 read.returned }
-    ensures early { let parts = parts_of inner.now in
-        let read = answer (body_of source.now) inner.now.global_seqno parts key.now seqno in
-        FaultsFirst result.0 read.early }
-    ensures calm { let parts = parts_of inner.now in
-        let read = answer (body_of source.now) inner.now.global_seqno parts key.now seqno in
-        read.loads ≡ [] → IsOk result.0 }
-    ensures opened { let parts = parts_of inner.now in
-        let read = answer (body_of source.now) inner.now.global_seqno parts key.now seqno in
-        Opens result.0 read.loads none_opened result.1 }
-    ensures few { LoadsFew (parts_of inner.now) none_opened result.1 }
+    requires { key_hash ≡ spec.hash_of key.now }
+    ensures returned { let parts = spec.parts_of inner.now in
+        let read = spec.answer (spec.body_of source.now) inner.now.global_seqno parts key.now
+        seqno in
+        spec.Gives (spec.option_map (spec.entry_placed source.now)) result.0 read.returned }
+    ensures early { let parts = spec.parts_of inner.now in
+        let read = spec.answer (spec.body_of source.now) inner.now.global_seqno parts key.now
+        seqno in spec.FaultsFirst result.0 read.early }
+    ensures calm { let parts = spec.parts_of inner.now in
+        let read = spec.answer (spec.body_of source.now) inner.now.global_seqno parts key.now
+        seqno in read.loads ≡ [] → IsOk result.0 }
+    ensures opened { let parts = spec.parts_of inner.now in
+        let read = spec.answer (spec.body_of source.now) inner.now.global_seqno parts key.now
+        seqno in spec.Opens result.0 read.loads spec.none_opened result.1 }
+    ensures few { spec.LoadsFew (spec.parts_of inner.now) spec.none_opened result.1 }
     // The entry is within the bytes.
-    ensures placed { IfOk result.0 (λ found. IfSome found (IsPlacedIn source.now)) }
+    ensures placed { IfOk result.0 (λ found. IfSome found (spec.IsPlacedIn source.now)) }
 {
     read_place(source, inner, key, seqno, key_hash)
 }

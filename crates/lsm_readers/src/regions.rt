@@ -1,7 +1,6 @@
 //! The handles of a table's sections.
 ghost use Rattle.std.specs.Prelude.{◌≡◌, Result, Option};
-ghost use Rattle.lsm_readers.specs.point.Regions.{region_result, optional_result, needed_result};
-ghost use Rattle.lsm_readers.specs.point.Regions.{regions_result};
+ghost use Rattle.lsm_readers.specs.Words as spec;
 
 use sst_blocks::{BlockHandle, BlockOffset, Error, Section, SectionName, Toc};
 
@@ -23,7 +22,7 @@ pub struct ParsedRegions {
 }
 
 fn region(section: Section) -> Result<BlockHandle, Error>
-    ensures { result ≡ region_result section }
+    ensures { result ≡ spec.region_result section }
 {
     match u32::try_from(section.len) {
         Ok(size) => Ok(BlockHandle::new(BlockOffset(section.position), size)),
@@ -32,7 +31,7 @@ fn region(section: Section) -> Result<BlockHandle, Error>
 }
 
 fn optional_region(section: Option<Section>) -> Result<Option<BlockHandle>, Error>
-    ensures { result ≡ optional_result section }
+    ensures { result ≡ spec.optional_result section }
 {
     match section {
         None => Ok(None),
@@ -41,7 +40,7 @@ fn optional_region(section: Option<Section>) -> Result<Option<BlockHandle>, Erro
 }
 
 fn needed_region(section: Option<Section>) -> Result<BlockHandle, Error>
-    ensures { result ≡ needed_result section }
+    ensures { result ≡ spec.needed_result section }
 {
     match section {
         None => Err(Error::MissingSection),
@@ -61,7 +60,7 @@ impl ParsedRegions {
     /// - [`Error::SectionTooLarge`] if a section has 2^32 bytes or more.
     #[tactic(auto, unfolding(crate::specs::point::Regions::regions_result))]
     pub fn parse_from_toc(toc: &Toc) -> Result<ParsedRegions, Error>
-        ensures { result ≡ regions_result toc.now }
+        ensures { result ≡ spec.regions_result toc.now }
     {
         let filter_tli = optional_region(toc.section(SectionName::FilterTli))?;
         let tli = needed_region(toc.section(SectionName::Tli))?;

@@ -1,14 +1,7 @@
 //! Scanning a whole table, block by block.
 ghost use Rattle.std.specs.Prelude.{◌≡◌, ◌<◌, ◌-◌, ◌↔◌, ℕ, [], Bool, List, None, Some, Ok};
 ghost use Rattle.std.specs.Prelude.{Err, true, is_some, IsTrue, IfOk, IfErr};
-ghost use Rattle.std.specs.Iterator.{at_most};
-ghost use Rattle.lsm_readers.specs.Words.{CanYield, YieldsExactly, Entry, Faults, FaultsFirst, Gives};
-ghost use Rattle.lsm_readers.specs.Words.{IsNewScan, Scan, ScansLent, ScansNext, answer_stops};
-ghost use Rattle.lsm_readers.specs.Words.{block_result, body_of, ended, fault_of, lend_next};
-ghost use Rattle.lsm_readers.specs.Words.{load_at_result, none_opened, nowhere, position_fault};
-ghost use Rattle.lsm_readers.specs.Words.{scan_size, scan_results, with_load};
-ghost use Rattle.sst_blocks.specs.declared.block_type.BlockType.TheVariants.{Data};
-ghost use Rattle.sst_entries.specs.declared.error.Error.{Error};
+ghost use Rattle.lsm_readers.specs.Words as spec;
 ghost use Rattle.sst_entries.specs.declared.error.Error.TheVariants.{OutOfMemory};
 
 use lsm_iters::{beside, lift_seqno};
@@ -76,10 +69,11 @@ fn block_at<A: Allocator + Clone>(
     position: u64,
     opened: &mut Opened,
 ) -> Result<(DataBlock<A>, u64), Error>
-    ensures returned { let block = block_result (body_of source.now) position in
-        Gives (λ (x : List Entry × ℕ). x) result block }
-    ensures early { FaultsFirst result (position_fault (body_of source.now) position Data) }
-    ensures counted { opened.new ≡ with_load Data opened.old }
+    ensures returned { let block = spec.block_result (spec.body_of source.now) position in
+        spec.Gives (λ (x : List spec.Entry × ℕ). x) result block }
+    ensures early { spec.FaultsFirst result
+        (spec.position_fault (spec.body_of source.now) position spec.Data) }
+    ensures counted { opened.new ≡ spec.with_load spec.Data opened.old }
 {
     // The next blocks are needed soon. Comparing their checksums with this one's costs little more.
     source.compare_ahead(position, 4);
@@ -102,34 +96,41 @@ impl<A: Allocator + Clone> Scanner<A> {
         compression: CompressionType,
         global_seqno: SeqNo,
     ) -> Result<Scanner<A>, Error>
-        ensures refused { Faults result (fault_of (load_at_result (body_of source.now) 0 Data)) }
+        ensures refused { spec.Faults result
+            (spec.fault_of (spec.load_at_result (spec.body_of source.now) 0 spec.Data)) }
         // A fault of the block's header, checksum or count takes precedence over `OutOfMemory`.
-        ensures early { FaultsFirst result (position_fault (body_of source.now) 0 Data) }
-        ensures opened { IfOk result (λ s. s.opened ≡ with_load Data none_opened) }
-        ensures left { IfOk result (IsNewScan (body_of source.now) block_count global_seqno) }
+        ensures early { spec.FaultsFirst result
+            (spec.position_fault (spec.body_of source.now) 0 spec.Data) }
+        ensures opened { IfOk result (λ s. s.opened ≡ spec.with_load spec.Data spec.none_opened) }
+        ensures left { IfOk result
+            (spec.IsNewScan (spec.body_of source.now) block_count global_seqno) }
         // Except for `OutOfMemory`, it yields the entries of the blocks.
-        ensures yields { (stops : Error → Bool) → stops OutOfMemory ≡ true →
+        ensures yields { (stops : spec.Error → Bool) → stops OutOfMemory ≡ true →
             let gives = ⟦<Scanner<A> as Iterator>⟧.next_gives in
-            let left = scan_results (body_of source.now) block_count global_seqno in
-            IfOk result (λ s. YieldsExactly (answer_stops stops) gives nowhere s left) }
+            let left = spec.scan_results (spec.body_of source.now) block_count global_seqno in
+            IfOk result (λ s. spec.YieldsExactly (spec.answer_stops stops) gives spec.nowhere s
+            left) }
         ensures can { let gives = ⟦<Scanner<A> as Iterator>⟧.next_gives in
             let may = ⟦<Scanner<A> as Iterator>⟧.can_next in
-            IfOk result (λ s. CanYield gives nowhere may may s) }
+            IfOk result (λ s. spec.CanYield gives spec.nowhere may may s) }
         // After any error it is exhausted.
-        ensures ends { (stops : Error → Bool) (s t : Scan) (e : Error) →
+        ensures ends { (stops : spec.Error → Bool) (s t : spec.Scan) (e : spec.Error) →
             ⟦<Scanner<A> as Iterator>⟧.next_gives s (Some (Err e)) t →
-            YieldsExactly (answer_stops stops) ⟦<Scanner<A> as Iterator>⟧.next_gives nowhere t [] }
+            spec.YieldsExactly (spec.answer_stops stops) ⟦<Scanner<A> as Iterator>⟧.next_gives
+            spec.nowhere t [] }
         // As a lending iterator it yields the same.
-        ensures lends { (stops : Error → Bool) → stops OutOfMemory ≡ true →
+        ensures lends { (stops : spec.Error → Bool) → stops OutOfMemory ≡ true →
             let advances = ⟦<Scanner<A> as Lending>⟧.advances in
-            let left = scan_results (body_of source.now) block_count global_seqno in
-            IfOk result (λ s. YieldsExactly (answer_stops stops) advances nowhere s left) }
+            let left = spec.scan_results (spec.body_of source.now) block_count global_seqno in
+            IfOk result (λ s. spec.YieldsExactly (spec.answer_stops stops) advances spec.nowhere s
+            left) }
         ensures can_lend { let advances = ⟦<Scanner<A> as Lending>⟧.advances in
             let may = ⟦<Scanner<A> as Lending>⟧.can_advance in
-            IfOk result (λ s. CanYield advances nowhere may may s) }
-        ensures lends_end { (stops : Error → Bool) (s t : Scan) (e : Error) →
+            IfOk result (λ s. spec.CanYield advances spec.nowhere may may s) }
+        ensures lends_end { (stops : spec.Error → Bool) (s t : spec.Scan) (e : spec.Error) →
             ⟦<Scanner<A> as Lending>⟧.advances s (Some (Err e)) t →
-            YieldsExactly (answer_stops stops) ⟦<Scanner<A> as Lending>⟧.advances nowhere t [] }
+            spec.YieldsExactly (spec.answer_stops stops) ⟦<Scanner<A> as Lending>⟧.advances
+            spec.nowhere t [] }
     {
         match compression {
             CompressionType::None => {}
@@ -162,7 +163,7 @@ impl<A: Allocator + Clone> Scanner<A> {
 
     /// Drops the current entry and all that is left.
     fn end(&mut self)
-        ensures { self.new ≡ ended self.old }
+        ensures { self.new ≡ spec.ended self.old }
     {
         self.block.end();
         self.blocks_left = 0;
@@ -172,7 +173,7 @@ impl<A: Allocator + Clone> Scanner<A> {
     /// that exceeds `u64::MAX` is an error, which ends the scan.
     #[inline]
     fn next_entry(&mut self) -> Result<bool, Error>
-        ensures { (result, self.new) ≡ lend_next self.old self.old.entries }
+        ensures { (result, self.new) ≡ spec.lend_next self.old self.old.entries }
     {
         self.block.advance();
         let Some(entry) = self.block.entry() else {
@@ -191,19 +192,22 @@ impl<A: Allocator + Clone> Scanner<A> {
     /// Loads the next block. An error ends the scan.
     fn next_block(&mut self) -> Result<(), Error>
         requires { 0 < self.old.blocks }
-        ensures ok { IfOk result (λ _. (es : List Entry) × (next : ℕ) ×
-            (block_result self.old.body self.old.position ≡ Ok (es, next)) ×
+        ensures ok { IfOk result (λ _. (es : List spec.Entry) × (next : ℕ) ×
+            (spec.block_result self.old.body self.old.position ≡ Ok (es, next)) ×
             (self.new ≡ record self.old {
               lent = None;
               entries = es;
               position = next;
               blocks = self.old.blocks - 1;
-              opened = with_load Data self.old.opened;
+              opened = spec.with_load spec.Data self.old.opened;
             })) }
         ensures err { IfErr result (λ e.
-            self.new ≡ record (ended self.old) { opened = with_load Data self.old.opened }) }
-        ensures refused { Faults result (fault_of (block_result self.old.body self.old.position)) }
-        ensures early { FaultsFirst result (position_fault self.old.body self.old.position Data) }
+            self.new ≡ record (spec.ended self.old)
+            { opened = spec.with_load spec.Data self.old.opened }) }
+        ensures refused { spec.Faults result
+            (spec.fault_of (spec.block_result self.old.body self.old.position)) }
+        ensures early { spec.FaultsFirst result
+            (spec.position_fault self.old.body self.old.position spec.Data) }
     {
         match block_at(&self.source, self.position, &mut self.opened) {
             Ok((block, position)) => {
@@ -230,7 +234,7 @@ impl<A: Allocator + Clone> Scanner<A> {
     pub fn share(&mut self) -> IterItem<A>
         requires { is_some self.old.lent ≡ true }
         ensures ok { IfOk result (λ e. (self.old.lent ≡ Some e) × (self.new ≡ self.old)) }
-        ensures err { IfErr result (λ e. (e ≡ OutOfMemory) × (self.new ≡ ended self.old)) }
+        ensures err { IfErr result (λ e. (e ≡ OutOfMemory) × (self.new ≡ spec.ended self.old)) }
     {
         match self.block.share() {
             Ok(mut item) => {
@@ -248,11 +252,11 @@ impl<A: Allocator + Clone> Scanner<A> {
 impl<A: Allocator + Clone> Lending for Scanner<A> {
     ghost can_advance = { λ _. Unit {0} };
 
-    ghost advances = { ScansLent };
+    ghost advances = { spec.ScansLent };
 
     ghost lent = { λ s. s.lent };
 
-    ghost left = { scan_size };
+    ghost left = { spec.scan_size };
 
     #[inline]
     fn advance(&mut self) -> Result<bool, Error> {
@@ -284,9 +288,9 @@ impl<A: Allocator + Clone> Iterator for Scanner<A> {
 
     ghost can_next = { λ _. Unit {0} };
 
-    ghost next_gives = { ScansNext };
+    ghost next_gives = { spec.ScansNext };
 
-    ghost remaining = { λ s. at_most (scan_size s) };
+    ghost remaining = { λ s. spec.at_most (spec.scan_size s) };
 
     fn next(&mut self) -> Option<IterItem<A>> {
         match self.advance() {

@@ -2,27 +2,7 @@
 ghost use Rattle.std.specs.Prelude.{◌≡◌, ◌≢◌, ◌+◌, ℕ, Bool, List, [], Option, Some, Result, Ok};
 ghost use Rattle.std.specs.Prelude.{Err, false, true, length, IfOk, IfErr, IsOk, MatchResult};
 ghost use Rattle.std.specs.Prelude.{is_some};
-ghost use Rattle.lsm_readers.specs.Words.{BloomFilter, CanYield, YieldsExactly, Entry, Faults, FaultsFirst};
-ghost use Rattle.lsm_readers.specs.Words.{Gives, Handle, IsNewScan, IsOpen, IsRecovered, IsTable};
-ghost use Rattle.lsm_readers.specs.Words.{Matches, NamesBlocksOf, StoresList, fits_result};
-ghost use Rattle.lsm_readers.specs.Words.{Loaded, LoadsFew, OpenTable, Opens, SaysList, Scan};
-ghost use Rattle.lsm_readers.specs.Words.{ScansList, answer_stops, body_of, early_fault, early_in};
-ghost use Rattle.lsm_readers.specs.Words.{LendsList, ends_of};
-ghost use Rattle.lsm_readers.specs.Words.{facts_of, fault_of, filter_len, filter_result};
-ghost use Rattle.lsm_readers.specs.Words.{fitting_result, hash_of, index_len, key_bound, lift};
-ghost use Rattle.lsm_readers.specs.Words.{list_result, load_at_result, load_result, none_opened, nowhere};
-ghost use Rattle.lsm_readers.specs.Words.{facts_fitting, overlaps_bounds, parts_of, parts_result};
-ghost use Rattle.lsm_readers.specs.Words.{AreCutAlike, OpenedWith, StoresItsBlocks, ReadAlike};
-ghost use Rattle.lsm_readers.specs.Words.{kind_for};
-ghost use Rattle.lsm_readers.specs.Words.{index_kind_of};
-ghost use Rattle.lsm_readers.specs.Words.{index_read, pinned_filter, pinned_of, pinned_result};
-ghost use Rattle.lsm_readers.specs.Words.{place_fault, place_size, places_result, point, table_index};
-ghost use Rattle.lsm_readers.specs.Words.{position_fault, recovered_result, scan_results, table_answer};
-ghost use Rattle.lsm_readers.specs.Words.{tops_result, volatile, with_load, within};
-ghost use Rattle.std.specs.Arc.{arc_value};
-ghost use Rattle.sst_blocks.specs.declared.block_type.BlockType.TheVariants.{Data, Index, Meta};
-ghost use Rattle.sst_entries.specs.declared.error.Error.{Error};
-ghost use Rattle.sst_entries.specs.declared.error.Error.TheVariants.{GlobalSeqNoTooLarge};
+ghost use Rattle.lsm_readers.specs.Words as spec;
 ghost use Rattle.sst_entries.specs.declared.error.Error.TheVariants.{OutOfMemory};
 
 mod approximate_size;
@@ -136,8 +116,8 @@ fn load_filter_index<A: Allocator + Clone>(
     source: &BlockSource<A>,
     handle: Option<BlockHandle>,
 ) -> Result<Option<IndexBlock<A>>, Error>
-    ensures { Gives (λ (tops : Option (List Handle)). tops) result
-        (tops_result (body_of source.now) handle) }
+    ensures { spec.Gives (λ (tops : Option (List spec.Handle)). tops) result
+        (spec.tops_result (spec.body_of source.now) handle) }
 {
     match handle {
         None => Ok(None),
@@ -150,8 +130,8 @@ fn load_filter<A: Allocator + Clone>(
     source: &BlockSource<A>,
     handle: Option<BlockHandle>,
 ) -> Result<Option<FilterBlock<A>>, Error>
-    ensures { Gives (λ (filter : Option BloomFilter). filter) result
-        (filter_result (body_of source.now) handle) }
+    ensures { spec.Gives (λ (filter : Option spec.BloomFilter). filter) result
+        (spec.filter_result (spec.body_of source.now) handle) }
 {
     let Some(handle) = handle else {
         return Ok(None);
@@ -163,7 +143,7 @@ fn load_filter<A: Allocator + Clone>(
 
 /// The handle of the filter block to pin: that of a full filter, if `pin_filter` is set.
 fn filter_to_pin(regions: &ParsedRegions, pin_filter: bool) -> Option<BlockHandle>
-    ensures { result ≡ pinned_filter regions.now pin_filter }
+    ensures { result ≡ spec.pinned_filter regions.now pin_filter }
 {
     if pin_filter && regions.filter_tli.is_none() {
         regions.filter
@@ -180,8 +160,8 @@ fn load_pinned<A: Allocator + Clone>(
     pin_filter: bool,
     pin_index: bool,
 ) -> Result<PinnedBlocks<A>, Error>
-    ensures { Gives pinned_of result
-        (pinned_result (body_of source.now) regions.now pin_filter pin_index) }
+    ensures { spec.Gives spec.pinned_of result
+        (spec.pinned_result (spec.body_of source.now) regions.now pin_filter pin_index) }
 {
     let index = PinnedBlockIndex::load(source, regions, pin_index)?;
     let (index, filter_index) = beside(index, load_filter_index(source, regions.filter_tli))?;
@@ -198,9 +178,9 @@ fn load_pinned<A: Allocator + Clone>(
 /// Fails with [`Error::GlobalSeqNoTooLarge`] if the highest seqno plus the global seqno exceeds
 /// `u64::MAX`.
 fn test_number<A: Allocator>(metadata: &ParsedMeta<A>, global_seqno: SeqNo) -> Result<(), Error>
-    ensures returned { let facts = facts_of metadata.now in
-        Gives (λ (_ : _). facts) result (facts_fitting facts global_seqno) }
-    ensures alone { IfErr result (λ e. e ≡ GlobalSeqNoTooLarge) }
+    ensures returned { let facts = spec.facts_of metadata.now in
+        spec.Gives (λ (_ : _). facts) result (spec.facts_fitting facts global_seqno) }
+    ensures alone { IfErr result (λ e. e ≡ spec.GlobalSeqNoTooLarge) }
 {
     match metadata.seqnos.1.checked_add(global_seqno) {
         Some(_) => Ok(()),
@@ -215,10 +195,11 @@ fn fitting_metadata<A: Allocator + Clone>(
     handle: &BlockHandle,
     global_seqno: SeqNo,
 ) -> Result<ParsedMeta<A>, Error>
-    ensures returned { let facts = fitting_result (body_of source.now) handle.now global_seqno in
-        Gives facts_of result facts }
-    ensures early { let body = body_of source.now in
-        FaultsFirst result (place_fault body handle.now.offset handle.now.size Meta) }
+    ensures returned { let facts = spec.fitting_result (spec.body_of source.now) handle.now
+        global_seqno in spec.Gives spec.facts_of result facts }
+    ensures early { let body = spec.body_of source.now in
+        spec.FaultsFirst result
+        (spec.place_fault body handle.now.offset handle.now.size spec.Meta) }
 {
     let metadata = ParsedMeta::load_with_handle(source, handle)?;
     let fits = test_number(&metadata, global_seqno);
@@ -252,9 +233,10 @@ fn recover_inner<A: Allocator + Clone>(
     pin_filter: bool,
     pin_index: bool,
 ) -> Result<Inner<A>, Error>
-    ensures returned { Gives parts_of result
-        (parts_result source.now global_seqno pin_filter pin_index) }
-    ensures early { FaultsFirst result (early_in (body_of source.now) (places_result source.now)) }
+    ensures returned { spec.Gives spec.parts_of result
+        (spec.parts_result source.now global_seqno pin_filter pin_index) }
+    ensures early { spec.FaultsFirst result
+        (spec.early_in (spec.body_of source.now) (spec.places_result source.now)) }
     ensures number { IfOk result (λ inner. inner.global_seqno ≡ global_seqno) }
     ensures tree { IfOk result (λ inner. inner.tree_id ≡ tree_id) }
     ensures checksum { IfOk result (λ inner. inner.checksum ≡ checksum) }
@@ -282,7 +264,7 @@ fn share<T: Drop, A: Allocator + Clone>(
     value: Result<T, Error>,
     alloc: &A,
 ) -> Result<Arc<T, A>, Error>
-    ensures ok { IfOk result (λ shared. value ≡ Ok (arc_value shared)) }
+    ensures ok { IfOk result (λ shared. value ≡ Ok (spec.arc_value shared)) }
     ensures err { IfErr result (λ e. MatchResult value (λ _. e ≡ OutOfMemory) (λ f. e ≡ f)) }
 {
     let value = value?;
@@ -320,19 +302,19 @@ impl<A: Allocator + Clone> Table<A> {
         pin_filter: bool,
         pin_index: bool,
     ) -> Result<Table<A>, Error>
-        ensures returned { Gives (λ (t : OpenTable). t.parts) result
-            (recovered_result bytes global_seqno pin_filter pin_index) }
+        ensures returned { spec.Gives (λ (t : spec.OpenTable). t.parts) result
+            (spec.recovered_result bytes global_seqno pin_filter pin_index) }
         // A fault that is found before any allocation takes precedence over `OutOfMemory`.
-        ensures early { FaultsFirst result (early_fault bytes) }
+        ensures early { spec.FaultsFirst result (spec.early_fault bytes) }
         // A table written from a list, with an index restart interval of 1, opens if the highest
         // seqno fits. Its parts match the list.
-        ensures list { (es : List Entry) (t : IsTable bytes es) →
+        ensures list { (es : List spec.Entry) (t : spec.IsTable bytes es) →
             t.options.index_block_restart_interval ≡ 1 →
-            Gives (λ (t : OpenTable). t.parts) result
-            (list_result t global_seqno pin_filter pin_index) }
+            spec.Gives (λ (t : spec.OpenTable). t.parts) result
+            (spec.list_result t global_seqno pin_filter pin_index) }
         // Bytes that store a list, whoever wrote them, open if the highest seqno fits.
-        ensures stores { (es : List Entry) → StoresList bytes es →
-            Gives (λ (t : OpenTable). tt) result (fits_result es global_seqno) }
+        ensures stores { (es : List spec.Entry) → spec.StoresList bytes es →
+            spec.Gives (λ (t : spec.OpenTable). tt) result (spec.fits_result es global_seqno) }
         ensures bytes { IfOk result (λ t. t.bytes ≡ bytes) }
         ensures number { IfOk result (λ t. t.global_seqno ≡ global_seqno) }
         ensures tree { IfOk result (λ t. t.tree_id ≡ tree_id) }
@@ -354,7 +336,7 @@ impl<A: Allocator + Clone> Table<A> {
 
     /// Returns the hash of a key, which point reads take as `key_hash`.
     pub fn key_hash(key: &[u8]) -> u64
-        ensures { result ≡ hash_of key.now }
+        ensures { result ≡ spec.hash_of key.now }
     {
         Builder::<A>::get_hash(key)
     }
@@ -369,22 +351,22 @@ impl<A: Allocator + Clone> Table<A> {
         seqno: SeqNo,
         key_hash: u64,
     ) -> (Result<Option<InternalValue<A>>, Error>, Opened)
-        requires { key_hash ≡ hash_of key.now }
-        ensures returned { Gives (λ (found : Option Entry). found) result.0
-            (table_answer self.now key.now seqno).returned }
+        requires { key_hash ≡ spec.hash_of key.now }
+        ensures returned { spec.Gives (λ (found : Option spec.Entry). found) result.0
+            (spec.table_answer self.now key.now seqno).returned }
         // A fault that is found before any allocation takes precedence over `OutOfMemory`.
-        ensures early { FaultsFirst result.0 (table_answer self.now key.now seqno).early }
+        ensures early { spec.FaultsFirst result.0 (spec.table_answer self.now key.now seqno).early }
         // If no block is loaded, the read does not fail.
-        ensures calm { (table_answer self.now key.now seqno).loads ≡ [] → IsOk result.0 }
-        ensures opened { let loads = (table_answer self.now key.now seqno).loads in
-            Opens result.0 loads none_opened result.1 }
-        ensures few { LoadsFew self.now.parts none_opened result.1 }
-        ensures open { IsOpen self.now }
+        ensures calm { (spec.table_answer self.now key.now seqno).loads ≡ [] → IsOk result.0 }
+        ensures opened { let loads = (spec.table_answer self.now key.now seqno).loads in
+            spec.Opens result.0 loads spec.none_opened result.1 }
+        ensures few { spec.LoadsFew self.now.parts spec.none_opened result.1 }
+        ensures open { spec.IsOpen self.now }
         // On bytes that store a list it is the newest visible version in the list, global seqno
         // applied.
-        ensures list { (es : List Entry) → StoresList self.now.bytes es →
-            let found = point (lift es self.now.global_seqno) key.now seqno in
-            Gives (λ (x : Option Entry). x) result.0 (Ok found) }
+        ensures list { (es : List spec.Entry) → spec.StoresList self.now.bytes es →
+            let found = spec.point (spec.lift es self.now.global_seqno) key.now seqno in
+            spec.Gives (λ (x : Option spec.Entry). x) result.0 (Ok found) }
     {
         let inner: &Inner<A> = &self.inner;
         let mut source = Counted::new(&self.source);
@@ -408,17 +390,17 @@ impl<A: Allocator + Clone> Table<A> {
         seqno: SeqNo,
         key_hash: u64,
     ) -> Result<Option<InternalValue<A>>, Error>
-        requires { key_hash ≡ hash_of key.now }
-        ensures returned { Gives (λ (found : Option Entry). found) result
-            (table_answer self.now key.now seqno).returned }
-        ensures early { FaultsFirst result (table_answer self.now key.now seqno).early }
-        ensures calm { (table_answer self.now key.now seqno).loads ≡ [] → IsOk result }
-        ensures recovered { IsRecovered self.now }
+        requires { key_hash ≡ spec.hash_of key.now }
+        ensures returned { spec.Gives (λ (found : Option spec.Entry). found) result
+            (spec.table_answer self.now key.now seqno).returned }
+        ensures early { spec.FaultsFirst result (spec.table_answer self.now key.now seqno).early }
+        ensures calm { (spec.table_answer self.now key.now seqno).loads ≡ [] → IsOk result }
+        ensures recovered { spec.IsRecovered self.now }
         // On bytes that store a list it is the newest visible version in the list, global seqno
         // applied.
-        ensures list { (es : List Entry) → StoresList self.now.bytes es →
-            let found = point (lift es self.now.global_seqno) key.now seqno in
-            Gives (λ (x : Option Entry). x) result (Ok found) }
+        ensures list { (es : List spec.Entry) → spec.StoresList self.now.bytes es →
+            let found = spec.point (spec.lift es self.now.global_seqno) key.now seqno in
+            spec.Gives (λ (x : Option spec.Entry). x) result (Ok found) }
     {
         self.get_counted(key, seqno, key_hash).0
     }
@@ -431,44 +413,52 @@ impl<A: Allocator + Clone> Table<A> {
     ///
     /// The first fault of loading that block, or [`Error::OutOfMemory`].
     pub fn scan(&self) -> Result<Scanner<A>, Error>
-        ensures refused { Faults result (fault_of (load_at_result (body_of self.now.bytes) 0 Data)) }
+        ensures refused { spec.Faults result
+            (spec.fault_of (spec.load_at_result (spec.body_of self.now.bytes) 0 spec.Data)) }
         // A fault of the block's header, checksum or count takes precedence over `OutOfMemory`.
-        ensures early { FaultsFirst result (position_fault (body_of self.now.bytes) 0 Data) }
+        ensures early { spec.FaultsFirst result
+            (spec.position_fault (spec.body_of self.now.bytes) 0 spec.Data) }
         // Except for `OutOfMemory`, it yields the entries of `data_block_count` blocks.
-        ensures yields { (stops : Error → Bool) → stops OutOfMemory ≡ true →
+        ensures yields { (stops : spec.Error → Bool) → stops OutOfMemory ≡ true →
             let gives = ⟦<Scanner<A> as Iterator>⟧.next_gives in
             let count = self.now.parts.facts.data_block_count in
-            let left = scan_results (body_of self.now.bytes) count self.now.global_seqno in
-            IfOk result (λ s. YieldsExactly (answer_stops stops) gives nowhere s left) }
+            let left = spec.scan_results (spec.body_of self.now.bytes) count
+            self.now.global_seqno in
+            IfOk result (λ s. spec.YieldsExactly (spec.answer_stops stops) gives spec.nowhere s
+            left) }
         ensures can { let gives = ⟦<Scanner<A> as Iterator>⟧.next_gives in
             let may = ⟦<Scanner<A> as Iterator>⟧.can_next in
-            IfOk result (λ s. CanYield gives nowhere may may s) }
+            IfOk result (λ s. spec.CanYield gives spec.nowhere may may s) }
         // After any error it is exhausted.
-        ensures ends { (stops : Error → Bool) (s t : Scan) (e : Error) →
+        ensures ends { (stops : spec.Error → Bool) (s t : spec.Scan) (e : spec.Error) →
             ⟦<Scanner<A> as Iterator>⟧.next_gives s (Some (Err e)) t →
-            YieldsExactly (answer_stops stops) ⟦<Scanner<A> as Iterator>⟧.next_gives nowhere t [] }
+            spec.YieldsExactly (spec.answer_stops stops) ⟦<Scanner<A> as Iterator>⟧.next_gives
+            spec.nowhere t [] }
         // As a lending iterator it yields the same.
-        ensures lends { (stops : Error → Bool) → stops OutOfMemory ≡ true →
+        ensures lends { (stops : spec.Error → Bool) → stops OutOfMemory ≡ true →
             let advances = ⟦<Scanner<A> as Lending>⟧.advances in
             let count = self.now.parts.facts.data_block_count in
-            let left = scan_results (body_of self.now.bytes) count self.now.global_seqno in
-            IfOk result (λ s. YieldsExactly (answer_stops stops) advances nowhere s left) }
+            let left = spec.scan_results (spec.body_of self.now.bytes) count
+            self.now.global_seqno in
+            IfOk result (λ s. spec.YieldsExactly (spec.answer_stops stops) advances spec.nowhere s
+            left) }
         ensures can_lend { let advances = ⟦<Scanner<A> as Lending>⟧.advances in
             let may = ⟦<Scanner<A> as Lending>⟧.can_advance in
-            IfOk result (λ s. CanYield advances nowhere may may s) }
-        ensures lends_end { (stops : Error → Bool) (s t : Scan) (e : Error) →
+            IfOk result (λ s. spec.CanYield advances spec.nowhere may may s) }
+        ensures lends_end { (stops : spec.Error → Bool) (s t : spec.Scan) (e : spec.Error) →
             ⟦<Scanner<A> as Lending>⟧.advances s (Some (Err e)) t →
-            YieldsExactly (answer_stops stops) ⟦<Scanner<A> as Lending>⟧.advances nowhere t [] }
-        ensures opened { IfOk result (λ s. s.opened ≡ with_load Data none_opened) }
+            spec.YieldsExactly (spec.answer_stops stops) ⟦<Scanner<A> as Lending>⟧.advances
+            spec.nowhere t [] }
+        ensures opened { IfOk result (λ s. s.opened ≡ spec.with_load spec.Data spec.none_opened) }
         ensures left { let count = self.now.parts.facts.data_block_count in
-            IfOk result (IsNewScan (body_of self.now.bytes) count self.now.global_seqno) }
+            IfOk result (spec.IsNewScan (spec.body_of self.now.bytes) count self.now.global_seqno) }
         // On bytes that store a list it yields the list, global seqno applied. If the list has an
         // entry, the call fails with `OutOfMemory` only.
-        ensures list { (es : List Entry) → StoresList self.now.bytes es →
-            ScansList result es self.now.global_seqno }
-        ensures lends_list { (es : List Entry) → StoresList self.now.bytes es →
-            LendsList result es self.now.global_seqno }
-        ensures open { IsOpen self.now }
+        ensures list { (es : List spec.Entry) → spec.StoresList self.now.bytes es →
+            spec.ScansList result es self.now.global_seqno }
+        ensures lends_list { (es : List spec.Entry) → spec.StoresList self.now.bytes es →
+            spec.LendsList result es self.now.global_seqno }
+        ensures open { spec.IsOpen self.now }
     {
         let inner: &Inner<A> = &self.inner;
         Scanner::new(
@@ -490,15 +480,16 @@ impl<A: Allocator + Clone> Table<A> {
     ///
     /// [`Error::OutOfMemory`] only.
     pub fn block_index(&self) -> Result<BlockIndexImpl<A>, Error>
-        ensures index { IfOk result (λ index. index_read index ≡ table_index self.now) }
+        ensures index { IfOk result (λ index. spec.index_read index ≡ spec.table_index self.now) }
         // Its kind follows from the table's sections and the pin at opening.
-        ensures kind { (pin_filter pin_index : Bool) → OpenedWith self.now pin_filter pin_index →
-            IfOk result (λ index.
-            index_kind_of index ≡ kind_for (is_some self.now.parts.regions.index) pin_index) }
+        ensures kind { (pin_filter pin_index : Bool) →
+            spec.OpenedWith self.now pin_filter pin_index → IfOk result (λ index.
+            spec.index_kind_of index ≡ spec.kind_for (is_some self.now.parts.regions.index)
+            pin_index) }
         // On bytes that store a list it has the handles of the list's data blocks between any two
         // edges.
-        ensures list { (es : List Entry) (t : StoresList self.now.bytes es) →
-            IfOk result (λ index. NamesBlocksOf t (index_read index)) }
+        ensures list { (es : List spec.Entry) (t : spec.StoresList self.now.bytes es) →
+            IfOk result (λ index. spec.NamesBlocksOf t (spec.index_read index)) }
         ensures err { IfErr result (λ e. e ≡ OutOfMemory) }
     {
         let inner: &Inner<A> = &self.inner;
@@ -517,17 +508,17 @@ impl<A: Allocator> Table<A> {
     /// - Bytes that writers make of a list store it, with a handle for each chunk they cut.
     /// - Every table was opened from its bytes.
     pub fn tells_its_list(&self)
-        ensures parts { (es : List Entry) (t : IsTable self.now.bytes es) →
-            SaysList t self.now.parts }
-        ensures facts { (es : List Entry) (t : StoresList self.now.bytes es) →
-            Matches self.now.parts.facts es t.handles }
-        ensures range { (es : List Entry) → StoresList self.now.bytes es →
-            ⟦<Table<A> as Ranged>⟧.range self.now ≡ ends_of es }
-        ensures one { (xs ys : List Entry) → StoresList self.now.bytes xs →
-            StoresList self.now.bytes ys → xs ≡ ys }
-        ensures written { (es : List Entry) (t : IsTable self.now.bytes es) →
-            StoresItsBlocks t }
-        ensures open { IsOpen self.now }
+        ensures parts { (es : List spec.Entry) (t : spec.IsTable self.now.bytes es) →
+            spec.SaysList t self.now.parts }
+        ensures facts { (es : List spec.Entry) (t : spec.StoresList self.now.bytes es) →
+            spec.Matches self.now.parts.facts es t.handles }
+        ensures range { (es : List spec.Entry) → spec.StoresList self.now.bytes es →
+            ⟦<Table<A> as Ranged>⟧.range self.now ≡ spec.ends_of es }
+        ensures one { (xs ys : List spec.Entry) → spec.StoresList self.now.bytes xs →
+            spec.StoresList self.now.bytes ys → xs ≡ ys }
+        ensures written { (es : List spec.Entry) (t : spec.IsTable self.now.bytes es) →
+            spec.StoresItsBlocks t }
+        ensures open { spec.IsOpen self.now }
     {
         let _source: &BlockSource<A> = &self.source;
     }
@@ -538,13 +529,13 @@ impl<A: Allocator> Table<A> {
     /// then return the same handles between any two edges, and no error. Index kinds, filter kinds
     /// and pinned blocks may differ. The call does nothing.
     pub fn names_blocks_as(&self, other: &Table<A>)
-        ensures alike { (es : List Entry) (t : IsTable self.now.bytes es) →
-            (u : IsTable other.now.bytes es) → AreCutAlike t u →
-            ReadAlike (table_index self.now) (table_index other.now) }
+        ensures alike { (es : List spec.Entry) (t : spec.IsTable self.now.bytes es) →
+            (u : spec.IsTable other.now.bytes es) → spec.AreCutAlike t u →
+            spec.ReadAlike (spec.table_index self.now) (spec.table_index other.now) }
         // They are the handles of the data blocks of the list that this table stores. By the clause
         // before they are those of the other table too.
-        ensures names { (es : List Entry) (t : StoresList self.now.bytes es) →
-            NamesBlocksOf t (table_index self.now) }
+        ensures names { (es : List spec.Entry) (t : spec.StoresList self.now.bytes es) →
+            spec.NamesBlocksOf t (spec.table_index self.now) }
     {
         let _source: &BlockSource<A> = &self.source;
         let _other: &BlockSource<A> = &other.source;
@@ -603,7 +594,7 @@ impl<A: Allocator> Table<A> {
     ///
     /// The top level of a partitioned filter does not count.
     pub fn pinned_filter_size(&self) -> usize
-        ensures { result ≡ filter_len self.now.parts.pinned.filter }
+        ensures { result ≡ spec.filter_len self.now.parts.pinned.filter }
     {
         match &self.inner.pinned_filter_block {
             Some(filter) => filter.size(),
@@ -616,10 +607,11 @@ impl<A: Allocator> Table<A> {
     /// The block is that of a full index, or the top level of a partitioned one.
     pub fn pinned_block_index_size(&self) -> usize
         ensures size { let parts = self.now.parts in
-            result ≡ index_len parts.pinned.index parts.regions.tli }
-        ensures payload { (b : Loaded) → let parts = self.now.parts in
-            load_result (body_of self.now.bytes) parts.regions.tli.offset parts.regions.tli.size Index
-            ≡ Ok b → parts.pinned.index ≢ volatile → result ≡ length b.payload }
+            result ≡ spec.index_len parts.pinned.index parts.regions.tli }
+        ensures payload { (b : spec.Loaded) → let parts = self.now.parts in
+            spec.load_result (spec.body_of self.now.bytes) parts.regions.tli.offset
+            parts.regions.tli.size spec.Index
+            ≡ Ok b → parts.pinned.index ≢ spec.volatile → result ≡ length b.payload }
     {
         let inner: &Inner<A> = &self.inner;
         inner.pinned_block_index.payload_len(&inner.regions.tli)
@@ -629,17 +621,17 @@ impl<A: Allocator> Table<A> {
     ///
     /// On bytes that store a list, `false` means that no key of the list is within the bounds.
     pub fn check_key_range_overlap(&self, bounds: &(Bound<&[u8]>, Bound<&[u8]>)) -> bool
-        ensures value { result ≡ overlaps_bounds (key_bound bounds.now.0) (key_bound bounds.now.1)
-            self.now.parts.facts.key_range }
-        ensures list { result ≡ false → (es : List Entry) → StoresList self.now.bytes es →
-            within (key_bound bounds.now.0) (key_bound bounds.now.1) es ≡ [] }
+        ensures value { result ≡ spec.overlaps_bounds (spec.key_bound bounds.now.0)
+            (spec.key_bound bounds.now.1) self.now.parts.facts.key_range }
+        ensures list { result ≡ false → (es : List spec.Entry) → spec.StoresList self.now.bytes es →
+            spec.within (spec.key_bound bounds.now.0) (spec.key_bound bounds.now.1) es ≡ [] }
     {
         self.inner.metadata.key_range.overlaps_with_bounds(bounds)
     }
 
     /// Returns the length of the `filter` section in bytes, or 0 if there is none.
     pub fn filter_size(&self) -> u32
-        ensures { result ≡ place_size self.now.parts.regions.filter }
+        ensures { result ≡ spec.place_size self.now.parts.regions.filter }
     {
         match self.inner.regions.filter {
             Some(handle) => handle.size(),

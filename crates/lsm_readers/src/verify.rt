@@ -1,15 +1,6 @@
 //! Reading a whole table once, to check that its bytes store a list.
 ghost use Rattle.std.specs.Prelude.{◌≡◌, ◌≢◌, IfErr, IfOk};
-ghost use Rattle.sst_blocks.specs.Fnv.{fnv1a};
-ghost use Rattle.sst_blocks.specs.Sections.{body_of};
-ghost use Rattle.lsm_readers.specs.point.Table.{parts_of};
-ghost use Rattle.sst_blocks.specs.declared.block_type.BlockType.TheVariants.{Index};
-ghost use Rattle.sst_blocks.specs.declared.section.SectionName.TheVariants.{Tli};
-ghost use Rattle.lsm_readers.specs.Verify.{Finds, FindsFirst, all_found, early_at, finding};
-ghost use Rattle.lsm_readers.specs.Verify.{load_refusal, other_checksum, table_early};
-ghost use Rattle.lsm_readers.specs.Verify.{table_found, unread_of};
-ghost use Rattle.lsm_readers.specs.declared.verify.Verified.{Verified as Verification};
-ghost use Rattle.lsm_readers.specs.declared.verify.VerifyError.TheVariants.{Found};
+ghost use Rattle.lsm_readers.specs.Words as spec;
 
 mod blocks;
 mod end;
@@ -114,7 +105,7 @@ impl<A: Allocator> Model for Unread<A> {
 }
 
 fn found(section: SectionName, offset: u64, fault: Fault) -> VerifyError
-    ensures { result ≡ Found (finding section offset fault) }
+    ensures { result ≡ spec.Found (spec.finding section offset fault) }
 {
     VerifyError::Found(Finding {
         section,
@@ -125,7 +116,7 @@ fn found(section: SectionName, offset: u64, fault: Fault) -> VerifyError
 
 /// Maps a load error: any error except `OutOfMemory` is a block that cannot be loaded.
 fn unloaded(section: SectionName, offset: u64, error: Error) -> VerifyError
-    ensures { result ≡ load_refusal section offset error }
+    ensures { result ≡ spec.load_refusal section offset error }
 {
     match error {
         Error::OutOfMemory => VerifyError::OutOfMemory,
@@ -135,9 +126,9 @@ fn unloaded(section: SectionName, offset: u64, error: Error) -> VerifyError
 
 /// Checks that bytes have a checksum.
 pub(crate) fn test_checksum(bytes: &[u8], checksum: Checksum) -> Result<(), VerifyError>
-    ensures same { IfOk result (λ _. fnv1a bytes.now ≡ checksum.0) }
-    ensures other { IfErr result (λ e. fnv1a bytes.now ≢ checksum.0) }
-    ensures returned { IfErr result (λ e. e ≡ Found other_checksum) }
+    ensures same { IfOk result (λ _. spec.fnv1a bytes.now ≡ checksum.0) }
+    ensures other { IfErr result (λ e. spec.fnv1a bytes.now ≢ checksum.0) }
+    ensures returned { IfErr result (λ e. e ≡ spec.Found spec.other_checksum) }
 {
     if u128::from(hash(bytes)) == checksum.0 {
         Ok(())
@@ -148,7 +139,7 @@ pub(crate) fn test_checksum(bytes: &[u8], checksum: Checksum) -> Result<(), Veri
 
 /// The counts of a table before anything is read.
 pub(crate) fn unread_table<A: Allocator>(inner: &Inner<A>) -> Unread<A>
-    ensures { result ≡ unread_of (parts_of inner.now).facts }
+    ensures { result ≡ spec.unread_of (spec.parts_of inner.now).facts }
 {
     let said = &inner.metadata;
     Unread {
@@ -172,11 +163,11 @@ fn read_all<A: Allocator + Clone>(
     source: &BlockSource<A>,
     inner: &Inner<A>,
 ) -> Result<(), VerifyError>
-    ensures returned { Finds (λ (_ : _). tt) result
-        (all_found (body_of source.now) (parts_of inner.now)) }
+    ensures returned { spec.Finds (λ (_ : _). tt) result
+        (spec.all_found (spec.body_of source.now) (spec.parts_of inner.now)) }
     // A fault that is found before any allocation takes precedence over `OutOfMemory`.
-    ensures early { let tli = (parts_of inner.now).regions.tli in
-        FindsFirst result (early_at (body_of source.now) Tli tli Index) }
+    ensures early { let tli = (spec.parts_of inner.now).regions.tli in
+        spec.FindsFirst result (spec.early_at (spec.body_of source.now) spec.Tli tli spec.Index) }
 {
     let mut left = unread_table(inner);
     read_index(source, inner, &mut left)?;
@@ -190,10 +181,11 @@ pub(crate) fn verify_table<A: Allocator + Clone>(
     source: &BlockSource<A>,
     inner: &Inner<A>,
 ) -> Result<Verified, VerifyError>
-    ensures returned { Finds (λ (v : Verification). v) result
-        (table_found (body_of source.now) (parts_of inner.now)) }
+    ensures returned { spec.Finds (λ (v : spec.Verification). v) result
+        (spec.table_found (spec.body_of source.now) (spec.parts_of inner.now)) }
     // A fault that is found before any allocation takes precedence over `OutOfMemory`.
-    ensures early { FindsFirst result (table_early (body_of source.now) (parts_of inner.now)) }
+    ensures early { spec.FindsFirst result
+        (spec.table_early (spec.body_of source.now) (spec.parts_of inner.now)) }
 {
     test_filters(source, inner)?;
     read_all(source, inner)?;

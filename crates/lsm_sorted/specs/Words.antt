@@ -1,19 +1,109 @@
 -- The definitions for contracts of compactions, with those of the crates below, so that a file
 -- imports them from one module.
-pub use Rattle.sst_entries.specs.Entry.{Entry}
-pub use Rattle.sst_entries.specs.Key.{same_key}
-pub use Rattle.sst_entries.specs.Stream.{CanYield, YieldsExactly, answer_stops, nowhere}
-pub use Rattle.lsm_sorted.specs.merge.Ends.{R}
-pub use Rattle.lsm_sorted.specs.Ahead.{HoldsAhead}
-pub use Rattle.lsm_sorted.specs.Outlook.{before_any}
+pub use Rattle.sst_entries.specs.Entry.{Entry, entry}
+pub use Rattle.sst_entries.specs.Key.{key_cmp, key_lt, same_key}
+pub use Rattle.sst_entries.specs.Stream.{CanYield, EndsAtError, Lowers, Steps, YieldsExactly}
+pub use Rattle.sst_entries.specs.Stream.{YieldsFirst, YieldsLast, answer_stops, back_of, front_of}
+pub use Rattle.sst_entries.specs.Stream.{nowhere}
+pub use Rattle.lsm_sorted.specs.merge.Ends.{Asked, Goes, Left, R, YieldsAt, ends_size, new_ends}
+pub use Rattle.lsm_sorted.specs.Ahead.{HoldsAhead, ahead_outlook, ahead_size}
+pub use Rattle.lsm_sorted.specs.Outlook.{IsStep, before_any}
 pub use Rattle.lsm_sorted.specs.Hears.{Hears}
 pub use Rattle.lsm_sorted.specs.Verdicts.{said, verdict_of}
-pub use Rattle.lsm_sorted.specs.Compaction.{Verdict, goes, keep, reports_by, told_by, zeroed}
-pub use Rattle.lsm_sorted.specs.Compacting.{GetsAll}
+pub use Rattle.lsm_sorted.specs.Compaction.{Verdict, goes, is_value, keep, reports_by, told_by}
+pub use Rattle.lsm_sorted.specs.Compaction.{zeroed}
+pub use Rattle.lsm_sorted.specs.Compacting.{Asks, GetsAll}
 pub use Rattle.lsm_sorted.specs.CompactionState.{Compacts, CompactsHeard, CompactsNext}
-pub use Rattle.lsm_sorted.specs.CompactionState.{CompactsWhole, YieldsKept, YieldsOuts, DrainsIn}
-pub use Rattle.lsm_sorted.specs.CompactionState.{DrainsKey, Filters, GivesOuts, MayCompact, Settles}
-pub use Rattle.lsm_sorted.specs.CompactionState.{SettlesIn, callback_of, compaction_outlook}
-pub use Rattle.lsm_sorted.specs.CompactionState.{compaction_size, failure, filter_of, rules_of}
-pub use Rattle.lsm_sorted.specs.CompactionState.{source_of}
+pub use Rattle.lsm_sorted.specs.CompactionState.{CompactsWhole, DrainsIn, DrainsKey, Filters}
+pub use Rattle.lsm_sorted.specs.CompactionState.{GivesOuts, MayCompact, Settles, SettlesIn}
+pub use Rattle.lsm_sorted.specs.CompactionState.{YieldsKept, YieldsOuts, answer_of, callback_of}
+pub use Rattle.lsm_sorted.specs.CompactionState.{compaction_outlook, compaction_size, failure}
+pub use Rattle.lsm_sorted.specs.CompactionState.{filter_of, rules_of, source_of}
 pub use Rattle.lsm_sorted.specs.ReadLaw.{PartLaw, ReadLaw, StaysStrict}
+pub use Rattle.std.specs.Borrow.{Lends, sem}
+pub use Rattle.std.specs.Cmp.{eq_by_cmp_equiv, partial_equiv_from_equiv, partial_order_from_total}
+pub use Rattle.std.specs.Cmp.Lexicographic.{lists_equiv, lists_per, pointwise, slice_cmp}
+pub use Rattle.std.specs.Fn.{CalledAt}
+pub use Rattle.std.specs.Iterator.{IsFinite, MakesProgress, at_most}
+pub use Rattle.std.specs.List.{list_any}
+pub use Rattle.std.specs.List.Retain.{IsFiltered}
+pub use Rattle.std.specs.Option.{option_copied, option_map}
+pub use Rattle.std.specs.Ordering.{as_partial_cmp, eq_by_cmp, is_gt, is_lt, nat_cmp}
+pub use Rattle.std.specs.Vec.{vec_capacity}
+pub use Rattle.sst_entries.specs.Kind.{is_tombstone_kind}
+pub use Rattle.sst_entries.specs.Lending.{came, entry_of_ref}
+pub use Rattle.sst_entries.specs.Point.{is_from, is_to}
+pub use Rattle.sst_entries.specs.Strict.{IsStrict}
+pub use Rattle.sst_entries.specs.declared.error.Error.{Error}
+pub use Rattle.sst_entries.specs.declared.error.Error.TheVariants.{OutOfMemory}
+pub use Rattle.sst_entries.specs.declared.stream.Direction.{Direction}
+pub use Rattle.sst_entries.specs.declared.stream.Direction.TheVariants.{Back, Front}
+pub use Rattle.lsm_sorted.specs.Below.{GivesBelow, MayAsk, YieldsBelow, below_of}
+pub use Rattle.lsm_sorted.specs.Gap.{MergesUpToGap}
+pub use Rattle.lsm_sorted.specs.Leading.{leading_of}
+pub use Rattle.lsm_sorted.specs.LentBelow.{LendsBelow, MayLendBelow, lent_below, lent_passes}
+pub use Rattle.lsm_sorted.specs.LentBelow.{only_below}
+pub use Rattle.lsm_sorted.specs.Mvcc.{AnswersSteps, CanStep, MayStep, StepsAt, YieldsNewestOf}
+pub use Rattle.lsm_sorted.specs.Mvcc.{YieldsSteps, mvcc_outlook, mvcc_size, read_from}
+pub use Rattle.lsm_sorted.specs.Newest.{back_step, front_step}
+pub use Rattle.lsm_sorted.specs.NewestLaws.{AnswersNewest, CanAskNewest, IsNewestOf, IsOverMerged}
+pub use Rattle.lsm_sorted.specs.NewestLaws.{YieldsNewest, YieldsNewestUntilError}
+pub use Rattle.lsm_sorted.specs.Peeked.{peeked_outlook, peeked_size}
+pub use Rattle.lsm_sorted.specs.declared.compaction.lending.Lends.TheVariants.{Nothing}
+pub use Rattle.lsm_sorted.specs.declared.version.optimize.Link.{Link}
+pub use Rattle.lsm_sorted.specs.lending.Lent.{AdvancesLent, AsksOne, Belongs, IsHead, IsPrefix}
+pub use Rattle.lsm_sorted.specs.lending.Lent.{IsReady, LendsNoMore, MayLend, StartsLent, StepLowers}
+pub use Rattle.lsm_sorted.specs.lending.Lent.{StepsOn, goes_before, head_before, is_queued, is_turn}
+pub use Rattle.lsm_sorted.specs.lending.Lent.{lent_at, lent_first, lent_size, lent_total, queued}
+pub use Rattle.lsm_sorted.specs.lending.LentCompaction.{AdvancesCompacted, CompactsLent}
+pub use Rattle.lsm_sorted.specs.lending.LentCompaction.{CompactsLentResults, FetchesCompacted}
+pub use Rattle.lsm_sorted.specs.lending.LentCompaction.{MayLendCompacted, SettlesCompacted}
+pub use Rattle.lsm_sorted.specs.lending.LentCompaction.{StepsCompacted, YieldsCompactedEntries}
+pub use Rattle.lsm_sorted.specs.lending.LentCompaction.{YieldsCompactedResults, compacted_left}
+pub use Rattle.lsm_sorted.specs.lending.LentCompaction.{fresh_of, has_to_wait, lender}
+pub use Rattle.lsm_sorted.specs.lending.LentCompaction.{lent_callback, lent_compacted, lent_filter}
+pub use Rattle.lsm_sorted.specs.lending.LentCompaction.{one_more_if, put_into}
+pub use Rattle.lsm_sorted.specs.lending.LentFaults.{AlwaysReports, FilterSays, PassesAll}
+pub use Rattle.lsm_sorted.specs.lending.LentFaults.{PassesAllOr, StaysOver, StaysOverOr}
+pub use Rattle.lsm_sorted.specs.lending.LentNewest.{AdvancesNewest, MayNewest, YieldsNewestEntries}
+pub use Rattle.lsm_sorted.specs.lending.LentNewest.{YieldsNewestResults, given_key, is_given}
+pub use Rattle.lsm_sorted.specs.lending.LentNewest.{is_other, lent_newest, newest_left}
+pub use Rattle.lsm_sorted.specs.lending.LentNewest.{newest_lender}
+pub use Rattle.lsm_sorted.specs.merge.Asks.{AsksSource, Calls, Fills, HoldsNone, IsMergerOf, Pops}
+pub use Rattle.lsm_sorted.specs.merge.Asks.{made_ready}
+pub use Rattle.lsm_sorted.specs.merge.Bag.{IsGreatest, IsLeast}
+pub use Rattle.lsm_sorted.specs.merge.Brackets.{AreKept, IsBracket, IsKept, IsUnbeaten, IsUnplayed}
+pub use Rattle.lsm_sorted.specs.merge.Brackets.{IsWon, PlaysEnd, WasWon, is_beaten, is_played_at}
+pub use Rattle.lsm_sorted.specs.merge.Intervals.{InOrder, IsChildEnd, IsEnd, IsIntervalHeap}
+pub use Rattle.lsm_sorted.specs.merge.Intervals.{IsRisingAt, IsRoot, IsSinkingAt, PrecedesOn}
+pub use Rattle.lsm_sorted.specs.merge.Intervals.{SinksFrom, above_of}
+pub use Rattle.lsm_sorted.specs.merge.Merge.{Adds, HasPlaces, HoldsAtMost, LowersTotal, MayMerge}
+pub use Rattle.lsm_sorted.specs.merge.Merge.{SameRoom, entry_of, is_ready, merge_size, turn_cmp}
+pub use Rattle.lsm_sorted.specs.merge.Merge.{turn_total}
+pub use Rattle.lsm_sorted.specs.merge.MergeLaws.{CanMerge, MeetsErrorsLate, YieldsBeforeErrors}
+pub use Rattle.lsm_sorted.specs.merge.MergeLaws.{YieldsInPlace, YieldsMerged, YieldsUntilError}
+pub use Rattle.lsm_sorted.specs.merge.Order.{toward}
+pub use Rattle.lsm_sorted.specs.merge.Slots.{occupants, slot_at}
+pub use Rattle.lsm_sorted.specs.merge.Tournament.{PlaysAtMost, PlaysFrom, SameEnds, first_round}
+pub use Rattle.lsm_sorted.specs.merge.Tournament.{height, rematches, total_height}
+pub use Rattle.lsm_sorted.specs.merge.Union.{IsUnion, item_cmp, union_of}
+pub use Rattle.lsm_sorted.specs.version.KeyRange.{Interval, IsAggregate, IsOutside, ShareKey}
+pub use Rattle.lsm_sorted.specs.version.KeyRange.{are_disjoint, has_key, has_range, interval}
+pub use Rattle.lsm_sorted.specs.version.KeyRange.{intervals, is_well_formed, key_bound, key_le}
+pub use Rattle.lsm_sorted.specs.version.KeyRange.{overlaps, overlaps_bounds}
+pub use Rattle.lsm_sorted.specs.version.LinkedRuns.{AreAtPlaces, AreEarlier, ArePackedLinks}
+pub use Rattle.lsm_sorted.specs.version.LinkedRuns.{IsBelow, link_range}
+pub use Rattle.lsm_sorted.specs.version.Links.{IsStack, TableWithPlace, run_with_places}
+pub use Rattle.lsm_sorted.specs.version.Links.{runs_with_places}
+pub use Rattle.lsm_sorted.specs.version.Packed.{IsPackedOf, alone, placed}
+pub use Rattle.lsm_sorted.specs.version.Packing.{AddsTables, AreDisjointRuns, AreInOrder}
+pub use Rattle.lsm_sorted.specs.version.Packing.{AreNotEmpty, ArePacked, ArePlaced}
+pub use Rattle.lsm_sorted.specs.version.Packing.{AreTablesWellFormed, AreWellFormed, IsChain}
+pub use Rattle.lsm_sorted.specs.version.Packing.{IsLeastSize, SameHolders, SameTables}
+pub use Rattle.lsm_sorted.specs.version.Packing.{count_to_last, put, put_all, tables_in, touches}
+pub use Rattle.lsm_sorted.specs.version.Packing.{with_table}
+pub use Rattle.lsm_sorted.specs.version.Run.{ArePlacesOf, IsInOrder, IsPartOf, IsSortedByMin}
+pub use Rattle.lsm_sorted.specs.version.Run.{IsStableByMin, are_in_order, ends_before, ends_within}
+pub use Rattle.lsm_sorted.specs.version.Run.{first_to_last, how_many, may_come_next}
+pub use Rattle.lsm_sorted.specs.version.Run.{overlap_indexes, starts_before, starts_within}
+pub use Rattle.lsm_sorted.specs.version.Run.{table_of_key, tables_across, tables_inside}

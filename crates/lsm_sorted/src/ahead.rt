@@ -1,12 +1,6 @@
 //! An iterator that is polled at the front only, with one slot for an entry before the next.
-ghost use Rattle.sst_entries.specs.declared.error.Error.{Error};
 ghost use Rattle.std.specs.Prelude.{Bool, ◌≡◌, ℕ, ◌+◌, ◌<◌, List, ◌∷◌, false};
-ghost use Rattle.lsm_sorted.specs.merge.Ends.{R, Goes};
-ghost use Rattle.sst_entries.specs.declared.stream.Direction.TheVariants.{Front};
-ghost use Rattle.sst_entries.specs.Stream.{YieldsFirst, Lowers, nowhere, front_of};
-ghost use Rattle.lsm_sorted.specs.Outlook.{IsStep};
-ghost use Rattle.lsm_sorted.specs.Hears.{Hears};
-ghost use Rattle.lsm_sorted.specs.Ahead.{HoldsAhead, ahead_size, ahead_outlook};
+ghost use Rattle.lsm_sorted.specs.Words as spec;
 
 use crate::Ends;
 use sst_entries::{InternalValue, IterItem};
@@ -32,14 +26,16 @@ impl<I: Iterator<Item = IterItem<A>>, A: Allocator> Ahead<I> {
     }
 
     pub(crate) fn next(&mut self) -> Option<IterItem<A>>
-        requires { Goes I.next_gives nowhere I.can_next I.can_next I.remaining self.old.source }
-        ensures goes { Goes I.next_gives nowhere I.can_next I.can_next I.remaining self.new.source }
-        ensures yields { (stops : Error → Bool) →
-            YieldsFirst stops (HoldsAhead stops I.next_gives) self.old result self.new }
-        ensures hears { Hears I.next_gives Front result (IsStep front_of result)
-            (ahead_outlook self.old) (ahead_outlook self.new) }
-        ensures lowers { Lowers result (ahead_size I.remaining self.old) (ahead_size I.remaining
-            self.new) }
+        requires { spec.Goes I.next_gives spec.nowhere I.can_next I.can_next I.remaining
+            self.old.source }
+        ensures goes { spec.Goes I.next_gives spec.nowhere I.can_next I.can_next I.remaining
+            self.new.source }
+        ensures yields { (stops : spec.Error → Bool) →
+            spec.YieldsFirst stops (spec.HoldsAhead stops I.next_gives) self.old result self.new }
+        ensures hears { spec.Hears I.next_gives spec.Front result (spec.IsStep spec.front_of result)
+            (spec.ahead_outlook self.old) (spec.ahead_outlook self.new) }
+        ensures lowers { spec.Lowers result (spec.ahead_size I.remaining self.old)
+            (spec.ahead_size I.remaining self.new) }
         ensures free { self.new.front ≡ None }
     {
         if let Some(x) = self.front.take() {
@@ -52,12 +48,13 @@ impl<I: Iterator<Item = IterItem<A>>, A: Allocator> Ahead<I> {
     pub(crate) fn put_back(&mut self, x: InternalValue<A>)
         requires { self.old.front ≡ None }
         ensures source { self.new.source ≡ self.old.source }
-        ensures lists { (stops : Error → Bool) (xs : List R) →
-            HoldsAhead stops I.next_gives self.old xs →
-            HoldsAhead stops I.next_gives self.new (Ok x ∷ xs) }
-        ensures puts { Hears I.next_gives Front None (λ xs ys. ys ≡ Ok x ∷ xs)
-            (ahead_outlook self.old) (ahead_outlook self.new) }
-        ensures size { ahead_size I.remaining self.new ≡ ahead_size I.remaining self.old + 1 }
+        ensures lists { (stops : spec.Error → Bool) (xs : List spec.R) →
+            spec.HoldsAhead stops I.next_gives self.old xs →
+            spec.HoldsAhead stops I.next_gives self.new (Ok x ∷ xs) }
+        ensures puts { spec.Hears I.next_gives spec.Front None (λ xs ys. ys ≡ Ok x ∷ xs)
+            (spec.ahead_outlook self.old) (spec.ahead_outlook self.new) }
+        ensures size { spec.ahead_size I.remaining self.new ≡ spec.ahead_size I.remaining self.old
+            + 1 }
     {
         self.front = Some(Ok(x));
     }

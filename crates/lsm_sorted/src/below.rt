@@ -1,13 +1,6 @@
 //! The entries of a source below a seqno bound.
 ghost use Rattle.std.specs.Prelude.{◌≡◌, IfErr, IfOk, None, OnErr, is_some, map, nat_lt};
-ghost use Rattle.std.specs.Iterator.{IsFinite};
-ghost use Rattle.sst_entries.specs.Lending.{came};
-ghost use Rattle.sst_entries.specs.Stream.{CanYield, Lowers, nowhere};
-ghost use Rattle.sst_entries.specs.declared.error.Error.TheVariants.{OutOfMemory};
-ghost use Rattle.lsm_sorted.specs.Mvcc.{CanStep};
-ghost use Rattle.lsm_sorted.specs.Below.{YieldsBelow, GivesBelow, MayAsk, below_of};
-ghost use Rattle.lsm_sorted.specs.LentBelow.{LendsBelow, MayLendBelow, lent_below, lent_passes};
-ghost use Rattle.lsm_sorted.specs.LentBelow.{only_below};
+ghost use Rattle.lsm_sorted.specs.Words as spec;
 
 use crate::give_up::give_up;
 use sst_entries::{EntryRef, Error, InternalValue, IterItem, Lending, SeqNo};
@@ -34,17 +27,18 @@ impl<I: Iterator<Item = IterItem<A>>, A: Allocator> Below<I> {
     ///
     /// The call does not poll the source. For calls at both ends, see [`Below::from_both_ends`].
     pub fn new(iter: I, seqno: SeqNo) -> Self
-        ensures of { result ≡ below_of seqno iter }
+        ensures of { result ≡ spec.below_of seqno iter }
         // For any list, up to an error that stops the source, it yields the entries below the bound
         // and the errors.
-        ensures yields { YieldsBelow I.next_gives nowhere iter seqno
-            ⟦<Below<I> as Iterator>⟧.next_gives nowhere result }
-        ensures can { CanStep I.next_gives nowhere iter ⟦<Below<I> as Iterator>⟧.next_gives nowhere
+        ensures yields { spec.YieldsBelow I.next_gives spec.nowhere iter seqno
+            ⟦<Below<I> as Iterator>⟧.next_gives spec.nowhere result }
+        ensures can { spec.CanStep I.next_gives spec.nowhere iter
+            ⟦<Below<I> as Iterator>⟧.next_gives spec.nowhere
             result I.can_next I.can_next I.remaining ⟦<Below<I> as Iterator>⟧.can_next
             ⟦<Below<I> as Iterator>⟧.can_next }
         // A `for` loop may iterate over it.
-        ensures next { CanYield I.next_gives nowhere I.can_next I.can_next iter →
-            IsFinite (I.remaining iter) → ⟦<Below<I> as Iterator>⟧.can_next result }
+        ensures next { spec.CanYield I.next_gives spec.nowhere I.can_next I.can_next iter →
+            spec.IsFinite (I.remaining iter) → ⟦<Below<I> as Iterator>⟧.can_next result }
     {
         Below { iter, seqno }
     }
@@ -55,22 +49,22 @@ impl<I: DoubleEndedIterator<Item = IterItem<A>>, A: Allocator> Below<I> {
     ///
     /// The call does nothing: its contract states the law.
     pub fn from_both_ends(&self)
-        ensures yields { (iter : I) (seqno : _) → self.now ≡ below_of seqno iter →
-            YieldsBelow I.next_gives I.next_back_gives iter seqno
+        ensures yields { (iter : I) (seqno : _) → self.now ≡ spec.below_of seqno iter →
+            spec.YieldsBelow I.next_gives I.next_back_gives iter seqno
             ⟦<Below<I> as Iterator>⟧.next_gives
             ⟦<Below<I> as DoubleEndedIterator>⟧.next_back_gives self.now }
-        ensures can { (iter : I) (seqno : _) → self.now ≡ below_of seqno iter →
-            CanStep I.next_gives I.next_back_gives iter ⟦<Below<I> as Iterator>⟧.next_gives
+        ensures can { (iter : I) (seqno : _) → self.now ≡ spec.below_of seqno iter →
+            spec.CanStep I.next_gives I.next_back_gives iter ⟦<Below<I> as Iterator>⟧.next_gives
             ⟦<Below<I> as DoubleEndedIterator>⟧.next_back_gives self.now I.can_next I.can_next_back
             I.remaining ⟦<Below<I> as Iterator>⟧.can_next
             ⟦<Below<I> as DoubleEndedIterator>⟧.can_next_back }
         // A `for` loop may iterate over it, from the front or from the back.
-        ensures next { (iter : I) (seqno : _) → self.now ≡ below_of seqno iter →
-            CanYield I.next_gives I.next_back_gives I.can_next I.can_next_back iter →
-            IsFinite (I.remaining iter) → ⟦<Below<I> as Iterator>⟧.can_next self.now }
-        ensures next_back { (iter : I) (seqno : _) → self.now ≡ below_of seqno iter →
-            CanYield I.next_gives I.next_back_gives I.can_next I.can_next_back iter →
-            IsFinite (I.remaining iter) →
+        ensures next { (iter : I) (seqno : _) → self.now ≡ spec.below_of seqno iter →
+            spec.CanYield I.next_gives I.next_back_gives I.can_next I.can_next_back iter →
+            spec.IsFinite (I.remaining iter) → ⟦<Below<I> as Iterator>⟧.can_next self.now }
+        ensures next_back { (iter : I) (seqno : _) → self.now ≡ spec.below_of seqno iter →
+            spec.CanYield I.next_gives I.next_back_gives I.can_next I.can_next_back iter →
+            spec.IsFinite (I.remaining iter) →
             ⟦<Below<I> as DoubleEndedIterator>⟧.can_next_back self.now }
     {}
 }
@@ -78,7 +72,7 @@ impl<I: DoubleEndedIterator<Item = IterItem<A>>, A: Allocator> Below<I> {
 // Whether the current entry of a source is below a bound; true if there is none.
 #[inline]
 fn is_low<L: Lending>(source: &L, seqno: SeqNo) -> bool
-    ensures { result ≡ lent_passes seqno (L.lent source.now) }
+    ensures { result ≡ spec.lent_passes seqno (L.lent source.now) }
 {
     match source.entry() {
         Some(entry) => entry.seqno < seqno,
@@ -89,13 +83,13 @@ fn is_low<L: Lending>(source: &L, seqno: SeqNo) -> bool
 // Advances a source to its next entry below a bound.
 #[inline]
 fn advance_below<L: Lending>(source: &mut L, seqno: SeqNo) -> Result<bool, Error>
-    requires { CanYield L.advances nowhere L.can_advance L.can_advance source.old }
-    ensures goes { LendsBelow L.advances L.can_advance L.left (below_of seqno source.old)
-        (came result (L.lent source.new)) (below_of seqno source.new) }
+    requires { spec.CanYield L.advances spec.nowhere L.can_advance L.can_advance source.old }
+    ensures goes { spec.LendsBelow L.advances L.can_advance L.left (spec.below_of seqno source.old)
+        (spec.came result (L.lent source.new)) (spec.below_of seqno source.new) }
     ensures more { IfOk result (λ more. more ≡ is_some (L.lent source.new)) }
     ensures err { OnErr result (L.lent source.new ≡ None) }
-    ensures low { only_below seqno (L.lent source.new) ≡ L.lent source.new }
-    ensures lowers { Lowers (came result (L.lent source.new)) (L.left source.old)
+    ensures low { spec.only_below seqno (L.lent source.new) ≡ L.lent source.new }
+    ensures lowers { spec.Lowers (spec.came result (L.lent source.new)) (L.left source.old)
         (L.left source.new) }
 {
     while source.advance()? {
@@ -111,19 +105,19 @@ impl<L: Lending> Below<L> {
     ///
     /// The source is not advanced yet.
     pub fn lending(source: L, seqno: SeqNo) -> Self
-        ensures of { result ≡ below_of seqno source }
+        ensures of { result ≡ spec.below_of seqno source }
         // The current entry of the source stays current if it is below the bound. So no other entry
         // is ever current.
-        ensures lent { ⟦<Below<L> as Lending>⟧.lent result ≡ only_below seqno (L.lent source) }
+        ensures lent { ⟦<Below<L> as Lending>⟧.lent result ≡ spec.only_below seqno (L.lent source) }
         // For any list, up to an error that stops the source, it yields the entries below the bound
         // and the errors.
-        ensures yields { YieldsBelow L.advances nowhere source seqno
-            ⟦<Below<L> as Lending>⟧.advances nowhere result }
+        ensures yields { spec.YieldsBelow L.advances spec.nowhere source seqno
+            ⟦<Below<L> as Lending>⟧.advances spec.nowhere result }
         // It can be advanced as often as the source can.
-        ensures can { CanYield L.advances nowhere L.can_advance L.can_advance source →
-            CanYield ⟦<Below<L> as Lending>⟧.advances nowhere
+        ensures can { spec.CanYield L.advances spec.nowhere L.can_advance L.can_advance source →
+            spec.CanYield ⟦<Below<L> as Lending>⟧.advances spec.nowhere
             ⟦<Below<L> as Lending>⟧.can_advance ⟦<Below<L> as Lending>⟧.can_advance result }
-        ensures advance { CanYield L.advances nowhere L.can_advance L.can_advance source →
+        ensures advance { spec.CanYield L.advances spec.nowhere L.can_advance L.can_advance source →
             ⟦<Below<L> as Lending>⟧.can_advance result }
     {
         Below {
@@ -134,11 +128,11 @@ impl<L: Lending> Below<L> {
 }
 
 impl<L: Lending> Lending for Below<L> {
-    ghost can_advance = { MayLendBelow L.advances L.can_advance L.left };
+    ghost can_advance = { spec.MayLendBelow L.advances L.can_advance L.left };
 
-    ghost advances = { LendsBelow L.advances L.can_advance L.left };
+    ghost advances = { spec.LendsBelow L.advances L.can_advance L.left };
 
-    ghost lent = { lent_below L.lent };
+    ghost lent = { spec.lent_below L.lent };
 
     ghost left = { λ b. L.left b.iter };
 
@@ -166,8 +160,8 @@ pub fn each_below<I: Drop, A: Allocator>(
     iterators: Vec<I, A>,
     seqno: SeqNo,
 ) -> Result<Vec<Below<I>, A>, Error>
-    ensures of { IfOk result (λ v. v.items ≡ map (below_of seqno) iterators.items) }
-    ensures err { IfErr result (λ e. e ≡ OutOfMemory) }
+    ensures of { IfOk result (λ v. v.items ≡ map (spec.below_of seqno) iterators.items) }
+    ensures err { IfErr result (λ e. e ≡ spec.OutOfMemory) }
 {
     let sources = iterators
         .into_iter()
@@ -179,10 +173,10 @@ pub fn each_below<I: Drop, A: Allocator>(
 impl<I: Iterator<Item = IterItem<A>>, A: Allocator> Iterator for Below<I> {
     type Item = IterItem<A>;
 
-    ghost can_next = { MayAsk I.next_gives nowhere I.can_next I.can_next I.remaining };
+    ghost can_next = { spec.MayAsk I.next_gives spec.nowhere I.can_next I.can_next I.remaining };
 
-    ghost next_gives = { GivesBelow (MayAsk I.next_gives nowhere I.can_next I.can_next I.remaining)
-        I.next_gives };
+    ghost next_gives = { spec.GivesBelow
+        (spec.MayAsk I.next_gives spec.nowhere I.can_next I.can_next I.remaining) I.next_gives };
 
     ghost remaining = { λ s. I.remaining s.iter };
 
@@ -203,10 +197,10 @@ impl<I: Iterator<Item = IterItem<A>>, A: Allocator> Iterator for Below<I> {
 }
 
 impl<I: DoubleEndedIterator<Item = IterItem<A>>, A: Allocator> DoubleEndedIterator for Below<I> {
-    ghost can_next_back = { MayAsk I.next_gives I.next_back_gives I.can_next I.can_next_back
+    ghost can_next_back = { spec.MayAsk I.next_gives I.next_back_gives I.can_next I.can_next_back
         I.remaining };
 
-    ghost next_back_gives = { GivesBelow (MayAsk I.next_gives I.next_back_gives I.can_next
+    ghost next_back_gives = { spec.GivesBelow (spec.MayAsk I.next_gives I.next_back_gives I.can_next
         I.can_next_back I.remaining) I.next_back_gives };
 
     fn next_back(&mut self) -> Option<IterItem<A>> {

@@ -1,14 +1,12 @@
 //! The first of two optional entries.
 ghost use Rattle.std.specs.Prelude.{◌≡◌};
-ghost use Rattle.std.specs.Ordering.{is_lt};
-ghost use Rattle.lsm_sorted.specs.merge.Union.{item_cmp};
-ghost use Rattle.lsm_sorted.specs.Leading.{leading_of};
+ghost use Rattle.lsm_sorted.specs.Words as spec;
 
 use sst_entries::InternalValue;
 use std::alloc::Allocator;
 
 fn stands_before<A: Allocator>(x: &InternalValue<A>, y: &InternalValue<A>) -> bool
-    ensures { result ≡ is_lt (item_cmp x.now y.now) }
+    ensures { result ≡ spec.is_lt (spec.item_cmp x.now y.now) }
 {
     x.key < y.key
 }
@@ -21,7 +19,7 @@ pub fn leading<A: Allocator>(
     first: Option<InternalValue<A>>,
     second: Option<InternalValue<A>>,
 ) -> Option<InternalValue<A>>
-    ensures { result ≡ leading_of first second }
+    ensures { result ≡ spec.leading_of first second }
 {
     match (first, second) {
         (Some(first), Some(second)) => {

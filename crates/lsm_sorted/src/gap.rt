@@ -1,8 +1,6 @@
 //! Mergers whose sources have errors.
 ghost use Rattle.std.specs.Prelude.{List};
-ghost use Rattle.sst_entries.specs.Stream.{nowhere, EndsAtError};
-ghost use Rattle.lsm_sorted.specs.merge.MergeLaws.{YieldsBeforeErrors, YieldsUntilError};
-ghost use Rattle.lsm_sorted.specs.Gap.{MergesUpToGap};
+ghost use Rattle.lsm_sorted.specs.Words as spec;
 
 use crate::Merger;
 use sst_entries::IterItem;
@@ -15,13 +13,13 @@ use std::alloc::Allocator;
 /// states the law.
 pub fn up_to_gap<I: Iterator<Item = IterItem<A>>, A: Allocator>(merger: &Merger<I, A>)
     ensures { (its : List I) →
-        YieldsBeforeErrors I.next_gives nowhere its ⟦<Merger<I, A> as Iterator>⟧.next_gives nowhere
-        merger.now →
-        YieldsUntilError I.next_gives nowhere its ⟦<Merger<I, A> as Iterator>⟧.next_gives nowhere
-        merger.now →
-        EndsAtError ⟦<Merger<I, A> as Iterator>⟧.next_gives nowhere merger.now →
-        MergesUpToGap I.next_gives nowhere its ⟦<Merger<I, A> as Iterator>⟧.next_gives nowhere
-        merger.now }
+        spec.YieldsBeforeErrors I.next_gives spec.nowhere its
+        ⟦<Merger<I, A> as Iterator>⟧.next_gives spec.nowhere merger.now →
+        spec.YieldsUntilError I.next_gives spec.nowhere its ⟦<Merger<I, A> as Iterator>⟧.next_gives
+        spec.nowhere merger.now →
+        spec.EndsAtError ⟦<Merger<I, A> as Iterator>⟧.next_gives spec.nowhere merger.now →
+        spec.MergesUpToGap I.next_gives spec.nowhere its ⟦<Merger<I, A> as Iterator>⟧.next_gives
+        spec.nowhere merger.now }
 {
     let _ = merger;
 }

@@ -1,14 +1,6 @@
 //! Closed intervals of keys.
 ghost use Rattle.std.specs.Prelude.{◌≡◌, ◌↔◌, if◌then◌else◌, false, IsTrue, IfOk, IfErr, Ok, []};
-ghost use Rattle.std.specs.List.{list_any};
-ghost use Rattle.sst_entries.specs.Key.{key_lt};
-ghost use Rattle.sst_entries.specs.Point.{is_from, is_to};
-ghost use Rattle.sst_entries.specs.declared.error.Error.TheVariants.{OutOfMemory};
-ghost use Rattle.lsm_sorted.specs.version.KeyRange.{key_bound, are_disjoint, has_key, has_range};
-ghost use Rattle.lsm_sorted.specs.version.KeyRange.{interval};
-ghost use Rattle.lsm_sorted.specs.version.KeyRange.{intervals, key_le, overlaps, overlaps_bounds};
-ghost use Rattle.lsm_sorted.specs.version.KeyRange.{is_well_formed, IsAggregate, IsOutside};
-ghost use Rattle.lsm_sorted.specs.version.KeyRange.{ShareKey};
+ghost use Rattle.lsm_sorted.specs.Words as spec;
 
 use sst_entries::{Error, Slice, UserKey};
 use std::alloc::{AllocError, Allocator, Global};
@@ -47,7 +39,7 @@ impl<A: Allocator> KeyRange<A> {
     ///
     /// The call does not check their order, see [`KeyRange::is_well_formed`].
     pub fn new(ends: (UserKey<A>, UserKey<A>)) -> KeyRange<A>
-        ensures { result ≡ interval ends.0 ends.1 }
+        ensures { result ≡ spec.interval ends.0 ends.1 }
     {
         let (min, max) = ends;
         KeyRange(min, max)
@@ -55,7 +47,7 @@ impl<A: Allocator> KeyRange<A> {
 
     /// Returns the range that contains the empty key alone.
     pub fn empty() -> KeyRange<A>
-        ensures { result ≡ interval [] [] }
+        ensures { result ≡ spec.interval [] [] }
     {
         KeyRange(Slice::empty(), Slice::empty())
     }
@@ -78,7 +70,7 @@ impl<A: Allocator> KeyRange<A> {
 
     /// Returns whether the least key is not above the greatest, so that the range contains a key.
     pub fn is_well_formed(&self) -> bool
-        ensures { result ≡ is_well_formed self.now }
+        ensures { result ≡ spec.is_well_formed self.now }
     {
         is_at_most(self.0.as_slice(), self.1.as_slice())
     }
@@ -87,7 +79,7 @@ impl<A: Allocator> KeyRange<A> {
     ///
     /// It compares each range with each later one.
     pub fn is_disjoint(ranges: &[&KeyRange<A>]) -> bool
-        ensures { result ≡ are_disjoint (intervals ranges.now) }
+        ensures { result ≡ spec.are_disjoint (spec.intervals ranges.now) }
     {
         for (place, range) in ranges.iter().enumerate() {
             let (_, later) = ranges.split_at(place + 1);
@@ -106,9 +98,9 @@ impl<A: Allocator> KeyRange<A> {
     ///
     /// [`Error::OutOfMemory`] if a reference count cannot be incremented.
     pub fn aggregate(ranges: &[&KeyRange<A>]) -> Result<KeyRange<A>, Error>
-        ensures ok { IfOk result (λ range. IsAggregate (intervals ranges.now) range) }
-        ensures none { ranges.now ≡ [] → result ≡ Ok (interval [] []) }
-        ensures err { IfErr result (λ e. e ≡ OutOfMemory) }
+        ensures ok { IfOk result (λ range. spec.IsAggregate (spec.intervals ranges.now) range) }
+        ensures none { ranges.now ≡ [] → result ≡ Ok (spec.interval [] []) }
+        ensures err { IfErr result (λ e. e ≡ spec.OutOfMemory) }
     {
         let Some((first, others)) = ranges.split_first() else {
             return Ok(KeyRange::empty());
@@ -123,14 +115,14 @@ impl<A: Allocator> KeyRange<A> {
 
     /// Returns whether the key is within the range.
     pub fn contains_key(&self, key: &[u8]) -> bool
-        ensures { result ≡ has_key self.now key.now }
+        ensures { result ≡ spec.has_key self.now key.now }
     {
         is_at_most(self.0.as_slice(), key) && is_at_most(key, self.1.as_slice())
     }
 
     /// Returns whether the other range is inside this one.
     pub fn contains_range(&self, other: &KeyRange<A>) -> bool
-        ensures { result ≡ has_range self.now other.now }
+        ensures { result ≡ spec.has_range self.now other.now }
     {
         is_at_most(self.0.as_slice(), other.0.as_slice())
             && is_at_most(other.1.as_slice(), self.1.as_slice())
@@ -140,9 +132,10 @@ impl<A: Allocator> KeyRange<A> {
     ///
     /// For well-formed ranges, this means that some key is in both.
     pub fn overlaps_with_key_range(&self, other: &KeyRange<A>) -> bool
-        ensures value { result ≡ overlaps self.now other.now }
-        ensures shared { IsTrue (is_well_formed self.now) → IsTrue (is_well_formed other.now) →
-            (IsTrue result ↔ ShareKey self.now other.now) }
+        ensures value { result ≡ spec.overlaps self.now other.now }
+        ensures shared { IsTrue (spec.is_well_formed self.now) →
+            IsTrue (spec.is_well_formed other.now) →
+            (IsTrue result ↔ spec.ShareKey self.now other.now) }
     {
         is_at_most(other.0.as_slice(), self.1.as_slice())
             && is_at_most(self.0.as_slice(), other.1.as_slice())
@@ -155,9 +148,10 @@ impl<A: Allocator> KeyRange<A> {
     /// both be met.
     pub fn overlaps_with_bounds(&self, bounds: &(Bound<&[u8]>, Bound<&[u8]>)) -> bool
         ensures value { result ≡
-            overlaps_bounds (key_bound bounds.now.0) (key_bound bounds.now.1) self.now }
+            spec.overlaps_bounds (spec.key_bound bounds.now.0) (spec.key_bound bounds.now.1)
+            self.now }
         ensures outside { result ≡ false →
-            IsOutside (key_bound bounds.now.0) (key_bound bounds.now.1) self.now }
+            spec.IsOutside (spec.key_bound bounds.now.0) (spec.key_bound bounds.now.1) self.now }
     {
         let (lower, upper) = bounds;
         is_from_lower(lower, self.1.as_slice()) && is_up_to_upper(upper, self.0.as_slice())
@@ -166,13 +160,13 @@ impl<A: Allocator> KeyRange<A> {
 
 #[tactic(auto, using(crate::proofs::IntervalLemmas::ge_is))]
 pub(crate) fn is_at_most(key: &[u8], other: &[u8]) -> bool
-    ensures { result ≡ key_le key.now other.now }
+    ensures { result ≡ spec.key_le key.now other.now }
 {
     other.cmp(key).is_ge()
 }
 
 fn overlaps_any<A: Allocator>(range: &KeyRange<A>, others: &[&KeyRange<A>]) -> bool
-    ensures { result ≡ list_any (λ other. overlaps range.now other.now) others.now }
+    ensures { result ≡ spec.list_any (λ other. spec.overlaps range.now other.now) others.now }
 {
     others
         .iter()
@@ -180,19 +174,19 @@ fn overlaps_any<A: Allocator>(range: &KeyRange<A>, others: &[&KeyRange<A>]) -> b
 }
 
 fn lesser<'a, A: Allocator>(a: &'a UserKey<A>, b: &'a UserKey<A>) -> &'a UserKey<A>
-    ensures { result.now ≡ (if key_lt b.now a.now then b.now else a.now) }
+    ensures { result.now ≡ (if spec.key_lt b.now a.now then b.now else a.now) }
 {
     if b < a { b } else { a }
 }
 
 fn greater<'a, A: Allocator>(a: &'a UserKey<A>, b: &'a UserKey<A>) -> &'a UserKey<A>
-    ensures { result.now ≡ (if key_lt a.now b.now then b.now else a.now) }
+    ensures { result.now ≡ (if spec.key_lt a.now b.now then b.now else a.now) }
 {
     if a < b { b } else { a }
 }
 
 pub(crate) fn is_from_lower(lower: &Bound<&[u8]>, key: &[u8]) -> bool
-    ensures { result ≡ is_from (key_bound lower.now) key.now }
+    ensures { result ≡ spec.is_from (spec.key_bound lower.now) key.now }
 {
     match lower {
         Bound::Included(low) => is_at_most(low, key),
@@ -202,7 +196,7 @@ pub(crate) fn is_from_lower(lower: &Bound<&[u8]>, key: &[u8]) -> bool
 }
 
 pub(crate) fn is_up_to_upper(upper: &Bound<&[u8]>, key: &[u8]) -> bool
-    ensures { result ≡ is_to (key_bound upper.now) key.now }
+    ensures { result ≡ spec.is_to (spec.key_bound upper.now) key.now }
 {
     match upper {
         Bound::Included(high) => is_at_most(key, high),

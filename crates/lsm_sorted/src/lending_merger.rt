@@ -1,21 +1,7 @@
 //! Merging several sorted lending sources.
 ghost use Rattle.std.specs.Prelude.{◌≡◌, ℕ, ◌+◌, ◌<◌, ◌≤◌, true, false, [], length, All, IfOk};
 ghost use Rattle.std.specs.Prelude.{Bool, IfErr, IsOk, Some, None};
-ghost use Rattle.std.specs.Option.{option_map};
-ghost use Rattle.std.specs.Vec.{vec_capacity};
-ghost use Rattle.std.specs.List.{insert};
-ghost use Rattle.sst_entries.specs.Lending.{entry_of_ref};
-ghost use Rattle.sst_entries.specs.Stream.{CanYield, EndsAtError, nowhere};
-ghost use Rattle.sst_entries.specs.declared.error.Error.{Error};
-ghost use Rattle.sst_entries.specs.declared.error.Error.TheVariants.{OutOfMemory};
-ghost use Rattle.lsm_sorted.specs.lending.Lent.{AsksOne, IsPrefix, IsReady, MayLend, StepsOn};
-ghost use Rattle.lsm_sorted.specs.lending.Lent.{goes_before};
-ghost use Rattle.lsm_sorted.specs.lending.Lent.{head_before, is_queued, is_turn, lent_at};
-ghost use Rattle.lsm_sorted.specs.lending.Lent.{lent_first};
-ghost use Rattle.lsm_sorted.specs.lending.Lent.{AdvancesLent, Belongs, IsHead, LendsNoMore};
-ghost use Rattle.lsm_sorted.specs.lending.Lent.{StartsLent};
-ghost use Rattle.lsm_sorted.specs.lending.Lent.{StepLowers, lent_size, lent_total, queued};
-ghost use Rattle.lsm_sorted.specs.merge.MergeLaws.{YieldsInPlace, YieldsMerged};
+ghost use Rattle.lsm_sorted.specs.Words as spec;
 
 use crate::compare_refs;
 use sst_entries::{EntryRef, Error, Lending};
@@ -56,7 +42,7 @@ struct Head {
 // less: keys that count up often share the first eight.
 #[inline(always)]
 fn prefix_of(key: &[u8]) -> u128
-    ensures { IsPrefix result key.now }
+    ensures { spec.IsPrefix result key.now }
 {
     match key.first_chunk::<16>() {
         Some(bytes) => u128::from_be_bytes(*bytes),
@@ -67,7 +53,7 @@ fn prefix_of(key: &[u8]) -> u128
 // The prefix of a key of fewer than 16 bytes, padded with zeros.
 fn short_prefix(key: &[u8]) -> u128
     requires { length key.now < 16 }
-    ensures { IsPrefix result key.now }
+    ensures { spec.IsPrefix result key.now }
 {
     let mut bytes = [0; 16];
     bytes[..key.len()].copy_from_slice(key);
@@ -77,7 +63,8 @@ fn short_prefix(key: &[u8]) -> u128
 // Whether an entry comes before another: by key, seqno and kind, then by source index.
 #[inline(always)]
 fn is_before(entry: &EntryRef<'_>, place: usize, other: &EntryRef<'_>, other_place: usize) -> bool
-    ensures { result ≡ is_turn (entry_of_ref entry.now) place (entry_of_ref other.now) other_place }
+    ensures { result ≡ spec.is_turn (spec.entry_of_ref entry.now) place
+        (spec.entry_of_ref other.now) other_place }
 {
     match compare_refs(entry, other) {
         Ordering::Equal => place < other_place,
@@ -97,23 +84,24 @@ impl<L: Lending + Drop, A: Allocator> LendingMerger<L, A> {
         // It has no current entry yet.
         ensures none { IfOk result (λ m. ⟦<LendingMerger<L, A> as Lending>⟧.lent m ≡ None) }
         // For sorted sources without errors, it yields their merged entries in order.
-        ensures yields { IfOk result (λ m. YieldsMerged L.advances nowhere sources.items
-            ⟦<LendingMerger<L, A> as Lending>⟧.advances nowhere m) }
+        ensures yields { IfOk result (λ m. spec.YieldsMerged L.advances spec.nowhere sources.items
+            ⟦<LendingMerger<L, A> as Lending>⟧.advances spec.nowhere m) }
         // With errors, it yields the same up to the first one, which directly follows the entry
         // before it in its source.
-        ensures places { IfOk result (λ m. YieldsInPlace L.advances nowhere sources.items
-            ⟦<LendingMerger<L, A> as Lending>⟧.advances nowhere m) }
+        ensures places { IfOk result (λ m. spec.YieldsInPlace L.advances spec.nowhere sources.items
+            ⟦<LendingMerger<L, A> as Lending>⟧.advances spec.nowhere m) }
         // After an error it is exhausted, whatever the sources yield.
-        ensures ends { IfOk result (λ m. EndsAtError
-            ⟦<LendingMerger<L, A> as Lending>⟧.advances nowhere m) }
+        ensures ends { IfOk result (λ m. spec.EndsAtError
+            ⟦<LendingMerger<L, A> as Lending>⟧.advances spec.nowhere m) }
         // It can be advanced as often as its sources can.
-        ensures can { All (CanYield L.advances nowhere L.can_advance L.can_advance) sources.items →
-            IfOk result (CanYield ⟦<LendingMerger<L, A> as Lending>⟧.advances nowhere
+        ensures can { All (spec.CanYield L.advances spec.nowhere L.can_advance L.can_advance)
+            sources.items →
+            IfOk result (spec.CanYield ⟦<LendingMerger<L, A> as Lending>⟧.advances spec.nowhere
             ⟦<LendingMerger<L, A> as Lending>⟧.can_advance
             ⟦<LendingMerger<L, A> as Lending>⟧.can_advance) }
-        ensures advance { All (CanYield L.advances nowhere L.can_advance L.can_advance)
+        ensures advance { All (spec.CanYield L.advances spec.nowhere L.can_advance L.can_advance)
             sources.items → IfOk result ⟦<LendingMerger<L, A> as Lending>⟧.can_advance }
-        ensures err { IfErr result (λ e. e ≡ OutOfMemory) }
+        ensures err { IfErr result (λ e. e ≡ spec.OutOfMemory) }
     {
         let queue = Vec::with_capacity(alloc, sources.len())?;
         Ok(LendingMerger {
@@ -129,8 +117,8 @@ impl<L: Lending, A: Allocator> LendingMerger<L, A> {
     // The current entry of a source.
     #[inline(always)]
     fn lent_by(&self, source: usize) -> Option<EntryRef<'_>>
-        ensures { option_map entry_of_ref result ≡
-            lent_at L.lent self.now.sources.items source }
+        ensures { spec.option_map spec.entry_of_ref result ≡
+            spec.lent_at L.lent self.now.sources.items source }
     {
         match self.sources.get(source) {
             Some(lender) => lender.entry(),
@@ -142,8 +130,8 @@ impl<L: Lending, A: Allocator> LendingMerger<L, A> {
     // prefixes are equal. It is not inlined, so that the calling search stays short.
     #[inline(never)]
     fn comes_before(&self, entry: &EntryRef<'_>, source: usize, other: usize) -> bool
-        ensures { result ≡ goes_before (Some (entry_of_ref entry.now)) source
-            (lent_at L.lent self.now.sources.items other) other }
+        ensures { result ≡ spec.goes_before (Some (spec.entry_of_ref entry.now)) source
+            (spec.lent_at L.lent self.now.sources.items other) other }
     {
         match self.lent_by(other) {
             Some(other_entry) => is_before(entry, source, &other_entry, other),
@@ -155,8 +143,8 @@ impl<L: Lending, A: Allocator> LendingMerger<L, A> {
     // the prefixes are equal.
     #[inline(always)]
     fn is_ahead(&self, entry: &EntryRef<'_>, head: Head, other: Head) -> bool
-        ensures { result ≡ head_before (Some (entry_of_ref entry.now)) head
-            (lent_at L.lent self.now.sources.items other.source) other }
+        ensures { result ≡ spec.head_before (Some (spec.entry_of_ref entry.now)) head
+            (spec.lent_at L.lent self.now.sources.items other.source) other }
     {
         if head.prefix == other.prefix {
             return self.comes_before(entry, head.source, other.source);
@@ -167,13 +155,14 @@ impl<L: Lending, A: Allocator> LendingMerger<L, A> {
     // The index at which to insert a head into a queue without its source.
     #[inline(always)]
     fn index_of(&self, entry: &EntryRef<'_>, head: Head) -> usize
-        requires heads { All (IsHead (lent_at L.lent self.now.sources.items)) self.now.queue.items }
-        requires head { IsHead (lent_at L.lent self.now.sources.items) head }
-        requires entry { lent_at L.lent self.now.sources.items head.source ≡
-            Some (entry_of_ref entry.now) }
+        requires heads { All (spec.IsHead (spec.lent_at L.lent self.now.sources.items))
+            self.now.queue.items }
+        requires head { spec.IsHead (spec.lent_at L.lent self.now.sources.items) head }
+        requires entry { spec.lent_at L.lent self.now.sources.items head.source ≡
+            Some (spec.entry_of_ref entry.now) }
         ensures within { result ≤ length self.now.queue.items }
-        ensures belongs { Belongs (lent_at L.lent self.now.sources.items) head.source
-            (queued self.now) result }
+        ensures belongs { spec.Belongs (spec.lent_at L.lent self.now.sources.items) head.source
+            (spec.queued self.now) result }
     {
         match self.queue.last() {
             // One comparison while a source stays ahead for long. If sources take turns, it would
@@ -190,12 +179,13 @@ impl<L: Lending, A: Allocator> LendingMerger<L, A> {
     // The head of a source with a current entry, and the index at which to insert it into a queue
     // without that source.
     fn head_of(&self, source: usize) -> (usize, Head)
-        requires heads { All (IsHead (lent_at L.lent self.now.sources.items)) self.now.queue.items }
+        requires heads { All (spec.IsHead (spec.lent_at L.lent self.now.sources.items))
+            self.now.queue.items }
         ensures within { result.0 ≤ length self.now.queue.items }
         ensures source { result.1.source ≡ source }
-        ensures head { IsHead (lent_at L.lent self.now.sources.items) result.1 }
-        ensures belongs { Belongs (lent_at L.lent self.now.sources.items) source
-            (queued self.now) result.0 }
+        ensures head { spec.IsHead (spec.lent_at L.lent self.now.sources.items) result.1 }
+        ensures belongs { spec.Belongs (spec.lent_at L.lent self.now.sources.items) source
+            (spec.queued self.now) result.0 }
     {
         let Some(entry) = self.lent_by(source) else {
             return (0, Head { prefix: 0, source });
@@ -209,19 +199,20 @@ impl<L: Lending, A: Allocator> LendingMerger<L, A> {
     // queue.
     fn go_on(&mut self, source: usize) -> Result<(), Error>
         requires place { source < length self.old.sources.items }
-        requires ready { IsReady L.advances L.can_advance L.lent self.old }
-        requires apart { is_queued source (queued self.old) ≡ false }
-        requires space { length self.old.queue.items < vec_capacity self.old.queue }
-        ensures ready { IsReady L.advances L.can_advance L.lent self.new }
+        requires ready { spec.IsReady L.advances L.can_advance L.lent self.old }
+        requires apart { spec.is_queued source (spec.queued self.old) ≡ false }
+        requires space { length self.old.queue.items < spec.vec_capacity self.old.queue }
+        ensures ready { spec.IsReady L.advances L.can_advance L.lent self.new }
         ensures count { length self.new.sources.items ≡ length self.old.sources.items }
         ensures same { self.new.is_started ≡ self.old.is_started }
         ensures few { length self.new.queue.items ≤ length self.old.queue.items + 1 }
         ensures known { (bound : ℕ) → source < bound →
-            All (λ q. q < bound) (queued self.old) → All (λ q. q < bound) (queued self.new) }
+            All (λ q. q < bound) (spec.queued self.old) →
+            All (λ q. q < bound) (spec.queued self.new) }
         ensures lowers { IfOk result (λ _.
-            lent_total L.left self.new ≤ lent_total L.left self.old) }
-        ensures goes { (stops : Error → Bool) →
-            AsksOne stops L.advances L.lent source self.old result self.new }
+            spec.lent_total L.left self.new ≤ spec.lent_total L.left self.old) }
+        ensures goes { (stops : spec.Error → Bool) →
+            spec.AsksOne stops L.advances L.lent source self.old result self.new }
     {
         if self.sources[source].advance()? {
             let (index, head) = self.head_of(source);
@@ -235,14 +226,14 @@ impl<L: Lending, A: Allocator> LendingMerger<L, A> {
     // Advances each source to its first entry.
     #[inline(never)]
     fn start(&mut self) -> Result<(), Error>
-        requires ready { IsReady L.advances L.can_advance L.lent self.old }
+        requires ready { spec.IsReady L.advances L.can_advance L.lent self.old }
         requires fresh { self.old.queue.items ≡ [] }
-        ensures ready { IsReady L.advances L.can_advance L.lent self.new }
+        ensures ready { spec.IsReady L.advances L.can_advance L.lent self.new }
         ensures same { self.new.is_started ≡ self.old.is_started }
         ensures lowers { IfOk result (λ _.
-            lent_total L.left self.new ≤ lent_total L.left self.old) }
-        ensures starts { (stops : Error → Bool) →
-            StartsLent stops L.advances L.lent self.old result self.new }
+            spec.lent_total L.left self.new ≤ spec.lent_total L.left self.old) }
+        ensures starts { (stops : spec.Error → Bool) →
+            spec.StartsLent stops L.advances L.lent self.old result self.new }
     {
         for source in 0..self.sources.len() {
             self.go_on(source)?;
@@ -253,14 +244,14 @@ impl<L: Lending, A: Allocator> LendingMerger<L, A> {
     // Advances the source of the current entry, and in the first call all sources.
     #[inline(always)]
     fn step(&mut self) -> Result<(), Error>
-        requires { MayLend L.advances L.can_advance L.lent self.old }
-        ensures ready { IsReady L.advances L.can_advance L.lent self.new }
+        requires { spec.MayLend L.advances L.can_advance L.lent self.old }
+        ensures ready { spec.IsReady L.advances L.can_advance L.lent self.new }
         ensures started { self.new.is_started ≡ true }
-        ensures lowers { IfOk result (λ _. StepLowers L.left self.old self.new) }
-        ensures over { LendsNoMore self.old → IsOk result × LendsNoMore self.new }
-        ensures fault { IfErr result (λ _. 0 < lent_size L.left self.old) }
-        ensures steps { (stops : Error → Bool) →
-            StepsOn stops L.advances L.lent self.old result self.new }
+        ensures lowers { IfOk result (λ _. spec.StepLowers L.left self.old self.new) }
+        ensures over { spec.LendsNoMore self.old → IsOk result × spec.LendsNoMore self.new }
+        ensures fault { IfErr result (λ _. 0 < spec.lent_size L.left self.old) }
+        ensures steps { (stops : spec.Error → Bool) →
+            spec.StepsOn stops L.advances L.lent self.old result self.new }
     {
         if !self.is_started {
             self.is_started = true;
@@ -274,13 +265,13 @@ impl<L: Lending, A: Allocator> LendingMerger<L, A> {
 }
 
 impl<L: Lending, A: Allocator> Lending for LendingMerger<L, A> {
-    ghost can_advance = { MayLend L.advances L.can_advance L.lent };
+    ghost can_advance = { spec.MayLend L.advances L.can_advance L.lent };
 
-    ghost advances = { AdvancesLent L.advances L.can_advance L.lent };
+    ghost advances = { spec.AdvancesLent L.advances L.can_advance L.lent };
 
-    ghost lent = { lent_first L.lent };
+    ghost lent = { spec.lent_first L.lent };
 
-    ghost left = { lent_size L.left };
+    ghost left = { spec.lent_size L.left };
 
     fn advance(&mut self) -> Result<bool, Error> {
         match self.step() {

@@ -1,16 +1,7 @@
 //! The newest version of each key of a lending source.
 ghost use Rattle.std.specs.Prelude.{◌≡◌, ◌<◌, true, false, IfOk, IfErr, Some};
 ghost use Rattle.std.specs.Prelude.{None, OnErr, is_some};
-ghost use Rattle.sst_entries.specs.Lending.{came};
-ghost use Rattle.sst_entries.specs.Entry.{Entry};
-ghost use Rattle.sst_entries.specs.Stream.{CanYield, Lowers, nowhere};
-ghost use Rattle.sst_entries.specs.declared.error.Error.{Error};
-ghost use Rattle.sst_entries.specs.declared.error.Error.TheVariants.{OutOfMemory};
-ghost use Rattle.lsm_sorted.specs.lending.LentFaults.{AlwaysReports, PassesAll, StaysOver};
-ghost use Rattle.lsm_sorted.specs.lending.LentNewest.{AdvancesNewest, YieldsNewestEntries};
-ghost use Rattle.lsm_sorted.specs.lending.LentNewest.{YieldsNewestResults, MayNewest, is_other};
-ghost use Rattle.lsm_sorted.specs.lending.LentNewest.{given_key};
-ghost use Rattle.lsm_sorted.specs.lending.LentNewest.{lent_newest, newest_left, newest_lender};
+ghost use Rattle.lsm_sorted.specs.Words as spec;
 
 use sst_entries::{EntryRef, Error, Lending};
 use std::alloc::{Allocator, Global};
@@ -42,24 +33,24 @@ impl<L: Lending, A: Allocator> LendingNewest<L, A> {
         // It has no current entry yet.
         ensures none { ⟦<LendingNewest<L, A> as Lending>⟧.lent result ≡ None }
         // For a sorted list, it yields the newest version of each key.
-        ensures newest { YieldsNewestEntries L.advances source
+        ensures newest { spec.YieldsNewestEntries L.advances source
             ⟦<LendingNewest<L, A> as Lending>⟧.advances result }
         // With errors, it yields the same, and each error in order.
-        ensures places { YieldsNewestResults L.advances source
+        ensures places { spec.YieldsNewestResults L.advances source
             ⟦<LendingNewest<L, A> as Lending>⟧.advances result }
         // For any source, it passes on each error. Its only error of its own is `OutOfMemory`.
-        ensures faults { AlwaysReports PassesAll L.advances source newest_lender
+        ensures faults { spec.AlwaysReports spec.PassesAll L.advances source spec.newest_lender
             ⟦<LendingNewest<L, A> as Lending>⟧.advances result }
         // After its own `OutOfMemory` it is exhausted. After the end it advances the source again,
         // and yields nothing while the source yields nothing.
-        ensures over { AlwaysReports StaysOver L.advances source newest_lender
+        ensures over { spec.AlwaysReports spec.StaysOver L.advances source spec.newest_lender
             ⟦<LendingNewest<L, A> as Lending>⟧.advances result }
         // It can be advanced as often as the source can.
-        ensures can { CanYield L.advances nowhere L.can_advance L.can_advance source →
-            CanYield ⟦<LendingNewest<L, A> as Lending>⟧.advances nowhere
+        ensures can { spec.CanYield L.advances spec.nowhere L.can_advance L.can_advance source →
+            spec.CanYield ⟦<LendingNewest<L, A> as Lending>⟧.advances spec.nowhere
             ⟦<LendingNewest<L, A> as Lending>⟧.can_advance
             ⟦<LendingNewest<L, A> as Lending>⟧.can_advance result }
-        ensures advance { CanYield L.advances nowhere L.can_advance L.can_advance source →
+        ensures advance { spec.CanYield L.advances spec.nowhere L.can_advance L.can_advance source →
             ⟦<LendingNewest<L, A> as Lending>⟧.can_advance result }
     {
         LendingNewest {
@@ -73,7 +64,7 @@ impl<L: Lending, A: Allocator> LendingNewest<L, A> {
     // Whether the source's current entry has another key than the last one.
     #[inline(always)]
     fn is_other(&self) -> bool
-        ensures { result ≡ is_other (given_key self.now) (L.lent self.now.source) }
+        ensures { result ≡ spec.is_other (spec.given_key self.now) (L.lent self.now.source) }
     {
         match self.source.entry() {
             Some(entry) => !self.has_key || entry.user_key != self.key.as_slice(),
@@ -87,9 +78,9 @@ impl<L: Lending, A: Allocator> LendingNewest<L, A> {
         ensures source { self.new.source ≡ self.old.source }
         ensures over { self.new.is_over ≡ self.old.is_over }
         ensures has { IfOk result (λ _. self.new.has_key ≡ true) }
-        ensures key { IfOk result (λ _. (x : Entry) → L.lent self.old.source ≡ Some x →
+        ensures key { IfOk result (λ _. (x : spec.Entry) → L.lent self.old.source ≡ Some x →
             self.new.key.items ≡ x.user_key) }
-        ensures err { IfErr result (λ e. e ≡ OutOfMemory) }
+        ensures err { IfErr result (λ e. e ≡ spec.OutOfMemory) }
     {
         self.key.clear();
         if let Some(entry) = self.source.entry() {
@@ -101,14 +92,14 @@ impl<L: Lending, A: Allocator> LendingNewest<L, A> {
 
     // Advances to the next entry of another key, and copies that key.
     fn go_on(&mut self) -> Result<bool, Error>
-        requires may { MayNewest L.advances L.can_advance self.old }
+        requires may { spec.MayNewest L.advances L.can_advance self.old }
         requires live { self.old.is_over ≡ false }
-        ensures goes { AdvancesNewest L.advances L.can_advance self.old
-            (came result (lent_newest L.lent self.new)) self.new }
-        ensures more { IfOk result (λ more. more ≡ is_some (lent_newest L.lent self.new)) }
-        ensures err { OnErr result (lent_newest L.lent self.new ≡ None) }
-        ensures lowers { Lowers (came result (lent_newest L.lent self.new))
-            (newest_left L.left self.old) (newest_left L.left self.new) }
+        ensures goes { spec.AdvancesNewest L.advances L.can_advance self.old
+            (spec.came result (spec.lent_newest L.lent self.new)) self.new }
+        ensures more { IfOk result (λ more. more ≡ is_some (spec.lent_newest L.lent self.new)) }
+        ensures err { OnErr result (spec.lent_newest L.lent self.new ≡ None) }
+        ensures lowers { spec.Lowers (spec.came result (spec.lent_newest L.lent self.new))
+            (spec.newest_left L.left self.old) (spec.newest_left L.left self.new) }
     {
         while self.source.advance()? {
             if self.is_other() {
@@ -124,13 +115,13 @@ impl<L: Lending, A: Allocator> LendingNewest<L, A> {
 }
 
 impl<L: Lending, A: Allocator> Lending for LendingNewest<L, A> {
-    ghost can_advance = { MayNewest L.advances L.can_advance };
+    ghost can_advance = { spec.MayNewest L.advances L.can_advance };
 
-    ghost advances = { AdvancesNewest L.advances L.can_advance };
+    ghost advances = { spec.AdvancesNewest L.advances L.can_advance };
 
-    ghost lent = { lent_newest L.lent };
+    ghost lent = { spec.lent_newest L.lent };
 
-    ghost left = { newest_left L.left };
+    ghost left = { spec.newest_left L.left };
 
     fn advance(&mut self) -> Result<bool, Error> {
         if self.is_over {

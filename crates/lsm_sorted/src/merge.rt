@@ -1,25 +1,8 @@
 //! Merging several sorted sources.
 ghost use Rattle.std.specs.Prelude.{◌≡◌, ℕ, ◌+◌, ◌*◌, ◌<◌, ◌≤◌, true, false, List, [], length, map};
 ghost use Rattle.std.specs.Prelude.{All, IfOk, IfErr, IfSome, IfNone};
-ghost use Rattle.std.specs.Iterator.{at_most, MakesProgress};
-ghost use Rattle.sst_entries.specs.declared.stream.Direction.TheVariants.{Front, Back};
-ghost use Rattle.sst_entries.specs.declared.error.Error.TheVariants.{OutOfMemory};
-ghost use Rattle.lsm_sorted.specs.merge.Words.{Adds, AsksSource, Calls, CanMerge};
-ghost use Rattle.lsm_sorted.specs.merge.Words.{YieldsBeforeErrors};
-ghost use Rattle.lsm_sorted.specs.merge.Words.{YieldsMerged};
-ghost use Rattle.lsm_sorted.specs.merge.Words.{YieldsUntilError, EndsAtError, Entry, Fills, Goes};
-ghost use Rattle.lsm_sorted.specs.merge.Words.{HasPlaces};
-ghost use Rattle.lsm_sorted.specs.merge.Words.{HoldsAtMost, HoldsNone, IsMergerOf, IsStrict};
-ghost use Rattle.lsm_sorted.specs.merge.Words.{IsUnion};
-ghost use Rattle.lsm_sorted.specs.merge.Words.{LowersTotal};
-ghost use Rattle.lsm_sorted.specs.merge.Words.{MayMerge, MeetsErrorsLate, Pops, R, SameRoom, Steps};
-ghost use Rattle.lsm_sorted.specs.merge.Words.{entry_of};
-ghost use Rattle.lsm_sorted.specs.merge.Words.{is_ready, made_ready, merge_size, new_ends, nowhere};
-ghost use Rattle.lsm_sorted.specs.merge.Words.{turn_cmp, turn_total, union_of};
+ghost use Rattle.lsm_sorted.specs.Words as spec;
 ghost use Rattle.std.proofs.Common.{refl};
-ghost use Rattle.std.specs.Cmp.{partial_order_from_total, partial_equiv_from_equiv};
-ghost use Rattle.std.specs.Cmp.{eq_by_cmp_equiv};
-ghost use Rattle.std.specs.Ordering.{as_partial_cmp, eq_by_cmp};
 
 use crate::LazyTournament;
 use crate::heap::ends::{AtBack, AtFront, End, Ends};
@@ -40,9 +23,9 @@ struct HeapItem<A: Allocator> {
 }
 
 impl<A: Allocator> Ord for HeapItem<A> {
-    ghost cmp = { turn_cmp };
+    ghost cmp = { spec.turn_cmp };
 
-    ghost total = { turn_total };
+    ghost total = { spec.turn_total };
 
     ghost matches_partial_cmp = { λ x y. refl };
 
@@ -61,9 +44,9 @@ impl<A: Allocator> Ord for HeapItem<A> {
 }
 
 impl<A: Allocator> PartialOrd for HeapItem<A> {
-    ghost partial_cmp = { as_partial_cmp turn_cmp };
+    ghost partial_cmp = { spec.as_partial_cmp spec.turn_cmp };
 
-    ghost laws = { partial_order_from_total turn_total };
+    ghost laws = { spec.partial_order_from_total spec.turn_total };
 
     fn partial_cmp(&self, other: &HeapItem<A>) -> Option<Ordering> {
         Some(self.cmp(other))
@@ -71,9 +54,9 @@ impl<A: Allocator> PartialOrd for HeapItem<A> {
 }
 
 impl<A: Allocator> PartialEq for HeapItem<A> {
-    ghost eq = { eq_by_cmp turn_cmp };
+    ghost eq = { spec.eq_by_cmp spec.turn_cmp };
 
-    ghost laws = { partial_equiv_from_equiv (eq_by_cmp_equiv turn_total) };
+    ghost laws = { spec.partial_equiv_from_equiv (spec.eq_by_cmp_equiv spec.turn_total) };
 
     fn eq(&self, other: &HeapItem<A>) -> bool {
         self.cmp(other).is_eq()
@@ -81,12 +64,12 @@ impl<A: Allocator> PartialEq for HeapItem<A> {
 }
 
 impl<A: Allocator> Eq for HeapItem<A> {
-    ghost laws = { eq_by_cmp_equiv turn_total };
+    ghost laws = { spec.eq_by_cmp_equiv spec.turn_total };
 }
 
 impl<A: Allocator> HeapItem<A> {
     fn new(item: InternalValue<A>, source: usize, end: Direction) -> Self
-        ensures entry { entry_of result ≡ item }
+        ensures entry { spec.entry_of result ≡ item }
         ensures source { result.source ≡ source }
         ensures end { result.end ≡ end }
     {
@@ -99,7 +82,7 @@ impl<A: Allocator> HeapItem<A> {
     }
 
     fn into_item(self) -> InternalValue<A>
-        ensures { result ≡ entry_of self }
+        ensures { result ≡ spec.entry_of self }
     {
         InternalValue {
             key: self.key,
@@ -138,8 +121,8 @@ fn fused<I: Iterator<Item = IterItem<A>>, A: Allocator>(
     alloc: A,
     iterators: Vec<I, A>,
 ) -> Result<Vec<Ends<I>, A>, Error>
-    ensures ok { IfOk result (λ v. v.items ≡ map new_ends iterators.items) }
-    ensures err { IfErr result (λ e. e ≡ OutOfMemory) }
+    ensures ok { IfOk result (λ v. v.items ≡ map spec.new_ends iterators.items) }
+    ensures err { IfErr result (λ e. e ≡ spec.OutOfMemory) }
 {
     let sources = iterators
         .into_iter()
@@ -158,39 +141,44 @@ impl<I: Iterator<Item = IterItem<A>>, A: Allocator + Clone> Merger<I, A> {
     ///
     /// [`Error::OutOfMemory`] only.
     pub fn new(alloc: A, iterators: Vec<I, A>) -> Result<Self, Error>
-        ensures fresh { IfOk result (λ m. IsMergerOf iterators.items m) }
+        ensures fresh { IfOk result (λ m. spec.IsMergerOf iterators.items m) }
         ensures places { IfOk result (λ m. m.heap.room ≡ 2 * length iterators.items) }
         // For sorted sources without errors, it yields their merged entries in order from the
         // front.
-        ensures yields { IfOk result (λ m. YieldsMerged I.next_gives nowhere iterators.items
-            ⟦<Merger<I, A> as Iterator>⟧.next_gives nowhere m) }
+        ensures yields { IfOk result
+            (λ m. spec.YieldsMerged I.next_gives spec.nowhere iterators.items
+            ⟦<Merger<I, A> as Iterator>⟧.next_gives spec.nowhere m) }
         // With any errors, it yields the same until a call returns one.
-        ensures before { IfOk result (λ m. YieldsBeforeErrors I.next_gives nowhere iterators.items
-            ⟦<Merger<I, A> as Iterator>⟧.next_gives nowhere m) }
+        ensures before { IfOk result
+            (λ m. spec.YieldsBeforeErrors I.next_gives spec.nowhere iterators.items
+            ⟦<Merger<I, A> as Iterator>⟧.next_gives spec.nowhere m) }
         // With errors, it yields the same until a source returns one, and that call returns the
         // error.
-        ensures until { IfOk result (λ m. YieldsUntilError I.next_gives nowhere iterators.items
-            ⟦<Merger<I, A> as Iterator>⟧.next_gives nowhere m) }
+        ensures until { IfOk result
+            (λ m. spec.YieldsUntilError I.next_gives spec.nowhere iterators.items
+            ⟦<Merger<I, A> as Iterator>⟧.next_gives spec.nowhere m) }
         // An error comes only after the entries before it in its source, except perhaps the last of
         // them.
-        ensures late { IfOk result (λ m. MeetsErrorsLate I.next_gives nowhere iterators.items Front
+        ensures late { IfOk result
+            (λ m. spec.MeetsErrorsLate I.next_gives spec.nowhere iterators.items spec.Front
             ⟦<Merger<I, A> as Iterator>⟧.next_gives m) }
         // After an error it is exhausted, whatever the sources yield.
-        ensures ends { IfOk result (λ m. EndsAtError ⟦<Merger<I, A> as Iterator>⟧.next_gives nowhere
-            m) }
+        ensures ends { IfOk result (λ m. spec.EndsAtError ⟦<Merger<I, A> as Iterator>⟧.next_gives
+            spec.nowhere m) }
         // The merged list is a union of the lists. It is the only one if no two entries share key
         // and seqno.
-        ensures union { IfOk result (λ _. (lists : List (List R)) →
-            IsUnion lists (union_of lists)) }
-        ensures only { IfOk result (λ _. (lists : List (List R)) (xs : List Entry) →
-            IsUnion lists xs → IsStrict xs → xs ≡ union_of lists) }
+        ensures union { IfOk result (λ _. (lists : List (List spec.R)) →
+            spec.IsUnion lists (spec.union_of lists)) }
+        ensures only { IfOk result (λ _. (lists : List (List spec.R)) (xs : List spec.Entry) →
+            spec.IsUnion lists xs → spec.IsStrict xs → xs ≡ spec.union_of lists) }
         ensures can { IfOk result (λ m.
-            CanMerge I.next_gives nowhere I.can_next I.can_next I.remaining iterators.items
-            ⟦<Merger<I, A> as Iterator>⟧.next_gives nowhere ⟦<Merger<I, A> as Iterator>⟧.can_next
-            ⟦<Merger<I, A> as Iterator>⟧.can_next m) }
-        ensures few { IfOk result (λ m. HoldsAtMost 1 ⟦<Merger<I, A> as Iterator>⟧.next_gives
-            nowhere m) }
-        ensures err { IfErr result (λ e. e ≡ OutOfMemory) }
+            spec.CanMerge I.next_gives spec.nowhere I.can_next I.can_next I.remaining
+            iterators.items
+            ⟦<Merger<I, A> as Iterator>⟧.next_gives spec.nowhere
+            ⟦<Merger<I, A> as Iterator>⟧.can_next ⟦<Merger<I, A> as Iterator>⟧.can_next m) }
+        ensures few { IfOk result (λ m. spec.HoldsAtMost 1 ⟦<Merger<I, A> as Iterator>⟧.next_gives
+            spec.nowhere m) }
+        ensures err { IfErr result (λ e. e ≡ spec.OutOfMemory) }
     {
         let Some(places) = iterators.len().checked_mul(2) else {
             return Err(Error::OutOfMemory);
@@ -214,41 +202,41 @@ pub fn from_both_ends<I: DoubleEndedIterator<Item = IterItem<A>>, A: Allocator>(
     merger: &Merger<I, A>,
 )
     // For sorted sources without errors, it yields their merged entries in order.
-    ensures yields { (its : List I) → IsMergerOf its merger.now →
-        YieldsMerged I.next_gives I.next_back_gives its
+    ensures yields { (its : List I) → spec.IsMergerOf its merger.now →
+        spec.YieldsMerged I.next_gives I.next_back_gives its
         ⟦<Merger<I, A> as Iterator>⟧.next_gives
         ⟦<Merger<I, A> as DoubleEndedIterator>⟧.next_back_gives merger.now }
     // With any errors, it yields the same until a call returns one.
-    ensures before { (its : List I) → IsMergerOf its merger.now →
-        YieldsBeforeErrors I.next_gives I.next_back_gives its
+    ensures before { (its : List I) → spec.IsMergerOf its merger.now →
+        spec.YieldsBeforeErrors I.next_gives I.next_back_gives its
         ⟦<Merger<I, A> as Iterator>⟧.next_gives
         ⟦<Merger<I, A> as DoubleEndedIterator>⟧.next_back_gives merger.now }
     // With errors, it yields the same until a source returns one, and that call returns the error.
-    ensures until { (its : List I) → IsMergerOf its merger.now →
-        YieldsUntilError I.next_gives I.next_back_gives its
+    ensures until { (its : List I) → spec.IsMergerOf its merger.now →
+        spec.YieldsUntilError I.next_gives I.next_back_gives its
         ⟦<Merger<I, A> as Iterator>⟧.next_gives
         ⟦<Merger<I, A> as DoubleEndedIterator>⟧.next_back_gives merger.now }
     // With calls at the front only, an error comes after the entries before it in its source. The
     // last of them may be missing.
-    ensures late { (its : List I) → IsMergerOf its merger.now →
-        MeetsErrorsLate I.next_gives I.next_back_gives its Front
+    ensures late { (its : List I) → spec.IsMergerOf its merger.now →
+        spec.MeetsErrorsLate I.next_gives I.next_back_gives its spec.Front
         ⟦<Merger<I, A> as Iterator>⟧.next_gives merger.now }
     // With calls at the back only, an error comes after the entries that follow it in its source.
     // The first of them may be missing.
-    ensures late_back { (its : List I) → IsMergerOf its merger.now →
-        MeetsErrorsLate I.next_gives I.next_back_gives its Back
+    ensures late_back { (its : List I) → spec.IsMergerOf its merger.now →
+        spec.MeetsErrorsLate I.next_gives I.next_back_gives its spec.Back
         ⟦<Merger<I, A> as DoubleEndedIterator>⟧.next_back_gives merger.now }
     // After an error it is exhausted, whatever the sources yield.
-    ensures ends { EndsAtError ⟦<Merger<I, A> as Iterator>⟧.next_gives
+    ensures ends { spec.EndsAtError ⟦<Merger<I, A> as Iterator>⟧.next_gives
         ⟦<Merger<I, A> as DoubleEndedIterator>⟧.next_back_gives merger.now }
-    ensures can { (its : List I) → IsMergerOf its merger.now →
-        CanMerge I.next_gives I.next_back_gives I.can_next I.can_next_back I.remaining its
+    ensures can { (its : List I) → spec.IsMergerOf its merger.now →
+        spec.CanMerge I.next_gives I.next_back_gives I.can_next I.can_next_back I.remaining its
         ⟦<Merger<I, A> as Iterator>⟧.next_gives
         ⟦<Merger<I, A> as DoubleEndedIterator>⟧.next_back_gives
         ⟦<Merger<I, A> as Iterator>⟧.can_next ⟦<Merger<I, A> as DoubleEndedIterator>⟧.can_next_back
         merger.now }
-    ensures few { (its : List I) → IsMergerOf its merger.now →
-        HoldsAtMost 2 ⟦<Merger<I, A> as Iterator>⟧.next_gives
+    ensures few { (its : List I) → spec.IsMergerOf its merger.now →
+        spec.HoldsAtMost 2 ⟦<Merger<I, A> as Iterator>⟧.next_gives
         ⟦<Merger<I, A> as DoubleEndedIterator>⟧.next_back_gives merger.now }
 {
     let _ = merger;
@@ -257,7 +245,7 @@ pub fn from_both_ends<I: DoubleEndedIterator<Item = IterItem<A>>, A: Allocator>(
 impl<I, A: Allocator> Merger<I, A> {
     // Whether the sources were polled at this end.
     fn is_ready(&self, end: Direction) -> bool
-        ensures { result ≡ is_ready end self.now }
+        ensures { result ≡ spec.is_ready end self.now }
     {
         match end {
             Direction::Front => self.front_ready,
@@ -266,7 +254,7 @@ impl<I, A: Allocator> Merger<I, A> {
     }
 
     fn make_ready(&mut self, end: Direction)
-        ensures { self.new ≡ made_ready end self.old }
+        ensures { self.new ≡ spec.made_ready end self.old }
     {
         match end {
             Direction::Front => self.front_ready = true,
@@ -277,8 +265,8 @@ impl<I, A: Allocator> Merger<I, A> {
     // Removes the first entry of the heap, seen from an end.
     #[inline(always)]
     fn pop(&mut self, end: Direction) -> Option<HeapItem<A>>
-        ensures none { IfNone result (HoldsNone self.old self.new) }
-        ensures some { IfSome result (λ h. Pops end self.old h self.new) }
+        ensures none { IfNone result (spec.HoldsNone self.old self.new) }
+        ensures some { IfSome result (λ h. spec.Pops end self.old h self.new) }
     {
         match end {
             Direction::Front => self.heap.pop_min(),
@@ -303,16 +291,16 @@ impl<I: Iterator<Item = IterItem<A>>, A: Allocator> Merger<I, A> {
     #[inline(always)]
     fn take<E: End<I>>(&mut self, i: usize) -> Result<(), Error>
         requires place { i < length self.old.sources.items }
-        requires goes { All (Goes I.next_gives E.back_gives I.can_next E.can_back I.remaining)
+        requires goes { All (spec.Goes I.next_gives E.back_gives I.can_next E.can_back I.remaining)
             self.old.sources.items }
         requires space { length self.old.heap.items < self.old.heap.room }
-        ensures goes { All (Goes I.next_gives E.back_gives I.can_next E.can_back I.remaining)
+        ensures goes { All (spec.Goes I.next_gives E.back_gives I.can_next E.can_back I.remaining)
             self.new.sources.items }
-        ensures same { SameRoom self.old self.new }
-        ensures adds { Adds E.end i self.old.heap.items self.new.heap.items }
-        ensures lowers { LowersTotal I.remaining self.old result self.new }
-        ensures asks { AsksSource (Steps I.next_gives E.back_gives E.end) E.end i self.old result
-            self.new }
+        ensures same { spec.SameRoom self.old self.new }
+        ensures adds { spec.Adds E.end i self.old.heap.items self.new.heap.items }
+        ensures lowers { spec.LowersTotal I.remaining self.old result self.new }
+        ensures asks { spec.AsksSource (spec.Steps I.next_gives E.back_gives E.end) E.end i self.old
+            result self.new }
     {
         let source = &mut self.sources[i];
         match source.ask::<E>() {
@@ -328,15 +316,15 @@ impl<I: Iterator<Item = IterItem<A>>, A: Allocator> Merger<I, A> {
     // Moves the entry at an end of each source into the heap.
     #[inline(never)]
     fn fill<E: End<I>>(&mut self) -> Result<(), Error>
-        requires places { HasPlaces I.next_gives E.back_gives I.can_next E.can_back I.remaining
+        requires places { spec.HasPlaces I.next_gives E.back_gives I.can_next E.can_back I.remaining
             self.old }
-        requires first { is_ready E.end self.old ≡ false }
+        requires first { spec.is_ready E.end self.old ≡ false }
         ensures places { IfOk result (λ _.
-            HasPlaces I.next_gives E.back_gives I.can_next E.can_back I.remaining self.new) }
+            spec.HasPlaces I.next_gives E.back_gives I.can_next E.can_back I.remaining self.new) }
         ensures failed { self.new.failed ≡ self.old.failed }
-        ensures lowers { LowersTotal I.remaining self.old result self.new }
-        ensures fills { Fills (Steps I.next_gives E.back_gives E.end) E.end self.old result
-            self.new }
+        ensures lowers { spec.LowersTotal I.remaining self.old result self.new }
+        ensures fills { spec.Fills (spec.Steps I.next_gives E.back_gives E.end) E.end self.old
+            result self.new }
     {
         for i in 0..self.sources.len() {
             self.take::<E>(i)?;
@@ -348,13 +336,14 @@ impl<I: Iterator<Item = IterItem<A>>, A: Allocator> Merger<I, A> {
     // Fills the heap, once for each end.
     #[inline(always)]
     fn fill_once<E: End<I>>(&mut self) -> Result<(), Error>
-        requires { HasPlaces I.next_gives E.back_gives I.can_next E.can_back I.remaining self.old }
+        requires { spec.HasPlaces I.next_gives E.back_gives I.can_next E.can_back I.remaining
+            self.old }
         ensures places { IfOk result (λ _.
-            HasPlaces I.next_gives E.back_gives I.can_next E.can_back I.remaining self.new) }
+            spec.HasPlaces I.next_gives E.back_gives I.can_next E.can_back I.remaining self.new) }
         ensures failed { self.new.failed ≡ self.old.failed }
-        ensures lowers { LowersTotal I.remaining self.old result self.new }
-        ensures fills { Fills (Steps I.next_gives E.back_gives E.end) E.end self.old result
-            self.new }
+        ensures lowers { spec.LowersTotal I.remaining self.old result self.new }
+        ensures fills { spec.Fills (spec.Steps I.next_gives E.back_gives E.end) E.end self.old
+            result self.new }
     {
         if self.is_ready(E::end()) {
             return Ok(());
@@ -366,13 +355,14 @@ impl<I: Iterator<Item = IterItem<A>>, A: Allocator> Merger<I, A> {
     // entry of its source goes into the heap.
     #[inline(always)]
     fn call<E: End<I>>(&mut self) -> Option<IterItem<A>>
-        requires { MayMerge I.next_gives E.back_gives I.can_next E.can_back I.remaining self.old }
-        ensures calls { Calls (Steps I.next_gives E.back_gives E.end) E.end
-            (MayMerge I.next_gives E.back_gives I.can_next E.can_back I.remaining) self.old result
-            self.new }
-        ensures goes { MakesProgress
-            (MayMerge I.next_gives E.back_gives I.can_next E.can_back I.remaining)
-            (λ m. at_most (merge_size I.remaining m)) self.old result self.new }
+        requires { spec.MayMerge I.next_gives E.back_gives I.can_next E.can_back I.remaining
+            self.old }
+        ensures calls { spec.Calls (spec.Steps I.next_gives E.back_gives E.end) E.end
+            (spec.MayMerge I.next_gives E.back_gives I.can_next E.can_back I.remaining) self.old
+            result self.new }
+        ensures goes { spec.MakesProgress
+            (spec.MayMerge I.next_gives E.back_gives I.can_next E.can_back I.remaining)
+            (λ m. spec.at_most (spec.merge_size I.remaining m)) self.old result self.new }
     {
         if self.failed {
             return None;
@@ -396,12 +386,12 @@ impl<I: Iterator<Item = IterItem<A>>, A: Allocator> Merger<I, A> {
 impl<I: Iterator<Item = IterItem<A>>, A: Allocator> Iterator for Merger<I, A> {
     type Item = IterItem<A>;
 
-    ghost can_next = { MayMerge I.next_gives nowhere I.can_next I.can_next I.remaining };
+    ghost can_next = { spec.MayMerge I.next_gives spec.nowhere I.can_next I.can_next I.remaining };
 
-    ghost next_gives = { Calls I.next_gives Front (MayMerge I.next_gives nowhere I.can_next
-        I.can_next I.remaining) };
+    ghost next_gives = { spec.Calls I.next_gives spec.Front
+        (spec.MayMerge I.next_gives spec.nowhere I.can_next I.can_next I.remaining) };
 
-    ghost remaining = { λ m. at_most (merge_size I.remaining m) };
+    ghost remaining = { λ m. spec.at_most (spec.merge_size I.remaining m) };
 
     fn next(&mut self) -> Option<IterItem<A>> {
         self.call::<AtFront>()
@@ -410,11 +400,11 @@ impl<I: Iterator<Item = IterItem<A>>, A: Allocator> Iterator for Merger<I, A> {
 
 impl<I: DoubleEndedIterator<Item = IterItem<A>>, A: Allocator> DoubleEndedIterator
     for Merger<I, A> {
-    ghost can_next_back = { MayMerge I.next_gives I.next_back_gives I.can_next I.can_next_back
+    ghost can_next_back = { spec.MayMerge I.next_gives I.next_back_gives I.can_next I.can_next_back
         I.remaining };
 
-    ghost next_back_gives = { Calls I.next_back_gives Back (MayMerge I.next_gives I.next_back_gives
-        I.can_next I.can_next_back I.remaining) };
+    ghost next_back_gives = { spec.Calls I.next_back_gives spec.Back
+        (spec.MayMerge I.next_gives I.next_back_gives I.can_next I.can_next_back I.remaining) };
 
     fn next_back(&mut self) -> Option<IterItem<A>> {
         self.call::<AtBack>()

@@ -1,13 +1,6 @@
 //! A stream of the newest version of each key.
 ghost use Rattle.std.specs.Prelude.{not, ◌≡◌, ℕ, ◌+◌, ◌<◌};
-ghost use Rattle.std.specs.Iterator.{at_most, IsFinite};
-ghost use Rattle.sst_entries.specs.Stream.{CanYield, nowhere};
-ghost use Rattle.sst_entries.specs.declared.stream.Direction.TheVariants.{Front, Back};
-ghost use Rattle.sst_entries.specs.Key.{same_key, key_lt};
-ghost use Rattle.lsm_sorted.specs.Newest.{front_step, back_step};
-ghost use Rattle.lsm_sorted.specs.Mvcc.{MayStep, StepsAt, AnswersSteps, YieldsSteps, YieldsNewestOf};
-ghost use Rattle.lsm_sorted.specs.Mvcc.{CanStep, mvcc_size, mvcc_outlook, read_from};
-ghost use Rattle.lsm_sorted.specs.Outlook.{before_any};
+ghost use Rattle.lsm_sorted.specs.Words as spec;
 
 use crate::give_up::give_up;
 use crate::peeked::Peeked;
@@ -16,13 +9,13 @@ use std::alloc::Allocator;
 
 // Tests equality only, which requires less of the order than the test at the back.
 fn has_other_key<A: Allocator>(x: &InternalValue<A>, y: &InternalValue<A>) -> bool
-    ensures { result ≡ not (same_key x.now.user_key y.now.user_key) }
+    ensures { result ≡ not (spec.same_key x.now.user_key y.now.user_key) }
 {
     x.key.user_key != y.key.user_key
 }
 
 fn has_lower_key<A: Allocator>(x: &InternalValue<A>, y: &InternalValue<A>) -> bool
-    ensures { result ≡ key_lt x.now.user_key y.now.user_key }
+    ensures { result ≡ spec.key_lt x.now.user_key y.now.user_key }
 {
     x.key.user_key < y.key.user_key
 }
@@ -48,21 +41,21 @@ impl<I: Iterator<Item = IterItem<A>>, A: Allocator> MvccStream<I> {
     /// The call does not poll the source. For calls at both ends, see
     /// [`MvccStream::from_both_ends`].
     pub fn new(iter: I) -> Self
-        ensures starts { mvcc_outlook result ≡ before_any iter }
-        ensures may { CanYield I.next_gives nowhere I.can_next I.can_next iter →
-            IsFinite (I.remaining iter) →
-            MayStep I.next_gives nowhere I.can_next I.can_next I.remaining result }
+        ensures starts { spec.mvcc_outlook result ≡ spec.before_any iter }
+        ensures may { spec.CanYield I.next_gives spec.nowhere I.can_next I.can_next iter →
+            spec.IsFinite (I.remaining iter) →
+            spec.MayStep I.next_gives spec.nowhere I.can_next I.can_next I.remaining result }
         // For any source, errors included, the results are those of the steps on it.
-        ensures heard { AnswersSteps I.next_gives nowhere iter
-            ⟦<MvccStream<I> as Iterator>⟧.next_gives nowhere result }
+        ensures heard { spec.AnswersSteps I.next_gives spec.nowhere iter
+            ⟦<MvccStream<I> as Iterator>⟧.next_gives spec.nowhere result }
         // For any list, the same up to an error that stops the source.
-        ensures steps { YieldsSteps I.next_gives nowhere iter
-            ⟦<MvccStream<I> as Iterator>⟧.next_gives nowhere result }
+        ensures steps { spec.YieldsSteps I.next_gives spec.nowhere iter
+            ⟦<MvccStream<I> as Iterator>⟧.next_gives spec.nowhere result }
         // For sorted entries, it yields the newest version of each key.
-        ensures newest { YieldsNewestOf I.next_gives nowhere iter
-            ⟦<MvccStream<I> as Iterator>⟧.next_gives nowhere result }
-        ensures can { CanStep I.next_gives nowhere iter
-            ⟦<MvccStream<I> as Iterator>⟧.next_gives nowhere result
+        ensures newest { spec.YieldsNewestOf I.next_gives spec.nowhere iter
+            ⟦<MvccStream<I> as Iterator>⟧.next_gives spec.nowhere result }
+        ensures can { spec.CanStep I.next_gives spec.nowhere iter
+            ⟦<MvccStream<I> as Iterator>⟧.next_gives spec.nowhere result
             I.can_next I.can_next I.remaining
             ⟦<MvccStream<I> as Iterator>⟧.can_next ⟦<MvccStream<I> as Iterator>⟧.can_next }
     {
@@ -75,7 +68,7 @@ impl<I: Iterator<Item = IterItem<A>>, A: Allocator> MvccStream<I> {
 impl<I: Iterator<Item = IterItem<A>>, A: Allocator> MvccStream<I> {
     // The source of the stream, in any state of the stream.
     pub(crate) fn source(&self) -> &I
-        ensures { result.now ≡ read_from self.now }
+        ensures { result.now ≡ spec.read_from self.now }
     {
         &self.inner.source.iter
     }
@@ -86,20 +79,20 @@ impl<I: DoubleEndedIterator<Item = IterItem<A>>, A: Allocator> MvccStream<I> {
     ///
     /// The call does nothing: its contract states the law.
     pub fn from_both_ends(&self)
-        ensures heard { (iter : I) → mvcc_outlook self.now ≡ before_any iter →
-            AnswersSteps I.next_gives I.next_back_gives iter
+        ensures heard { (iter : I) → spec.mvcc_outlook self.now ≡ spec.before_any iter →
+            spec.AnswersSteps I.next_gives I.next_back_gives iter
             ⟦<MvccStream<I> as Iterator>⟧.next_gives
             ⟦<MvccStream<I> as DoubleEndedIterator>⟧.next_back_gives self.now }
-        ensures steps { (iter : I) → mvcc_outlook self.now ≡ before_any iter →
-            YieldsSteps I.next_gives I.next_back_gives iter
+        ensures steps { (iter : I) → spec.mvcc_outlook self.now ≡ spec.before_any iter →
+            spec.YieldsSteps I.next_gives I.next_back_gives iter
             ⟦<MvccStream<I> as Iterator>⟧.next_gives
             ⟦<MvccStream<I> as DoubleEndedIterator>⟧.next_back_gives self.now }
-        ensures newest { (iter : I) → mvcc_outlook self.now ≡ before_any iter →
-            YieldsNewestOf I.next_gives I.next_back_gives iter
+        ensures newest { (iter : I) → spec.mvcc_outlook self.now ≡ spec.before_any iter →
+            spec.YieldsNewestOf I.next_gives I.next_back_gives iter
             ⟦<MvccStream<I> as Iterator>⟧.next_gives
             ⟦<MvccStream<I> as DoubleEndedIterator>⟧.next_back_gives self.now }
-        ensures can { (iter : I) → mvcc_outlook self.now ≡ before_any iter →
-            CanStep I.next_gives I.next_back_gives iter
+        ensures can { (iter : I) → spec.mvcc_outlook self.now ≡ spec.before_any iter →
+            spec.CanStep I.next_gives I.next_back_gives iter
             ⟦<MvccStream<I> as Iterator>⟧.next_gives
             ⟦<MvccStream<I> as DoubleEndedIterator>⟧.next_back_gives self.now
             I.can_next I.can_next_back I.remaining
@@ -111,12 +104,12 @@ impl<I: DoubleEndedIterator<Item = IterItem<A>>, A: Allocator> MvccStream<I> {
 impl<I: Iterator<Item = IterItem<A>>, A: Allocator> Iterator for MvccStream<I> {
     type Item = IterItem<A>;
 
-    ghost can_next = { MayStep I.next_gives nowhere I.can_next I.can_next I.remaining };
+    ghost can_next = { spec.MayStep I.next_gives spec.nowhere I.can_next I.can_next I.remaining };
 
-    ghost next_gives = { StepsAt (MayStep I.next_gives nowhere I.can_next I.can_next I.remaining)
-        I.next_gives Front front_step };
+    ghost next_gives = { spec.StepsAt (spec.MayStep I.next_gives spec.nowhere I.can_next I.can_next
+        I.remaining) I.next_gives spec.Front spec.front_step };
 
-    ghost remaining = { λ s. at_most (mvcc_size I.remaining s) };
+    ghost remaining = { λ s. spec.at_most (spec.mvcc_size I.remaining s) };
 
     fn next(&mut self) -> Option<IterItem<A>> {
         let head = match self.inner.next() {
@@ -145,11 +138,11 @@ impl<I: Iterator<Item = IterItem<A>>, A: Allocator> Iterator for MvccStream<I> {
 
 impl<I: DoubleEndedIterator<Item = IterItem<A>>, A: Allocator> DoubleEndedIterator
     for MvccStream<I> {
-    ghost can_next_back = { MayStep I.next_gives I.next_back_gives I.can_next I.can_next_back
+    ghost can_next_back = { spec.MayStep I.next_gives I.next_back_gives I.can_next I.can_next_back
         I.remaining };
 
-    ghost next_back_gives = { StepsAt (MayStep I.next_gives I.next_back_gives I.can_next
-        I.can_next_back I.remaining) I.next_back_gives Back back_step };
+    ghost next_back_gives = { spec.StepsAt (spec.MayStep I.next_gives I.next_back_gives I.can_next
+        I.can_next_back I.remaining) I.next_back_gives spec.Back spec.back_step };
 
     fn next_back(&mut self) -> Option<IterItem<A>> {
         let mut tail = match self.inner.next_back() {

@@ -1,10 +1,6 @@
 //! The newest version of each key of several sources.
 ghost use Rattle.std.specs.Prelude.{◌≡◌, IfOk, IfErr, All, List};
-ghost use Rattle.std.specs.Iterator.{IsFinite};
-ghost use Rattle.sst_entries.specs.Stream.{CanYield, nowhere};
-ghost use Rattle.sst_entries.specs.declared.error.Error.TheVariants.{OutOfMemory};
-ghost use Rattle.lsm_sorted.specs.NewestLaws.{YieldsNewest, YieldsNewestUntilError, AnswersNewest};
-ghost use Rattle.lsm_sorted.specs.NewestLaws.{IsNewestOf, IsOverMerged, CanAskNewest};
+ghost use Rattle.lsm_sorted.specs.Words as spec;
 
 use crate::mvcc_stream::MvccStream;
 use crate::{Merger, from_both_ends};
@@ -26,29 +22,30 @@ pub fn newest_of<I: Iterator<Item = IterItem<A>>, A: Allocator + Clone>(
     alloc: A,
     iterators: Vec<I, A>,
 ) -> Result<MvccStream<Merger<I, A>>, Error>
-    ensures starts { IfOk result (IsNewestOf iterators.items) }
+    ensures starts { IfOk result (spec.IsNewestOf iterators.items) }
     // For sorted sources without errors, it yields the newest version of each key of their merged
     // entries.
-    ensures yields { IfOk result (YieldsNewest I.next_gives nowhere iterators.items
-        ⟦<NewestOf<I, A> as Iterator>⟧.next_gives nowhere) }
+    ensures yields { IfOk result (spec.YieldsNewest I.next_gives spec.nowhere iterators.items
+        ⟦<NewestOf<I, A> as Iterator>⟧.next_gives spec.nowhere) }
     // With errors, it yields the same until a call returns an error.
-    ensures until { IfOk result (YieldsNewestUntilError I.next_gives nowhere iterators.items
-        ⟦<NewestOf<I, A> as Iterator>⟧.next_gives nowhere) }
+    ensures until { IfOk result
+        (spec.YieldsNewestUntilError I.next_gives spec.nowhere iterators.items
+        ⟦<NewestOf<I, A> as Iterator>⟧.next_gives spec.nowhere) }
     // After an error too, the results are those of the stream's steps on the merged entries. There,
     // the first error met replaces a stretch of entries.
-    ensures past { IfOk result (AnswersNewest I.next_gives nowhere iterators.items
-        ⟦<NewestOf<I, A> as Iterator>⟧.next_gives nowhere) }
-    ensures over { IfOk result (IsOverMerged I.next_gives nowhere iterators.items
-        ⟦<Merger<I, A> as Iterator>⟧.next_gives nowhere) }
-    ensures can { IfOk result (CanAskNewest I.next_gives nowhere I.can_next I.can_next I.remaining
-        iterators.items ⟦<NewestOf<I, A> as Iterator>⟧.next_gives nowhere
+    ensures past { IfOk result (spec.AnswersNewest I.next_gives spec.nowhere iterators.items
+        ⟦<NewestOf<I, A> as Iterator>⟧.next_gives spec.nowhere) }
+    ensures over { IfOk result (spec.IsOverMerged I.next_gives spec.nowhere iterators.items
+        ⟦<Merger<I, A> as Iterator>⟧.next_gives spec.nowhere) }
+    ensures can { IfOk result (spec.CanAskNewest I.next_gives spec.nowhere I.can_next I.can_next
+        I.remaining iterators.items ⟦<NewestOf<I, A> as Iterator>⟧.next_gives spec.nowhere
         ⟦<NewestOf<I, A> as Iterator>⟧.can_next
         ⟦<NewestOf<I, A> as Iterator>⟧.can_next) }
     // A `for` loop may iterate over it.
-    ensures next { All (CanYield I.next_gives nowhere I.can_next I.can_next) iterators.items →
-        All (λ i. IsFinite (I.remaining i)) iterators.items →
+    ensures next { All (spec.CanYield I.next_gives spec.nowhere I.can_next I.can_next)
+        iterators.items → All (λ i. spec.IsFinite (I.remaining i)) iterators.items →
         IfOk result (λ s. ⟦<NewestOf<I, A> as Iterator>⟧.can_next s) }
-    ensures err { IfErr result (λ e. e ≡ OutOfMemory) }
+    ensures err { IfErr result (λ e. e ≡ spec.OutOfMemory) }
 {
     let merger = Merger::new(alloc, iterators)?;
     Ok(MvccStream::new(merger))
@@ -60,37 +57,37 @@ pub fn newest_of<I: Iterator<Item = IterItem<A>>, A: Allocator + Clone>(
 pub fn newest_from_both_ends<I: DoubleEndedIterator<Item = IterItem<A>>, A: Allocator>(
     stream: &MvccStream<Merger<I, A>>,
 )
-    ensures yields { (its : List I) → IsNewestOf its stream.now →
-        YieldsNewest I.next_gives I.next_back_gives its
+    ensures yields { (its : List I) → spec.IsNewestOf its stream.now →
+        spec.YieldsNewest I.next_gives I.next_back_gives its
         ⟦<NewestOf<I, A> as Iterator>⟧.next_gives
         ⟦<NewestOf<I, A> as DoubleEndedIterator>⟧.next_back_gives stream.now }
-    ensures until { (its : List I) → IsNewestOf its stream.now →
-        YieldsNewestUntilError I.next_gives I.next_back_gives its
+    ensures until { (its : List I) → spec.IsNewestOf its stream.now →
+        spec.YieldsNewestUntilError I.next_gives I.next_back_gives its
         ⟦<NewestOf<I, A> as Iterator>⟧.next_gives
         ⟦<NewestOf<I, A> as DoubleEndedIterator>⟧.next_back_gives stream.now }
     // After an error too, the results are those of the stream's steps on the merged entries. There,
     // the first error met replaces a stretch of entries.
-    ensures past { (its : List I) → IsNewestOf its stream.now →
-        AnswersNewest I.next_gives I.next_back_gives its
+    ensures past { (its : List I) → spec.IsNewestOf its stream.now →
+        spec.AnswersNewest I.next_gives I.next_back_gives its
         ⟦<NewestOf<I, A> as Iterator>⟧.next_gives
         ⟦<NewestOf<I, A> as DoubleEndedIterator>⟧.next_back_gives stream.now }
-    ensures over { (its : List I) → IsNewestOf its stream.now →
-        IsOverMerged I.next_gives I.next_back_gives its ⟦<Merger<I, A> as Iterator>⟧.next_gives
+    ensures over { (its : List I) → spec.IsNewestOf its stream.now →
+        spec.IsOverMerged I.next_gives I.next_back_gives its ⟦<Merger<I, A> as Iterator>⟧.next_gives
         ⟦<Merger<I, A> as DoubleEndedIterator>⟧.next_back_gives stream.now }
-    ensures can { (its : List I) → IsNewestOf its stream.now →
-        CanAskNewest I.next_gives I.next_back_gives I.can_next I.can_next_back I.remaining its
+    ensures can { (its : List I) → spec.IsNewestOf its stream.now →
+        spec.CanAskNewest I.next_gives I.next_back_gives I.can_next I.can_next_back I.remaining its
         ⟦<NewestOf<I, A> as Iterator>⟧.next_gives
         ⟦<NewestOf<I, A> as DoubleEndedIterator>⟧.next_back_gives
         ⟦<NewestOf<I, A> as Iterator>⟧.can_next
         ⟦<NewestOf<I, A> as DoubleEndedIterator>⟧.can_next_back stream.now }
     // A `for` loop may iterate over it, from the front or from the back.
-    ensures next { (its : List I) → IsNewestOf its stream.now →
-        All (CanYield I.next_gives I.next_back_gives I.can_next I.can_next_back) its →
-        All (λ i. IsFinite (I.remaining i)) its →
+    ensures next { (its : List I) → spec.IsNewestOf its stream.now →
+        All (spec.CanYield I.next_gives I.next_back_gives I.can_next I.can_next_back) its →
+        All (λ i. spec.IsFinite (I.remaining i)) its →
         ⟦<NewestOf<I, A> as Iterator>⟧.can_next stream.now }
-    ensures next_back { (its : List I) → IsNewestOf its stream.now →
-        All (CanYield I.next_gives I.next_back_gives I.can_next I.can_next_back) its →
-        All (λ i. IsFinite (I.remaining i)) its →
+    ensures next_back { (its : List I) → spec.IsNewestOf its stream.now →
+        All (spec.CanYield I.next_gives I.next_back_gives I.can_next I.can_next_back) its →
+        All (λ i. spec.IsFinite (I.remaining i)) its →
         ⟦<NewestOf<I, A> as DoubleEndedIterator>⟧.can_next_back stream.now }
 {
     from_both_ends(stream.source());

@@ -1,12 +1,6 @@
 //! An iterator with one slot for an entry at each end.
 ghost use Rattle.std.specs.Prelude.{◌≡◌, ℕ, ◌+◌, ◌<◌, ◌∷◌, ◌++◌, [], false};
-ghost use Rattle.std.specs.Iterator.{IsFinite};
-ghost use Rattle.lsm_sorted.specs.merge.Ends.{R, Goes, ends_size};
-ghost use Rattle.sst_entries.specs.declared.stream.Direction.TheVariants.{Front, Back};
-ghost use Rattle.sst_entries.specs.Stream.{Lowers, nowhere, front_of, back_of};
-ghost use Rattle.lsm_sorted.specs.Outlook.{IsStep};
-ghost use Rattle.lsm_sorted.specs.Hears.{Hears};
-ghost use Rattle.lsm_sorted.specs.Peeked.{peeked_size, peeked_outlook};
+ghost use Rattle.lsm_sorted.specs.Words as spec;
 
 use crate::Ends;
 use sst_entries::{InternalValue, IterItem};
@@ -37,12 +31,14 @@ impl<I: Iterator<Item = IterItem<A>>, A: Allocator> Peeked<I> {
     }
 
     pub(crate) fn next(&mut self) -> Option<IterItem<A>>
-        requires { Goes I.next_gives nowhere I.can_next I.can_next I.remaining self.old.source }
-        ensures goes { Goes I.next_gives nowhere I.can_next I.can_next I.remaining self.new.source }
-        ensures hears { Hears I.next_gives Front result (IsStep front_of result)
-            (peeked_outlook self.old) (peeked_outlook self.new) }
-        ensures lowers { Lowers result (peeked_size I.remaining self.old) (peeked_size I.remaining
-            self.new) }
+        requires { spec.Goes I.next_gives spec.nowhere I.can_next I.can_next I.remaining
+            self.old.source }
+        ensures goes { spec.Goes I.next_gives spec.nowhere I.can_next I.can_next I.remaining
+            self.new.source }
+        ensures hears { spec.Hears I.next_gives spec.Front result (spec.IsStep spec.front_of result)
+            (spec.peeked_outlook self.old) (spec.peeked_outlook self.new) }
+        ensures lowers { spec.Lowers result (spec.peeked_size I.remaining self.old)
+            (spec.peeked_size I.remaining self.new) }
         ensures free { self.new.front ≡ None }
     {
         if let Some(x) = self.front.take() {
@@ -61,9 +57,10 @@ impl<I: Iterator<Item = IterItem<A>>, A: Allocator> Peeked<I> {
     pub(crate) fn put_front(&mut self, x: InternalValue<A>)
         requires { self.old.front ≡ None }
         ensures source { self.new.source ≡ self.old.source }
-        ensures puts { Hears I.next_gives Front None (λ xs ys. ys ≡ Ok x ∷ xs)
-            (peeked_outlook self.old) (peeked_outlook self.new) }
-        ensures size { peeked_size I.remaining self.new ≡ peeked_size I.remaining self.old + 1 }
+        ensures puts { spec.Hears I.next_gives spec.Front None (λ xs ys. ys ≡ Ok x ∷ xs)
+            (spec.peeked_outlook self.old) (spec.peeked_outlook self.new) }
+        ensures size { spec.peeked_size I.remaining self.new ≡ spec.peeked_size I.remaining self.old
+            + 1 }
     {
         self.front = Some(Ok(x));
     }
@@ -71,14 +68,15 @@ impl<I: Iterator<Item = IterItem<A>>, A: Allocator> Peeked<I> {
 
 impl<I: DoubleEndedIterator<Item = IterItem<A>>, A: Allocator> Peeked<I> {
     pub(crate) fn next_back(&mut self) -> Option<IterItem<A>>
-        requires { Goes I.next_gives I.next_back_gives I.can_next I.can_next_back I.remaining
+        requires { spec.Goes I.next_gives I.next_back_gives I.can_next I.can_next_back I.remaining
             self.old.source }
-        ensures goes { Goes I.next_gives I.next_back_gives I.can_next I.can_next_back I.remaining
-            self.new.source }
-        ensures hears { Hears I.next_back_gives Back result (IsStep back_of result)
-            (peeked_outlook self.old) (peeked_outlook self.new) }
-        ensures lowers { Lowers result (peeked_size I.remaining self.old) (peeked_size I.remaining
-            self.new) }
+        ensures goes { spec.Goes I.next_gives I.next_back_gives I.can_next I.can_next_back
+            I.remaining self.new.source }
+        ensures hears { spec.Hears I.next_back_gives spec.Back result
+            (spec.IsStep spec.back_of result)
+            (spec.peeked_outlook self.old) (spec.peeked_outlook self.new) }
+        ensures lowers { spec.Lowers result (spec.peeked_size I.remaining self.old)
+            (spec.peeked_size I.remaining self.new) }
         ensures free { self.new.back ≡ None }
     {
         if let Some(x) = self.back.take() {
@@ -97,9 +95,10 @@ impl<I: DoubleEndedIterator<Item = IterItem<A>>, A: Allocator> Peeked<I> {
     pub(crate) fn put_back(&mut self, x: InternalValue<A>)
         requires { self.old.back ≡ None }
         ensures source { self.new.source ≡ self.old.source }
-        ensures puts { Hears I.next_back_gives Back None (λ xs ys. ys ≡ xs ++ Ok x ∷ [])
-            (peeked_outlook self.old) (peeked_outlook self.new) }
-        ensures size { peeked_size I.remaining self.new ≡ peeked_size I.remaining self.old + 1 }
+        ensures puts { spec.Hears I.next_back_gives spec.Back None (λ xs ys. ys ≡ xs ++ Ok x ∷ [])
+            (spec.peeked_outlook self.old) (spec.peeked_outlook self.new) }
+        ensures size { spec.peeked_size I.remaining self.new ≡ spec.peeked_size I.remaining self.old
+            + 1 }
     {
         self.back = Some(Ok(x));
     }

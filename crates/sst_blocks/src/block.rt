@@ -1,19 +1,7 @@
 //! Blocks: a checksummed payload of one kind.
 ghost use Rattle.std.specs.Prelude.{◌≡◌, ◌+◌, ◌++◌, ◌<◌, ◌^◌, List, Ok, true, length, IsTrue, IfOk};
 ghost use Rattle.std.specs.Prelude.{IfErr, OnOk, OnErr};
-ghost use Rattle.sst_blocks.specs.Words.{AreSpellable, AreSpellableHandles, AreStrictHandles};
-ghost use Rattle.sst_blocks.specs.Words.{Entry, Faults, Gives, Handle, HoldsEntries, IsBlock};
-ghost use Rattle.sst_blocks.specs.Words.{IsStrict, Loaded, LoadsBack, block_bytes, entries_of};
-ghost use Rattle.sst_blocks.specs.Words.{grammar_fault, handles_of, handles_payload, has_room};
-ghost use Rattle.sst_blocks.specs.Words.{header_len, in_grammar};
-ghost use Rattle.sst_blocks.specs.Words.{BloomFilter, IsBuilt, filter_in, is_filter, loaded};
-ghost use Rattle.sst_blocks.specs.Words.{payload};
-ghost use Rattle.sst_blocks.specs.Words.{payload_of, unless};
-ghost use Rattle.sst_blocks.specs.declared.block_type.BlockType.{BlockType};
-ghost use Rattle.sst_blocks.specs.declared.block_type.BlockType.TheVariants.{Filter, Index};
-ghost use Rattle.sst_blocks.specs.declared.version.TableVersion.{TableVersion};
-ghost use Rattle.sst_blocks.specs.declared.version.TableVersion.TheVariants.{V4};
-ghost use Rattle.sst_entries.specs.declared.error.Error.TheVariants.{OutOfMemory};
+ghost use Rattle.sst_blocks.specs.Words as spec;
 
 mod header;
 
@@ -108,10 +96,11 @@ impl<A: Allocator + Clone> Block<A> {
         is_tested: bool,
     ) -> Result<Block<A>, Error>
         requires short { length payload < 2 ^ 32 }
-        requires room { has_room version kind payload ≡ true }
-        requires tested { IsTrue is_tested → in_grammar version kind payload ≡ true }
-        ensures { Gives (λ (b : Loaded). b) result
-            (unless (grammar_fault version kind payload) (Ok (loaded version kind payload))) }
+        requires room { spec.has_room version kind payload ≡ true }
+        requires tested { IsTrue is_tested → spec.in_grammar version kind payload ≡ true }
+        ensures { spec.Gives (λ (b : spec.Loaded). b) result
+            (spec.unless (spec.grammar_fault version kind payload)
+            (Ok (spec.loaded version kind payload))) }
     {
         let starts = item_starts(alloc, version, kind, payload.as_slice(), is_tested)?;
         Ok(Block {
@@ -137,10 +126,10 @@ fn item_starts<A: Allocator>(
     is_tested: bool,
 ) -> Result<Vec<u32, A>, Error>
     requires short { length payload.now < 2 ^ 32 }
-    requires room { has_room version kind payload.now ≡ true }
-    requires tested { IsTrue is_tested → in_grammar version kind payload.now ≡ true }
-    ensures found { IfOk result (λ starts. IsBlock version kind payload.now starts.items) }
-    ensures refused { Faults result (grammar_fault version kind payload.now) }
+    requires room { spec.has_room version kind payload.now ≡ true }
+    requires tested { IsTrue is_tested → spec.in_grammar version kind payload.now ≡ true }
+    ensures found { IfOk result (λ starts. spec.IsBlock version kind payload.now starts.items) }
+    ensures refused { spec.Faults result (spec.grammar_fault version kind payload.now) }
 {
     match kind {
         BlockType::Data | BlockType::Meta => {
@@ -155,7 +144,7 @@ fn item_starts<A: Allocator>(
 ///
 /// This check precedes any allocation.
 pub(crate) fn has_room(version: TableVersion, kind: BlockType, payload: &[u8]) -> bool
-    ensures { result ≡ has_room version kind payload.now }
+    ensures { result ≡ spec.has_room version kind payload.now }
 {
     match kind {
         BlockType::Data | BlockType::Meta => has_room_for(payload, entry_head_len(version)),
@@ -166,7 +155,7 @@ pub(crate) fn has_room(version: TableVersion, kind: BlockType, payload: &[u8]) -
 
 /// Returns whether a payload has a number of probes from 1 to 30, and at least one byte of bits.
 fn is_filter(payload: &[u8]) -> bool
-    ensures { result ≡ is_filter payload.now }
+    ensures { result ≡ spec.is_filter payload.now }
 {
     match payload {
         [] | [_] => false,
@@ -188,13 +177,13 @@ impl<A: Allocator + Clone> Block<A> {
         kind: BlockType,
         compression: CompressionType,
     ) -> Result<BlockHandle, Error>
-        requires { length payload.now + header_len < 2 ^ 32 }
-        ensures ok { let bytes = writer.old.bytes ++ block_bytes V4 kind payload.now in
+        requires { length payload.now + spec.header_len < 2 ^ 32 }
+        ensures ok { let bytes = writer.old.bytes ++ spec.block_bytes spec.V4 kind payload.now in
             OnOk result (writer.new ≡ record writer.old { bytes = bytes }) }
-        ensures handle { let size = header_len + length payload.now in
+        ensures handle { let size = spec.header_len + length payload.now in
             IfOk result (λ h. h ≡ record { offset = length writer.old.bytes; size = size }) }
         ensures unchanged { OnErr result (writer.new ≡ writer.old) }
-        ensures err { IfErr result (λ e. e ≡ OutOfMemory) }
+        ensures err { IfErr result (λ e. e ≡ spec.OutOfMemory) }
     {
         match compression {
             CompressionType::None => {}
@@ -218,17 +207,22 @@ impl<A: Allocator + Clone> Block<A> {
 /// must be shorter than 2^32 bytes. The bytes around the block do not matter. This is a lemma for
 /// proofs; the call has no effect.
 pub fn written_blocks_load()
-    ensures entries { (v : TableVersion) (kind : BlockType) (es : List Entry) → HoldsEntries kind →
-        IsStrict es → AreSpellable v es → length (payload v es) < 2 ^ 32 →
-        LoadsBack v kind (payload v es) × (entries_of (loaded v kind (payload v es)) ≡ es) }
-    ensures handles { (v : TableVersion) (hs : List Handle) →
-        AreStrictHandles hs → AreSpellableHandles v hs →
-        length (handles_payload v hs) < 2 ^ 32 → LoadsBack v Index (handles_payload v hs)
-        × (handles_of (loaded v Index (handles_payload v hs)) ≡ hs) }
-    ensures filters { (v : TableVersion) (f : BloomFilter) →
-        is_filter (payload_of f) ≡ true → length (payload_of f) < 2 ^ 32 →
-        LoadsBack v Filter (payload_of f) × (filter_in (payload_of f) ≡ f) }
+    ensures entries { (v : spec.TableVersion) (kind : spec.BlockType) (es : List spec.Entry) →
+        spec.HoldsEntries kind →
+        spec.IsStrict es → spec.AreSpellable v es → length (spec.payload v es) < 2 ^ 32 →
+        spec.LoadsBack v kind (spec.payload v es)
+        × (spec.entries_of (spec.loaded v kind (spec.payload v es)) ≡ es) }
+    ensures handles { (v : spec.TableVersion) (hs : List spec.Handle) →
+        spec.AreStrictHandles hs → spec.AreSpellableHandles v hs →
+        length (spec.handles_payload v hs) < 2 ^ 32 →
+        spec.LoadsBack v spec.Index (spec.handles_payload v hs)
+        × (spec.handles_of (spec.loaded v spec.Index (spec.handles_payload v hs)) ≡ hs) }
+    ensures filters { (v : spec.TableVersion) (f : spec.BloomFilter) →
+        spec.is_filter (spec.payload_of f) ≡ true → length (spec.payload_of f) < 2 ^ 32 →
+        spec.LoadsBack v spec.Filter (spec.payload_of f)
+        × (spec.filter_in (spec.payload_of f) ≡ f) }
     // A builder returns the payload of such a filter.
-    ensures built { (v : TableVersion) (f : BloomFilter) → IsBuilt f →
-        LoadsBack v Filter (payload_of f) × (filter_in (payload_of f) ≡ f) }
+    ensures built { (v : spec.TableVersion) (f : spec.BloomFilter) → spec.IsBuilt f →
+        spec.LoadsBack v spec.Filter (spec.payload_of f)
+        × (spec.filter_in (spec.payload_of f) ≡ f) }
 {}

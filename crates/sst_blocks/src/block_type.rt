@@ -1,6 +1,6 @@
 //! Kinds of blocks.
 ghost use Rattle.std.specs.Prelude.{◌≡◌};
-ghost use Rattle.sst_blocks.specs.Block.{kind_tag};
+ghost use Rattle.sst_blocks.specs.Words as spec;
 
 /// The kind of a block.
 ///
@@ -20,7 +20,7 @@ pub enum BlockType {
 impl BlockType {
     /// Returns the kind byte that a header stores.
     pub fn tag(self) -> u8
-        ensures { result ≡ kind_tag self }
+        ensures { result ≡ spec.kind_tag self }
     {
         self as u8
     }

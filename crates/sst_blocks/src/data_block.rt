@@ -2,21 +2,7 @@
 ghost use Rattle.std.specs.Prelude.{◌≡◌, ℕ, ◌+◌, ◌++◌, ◌<◌, ◌≤◌, ◌≢◌, ◌^◌, ◌↔◌, List, [], Some};
 ghost use Rattle.std.specs.Prelude.{None, Bool, true, false, not, is_some, length, IsTrue, IfOk};
 ghost use Rattle.std.specs.Prelude.{IfErr, OnOk, OnErr, slice_range};
-ghost use Rattle.std.specs.List.{slice_get};
-ghost use Rattle.std.specs.List.Sorted.{IsPartitionedBy};
-ghost use Rattle.std.specs.Option.{option_map};
-ghost use Rattle.sst_blocks.specs.Words.{AreSpellable, CanYield, YieldsExactly, EndsAtError, EntriesAt};
-ghost use Rattle.sst_blocks.specs.Words.{Entry, Faults, FaultsFirst, HoldsEntries, IsStrict};
-ghost use Rattle.sst_blocks.specs.Words.{answer_stops, cursor_of, data_block_bound_of};
-ghost use Rattle.sst_blocks.specs.Words.{entries_fault};
-ghost use Rattle.sst_blocks.specs.Words.{entries_in, entries_of, entry_of_ref, front_length};
-ghost use Rattle.sst_blocks.specs.Words.{has_room_for, header_len, is_memory};
-ghost use Rattle.sst_blocks.specs.Version.{key_width};
-ghost use Rattle.sst_blocks.specs.Words.{key_and_number, key_lt, ok_results, payload, point};
-ghost use Rattle.sst_blocks.specs.Words.{whole_span};
-ghost use Rattle.sst_entries.specs.declared.error.Error.{Error};
-ghost use Rattle.sst_entries.specs.declared.error.Error.TheVariants.{OutOfMemory, InvalidBlock};
-ghost use Rattle.sst_blocks.specs.declared.version.TableVersion.TheVariants.{V4};
+ghost use Rattle.sst_blocks.specs.Words as spec;
 
 mod cursor;
 mod encode;
@@ -90,7 +76,7 @@ impl<A: Allocator> Clone for DataBlock<A> {
 ///
 /// The bound includes the header and saturates at `u64::MAX`.
 pub fn data_block_bound<A: Allocator>(items: &[InternalValue<A>]) -> u64
-    ensures { result ≡ data_block_bound_of items.now }
+    ensures { result ≡ spec.data_block_bound_of items.now }
 {
     block_bound(items)
 }
@@ -98,8 +84,8 @@ pub fn data_block_bound<A: Allocator>(items: &[InternalValue<A>]) -> u64
 impl<A: Allocator> DataBlock<A> {
     /// Returns the entries of a loaded block, which must be of kind `Data` or `Meta`.
     pub fn new(block: Block<A>) -> DataBlock<A>
-        requires { HoldsEntries block.kind }
-        ensures { result ≡ entries_of block }
+        requires { spec.HoldsEntries block.kind }
+        ensures { result ≡ spec.entries_of block }
     {
         DataBlock {
             version: block.version,
@@ -127,18 +113,20 @@ impl<A: Allocator> DataBlock<A> {
         restart_interval: u8,
         hash_ratio: u32,
     ) -> Result<(), Error>
-        requires { IsStrict items.now }
-        ensures ok { OnOk result (buf.new.items ≡ buf.old.items ++ payload V4 items.now) }
+        requires { spec.IsStrict items.now }
+        ensures ok { OnOk result (buf.new.items ≡ buf.old.items ++ spec.payload spec.V4 items.now) }
         ensures unchanged { OnErr result (buf.new.items ≡ buf.old.items) }
-        ensures refused { Faults result (entries_fault items.now) }
+        ensures refused { spec.Faults result (spec.entries_fault items.now) }
         // Faults of the entries come before any `OutOfMemory`.
-        ensures first { FaultsFirst result (entries_fault items.now) }
+        ensures first { spec.FaultsFirst result (spec.entries_fault items.now) }
         // The payload encodes the entries, and the block's length equals the bound.
-        ensures fit { OnOk result (AreSpellable V4 items.now) }
-        ensures reads { OnOk result (entries_in V4 (payload V4 items.now) ≡ Some items.now) }
-        ensures bound { let len = header_len + length (payload V4 items.now) in
-            OnOk result (len ≡ data_block_bound_of items.now) }
-        ensures short { OnOk result (header_len + length (payload V4 items.now) < 2 ^ 32) }
+        ensures fit { OnOk result (spec.AreSpellable spec.V4 items.now) }
+        ensures reads { OnOk result (spec.entries_in spec.V4 (spec.payload spec.V4 items.now)
+            ≡ Some items.now) }
+        ensures bound { let len = spec.header_len + length (spec.payload spec.V4 items.now) in
+            OnOk result (len ≡ spec.data_block_bound_of items.now) }
+        ensures short { OnOk result (spec.header_len + length (spec.payload spec.V4 items.now) < 2 ^
+            32) }
     {
         let _ = restart_interval;
         let _ = hash_ratio;
@@ -148,7 +136,7 @@ impl<A: Allocator> DataBlock<A> {
     /// Returns the number of entries.
     pub fn len(&self) -> usize
         ensures value { result ≡ length self.now }
-        ensures strict { IsStrict self.now }
+        ensures strict { spec.IsStrict self.now }
     {
         self.starts.len()
     }
@@ -165,7 +153,7 @@ impl<A: Allocator> DataBlock<A> {
     #[tactic(auto, unfolding(crate::specs::Reading::entries_in))]
     pub fn entry_ref(&self, index: usize) -> EntryRef<'_>
         requires { index < length self.now }
-        ensures { slice_get self.now index ≡ Some (entry_of_ref result) }
+        ensures { spec.slice_get self.now index ≡ Some (spec.entry_of_ref result) }
     {
         item_at(self.version, self.payload.as_slice(), &self.starts, index)
     }
@@ -177,7 +165,7 @@ impl<A: Allocator> DataBlock<A> {
     #[tactic(auto, unfolding(crate::specs::Reading::entries_in))]
     pub fn key_at(&self, index: usize) -> (&[u8], SeqNo)
         requires { index < length self.now }
-        ensures { option_map key_and_number (slice_get self.now index)
+        ensures { spec.option_map spec.key_and_number (spec.slice_get self.now index)
             ≡ Some (result.0.now, result.1) }
     {
         key_at::<EntryRef<'_>, A>(self.version, self.payload.as_slice(), &self.starts, index)
@@ -186,9 +174,9 @@ impl<A: Allocator> DataBlock<A> {
     // The entry at an index, already read. Its key and value share the block's memory.
     #[inline(always)]
     fn share(&self, index: usize, entry: &EntryRef<'_>) -> Result<InternalValue<A>, Error>
-        requires { slice_get self.now index ≡ Some (entry_of_ref entry.now) }
-        ensures found { IfOk result (λ e. e ≡ entry_of_ref entry.now) }
-        ensures err { IfErr result (λ e. e ≡ OutOfMemory) }
+        requires { spec.slice_get self.now index ≡ Some (spec.entry_of_ref entry.now) }
+        ensures found { IfOk result (λ e. e ≡ spec.entry_of_ref entry.now) }
+        ensures err { IfErr result (λ e. e ≡ spec.OutOfMemory) }
     {
         let key_at = self.starts.at(index) + head_len(self.version);
         EntryPlace::of(key_at, entry).share(&self.payload)
@@ -204,8 +192,8 @@ impl<A: Allocator> DataBlock<A> {
     #[inline(always)]
     pub fn entry(&self, index: usize) -> Result<InternalValue<A>, Error>
         requires { index < length self.now }
-        ensures found { IfOk result (λ e. slice_get self.now index ≡ Some e) }
-        ensures err { IfErr result (λ e. e ≡ OutOfMemory) }
+        ensures found { IfOk result (λ e. spec.slice_get self.now index ≡ Some e) }
+        ensures err { IfErr result (λ e. e ≡ spec.OutOfMemory) }
     {
         self.share(index, &self.entry_ref(index))
     }
@@ -216,11 +204,11 @@ impl<A: Allocator> DataBlock<A> {
     fn front_len<P: Fn(&[u8], SeqNo) -> bool>(&self, passes: P) -> usize
         requires { P.IsAlwaysCallable passes }
         ensures within { result ≤ length self.now }
-        ensures strict { IsStrict self.now }
+        ensures strict { spec.IsStrict self.now }
         ensures value { (p : List ℕ → ℕ → Bool) →
             ((key : _) (n : _) (r : _) → P.post passes key n r → r ≡ p key.now n) →
-            let q = λ (e : Entry). p e.user_key e.seqno in
-            IsPartitionedBy q self.now → result ≡ front_length q self.now }
+            let q = λ (e : spec.Entry). p e.user_key e.seqno in
+            spec.IsPartitionedBy q self.now → result ≡ spec.front_length q self.now }
     {
         let payload = self.payload.as_slice();
         front_len::<EntryRef<'_>, A, P>(self.version, payload, &self.starts, passes)
@@ -230,9 +218,9 @@ impl<A: Allocator> DataBlock<A> {
     ///
     /// If there is none, it returns the number of entries. It is a binary search.
     pub fn first_at_least(&self, key: &[u8]) -> usize
-        ensures place { result ≡ front_length (λ e. key_lt e.user_key key.now) self.now }
+        ensures place { result ≡ spec.front_length (λ e. spec.key_lt e.user_key key.now) self.now }
         ensures within { result ≤ length self.now }
-        ensures strict { IsStrict self.now }
+        ensures strict { spec.IsStrict self.now }
     {
         self.front_len(|user_key, _| user_key.cmp(key).is_lt())
     }
@@ -241,25 +229,27 @@ impl<A: Allocator> DataBlock<A> {
     ///
     /// If there is none, it returns the number of entries. It is a binary search.
     pub fn first_above(&self, key: &[u8]) -> usize
-        ensures place { result ≡ front_length (λ e. not (key_lt key.now e.user_key)) self.now }
+        ensures place { result ≡ spec.front_length (λ e. not (spec.key_lt key.now e.user_key))
+            self.now }
         ensures within { result ≤ length self.now }
-        ensures strict { IsStrict self.now }
+        ensures strict { spec.IsStrict self.now }
     {
         self.front_len(|user_key, _| !key.cmp(user_key).is_lt())
     }
 
     /// Returns an iterator over the entries, from both ends.
     pub fn iter<'a>(&'a self) -> Iter<'a, A>
-        ensures span { result ≡ whole_span self.now }
-        ensures yields { (stops : Error → Bool) → stops OutOfMemory ≡ true →
-            YieldsExactly (answer_stops stops) ⟦<Iter<'a, A> as Iterator>⟧.next_gives
-            ⟦<Iter<'a, A> as DoubleEndedIterator>⟧.next_back_gives result (ok_results self.now) }
-        ensures can { CanYield ⟦<Iter<'a, A> as Iterator>⟧.next_gives
+        ensures span { result ≡ spec.whole_span self.now }
+        ensures yields { (stops : spec.Error → Bool) → stops spec.OutOfMemory ≡ true →
+            spec.YieldsExactly (spec.answer_stops stops) ⟦<Iter<'a, A> as Iterator>⟧.next_gives
+            ⟦<Iter<'a, A> as DoubleEndedIterator>⟧.next_back_gives result
+            (spec.ok_results self.now) }
+        ensures can { spec.CanYield ⟦<Iter<'a, A> as Iterator>⟧.next_gives
             ⟦<Iter<'a, A> as DoubleEndedIterator>⟧.next_back_gives
             ⟦<Iter<'a, A> as Iterator>⟧.can_next
             ⟦<Iter<'a, A> as DoubleEndedIterator>⟧.can_next_back result }
         // After an error both ends yield only `None`.
-        ensures ends { EndsAtError ⟦<Iter<'a, A> as Iterator>⟧.next_gives
+        ensures ends { spec.EndsAtError ⟦<Iter<'a, A> as Iterator>⟧.next_gives
             ⟦<Iter<'a, A> as DoubleEndedIterator>⟧.next_back_gives result }
     {
         Iter::new(self)
@@ -267,7 +257,7 @@ impl<A: Allocator> DataBlock<A> {
 
     /// Converts the block into a cursor over its entries, from both ends.
     pub fn into_cursor(self) -> Cursor<A>
-        ensures { result ≡ cursor_of self }
+        ensures { result ≡ spec.cursor_of self }
     {
         let len = self.len();
         self.into_cursor_of(0, len)
@@ -278,7 +268,7 @@ impl<A: Allocator> DataBlock<A> {
     /// The caller ensures that `to` is at most [`DataBlock::len`].
     pub fn into_cursor_of(self, from: usize, to: usize) -> Cursor<A>
         requires { to ≤ length self }
-        ensures { result ≡ cursor_of (slice_range self from to) }
+        ensures { result ≡ spec.cursor_of (slice_range self from to) }
     {
         Cursor::new(self.version, self.payload, self.starts, from, to)
     }
@@ -291,10 +281,10 @@ impl<A: Allocator> DataBlock<A> {
     ///
     /// Fails only with [`Error::OutOfMemory`], and only if the entry exists.
     pub fn point_read(&self, key: &[u8], seqno: SeqNo) -> Result<Option<InternalValue<A>>, Error>
-        ensures found { IfOk result (λ found. found ≡ point self.now key.now seqno) }
-        ensures err { IfErr result (λ e. e ≡ OutOfMemory) }
+        ensures found { IfOk result (λ found. found ≡ spec.point self.now key.now seqno) }
+        ensures err { IfErr result (λ e. e ≡ spec.OutOfMemory) }
         // Without such an entry the call succeeds.
-        ensures some { OnErr result (point self.now key.now seqno ≢ None) }
+        ensures some { OnErr result (spec.point self.now key.now seqno ≢ None) }
     {
         let index = self.front_len(move |user_key, number| {
             !compare_versions(key, seqno, user_key, number).is_lt()

@@ -1,9 +1,6 @@
 //! The position of an entry in some bytes.
 ghost use Rattle.std.specs.Prelude.{◌≡◌, ◌+◌, ◌<◌, ◌≤◌, ◌^◌, length, slice_range, IfErr, IfOk};
-ghost use Rattle.std.specs.Option.{option_map};
-ghost use Rattle.sst_blocks.specs.EntryPlace.{IsPlacedIn, entry_placed, placed_in};
-ghost use Rattle.sst_entries.specs.Lending.{entry_of_ref};
-ghost use Rattle.sst_entries.specs.declared.error.Error.TheVariants.{OutOfMemory};
+ghost use Rattle.sst_blocks.specs.Words as spec;
 
 use crate::{EntryRef, Error, InternalValue, SeqNo, Slice, ValueType};
 use std::alloc::Allocator;
@@ -49,8 +46,8 @@ impl EntryPlace {
     /// Borrows the entry from the bytes that contain it.
     #[inline(always)]
     pub(crate) fn entry<'a>(&self, bytes: &'a [u8]) -> EntryRef<'a>
-        requires { IsPlacedIn bytes.now self.now }
-        ensures { entry_of_ref result ≡ entry_placed bytes.now self.now }
+        requires { spec.IsPlacedIn bytes.now self.now }
+        ensures { spec.entry_of_ref result ≡ spec.entry_placed bytes.now self.now }
     {
         EntryRef {
             user_key: &bytes[self.key_at..self.value_at],
@@ -63,7 +60,7 @@ impl EntryPlace {
     /// Borrows the entry, or returns `None` if the bytes are too short.
     #[inline]
     pub(crate) fn find<'a>(&self, bytes: &'a [u8]) -> Option<EntryRef<'a>>
-        ensures { option_map entry_of_ref result ≡ placed_in bytes.now self.now }
+        ensures { spec.option_map spec.entry_of_ref result ≡ spec.placed_in bytes.now self.now }
     {
         if self.value_at < self.key_at || self.end < self.value_at || bytes.len() < self.end {
             return None;
@@ -78,9 +75,9 @@ impl EntryPlace {
     /// Fails only with [`Error::OutOfMemory`].
     #[inline(always)]
     pub(crate) fn share<A: Allocator>(&self, bytes: &Slice<A>) -> Result<InternalValue<A>, Error>
-        requires { IsPlacedIn bytes.now self.now }
-        ensures found { IfOk result (λ e. e ≡ entry_placed bytes.now self.now) }
-        ensures err { IfErr result (λ e. e ≡ OutOfMemory) }
+        requires { spec.IsPlacedIn bytes.now self.now }
+        ensures found { IfOk result (λ e. e ≡ spec.entry_placed bytes.now self.now) }
+        ensures err { IfErr result (λ e. e ≡ spec.OutOfMemory) }
     {
         let key = bytes.slice(self.key_at, self.value_at)?;
         let value = bytes.slice(self.value_at, self.end)?;

@@ -1,8 +1,6 @@
 //! Filter blocks: a Bloom filter of a table or of a part of it.
 ghost use Rattle.std.specs.Prelude.{◌≡◌, ◌+◌, List, ℕ, true, length};
-ghost use Rattle.sst_blocks.specs.Words.{IsFilterOf, admits, filter_in, is_filter, is_in};
-ghost use Rattle.sst_blocks.specs.Words.{payload_of};
-ghost use Rattle.sst_blocks.specs.declared.block_type.BlockType.TheVariants.{Filter};
+ghost use Rattle.sst_blocks.specs.Words as spec;
 
 use crate::{Block, Slice, contains_hash};
 use std::alloc::{AllocError, Allocator, Global};
@@ -50,10 +48,10 @@ impl<A: Allocator> Clone for FilterBlock<A> {
 impl<A: Allocator> FilterBlock<A> {
     /// Returns the filter of a loaded block, which must be of kind `Filter`.
     pub fn new(block: Block<A>) -> FilterBlock<A>
-        requires { block.kind ≡ Filter }
-        ensures filter { result ≡ filter_in block.payload }
-        ensures payload { payload_of result ≡ block.payload }
-        ensures grammar { is_filter block.payload ≡ true }
+        requires { block.kind ≡ spec.Filter }
+        ensures filter { result ≡ spec.filter_in block.payload }
+        ensures payload { spec.payload_of result ≡ block.payload }
+        ensures grammar { spec.is_filter block.payload ≡ true }
     {
         FilterBlock {
             payload: block.payload,
@@ -65,9 +63,9 @@ impl<A: Allocator> FilterBlock<A> {
     /// A `false` means that none was set. The call does not allocate.
     #[inline]
     pub fn maybe_contains_hash(&self, hash: u64) -> bool
-        ensures admits { result ≡ admits self.now hash }
-        ensures yes { (hashes : List ℕ) → IsFilterOf self.now hashes →
-            is_in hash hashes ≡ true → result ≡ true }
+        ensures admits { result ≡ spec.admits self.now hash }
+        ensures yes { (hashes : List ℕ) → spec.IsFilterOf self.now hashes →
+            spec.is_in hash hashes ≡ true → result ≡ true }
     {
         contains_hash(self.payload.as_slice(), hash)
     }

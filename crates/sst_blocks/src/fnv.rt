@@ -1,6 +1,6 @@
 //! The 64-bit FNV-1a hash: <http://www.isthe.com/chongo/tech/comp/fnv/>.
 ghost use Rattle.std.specs.Prelude.{◌≡◌, ◌↔◌, IsTrue};
-ghost use Rattle.sst_blocks.specs.Fnv.{fnv1a, fnv_back, fnv_basis, fnv_from, fnv_step};
+ghost use Rattle.sst_blocks.specs.Words as spec;
 
 const BASIS: u64 = 0xcbf2_9ce4_8422_2325;
 
@@ -16,14 +16,14 @@ pub struct Fnv1a(u64);
 impl Fnv1a {
     /// Returns the hash of no bytes.
     pub fn new() -> Fnv1a
-        ensures { result.0 ≡ fnv_basis }
+        ensures { result.0 ≡ spec.fnv_basis }
     {
         Fnv1a(BASIS)
     }
 
     /// Hashes more bytes.
     pub fn update(&mut self, bytes: &[u8])
-        ensures { self.new.0 ≡ fnv_from self.old.0 bytes.now }
+        ensures { self.new.0 ≡ spec.fnv_from self.old.0 bytes.now }
     {
         let mut hash = self.0;
         for byte in bytes {
@@ -44,8 +44,8 @@ impl Fnv1a {
 ///
 /// Each step waits for the one before it, so two hashes in one loop cost no more than one.
 pub fn update_both(first: &mut Fnv1a, first_bytes: &[u8], second: &mut Fnv1a, second_bytes: &[u8])
-    ensures first { first.new.0 ≡ fnv_from first.old.0 first_bytes.now }
-    ensures second { second.new.0 ≡ fnv_from second.old.0 second_bytes.now }
+    ensures first { first.new.0 ≡ spec.fnv_from first.old.0 first_bytes.now }
+    ensures second { second.new.0 ≡ spec.fnv_from second.old.0 second_bytes.now }
 {
     let both = first_bytes.len().min(second_bytes.len());
     let mut one = first.0;
@@ -64,10 +64,10 @@ pub fn update_both(first: &mut Fnv1a, first_bytes: &[u8], second: &mut Fnv1a, se
 ///
 /// One loop covers the length of the shortest run. There it costs little more than one hash.
 pub fn hash_four(first: &[u8], second: &[u8], third: &[u8], fourth: &[u8]) -> (u64, u64, u64, u64)
-    ensures first { result.0 ≡ fnv_from fnv_basis first.now }
-    ensures second { result.1 ≡ fnv_from fnv_basis second.now }
-    ensures third { result.2 ≡ fnv_from fnv_basis third.now }
-    ensures fourth { result.3 ≡ fnv_from fnv_basis fourth.now }
+    ensures first { result.0 ≡ spec.fnv_from spec.fnv_basis first.now }
+    ensures second { result.1 ≡ spec.fnv_from spec.fnv_basis second.now }
+    ensures third { result.2 ≡ spec.fnv_from spec.fnv_basis third.now }
+    ensures fourth { result.3 ≡ spec.fnv_from spec.fnv_basis fourth.now }
 {
     let two = first.len().min(second.len());
     let others = third.len().min(fourth.len());
@@ -92,7 +92,7 @@ pub fn hash_four(first: &[u8], second: &[u8], third: &[u8], fourth: &[u8]) -> (u
 
 // Continues a hash with more bytes.
 fn hash_on(hash: u64, bytes: &[u8]) -> u64
-    ensures { result ≡ fnv_from hash bytes.now }
+    ensures { result ≡ spec.fnv_from hash bytes.now }
 {
     let mut hash = Fnv1a(hash);
     hash.update(bytes);
@@ -101,14 +101,14 @@ fn hash_on(hash: u64, bytes: &[u8]) -> u64
 
 #[inline(always)]
 fn step(hash: u64, byte: u8) -> u64
-    ensures { result ≡ fnv_step hash byte }
+    ensures { result ≡ spec.fnv_step hash byte }
 {
     (hash ^ u64::from(byte)).wrapping_mul(PRIME)
 }
 
 #[inline(always)]
 fn step_back(hash: u64, byte: u8) -> u64
-    ensures { result ≡ fnv_back hash byte }
+    ensures { result ≡ spec.fnv_back hash byte }
 {
     hash.wrapping_mul(INVERSE) ^ u64::from(byte)
 }
@@ -118,15 +118,15 @@ fn step_back(hash: u64, byte: u8) -> u64
 /// A step can be undone. One loop hashes the front half and undoes the back half from `sum`. The
 /// hash matches if both meet.
 pub fn has_hash(bytes: &[u8], sum: u64) -> bool
-    ensures { IsTrue result ↔ (fnv1a bytes.now ≡ sum) }
+    ensures { IsTrue result ↔ (spec.fnv1a bytes.now ≡ sum) }
 {
     leads(BASIS, bytes, sum)
 }
 
 /// Tests two hashes as [`has_hash`], in one loop over the length of the shorter run.
 pub fn have_hashes(first: &[u8], first_sum: u64, second: &[u8], second_sum: u64) -> (bool, bool)
-    ensures first { IsTrue result.0 ↔ (fnv1a first.now ≡ first_sum) }
-    ensures second { IsTrue result.1 ↔ (fnv1a second.now ≡ second_sum) }
+    ensures first { IsTrue result.0 ↔ (spec.fnv1a first.now ≡ first_sum) }
+    ensures second { IsTrue result.1 ↔ (spec.fnv1a second.now ≡ second_sum) }
 {
     // Two bytes from each end per iteration: with one, loop overhead would delay the
     // multiplications.
@@ -155,7 +155,7 @@ pub fn have_hashes(first: &[u8], first_sum: u64, second: &[u8], second_sum: u64)
 
 // Returns whether hashing the bytes after `from` results in `to`.
 fn leads(from: u64, bytes: &[u8], to: u64) -> bool
-    ensures { IsTrue result ↔ (fnv_from from bytes.now ≡ to) }
+    ensures { IsTrue result ↔ (spec.fnv_from from bytes.now ≡ to) }
 {
     let half = bytes.len() / 2;
     let mut front = from;
@@ -169,7 +169,7 @@ fn leads(from: u64, bytes: &[u8], to: u64) -> bool
 
 /// Returns the FNV-1a hash of some bytes; filters use it for keys.
 pub fn hash(bytes: &[u8]) -> u64
-    ensures { result ≡ fnv_from fnv_basis bytes.now }
+    ensures { result ≡ spec.fnv_from spec.fnv_basis bytes.now }
 {
     let mut hash = Fnv1a::new();
     hash.update(bytes);

@@ -1,8 +1,6 @@
 //! Block handles: the position and size of a block.
 ghost use Rattle.std.specs.Prelude.{◌≡◌, ◌+◌, ◌<◌, ◌^◌, ◌↔◌, IsTrue, None, map};
-ghost use Rattle.std.specs.Option.{option_map};
-ghost use Rattle.sst_blocks.specs.Handles.{AreStrictHandles, end_of};
-ghost use Rattle.sst_entries.specs.Strict.{is_strict_after, may_follow};
+ghost use Rattle.sst_blocks.specs.Words as spec;
 
 use crate::{SeqNo, UserKey, compare_versions};
 use std::alloc::{AllocError, Allocator, Global};
@@ -147,8 +145,8 @@ impl<A: Allocator> KeyedBlockHandle<A> {
     /// Handles are ordered by end key ascending, then by sequence number descending. With `None` it
     /// returns `true`.
     pub fn may_follow(&self, last: Option<&KeyedBlockHandle<A>>) -> bool
-        ensures { let before = option_map (λ h. end_of h.now) last.entry in
-            result ≡ may_follow before (end_of self.now) }
+        ensures { let before = spec.option_map (λ h. spec.end_of h.now) last.entry in
+            result ≡ spec.may_follow before (spec.end_of self.now) }
     {
         match last {
             None => true,
@@ -186,8 +184,8 @@ impl<A: Allocator> KeyedBlockHandle<A> {
 ///
 /// The call is linear in the number of handles.
 pub fn are_strict_handles<A: Allocator>(handles: &[KeyedBlockHandle<A>]) -> bool
-    ensures test { result ≡ is_strict_after None (map end_of handles.now) }
-    ensures means { IsTrue result ↔ AreStrictHandles handles.now }
+    ensures test { result ≡ spec.is_strict_after None (map spec.end_of handles.now) }
+    ensures means { IsTrue result ↔ spec.AreStrictHandles handles.now }
 {
     let mut last: Option<&KeyedBlockHandle<A>> = None;
     for handle in handles {

@@ -1,19 +1,7 @@
 //! Index blocks: strict lists of block handles.
 ghost use Rattle.std.specs.Prelude.{◌≡◌, ◌+◌, ◌++◌, ◌<◌, ◌^◌, ◌≤◌, ◌↔◌, [], Bool, Some, None, true};
 ghost use Rattle.std.specs.Prelude.{not, length, find, IsTrue, IfOk, IfErr, OnOk, OnErr};
-ghost use Rattle.std.specs.List.{slice_get};
-ghost use Rattle.std.specs.Option.{option_map};
-ghost use Rattle.sst_blocks.specs.Words.{AreStrictHandles, CanYield, YieldsExactly, EndsAtError, Faults};
-ghost use Rattle.sst_blocks.specs.Words.{FaultsFirst, AreSpellableHandles, ok_results, end_of};
-ghost use Rattle.sst_blocks.specs.Words.{front_length};
-ghost use Rattle.sst_blocks.specs.Words.{handles_fault, handles_in, handles_of, handles_payload};
-ghost use Rattle.sst_blocks.specs.Words.{header_len};
-ghost use Rattle.sst_blocks.specs.Words.{index_block_bound_of, is_above, key_and_number, place_of};
-ghost use Rattle.sst_blocks.specs.Words.{reaches, handle_of_ref, answer_stops, whole_span};
-ghost use Rattle.sst_entries.specs.declared.error.Error.{Error};
-ghost use Rattle.sst_blocks.specs.declared.block_type.BlockType.TheVariants.{Index};
-ghost use Rattle.sst_entries.specs.declared.error.Error.TheVariants.{OutOfMemory};
-ghost use Rattle.sst_blocks.specs.declared.version.TableVersion.TheVariants.{V4};
+ghost use Rattle.sst_blocks.specs.Words as spec;
 
 mod encode;
 mod find;
@@ -84,7 +72,7 @@ impl<A: Allocator> Clone for IndexBlock<A> {
 ///
 /// The bound includes the header and saturates at `u64::MAX`.
 pub fn index_block_bound<A: Allocator>(handles: &[KeyedBlockHandle<A>]) -> u64
-    ensures { result ≡ index_block_bound_of handles.now }
+    ensures { result ≡ spec.index_block_bound_of handles.now }
 {
     block_bound(handles)
 }
@@ -92,8 +80,8 @@ pub fn index_block_bound<A: Allocator>(handles: &[KeyedBlockHandle<A>]) -> u64
 impl<A: Allocator> IndexBlock<A> {
     /// Returns the handles of a loaded block, which must be of kind `Index`.
     pub fn new(block: Block<A>) -> IndexBlock<A>
-        requires { block.kind ≡ Index }
-        ensures { result ≡ handles_of block }
+        requires { block.kind ≡ spec.Index }
+        ensures { result ≡ spec.handles_of block }
     {
         IndexBlock {
             version: block.version,
@@ -105,7 +93,7 @@ impl<A: Allocator> IndexBlock<A> {
     /// Returns the number of handles.
     pub fn len(&self) -> usize
         ensures value { result ≡ length self.now }
-        ensures strict { AreStrictHandles self.now }
+        ensures strict { spec.AreStrictHandles self.now }
     {
         self.starts.len()
     }
@@ -122,7 +110,7 @@ impl<A: Allocator> IndexBlock<A> {
     #[tactic(auto, unfolding(crate::specs::Handles::handles_in))]
     fn handle_ref(&self, index: usize) -> HandleRef<'_>
         requires { index < length self.now }
-        ensures { slice_get self.now index ≡ Some (handle_of_ref result) }
+        ensures { spec.slice_get self.now index ≡ Some (spec.handle_of_ref result) }
     {
         item_at(self.version, self.payload.as_slice(), &self.starts, index)
     }
@@ -136,8 +124,8 @@ impl<A: Allocator> IndexBlock<A> {
     /// Fails only with [`Error::OutOfMemory`].
     pub fn handle(&self, index: usize) -> Result<KeyedBlockHandle<A>, Error>
         requires { index < length self.now }
-        ensures found { IfOk result (λ h. slice_get self.now index ≡ Some h) }
-        ensures err { IfErr result (λ e. e ≡ OutOfMemory) }
+        ensures found { IfOk result (λ h. spec.slice_get self.now index ≡ Some h) }
+        ensures err { IfErr result (λ e. e ≡ spec.OutOfMemory) }
     {
         let handle = self.handle_ref(index);
         let start = self.starts.at(index);
@@ -152,7 +140,7 @@ impl<A: Allocator> IndexBlock<A> {
     /// The index must be below [`IndexBlock::len`]. The call does not allocate.
     pub fn place_at(&self, index: usize) -> BlockHandle
         requires { index < length self.now }
-        ensures { option_map place_of (slice_get self.now index) ≡ Some result }
+        ensures { spec.option_map spec.place_of (spec.slice_get self.now index) ≡ Some result }
     {
         let found = self.handle_ref(index);
         BlockHandle::new(BlockOffset(found.offset), found.size)
@@ -163,9 +151,10 @@ impl<A: Allocator> IndexBlock<A> {
     /// A handle reaches it if its end key is greater, or equal with a sequence number below
     /// `seqno`. It is a binary search.
     pub fn first_reaching(&self, key: &[u8], seqno: SeqNo) -> usize
-        ensures place { result ≡ front_length (λ h. not (reaches key.now seqno h)) self.now }
+        ensures place { result ≡ spec.front_length (λ h. not (spec.reaches key.now seqno h))
+            self.now }
         ensures within { result ≤ length self.now }
-        ensures strict { AreStrictHandles self.now }
+        ensures strict { spec.AreStrictHandles self.now }
     {
         let payload = self.payload.as_slice();
         front_len::<HandleRef<'_>, A, _>(
@@ -178,7 +167,7 @@ impl<A: Allocator> IndexBlock<A> {
 
     /// Returns the number of handles before the first whose end key is greater than `key`.
     pub fn first_above(&self, key: &[u8]) -> usize
-        ensures place { result ≡ front_length (λ h. not (is_above key.now h)) self.now }
+        ensures place { result ≡ spec.front_length (λ h. not (spec.is_above key.now h)) self.now }
         ensures within { result ≤ length self.now }
     {
         // No sequence number is below 0.
@@ -190,7 +179,8 @@ impl<A: Allocator> IndexBlock<A> {
     /// No other block can contain the newest entry of the key below `seqno`. The call does not
     /// allocate.
     pub fn find(&self, key: &[u8], seqno: SeqNo) -> Option<BlockHandle>
-        ensures { result ≡ option_map place_of (find (reaches key.now seqno) self.now) }
+        ensures { result ≡ spec.option_map spec.place_of
+            (find (spec.reaches key.now seqno) self.now) }
     {
         let index = self.first_reaching(key, seqno);
         if index == self.len() {
@@ -201,16 +191,17 @@ impl<A: Allocator> IndexBlock<A> {
 
     /// Returns an iterator over the handles, from both ends.
     pub fn iter<'a>(&'a self) -> Iter<'a, A>
-        ensures span { result ≡ whole_span self.now }
-        ensures yields { (stops : Error → Bool) → stops OutOfMemory ≡ true →
-            YieldsExactly (answer_stops stops) ⟦<Iter<'a, A> as Iterator>⟧.next_gives
-            ⟦<Iter<'a, A> as DoubleEndedIterator>⟧.next_back_gives result (ok_results self.now) }
-        ensures can { CanYield ⟦<Iter<'a, A> as Iterator>⟧.next_gives
+        ensures span { result ≡ spec.whole_span self.now }
+        ensures yields { (stops : spec.Error → Bool) → stops spec.OutOfMemory ≡ true →
+            spec.YieldsExactly (spec.answer_stops stops) ⟦<Iter<'a, A> as Iterator>⟧.next_gives
+            ⟦<Iter<'a, A> as DoubleEndedIterator>⟧.next_back_gives result
+            (spec.ok_results self.now) }
+        ensures can { spec.CanYield ⟦<Iter<'a, A> as Iterator>⟧.next_gives
             ⟦<Iter<'a, A> as DoubleEndedIterator>⟧.next_back_gives
             ⟦<Iter<'a, A> as Iterator>⟧.can_next
             ⟦<Iter<'a, A> as DoubleEndedIterator>⟧.can_next_back result }
         // After an error both ends yield only `None`.
-        ensures ends { EndsAtError ⟦<Iter<'a, A> as Iterator>⟧.next_gives
+        ensures ends { spec.EndsAtError ⟦<Iter<'a, A> as Iterator>⟧.next_gives
             ⟦<Iter<'a, A> as DoubleEndedIterator>⟧.next_back_gives result }
     {
         Iter::new(self)
@@ -229,20 +220,23 @@ impl<A: Allocator> IndexBlock<A> {
     /// If there is none of these, it fails only with [`Error::OutOfMemory`].
     #[tactic(auto, unfolding(crate::specs::Handles::handles_payload))]
     pub fn encode_into(buf: &mut Vec<u8, A>, handles: &[KeyedBlockHandle<A>]) -> Result<(), Error>
-        requires { AreStrictHandles handles.now }
-        ensures ok { OnOk result (buf.new.items ≡ buf.old.items ++ handles_payload V4 handles.now) }
+        requires { spec.AreStrictHandles handles.now }
+        ensures ok { OnOk result (buf.new.items ≡ buf.old.items ++ spec.handles_payload spec.V4
+            handles.now) }
         ensures unchanged { OnErr result (buf.new.items ≡ buf.old.items) }
-        ensures refused { Faults result (handles_fault handles.now) }
+        ensures refused { spec.Faults result (spec.handles_fault handles.now) }
         // Faults of the handles come before any `OutOfMemory`.
-        ensures first { FaultsFirst result (handles_fault handles.now) }
+        ensures first { spec.FaultsFirst result (spec.handles_fault handles.now) }
         // The payload encodes the handles, and the block's length equals the bound.
-        ensures fit { OnOk result (AreSpellableHandles V4 handles.now) }
-        ensures reads { OnOk result (handles_in V4 (handles_payload V4 handles.now) ≡
+        ensures fit { OnOk result (spec.AreSpellableHandles spec.V4 handles.now) }
+        ensures reads { OnOk result
+            (spec.handles_in spec.V4 (spec.handles_payload spec.V4 handles.now) ≡
             Some handles.now) }
-        ensures bound { let len = header_len + length (handles_payload V4 handles.now) in
-            OnOk result (len ≡ index_block_bound_of handles.now) }
+        ensures bound { let len = spec.header_len + length
+            (spec.handles_payload spec.V4 handles.now) in
+            OnOk result (len ≡ spec.index_block_bound_of handles.now) }
         ensures short { OnOk result (
-            header_len + length (handles_payload V4 handles.now) < 2 ^ 32) }
+            spec.header_len + length (spec.handles_payload spec.V4 handles.now) < 2 ^ 32) }
     {
         encode(buf, handles)
     }

@@ -1,13 +1,7 @@
 //! Encoding the items of a block: entries or handles.
 ghost use Rattle.std.specs.Prelude.{◌≡◌, ◌+◌, ◌++◌, ◌<◌, ◌^◌, length, take, vec_len};
 ghost use Rattle.std.specs.Prelude.{IfErr, IfOk, OnErr, OnOk};
-ghost use Rattle.std.specs.List.{AllByRecursion};
-ghost use Rattle.sst_blocks.specs.Block.{header_len};
-ghost use Rattle.sst_blocks.specs.Bounds.{bound_of};
-ghost use Rattle.sst_blocks.specs.Encoding.{items_fault};
-ghost use Rattle.sst_blocks.specs.Payload.{AreFit, items_payload};
-ghost use Rattle.sst_entries.specs.Error.{Faults, FaultsFirst, Refuses};
-ghost use Rattle.sst_entries.specs.declared.error.Error.TheVariants.{OutOfMemory};
+ghost use Rattle.sst_blocks.specs.Words as spec;
 
 use crate::Error;
 use crate::block::{EMPTY_LEN, Header};
@@ -65,7 +59,7 @@ pub(crate) trait Item {
 ///
 /// The length includes the header.
 pub(crate) fn block_bound<T: Item>(items: &[T]) -> u64
-    ensures { result ≡ bound_of T.bound items.now }
+    ensures { result ≡ spec.bound_of T.bound items.now }
 {
     let mut bound = EMPTY_LEN;
     for item in items {
@@ -81,9 +75,9 @@ pub(crate) fn block_bound<T: Item>(items: &[T]) -> u64
 /// Fails for the first item that is too long, then with [`Error::BlockTooLarge`] if the length is
 /// 2^32 or more.
 fn block_len<T: Item>(items: &[T]) -> Result<u64, Error>
-    ensures len { IfOk result (λ len. (len ≡ bound_of T.bound items.now) × (len < 2 ^ 32)) }
-    ensures short { OnOk result (AllByRecursion T.Short items.now) }
-    ensures refused { Refuses result (items_fault T.fault_or T.bound items.now) }
+    ensures len { IfOk result (λ len. (len ≡ spec.bound_of T.bound items.now) × (len < 2 ^ 32)) }
+    ensures short { OnOk result (spec.AllByRecursion T.Short items.now) }
+    ensures refused { spec.Refuses result (spec.items_fault T.fault_or T.bound items.now) }
 {
     let mut bound = EMPTY_LEN;
     for item in items {
@@ -98,12 +92,13 @@ fn block_len<T: Item>(items: &[T]) -> Result<u64, Error>
 
 /// Appends the count, then each item; on an error, part of them may be appended.
 fn put_items<T: Item, A: Allocator>(buf: &mut Vec<u8, A>, items: &[T]) -> Result<(), Error>
-    requires short { AllByRecursion T.Short items.now }
+    requires short { spec.AllByRecursion T.Short items.now }
     requires few { length items.now < 2 ^ 32 }
-    ensures ok { OnOk result (buf.new.items ≡ buf.old.items ++ items_payload T.bytes items.now) }
-    ensures fit { OnOk result (AreFit T.Fits items.now) }
+    ensures ok { OnOk result (buf.new.items ≡ buf.old.items ++ spec.items_payload T.bytes
+        items.now) }
+    ensures fit { OnOk result (spec.AreFit T.Fits items.now) }
     ensures front { take (vec_len buf.old) buf.new.items ≡ buf.old.items }
-    ensures err { IfErr result (λ e. e ≡ OutOfMemory) }
+    ensures err { IfErr result (λ e. e ≡ spec.OutOfMemory) }
 {
     put_u32(buf, items.len() as u32)?;
     for item in items {
@@ -120,15 +115,17 @@ fn put_items<T: Item, A: Allocator>(buf: &mut Vec<u8, A>, items: &[T]) -> Result
 /// [`Error::BlockTooLarge`] if the block's length is 2^32 or more. Else it fails only with
 /// [`Error::OutOfMemory`].
 pub(crate) fn encode<T: Item, A: Allocator>(buf: &mut Vec<u8, A>, items: &[T]) -> Result<(), Error>
-    ensures ok { OnOk result (buf.new.items ≡ buf.old.items ++ items_payload T.bytes items.now) }
+    ensures ok { OnOk result (buf.new.items ≡ buf.old.items ++ spec.items_payload T.bytes
+        items.now) }
     ensures unchanged { OnErr result (buf.new.items ≡ buf.old.items) }
-    ensures refused { Faults result (items_fault T.fault_or T.bound items.now) }
+    ensures refused { spec.Faults result (spec.items_fault T.fault_or T.bound items.now) }
     // Faults of the items come before any `OutOfMemory`.
-    ensures first { FaultsFirst result (items_fault T.fault_or T.bound items.now) }
-    ensures fit { OnOk result (AreFit T.Fits items.now) }
-    ensures bound { let len = header_len + length (items_payload T.bytes items.now) in
-        OnOk result (len ≡ bound_of T.bound items.now) }
-    ensures short { OnOk result (header_len + length (items_payload T.bytes items.now) < 2 ^ 32) }
+    ensures first { spec.FaultsFirst result (spec.items_fault T.fault_or T.bound items.now) }
+    ensures fit { OnOk result (spec.AreFit T.Fits items.now) }
+    ensures bound { let len = spec.header_len + length (spec.items_payload T.bytes items.now) in
+        OnOk result (len ≡ spec.bound_of T.bound items.now) }
+    ensures short { OnOk result (spec.header_len + length (spec.items_payload T.bytes items.now) < 2
+        ^ 32) }
 {
     T::takes();
     let len = block_len(items)?;

@@ -1,6 +1,6 @@
 //! Sources of blocks, and queries of one block.
 ghost use Rattle.std.specs.Prelude.{◌≡◌};
-ghost use Rattle.sst_blocks.specs.Opened.{none_opened};
+ghost use Rattle.sst_blocks.specs.Words as spec;
 
 use crate::source::BlockSource;
 use crate::{
@@ -155,7 +155,7 @@ impl<'a, A: Allocator + Clone> Counted<'a, A> {
     /// Creates a source with zero counts.
     pub fn new(source: &'a BlockSource<A>) -> Counted<'a, A>
         ensures source { result.0 ≡ source.now }
-        ensures none { result.1 ≡ none_opened }
+        ensures none { result.1 ≡ spec.none_opened }
     {
         Counted {
             source,

@@ -1,6 +1,6 @@
 //! The verified-block cache, which remembers payloads with a valid checksum or grammar.
 ghost use Rattle.std.specs.Prelude.{◌≡◌, IsTrue, IfOk};
-ghost use Rattle.sst_blocks.specs.Marks.{HasItems, HasSum, Says};
+ghost use Rattle.sst_blocks.specs.Words as spec;
 
 use crate::Slice;
 use atomic_table::{Play, Table, TableRule};
@@ -94,7 +94,7 @@ impl<A: Allocator + Clone> Marks<A> {
 
     /// Returns the slot for a payload's start, or 0 if there is none.
     fn word(&self, start: u64) -> u64
-        ensures { Says self.now result }
+        ensures { spec.Says self.now result }
     {
         let at = (start / SPAN) as usize;
         match self.words.get(at / PART) {
@@ -108,7 +108,7 @@ impl<A: Allocator + Clone> Marks<A> {
 
     /// Sets the slot for a payload's start, if there is one.
     fn set_word(&self, start: u64, word: u64)
-        requires { Says self.now word }
+        requires { spec.Says self.now word }
     {
         let at = (start / SPAN) as usize;
         if let Some(words) = self.words.get(at / PART) {
@@ -120,7 +120,7 @@ impl<A: Allocator + Clone> Marks<A> {
 
     /// Returns whether the payload starting here is known to have a valid checksum.
     pub(crate) fn has_sum(&self, start: u64) -> bool
-        ensures { IsTrue result → HasSum self.now start }
+        ensures { IsTrue result → spec.HasSum self.now start }
     {
         let word = self.word(start);
         0 < word && (word - 1) / 2 == start
@@ -128,15 +128,15 @@ impl<A: Allocator + Clone> Marks<A> {
 
     /// Returns whether the payload starting here is known to have a valid checksum and grammar.
     pub(crate) fn is_tested(&self, start: u64) -> bool
-        ensures sum { IsTrue result → HasSum self.now start }
-        ensures items { IsTrue result → HasItems self.now start }
+        ensures sum { IsTrue result → spec.HasSum self.now start }
+        ensures items { IsTrue result → spec.HasItems self.now start }
     {
         start < END && self.word(start) == 2 * start + 2
     }
 
     /// Remembers that the payload starting here has a valid checksum.
     pub(crate) fn mark_sum(&self, start: u64)
-        requires { HasSum self.now start }
+        requires { spec.HasSum self.now start }
     {
         if start < END {
             self.set_word(start, 2 * start + 1);
@@ -145,8 +145,8 @@ impl<A: Allocator + Clone> Marks<A> {
 
     /// Remembers that the payload starting here has a valid checksum and grammar.
     pub(crate) fn mark_tested(&self, start: u64)
-        requires sum { HasSum self.now start }
-        requires items { HasItems self.now start }
+        requires sum { spec.HasSum self.now start }
+        requires items { spec.HasItems self.now start }
     {
         if start < END {
             self.set_word(start, 2 * start + 2);

@@ -1,8 +1,6 @@
 //! Little-endian integers.
 ghost use Rattle.std.specs.Prelude.{◌≡◌, ◌++◌, ◌<◌, ◌≤◌, ◌^◌, length, OnOk, OnErr, IfErr};
-ghost use Rattle.sst_blocks.specs.Number.{le4, le8, num2, num4, num8};
-ghost use Rattle.sst_blocks.specs.Version.{key_len_at, key_width};
-ghost use Rattle.sst_entries.specs.declared.error.Error.TheVariants.{OutOfMemory};
+ghost use Rattle.sst_blocks.specs.Words as spec;
 
 use crate::TableVersion;
 use byteorder::{ByteOrder, LittleEndian};
@@ -14,7 +12,7 @@ use std::alloc::Allocator;
 #[tactic(auto, unfolding(crate::specs::Number::num2))]
 pub fn u16_at(bytes: &[u8]) -> u16
     requires { 2 ≤ length bytes.now }
-    ensures { result ≡ num2 bytes.now }
+    ensures { result ≡ spec.num2 bytes.now }
 {
     LittleEndian::read_u16(bytes)
 }
@@ -24,7 +22,7 @@ pub fn u16_at(bytes: &[u8]) -> u16
 #[tactic(auto, unfolding(crate::specs::Number::num4))]
 pub fn u32_at(bytes: &[u8]) -> u32
     requires { 4 ≤ length bytes.now }
-    ensures { result ≡ num4 bytes.now }
+    ensures { result ≡ spec.num4 bytes.now }
 {
     LittleEndian::read_u32(bytes)
 }
@@ -34,7 +32,7 @@ pub fn u32_at(bytes: &[u8]) -> u32
 #[tactic(auto, unfolding(crate::specs::Number::num8))]
 pub fn u64_at(bytes: &[u8]) -> u64
     requires { 8 ≤ length bytes.now }
-    ensures { result ≡ num8 bytes.now }
+    ensures { result ≡ spec.num8 bytes.now }
 {
     LittleEndian::read_u64(bytes)
 }
@@ -42,7 +40,7 @@ pub fn u64_at(bytes: &[u8]) -> u64
 /// Returns the size of an encoded key length, in bytes.
 #[inline]
 pub fn key_width(version: TableVersion) -> usize
-    ensures { result ≡ key_width version }
+    ensures { result ≡ spec.key_width version }
 {
     match version {
         TableVersion::V3 => 2,
@@ -53,8 +51,8 @@ pub fn key_width(version: TableVersion) -> usize
 /// Reads the key length of a version from the first bytes, which must exist.
 #[inline]
 pub fn key_len_at(version: TableVersion, bytes: &[u8]) -> usize
-    requires { key_width version ≤ length bytes.now }
-    ensures value { result ≡ key_len_at version bytes.now }
+    requires { spec.key_width version ≤ length bytes.now }
+    ensures value { result ≡ spec.key_len_at version bytes.now }
     ensures short { result < 2 ^ 32 }
 {
     match version {
@@ -70,9 +68,9 @@ pub fn key_len_at(version: TableVersion, bytes: &[u8]) -> usize
 /// Fails only with [`Error::OutOfMemory`]; `buf` is then unchanged.
 #[tactic(auto, unfolding(crate::specs::Number::le4))]
 pub fn put_u32<A: Allocator>(buf: &mut Vec<u8, A>, n: u32) -> Result<(), Error>
-    ensures ok { OnOk result (buf.new.items ≡ buf.old.items ++ le4 n) }
+    ensures ok { OnOk result (buf.new.items ≡ buf.old.items ++ spec.le4 n) }
     ensures unchanged { OnErr result (buf.new.items ≡ buf.old.items) }
-    ensures err { IfErr result (λ e. e ≡ OutOfMemory) }
+    ensures err { IfErr result (λ e. e ≡ spec.OutOfMemory) }
 {
     buf.extend_from_slice(&n.to_le_bytes())?;
     Ok(())
@@ -85,9 +83,9 @@ pub fn put_u32<A: Allocator>(buf: &mut Vec<u8, A>, n: u32) -> Result<(), Error>
 /// Fails only with [`Error::OutOfMemory`]; `buf` is then unchanged.
 #[tactic(auto, unfolding(crate::specs::Number::le8))]
 pub fn put_u64<A: Allocator>(buf: &mut Vec<u8, A>, n: u64) -> Result<(), Error>
-    ensures ok { OnOk result (buf.new.items ≡ buf.old.items ++ le8 n) }
+    ensures ok { OnOk result (buf.new.items ≡ buf.old.items ++ spec.le8 n) }
     ensures unchanged { OnErr result (buf.new.items ≡ buf.old.items) }
-    ensures err { IfErr result (λ e. e ≡ OutOfMemory) }
+    ensures err { IfErr result (λ e. e ≡ spec.OutOfMemory) }
 {
     buf.extend_from_slice(&n.to_le_bytes())?;
     Ok(())

@@ -1,10 +1,7 @@
 //! Reading the items of a payload in one pass that checks the grammar and finds their offsets.
 ghost use Rattle.std.specs.Prelude.{◌≡◌, ◌<◌, ◌≤◌, ◌^◌, None, true, false, length, is_some};
 ghost use Rattle.std.specs.Prelude.{IfErr, IfOk, IsTrue};
-ghost use Rattle.sst_blocks.specs.Format.{items_in};
-ghost use Rattle.sst_blocks.specs.Starts.{ItemsAt};
-ghost use Rattle.sst_entries.specs.Error.{is_memory};
-ghost use Rattle.sst_entries.specs.declared.error.Error.TheVariants.{InvalidBlock};
+ghost use Rattle.sst_blocks.specs.Words as spec;
 
 mod find;
 mod places;
@@ -80,11 +77,12 @@ pub(crate) fn starts_in<'a, R: ItemRef<'a>, A: Allocator>(
 ) -> Result<Vec<u32, A>, Error>
     requires long { 4 ≤ length payload.now }
     requires short { length payload.now < 2 ^ 32 }
-    requires tested { IsTrue is_tested → is_some (items_in (R.format version) payload.now) ≡ true }
+    requires tested { IsTrue is_tested →
+        is_some (spec.items_in (R.format version) payload.now) ≡ true }
     ensures found { IfOk result (λ starts.
-        ItemsAt (R.format version) payload.now starts.items) }
-    ensures fault { IfErr result (λ e. is_memory e ≡ false →
-        (e ≡ InvalidBlock) × (items_in (R.format version) payload.now ≡ None)) }
+        spec.ItemsAt (R.format version) payload.now starts.items) }
+    ensures fault { IfErr result (λ e. spec.is_memory e ≡ false →
+        (e ≡ spec.InvalidBlock) × (spec.items_in (R.format version) payload.now ≡ None)) }
 {
     R::is_format(version);
     let count = u32_at(payload);

@@ -1,13 +1,7 @@
 //! The sections of a table's bytes, and the trailer with their positions.
 ghost use Rattle.std.specs.Prelude.{◌≡◌, ◌++◌, ◌∷◌, [], ℕ, ◌<◌, ◌^◌, length, IfOk, IfErr, OnOk};
 ghost use Rattle.std.specs.Prelude.{OnErr, All};
-ghost use Rattle.std.specs.List.{flat_map};
-ghost use Rattle.sst_blocks.specs.Fnv.{fnv1a};
-ghost use Rattle.sst_blocks.specs.Number.{le8};
-ghost use Rattle.sst_blocks.specs.Sections.{AreAscending, ReadsBack, Written, finished};
-ghost use Rattle.sst_blocks.specs.Sections.{slot_index, section_names, section_of, slot};
-ghost use Rattle.sst_blocks.specs.Sections.{trailer_mark};
-ghost use Rattle.sst_entries.specs.declared.error.Error.TheVariants.{OutOfMemory};
+ghost use Rattle.sst_blocks.specs.Words as spec;
 
 use crate::Checksum;
 use crate::fnv::{Fnv1a, update_both};
@@ -38,7 +32,7 @@ pub enum SectionName {
 impl SectionName {
     /// Returns the section's index in the trailer, from 0 to 6.
     pub fn place(self) -> usize
-        ensures { result ≡ slot_index self }
+        ensures { result ≡ spec.slot_index self }
     {
         self as usize
     }
@@ -103,7 +97,7 @@ impl<A: Allocator + Clone> SectionWriter<A> {
     /// Fails only with [`Error::OutOfMemory`], if the allocator does not clone.
     pub fn new(alloc: A) -> Result<SectionWriter<A>, Error>
         ensures ok { IfOk result (λ w. w ≡ record { bytes = []; started = [] }) }
-        ensures err { IfErr result (λ e. e ≡ OutOfMemory) }
+        ensures err { IfErr result (λ e. e ≡ spec.OutOfMemory) }
     {
         let started = Vec::new(alloc.clone()?);
         Ok(SectionWriter {
@@ -123,11 +117,11 @@ impl<A: Allocator + Clone> SectionWriter<A> {
     /// Fails only with [`Error::OutOfMemory`]; the writer is then unchanged.
     #[tactic(auto, using(crate::proofs::SectionLaws::ascending_start))]
     pub fn start(&mut self, name: SectionName) -> Result<(), Error>
-        requires { All (λ s. slot_index s.0 ≡ slot_index name → ⊥) self.old.started }
+        requires { All (λ s. spec.slot_index s.0 ≡ spec.slot_index name → ⊥) self.old.started }
         ensures ok { let started = self.old.started ++ (name, length self.old.bytes) ∷ [] in
             OnOk result (self.new ≡ record self.old { started = started }) }
         ensures unchanged { OnErr result (self.new ≡ self.old) }
-        ensures err { IfErr result (λ e. e ≡ OutOfMemory) }
+        ensures err { IfErr result (λ e. e ≡ spec.OutOfMemory) }
     {
         let position = self.position();
         self.started.push((name, position))?;
@@ -143,7 +137,7 @@ impl<A: Allocator + Clone> SectionWriter<A> {
         ensures ok { let longer = self.old.bytes ++ bytes.now in
             OnOk result (self.new ≡ record self.old { bytes = longer }) }
         ensures unchanged { OnErr result (self.new ≡ self.old) }
-        ensures err { IfErr result (λ e. e ≡ OutOfMemory) }
+        ensures err { IfErr result (λ e. e ≡ spec.OutOfMemory) }
     {
         self.bytes.extend_from_slice(bytes)?;
         Ok(())
@@ -162,10 +156,10 @@ impl<A: Allocator + Clone> SectionWriter<A> {
     ///
     /// Fails only with [`Error::OutOfMemory`].
     pub fn finish(self) -> Result<(Slice<A>, Checksum), Error>
-        ensures bytes { IfOk result (λ x. x.0 ≡ finished self) }
-        ensures checksum { IfOk result (λ x. x.1.0 ≡ fnv1a (finished self)) }
-        ensures reads { IfOk result (λ x. ReadsBack self x.0) }
-        ensures err { IfErr result (λ e. e ≡ OutOfMemory) }
+        ensures bytes { IfOk result (λ x. x.0 ≡ spec.finished self) }
+        ensures checksum { IfOk result (λ x. x.1.0 ≡ spec.fnv1a (spec.finished self)) }
+        ensures reads { IfOk result (λ x. spec.ReadsBack self x.0) }
+        ensures err { IfErr result (λ e. e ≡ spec.OutOfMemory) }
     {
         let mut bytes = self.bytes;
         let mut hash = self.hash;
@@ -185,7 +179,7 @@ impl<A: Allocator + Clone> SectionWriter<A> {
         ensures ok { let bytes = self.old.bytes ++ front.now ++ back.now in
             OnOk result (self.new ≡ record self.old { bytes = bytes }) }
         ensures unchanged { OnErr result (self.new ≡ self.old) }
-        ensures err { IfErr result (λ e. e ≡ OutOfMemory) }
+        ensures err { IfErr result (λ e. e ≡ spec.OutOfMemory) }
     {
         self.bytes.reserve(front.len() + back.len())?;
         self.bytes.extend_from_slice(front)?;
@@ -197,7 +191,7 @@ impl<A: Allocator + Clone> SectionWriter<A> {
     ///
     /// The running checksum of the table catches up in the same loop.
     pub fn checksum_of(&mut self, bytes: &[u8]) -> u64
-        ensures value { result ≡ fnv1a bytes.now }
+        ensures value { result ≡ spec.fnv1a bytes.now }
         ensures unchanged { self.new ≡ self.old }
     {
         let mut checksum = Fnv1a::new();
@@ -216,13 +210,13 @@ impl<A: Allocator + Clone> SectionWriter<A> {
 ///
 /// This is a lemma for proofs; the call has no effect.
 pub fn finished_sections_read()
-    ensures { (w : Written) → AreAscending (length w.bytes) w.started → length w.bytes < 2 ^ 64 →
-        ReadsBack w (finished w) }
+    ensures { (w : spec.Written) → spec.AreAscending (length w.bytes) w.started →
+        length w.bytes < 2 ^ 64 → spec.ReadsBack w (spec.finished w) }
 {}
 
 /// Returns a section among those that were started; the last one ends at `end`.
 fn section_of(end: u64, started: &[(SectionName, u64)], name: SectionName) -> Option<Section>
-    ensures { result ≡ section_of end started.now name }
+    ensures { result ≡ spec.section_of end started.now name }
 {
     for (i, (begun, position)) in started.iter().enumerate() {
         if begun.place() == name.place() {
@@ -243,8 +237,8 @@ fn section_of(end: u64, started: &[(SectionName, u64)], name: SectionName) -> Op
 
 /// Appends the slot of a section.
 fn put_slot<A: Allocator>(bytes: &mut Vec<u8, A>, section: Option<Section>) -> Result<(), Error>
-    ensures ok { OnOk result (bytes.new.items ≡ bytes.old.items ++ slot section) }
-    ensures err { IfErr result (λ e. e ≡ OutOfMemory) }
+    ensures ok { OnOk result (bytes.new.items ≡ bytes.old.items ++ spec.slot section) }
+    ensures err { IfErr result (λ e. e ≡ spec.OutOfMemory) }
 {
     match section {
         None => bytes.extend_from_slice(&[0xff; 16])?,
@@ -262,10 +256,10 @@ fn put_trailer<A: Allocator>(
     end: u64,
     started: &[(SectionName, u64)],
 ) -> Result<(), Error>
-    ensures ok { let at = section_of end started.now in
-        let slots = flat_map (λ name. slot (at name)) section_names in
-        OnOk result (bytes.new.items ≡ bytes.old.items ++ (slots ++ trailer_mark)) }
-    ensures err { IfErr result (λ e. e ≡ OutOfMemory) }
+    ensures ok { let at = spec.section_of end started.now in
+        let slots = spec.flat_map (λ name. spec.slot (at name)) spec.section_names in
+        OnOk result (bytes.new.items ≡ bytes.old.items ++ (slots ++ spec.trailer_mark)) }
+    ensures err { IfErr result (λ e. e ≡ spec.OutOfMemory) }
 {
     for name in NAMES {
         put_slot(bytes, section_of(end, started, name))?;

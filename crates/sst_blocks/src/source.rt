@@ -4,18 +4,7 @@ ghost use Rattle.std.specs.Prelude.{map};
 ghost use Rattle.std.specs.Prelude.{slice_range};
 ghost use Rattle.std.specs.Prelude.{IfErr, IfOk, IfSome, IsTrue, OnOk, MatchOption, Err, None};
 ghost use Rattle.std.specs.Prelude.{Some, true};
-ghost use Rattle.sst_blocks.specs.Block.{Loaded, checked_payload, checksum_fault, has_room};
-ghost use Rattle.sst_blocks.specs.Block.{header_len, in_grammar, room_fault, version_in};
-ghost use Rattle.sst_blocks.specs.Block.{load_result, load_at_result, place_fault, position_fault};
-ghost use Rattle.sst_blocks.specs.Marks.{HasItems, HasSum, IsHeaded, IsSaid};
-ghost use Rattle.sst_blocks.specs.Fnv.{fnv1a};
-ghost use Rattle.std.specs.Arc.{arc_value};
-ghost use Rattle.sst_entries.specs.Error.{Gives, Refuses, FaultsFirst};
-ghost use Rattle.std.specs.Option.{option_or};
-ghost use Rattle.sst_blocks.specs.Opened.{with_load};
-ghost use Rattle.sst_blocks.specs.Placed.{IsPlaced};
-ghost use Rattle.sst_blocks.specs.Sections.{body_of, section_in, section_names, trailer_fault};
-ghost use Rattle.sst_blocks.specs.declared.opened.Opened.{Opened};
+ghost use Rattle.sst_blocks.specs.Words as spec;
 
 mod reads;
 
@@ -86,8 +75,8 @@ impl<A: Allocator + Clone> Clone for BlockSource<A> {
 // Shares the cache, or returns `None` if its reference count cannot be raised.
 fn shared<A: Allocator>(marks: &Option<Arc<Marks<A>, A>>) -> Option<Arc<Marks<A>, A>>
     ensures { (bytes : List ℕ) →
-        MatchOption marks.now (Unit {0}) (λ m. arc_value m ≡ bytes) →
-        MatchOption result (Unit {0}) (λ m. arc_value m ≡ bytes) }
+        MatchOption marks.now (Unit {0}) (λ m. spec.arc_value m ≡ bytes) →
+        MatchOption result (Unit {0}) (λ m. spec.arc_value m ≡ bytes) }
 {
     match marks {
         Some(marks) => marks.clone().ok(),
@@ -97,7 +86,7 @@ fn shared<A: Allocator>(marks: &Option<Arc<Marks<A>, A>>) -> Option<Arc<Marks<A>
 
 // An empty cache, or `None` if it cannot be allocated.
 fn new_marks<A: Allocator + Clone>(alloc: &A, bytes: &Slice<A>) -> Option<Arc<Marks<A>, A>>
-    ensures { MatchOption result (Unit {0}) (λ m. arc_value m ≡ bytes.now) }
+    ensures { MatchOption result (Unit {0}) (λ m. spec.arc_value m ≡ bytes.now) }
 {
     match shared_marks(alloc, bytes) {
         Ok(marks) => Some(marks),
@@ -109,7 +98,7 @@ fn shared_marks<A: Allocator + Clone>(
     alloc: &A,
     bytes: &Slice<A>,
 ) -> Result<Arc<Marks<A>, A>, AllocError>
-    ensures { IfOk result (λ m. arc_value m ≡ bytes.now) }
+    ensures { IfOk result (λ m. spec.arc_value m ≡ bytes.now) }
 {
     let marks = Marks::new(alloc.clone()?, bytes)?;
     Ok(Arc::new(alloc.clone()?, marks)?)
@@ -126,7 +115,7 @@ impl<A: Allocator + Clone> BlockSource<A> {
     pub fn new(alloc: A, bytes: Slice<A>) -> Result<BlockSource<A>, Error>
         ensures ok { IfOk result (λ s. s ≡ bytes) }
         ensures short { length bytes < 2 ^ 63 }
-        ensures refused { Refuses result (trailer_fault bytes) }
+        ensures refused { spec.Refuses result (spec.trailer_fault bytes) }
     {
         Toc::of(bytes.as_slice())?;
         let marks = new_marks(&alloc, &bytes);
@@ -139,8 +128,8 @@ impl<A: Allocator + Clone> BlockSource<A> {
 
     /// Returns the positions and lengths of the sections, read from the trailer.
     pub fn toc(&self) -> Toc
-        ensures toc { result ≡ map (section_in self.now) section_names }
-        ensures read { trailer_fault self.now ≡ None }
+        ensures toc { result ≡ map (spec.section_in self.now) spec.section_names }
+        ensures read { spec.trailer_fault self.now ≡ None }
     {
         match Toc::of(self.bytes.as_slice()) {
             Ok(toc) => toc,
@@ -197,13 +186,13 @@ impl<A: Allocator + Clone> BlockSource<A> {
         kind: BlockType,
         opened: &mut Opened,
     ) -> Result<Block<A>, Error>
-        ensures returned { let body = body_of self.now in
-            Gives (λ (b : Loaded). b) result
-            (load_result body handle.now.offset handle.now.size kind) }
+        ensures returned { let body = spec.body_of self.now in
+            spec.Gives (λ (b : spec.Loaded). b) result
+            (spec.load_result body handle.now.offset handle.now.size kind) }
         // Faults in the position, header, checksum or count come before any `OutOfMemory`.
-        ensures first { let body = body_of self.now in
-            FaultsFirst result (place_fault body handle.now.offset handle.now.size kind) }
-        ensures counted { opened.new ≡ with_load kind opened.old }
+        ensures first { let body = spec.body_of self.now in
+            spec.FaultsFirst result (spec.place_fault body handle.now.offset handle.now.size kind) }
+        ensures counted { opened.new ≡ spec.with_load kind opened.old }
     {
         opened.count(kind);
         let placed = self.place(handle, kind)?;
@@ -224,12 +213,13 @@ impl<A: Allocator + Clone> BlockSource<A> {
         kind: BlockType,
         opened: &mut Opened,
     ) -> Result<Block<A>, Error>
-        ensures returned { let returned = load_at_result (body_of self.now) position kind in
-            Gives (λ (b : Loaded). b) result returned }
-        ensures first { FaultsFirst result (position_fault (body_of self.now) position kind) }
+        ensures returned { let returned = spec.load_at_result (spec.body_of self.now) position
+            kind in spec.Gives (λ (b : spec.Loaded). b) result returned }
+        ensures first { spec.FaultsFirst result
+            (spec.position_fault (spec.body_of self.now) position kind) }
         // The block ends below 2^63.
-        ensures within { IfOk result (λ b. position + header_len + length b.payload < 2 ^ 63) }
-        ensures counted { opened.new ≡ with_load kind opened.old }
+        ensures within { IfOk result (λ b. position + spec.header_len + length b.payload < 2 ^ 63) }
+        ensures counted { opened.new ≡ spec.with_load kind opened.old }
     {
         opened.count(kind);
         let body = self.body();
@@ -259,13 +249,15 @@ impl<A: Allocator + Clone> BlockSource<A> {
     /// Fails with the first fault in the handle, the header or its lengths.
     fn place(&self, handle: &BlockHandle, kind: BlockType) -> Result<Placed, Error>
         ensures placed { IfOk result (λ p.
-            IsPlaced (body_of self.now) handle.now.offset handle.now.size kind p) }
+            spec.IsPlaced (spec.body_of self.now) handle.now.offset handle.now.size kind p) }
         ensures headed { IfOk result (λ p.
-            IsHeaded self.now p.start p.end p.header.version kind p.header.checksum) }
-        ensures returned { let body = body_of self.now in
-            IfErr result (λ e. load_result body handle.now.offset handle.now.size kind ≡ Err e) }
-        ensures first { let body = body_of self.now in
-            IfErr result (λ e. place_fault body handle.now.offset handle.now.size kind ≡ Some e) }
+            spec.IsHeaded self.now p.start p.end p.header.version kind p.header.checksum) }
+        ensures returned { let body = spec.body_of self.now in
+            IfErr result (λ e. spec.load_result body handle.now.offset handle.now.size kind
+            ≡ Err e) }
+        ensures first { let body = spec.body_of self.now in
+            IfErr result (λ e. spec.place_fault body handle.now.offset handle.now.size kind
+            ≡ Some e) }
     {
         let body = self.body();
         let size = handle.size() as usize;
@@ -293,7 +285,7 @@ impl<A: Allocator + Clone> BlockSource<A> {
 
     /// The bytes before the trailer.
     fn body(&self) -> &[u8]
-        ensures body { result.now ≡ body_of self.now }
+        ensures body { result.now ≡ spec.body_of self.now }
         ensures bound { length result.now < 2 ^ 63 }
     {
         &self.bytes.as_slice()[..self.bytes.len() - TRAILER_LEN]
@@ -308,15 +300,15 @@ impl<A: Allocator + Clone> BlockSource<A> {
         end: usize,
     ) -> Result<Block<A>, Error>
         requires ordered { start ≤ end }
-        requires within { end ≤ length (body_of self.now) }
+        requires within { end ≤ length (spec.body_of self.now) }
         requires short { end < start + 2 ^ 32 }
-        requires headed { IsHeaded self.now start end header.version kind header.checksum }
-        ensures returned { let payload = slice_range (body_of self.now) start end in
-            Gives (λ (b : Loaded). b) result
-            (checked_payload header.version header.checksum kind payload) }
-        ensures first { let payload = slice_range (body_of self.now) start end in
-            FaultsFirst result (option_or (checksum_fault header.checksum payload)
-            (room_fault header.version kind payload)) }
+        requires headed { spec.IsHeaded self.now start end header.version kind header.checksum }
+        ensures returned { let payload = slice_range (spec.body_of self.now) start end in
+            spec.Gives (λ (b : spec.Loaded). b) result
+            (spec.checked_payload header.version header.checksum kind payload) }
+        ensures first { let payload = slice_range (spec.body_of self.now) start end in
+            spec.FaultsFirst result (spec.option_or (spec.checksum_fault header.checksum payload)
+            (spec.room_fault header.version kind payload)) }
     {
         let is_tested = self.test(&header, kind, start, end)?;
         let block = self.open(&header, kind, start, end, is_tested)?;
@@ -341,21 +333,22 @@ impl<A: Allocator + Clone> BlockSource<A> {
         end: usize,
     ) -> Result<bool, Error>
         requires ordered { start ≤ end }
-        requires within { end ≤ length (body_of self.now) }
-        requires headed { IsHeaded self.now start end header.now.version kind header.now.checksum }
-        ensures sum { let payload = slice_range (body_of self.now) start end in
-            OnOk result (fnv1a payload ≡ header.now.checksum) }
-        ensures room { let payload = slice_range (body_of self.now) start end in
-            OnOk result (has_room header.now.version kind payload ≡ true) }
-        ensures tested { let payload = slice_range (body_of self.now) start end in
+        requires within { end ≤ length (spec.body_of self.now) }
+        requires headed { spec.IsHeaded self.now start end header.now.version kind
+            header.now.checksum }
+        ensures sum { let payload = slice_range (spec.body_of self.now) start end in
+            OnOk result (spec.fnv1a payload ≡ header.now.checksum) }
+        ensures room { let payload = slice_range (spec.body_of self.now) start end in
+            OnOk result (spec.has_room header.now.version kind payload ≡ true) }
+        ensures tested { let payload = slice_range (spec.body_of self.now) start end in
             IfOk result (λ is_tested.
-            IsTrue is_tested → in_grammar header.now.version kind payload ≡ true) }
-        ensures returned { let payload = slice_range (body_of self.now) start end in
+            IsTrue is_tested → spec.in_grammar header.now.version kind payload ≡ true) }
+        ensures returned { let payload = slice_range (spec.body_of self.now) start end in
             IfErr result (λ e.
-            checked_payload header.now.version header.now.checksum kind payload ≡ Err e) }
-        ensures first { let payload = slice_range (body_of self.now) start end in
-            IfErr result (λ e. option_or (checksum_fault header.now.checksum payload)
-            (room_fault header.now.version kind payload) ≡ Some e) }
+            spec.checked_payload header.now.version header.now.checksum kind payload ≡ Err e) }
+        ensures first { let payload = slice_range (spec.body_of self.now) start end in
+            IfErr result (λ e. spec.option_or (spec.checksum_fault header.now.checksum payload)
+            (spec.room_fault header.now.version kind payload) ≡ Some e) }
     {
         if self.was_tested(start) {
             return Ok(true);
@@ -379,16 +372,17 @@ impl<A: Allocator + Clone> BlockSource<A> {
         is_tested: bool,
     ) -> Result<Block<A>, Error>
         requires ordered { start ≤ end }
-        requires within { end ≤ length (body_of self.now) }
+        requires within { end ≤ length (spec.body_of self.now) }
         requires short { end < start + 2 ^ 32 }
-        requires sum { fnv1a (slice_range (body_of self.now) start end) ≡ header.now.checksum }
-        requires room { let payload = slice_range (body_of self.now) start end in
-            has_room header.now.version kind payload ≡ true }
-        requires tested { let payload = slice_range (body_of self.now) start end in
-            IsTrue is_tested → in_grammar header.now.version kind payload ≡ true }
-        ensures returned { let payload = slice_range (body_of self.now) start end in
-            Gives (λ (b : Loaded). b) result
-            (checked_payload header.now.version header.now.checksum kind payload) }
+        requires sum { spec.fnv1a (slice_range (spec.body_of self.now) start end)
+            ≡ header.now.checksum }
+        requires room { let payload = slice_range (spec.body_of self.now) start end in
+            spec.has_room header.now.version kind payload ≡ true }
+        requires tested { let payload = slice_range (spec.body_of self.now) start end in
+            IsTrue is_tested → spec.in_grammar header.now.version kind payload ≡ true }
+        ensures returned { let payload = slice_range (spec.body_of self.now) start end in
+            spec.Gives (λ (b : spec.Loaded). b) result
+            (spec.checked_payload header.now.version header.now.checksum kind payload) }
     {
         let payload = self.bytes.slice(start, end)?;
         Block::open(
@@ -403,8 +397,8 @@ impl<A: Allocator + Clone> BlockSource<A> {
     /// Returns whether the cache says that the payload starting here has a valid checksum and
     /// grammar.
     fn was_tested(&self, start: usize) -> bool
-        ensures sum { IsTrue result → HasSum self.now start }
-        ensures items { IsTrue result → HasItems self.now start }
+        ensures sum { IsTrue result → spec.HasSum self.now start }
+        ensures items { IsTrue result → spec.HasItems self.now start }
     {
         match &self.marks {
             Some(marks) => marks.is_tested(start as u64),
@@ -414,8 +408,8 @@ impl<A: Allocator + Clone> BlockSource<A> {
 
     /// Caches that the payload starting here has a valid checksum and grammar.
     fn remember_test(&self, start: usize)
-        requires sum { HasSum self.now start }
-        requires items { HasItems self.now start }
+        requires sum { spec.HasSum self.now start }
+        requires items { spec.HasItems self.now start }
     {
         if let Some(marks) = &self.marks {
             marks.mark_tested(start as u64);
@@ -424,10 +418,10 @@ impl<A: Allocator + Clone> BlockSource<A> {
 
     /// Returns whether a payload has its header's checksum; a cached one is not hashed again.
     fn has_sum(&self, checksum: u64, start: usize, end: usize) -> bool
-        requires said { IsSaid self.now start end checksum }
-        requires within { end ≤ length (body_of self.now) }
-        ensures { let payload = slice_range (body_of self.now) start end in
-            IsTrue result ↔ (fnv1a payload ≡ checksum) }
+        requires said { spec.IsSaid self.now start end checksum }
+        requires within { end ≤ length (spec.body_of self.now) }
+        ensures { let payload = slice_range (spec.body_of self.now) start end in
+            IsTrue result ↔ (spec.fnv1a payload ≡ checksum) }
     {
         if self.remembers(start) {
             return true;
@@ -441,7 +435,7 @@ impl<A: Allocator + Clone> BlockSource<A> {
 
     /// Returns whether the cache says that the payload starting here has a valid checksum.
     fn remembers(&self, start: usize) -> bool
-        ensures { IsTrue result → HasSum self.now start }
+        ensures { IsTrue result → spec.HasSum self.now start }
     {
         match &self.marks {
             Some(marks) => marks.has_sum(start as u64),
@@ -451,7 +445,7 @@ impl<A: Allocator + Clone> BlockSource<A> {
 
     /// Caches that the payload starting here has a valid checksum.
     fn remember(&self, start: usize)
-        requires { HasSum self.now start }
+        requires { spec.HasSum self.now start }
     {
         if let Some(marks) = &self.marks {
             marks.mark_sum(start as u64);
@@ -530,10 +524,10 @@ impl<A: Allocator + Clone> BlockSource<A> {
         fourth: Option<Said>,
     )
         requires of { marks.now ≡ self.now }
-        requires first { IfSome first (λ s. IsSaid self.now s.start s.end s.checksum) }
-        requires second { IfSome second (λ s. IsSaid self.now s.start s.end s.checksum) }
-        requires third { IfSome third (λ s. IsSaid self.now s.start s.end s.checksum) }
-        requires fourth { IfSome fourth (λ s. IsSaid self.now s.start s.end s.checksum) }
+        requires first { IfSome first (λ s. spec.IsSaid self.now s.start s.end s.checksum) }
+        requires second { IfSome second (λ s. spec.IsSaid self.now s.start s.end s.checksum) }
+        requires third { IfSome third (λ s. spec.IsSaid self.now s.start s.end s.checksum) }
+        requires fourth { IfSome fourth (λ s. spec.IsSaid self.now s.start s.end s.checksum) }
     {
         if first.is_none() || second.is_none() || third.is_none() || fourth.is_none() {
             self.compare_both(marks, first, second);
@@ -555,8 +549,8 @@ impl<A: Allocator + Clone> BlockSource<A> {
     /// Verifies two payloads in one loop, each from both ends, and caches the matches.
     fn compare_both(&self, marks: &Marks<A>, first: Option<Said>, second: Option<Said>)
         requires of { marks.now ≡ self.now }
-        requires first { IfSome first (λ s. IsSaid self.now s.start s.end s.checksum) }
-        requires second { IfSome second (λ s. IsSaid self.now s.start s.end s.checksum) }
+        requires first { IfSome first (λ s. spec.IsSaid self.now s.start s.end s.checksum) }
+        requires second { IfSome second (λ s. spec.IsSaid self.now s.start s.end s.checksum) }
     {
         let (is_first, is_second) = have_hashes(
             self.payload(first),
@@ -573,7 +567,7 @@ impl<A: Allocator + Clone> BlockSource<A> {
     /// The handle's size must agree. The block must not be in the cache, and must leave the 2,048
     /// bytes in which its payload starts.
     fn said_of(&self, marks: &Marks<A>, handle: &BlockHandle, kind: BlockType) -> Option<Said>
-        ensures { IfSome result (λ said. IsSaid self.now said.start said.end said.checksum) }
+        ensures { IfSome result (λ said. spec.IsSaid self.now said.start said.end said.checksum) }
     {
         let said = self.said_at(handle.offset().0, kind)?;
         if said.end - said.start != (handle.size() as usize).wrapping_sub(HEADER_LEN)
@@ -589,13 +583,14 @@ impl<A: Allocator + Clone> BlockSource<A> {
     ///
     /// Returns `None` if a load would fail before it compares the checksum.
     fn said_at(&self, position: u64, kind: BlockType) -> Option<Said>
-        ensures said { IfSome result (λ said. IsSaid self.now said.start said.end said.checksum) }
+        ensures said { IfSome result
+            (λ said. spec.IsSaid self.now said.start said.end said.checksum) }
         ensures tested { IfSome result (λ said.
-            let payload = slice_range (body_of self.now) said.start said.end in
-            let head = slice_range (body_of self.now) position (position + header_len) in
-            position_fault (body_of self.now) position kind
-            ≡ option_or (checksum_fault said.checksum payload)
-            (room_fault (version_in head) kind payload)) }
+            let payload = slice_range (spec.body_of self.now) said.start said.end in
+            let head = slice_range (spec.body_of self.now) position (position + spec.header_len) in
+            spec.position_fault (spec.body_of self.now) position kind
+            ≡ spec.option_or (spec.checksum_fault said.checksum payload)
+            (spec.room_fault (spec.version_in head) kind payload)) }
     {
         let body = self.body();
         if body.len() < HEADER_LEN || ((body.len() - HEADER_LEN) as u64) < position {
@@ -619,7 +614,7 @@ impl<A: Allocator + Clone> BlockSource<A> {
 
     /// Reads the payload range and checksum of the block after another, unless it is in the cache.
     fn said_behind(&self, marks: &Marks<A>, before: Option<Said>) -> Option<Said>
-        ensures { IfSome result (λ said. IsSaid self.now said.start said.end said.checksum) }
+        ensures { IfSome result (λ said. spec.IsSaid self.now said.start said.end said.checksum) }
     {
         let before = before?;
         // The cache keeps only the last payload that starts in a span, so hashing the next one
@@ -637,7 +632,7 @@ impl<A: Allocator + Clone> BlockSource<A> {
 
     /// The bytes of the payload; none for `None`.
     fn payload(&self, said: Option<Said>) -> &[u8]
-        requires { IfSome said (λ s. IsSaid self.now s.start s.end s.checksum) }
+        requires { IfSome said (λ s. spec.IsSaid self.now s.start s.end s.checksum) }
         ensures { IfSome said (λ s. result.now ≡ slice_range self.now s.start s.end) }
     {
         match said {
@@ -649,9 +644,9 @@ impl<A: Allocator + Clone> BlockSource<A> {
     /// Caches a payload whose checksum matched.
     fn mark_said(&self, marks: &Marks<A>, said: Option<Said>, has_sum: bool)
         requires of { marks.now ≡ self.now }
-        requires said { IfSome said (λ s. IsSaid self.now s.start s.end s.checksum) }
+        requires said { IfSome said (λ s. spec.IsSaid self.now s.start s.end s.checksum) }
         requires sum { IfSome said (λ s.
-            IsTrue has_sum → fnv1a (slice_range self.now s.start s.end) ≡ s.checksum) }
+            IsTrue has_sum → spec.fnv1a (slice_range self.now s.start s.end) ≡ s.checksum) }
     {
         if let Some(said) = said {
             if has_sum {

@@ -1,8 +1,6 @@
 //! The offsets of a payload's entries or handles.
 ghost use Rattle.std.specs.Prelude.{◌≡◌, ◌<◌, ◌^◌, Some, length, IfOk, IfErr};
-ghost use Rattle.sst_blocks.specs.Block.{has_room_for};
-ghost use Rattle.std.specs.List.{slice_get};
-ghost use Rattle.sst_entries.specs.declared.error.Error.TheVariants.{OutOfMemory};
+ghost use Rattle.sst_blocks.specs.Words as spec;
 
 use crate::Error;
 use crate::number::u32_at;
@@ -15,7 +13,7 @@ use std::sync::ArcSlice;
 #[tactic(auto, unfolding(crate::specs::Block::has_room_for))]
 pub(crate) fn has_room_for(payload: &[u8], least: usize) -> bool
     requires { least < 2 ^ 31 }
-    ensures { result ≡ has_room_for least payload.now }
+    ensures { result ≡ spec.has_room_for least payload.now }
 {
     if payload.len() < 4 {
         return false;
@@ -61,7 +59,7 @@ impl<A: Allocator + Clone> Starts<A> {
     /// Fails only with [`Error::OutOfMemory`].
     pub(crate) fn new(places: Vec<u32, A>) -> Result<Starts<A>, Error>
         ensures ok { IfOk result (λ s. s ≡ places.items) }
-        ensures err { IfErr result (λ e. e ≡ OutOfMemory) }
+        ensures err { IfErr result (λ e. e ≡ spec.OutOfMemory) }
     {
         Ok(Starts {
             places: ArcSlice::from_vec(places)?,
@@ -82,7 +80,7 @@ impl<A: Allocator> Starts<A> {
     #[inline(always)]
     pub(crate) fn at(&self, index: usize) -> usize
         requires { index < length self.now }
-        ensures found { slice_get self.now index ≡ Some result }
+        ensures found { spec.slice_get self.now index ≡ Some result }
         ensures short { result < 2 ^ 32 }
     {
         self.places.as_slice()[index] as usize

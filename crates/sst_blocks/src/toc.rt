@@ -1,10 +1,7 @@
 //! The table of contents that a trailer stores.
 ghost use Rattle.std.specs.Prelude.{◌≡◌, ◌*◌, ◌≤◌, None, Some, drop, length, map, slice_index_or};
 ghost use Rattle.std.specs.Prelude.{IfOk};
-ghost use Rattle.std.specs.List.{list_any};
-ghost use Rattle.sst_entries.specs.Error.{Refuses};
-ghost use Rattle.sst_blocks.specs.Sections.{is_past, slot_index, section_at, section_in};
-ghost use Rattle.sst_blocks.specs.Sections.{section_names, slots_len, trailer_fault};
+ghost use Rattle.sst_blocks.specs.Words as spec;
 
 use crate::number::u64_at;
 use crate::section::{TRAILER_LEN, TRAILER_MARK};
@@ -38,7 +35,7 @@ impl Model for Toc {
 impl Toc {
     /// Returns the section of a name, or `None` if the table does not have it.
     pub fn section(&self, name: SectionName) -> Option<Section>
-        ensures { result ≡ slice_index_or self.now (slot_index name) None }
+        ensures { result ≡ slice_index_or self.now (spec.slot_index name) None }
     {
         self.sections[name.place()]
     }
@@ -50,8 +47,9 @@ impl Toc {
     /// Fails with [`Error::InvalidTrailer`] if there are fewer than 120 bytes, the magic number
     /// differs, or a section reaches past the body.
     pub fn of(bytes: &[u8]) -> Result<Toc, Error>
-        ensures toc { IfOk result (λ toc. toc ≡ map (section_in bytes.now) section_names) }
-        ensures fault { Refuses result (trailer_fault bytes.now) }
+        ensures toc { IfOk result
+            (λ toc. toc ≡ map (spec.section_in bytes.now) spec.section_names) }
+        ensures fault { spec.Refuses result (spec.trailer_fault bytes.now) }
     {
         if bytes.len() < TRAILER_LEN {
             return Err(Error::InvalidTrailer);
@@ -70,9 +68,10 @@ impl Toc {
 
     /// Reads the seven slots of a trailer.
     fn read(trailer: &[u8]) -> Toc
-        requires { slots_len ≤ length trailer.now }
+        requires { spec.slots_len ≤ length trailer.now }
         ensures { result ≡
-            map (λ name. section_at (drop (16 * slot_index name) trailer.now)) section_names }
+            map (λ name. spec.section_at (drop (16 * spec.slot_index name) trailer.now))
+            spec.section_names }
     {
         Toc {
             sections: [
@@ -89,7 +88,7 @@ impl Toc {
 
     /// Returns whether a section reaches past a body that ends at `end`.
     fn passes(&self, end: usize) -> bool
-        ensures { result ≡ list_any (is_past end) self.now }
+        ensures { result ≡ spec.list_any (spec.is_past end) self.now }
     {
         self.sections.iter().any(|section| is_past(end, section))
     }
@@ -98,7 +97,7 @@ impl Toc {
 /// Returns the section of a slot, or `None` for sixteen bytes ff.
 fn section_at(slot: &[u8]) -> Option<Section>
     requires { 16 ≤ length slot.now }
-    ensures { result ≡ section_at slot.now }
+    ensures { result ≡ spec.section_at slot.now }
 {
     if slot[..16] == [0xff; 16] {
         return None;
@@ -111,7 +110,7 @@ fn section_at(slot: &[u8]) -> Option<Section>
 
 /// Returns whether a section reaches past a body that ends at `end`, without wrapping.
 fn is_past(end: usize, section: &Option<Section>) -> bool
-    ensures { result ≡ is_past end section.now }
+    ensures { result ≡ spec.is_past end section.now }
 {
     match section {
         None => false,

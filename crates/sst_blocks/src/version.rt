@@ -1,6 +1,6 @@
 //! Versions of the table format.
 ghost use Rattle.std.specs.Prelude.{◌≡◌, IsTrue, ◌↔◌};
-ghost use Rattle.sst_blocks.specs.Version.{mark, longest_key, version_of};
+ghost use Rattle.sst_blocks.specs.Words as spec;
 
 /// A version of the table format.
 ///
@@ -19,7 +19,7 @@ impl TableVersion {
 
     /// Returns the magic number of blocks of this version.
     pub fn mark(self) -> [u8; 4]
-        ensures { result ≡ mark self }
+        ensures { result ≡ spec.mark self }
     {
         match self {
             TableVersion::V3 => *b"LBK1",
@@ -29,7 +29,7 @@ impl TableVersion {
 
     /// Returns the version of a magic number, or `None` for other bytes.
     pub fn from_mark(bytes: &[u8]) -> Option<TableVersion>
-        ensures { result ≡ version_of bytes.now }
+        ensures { result ≡ spec.version_of bytes.now }
     {
         if bytes == b"LBK1".as_slice() {
             Some(TableVersion::V3)
@@ -42,7 +42,7 @@ impl TableVersion {
 
     /// Returns the longest key that a writer of this version accepts, in bytes.
     pub fn longest_key(self) -> usize
-        ensures { result ≡ longest_key self }
+        ensures { result ≡ spec.longest_key self }
     {
         match self {
             TableVersion::V3 => 65_535,

@@ -1,8 +1,6 @@
 //! Borrowed entries.
 ghost use Rattle.std.specs.Prelude.{◌≡◌};
-ghost use Rattle.sst_entries.specs.Kind.{is_tombstone_kind};
-ghost use Rattle.sst_entries.specs.Lending.{entry_cmp, entry_of_ref};
-ghost use Rattle.sst_entries.specs.Strict.{version_cmp};
+ghost use Rattle.sst_entries.specs.Words as spec;
 
 use crate::{InternalValue, SeqNo, ValueType, compare_versions};
 use std::alloc::Allocator;
@@ -25,7 +23,7 @@ impl<'a> EntryRef<'a> {
     /// Returns whether the entry is a tombstone, weak or not.
     #[inline]
     pub fn is_tombstone(&self) -> bool
-        ensures { result ≡ is_tombstone_kind (entry_of_ref self.now).kind }
+        ensures { result ≡ spec.is_tombstone_kind (spec.entry_of_ref self.now).kind }
     {
         self.value_type.is_tombstone()
     }
@@ -35,7 +33,8 @@ impl<'a> EntryRef<'a> {
     /// Kind and value are ignored.
     #[inline]
     pub fn compare_version(&self, other: &EntryRef<'_>) -> Ordering
-        ensures { result ≡ version_cmp (entry_of_ref self.now) (entry_of_ref other.now) }
+        ensures { result ≡ spec.version_cmp (spec.entry_of_ref self.now)
+            (spec.entry_of_ref other.now) }
     {
         compare_versions(self.user_key, self.seqno, other.user_key, other.seqno)
     }
@@ -44,7 +43,8 @@ impl<'a> EntryRef<'a> {
     /// then tag ascending.
     #[inline]
     pub fn compare_key(&self, other: &EntryRef<'_>) -> Ordering
-        ensures { result ≡ entry_cmp (entry_of_ref self.now) (entry_of_ref other.now) }
+        ensures { result ≡ spec.entry_cmp (spec.entry_of_ref self.now)
+            (spec.entry_of_ref other.now) }
     {
         self.compare_version(other)
             .then(self.value_type.cmp(&other.value_type))
@@ -55,7 +55,7 @@ impl<A: Allocator> InternalValue<A> {
     /// Borrows the entry.
     #[inline]
     pub fn as_entry_ref(&self) -> EntryRef<'_>
-        ensures { entry_of_ref result ≡ self.now }
+        ensures { spec.entry_of_ref result ≡ self.now }
     {
         EntryRef {
             user_key: self.key.user_key.as_slice(),

@@ -1,6 +1,6 @@
 //! The error type of all calls on tables.
 ghost use Rattle.std.specs.Prelude.{◌≡◌};
-ghost use Rattle.sst_entries.specs.Error.{number_of};
+ghost use Rattle.sst_entries.specs.Words as spec;
 
 use std::alloc::{AllocError, AllocFailed};
 
@@ -117,7 +117,7 @@ pub enum Error {
 impl Error {
     /// Returns the error code, from 1 to 24.
     pub fn number(&self) -> u8
-        ensures { result ≡ number_of self.now }
+        ensures { result ≡ spec.number_of self.now }
     {
         match self {
             Error::OutOfMemory => 1,

@@ -1,9 +1,6 @@
 //! User keys with a sequence number and a kind.
-ghost use Rattle.sst_entries.specs.Key.{key_cmp};
+ghost use Rattle.sst_entries.specs.Words as spec;
 ghost use Rattle.std.proofs.Common.{rules};
-ghost use Rattle.std.specs.Cmp.{partial_order_from_own_ties};
-ghost use Rattle.std.specs.Cmp.Rules.{comparing};
-ghost use Rattle.std.specs.Ordering.{as_partial_cmp};
 
 use crate::{SeqNo, UserKey, ValueType};
 use std::alloc::{AllocError, Allocator, Global};
@@ -44,13 +41,13 @@ impl<A: Allocator> Clone for InternalKey<A> {
 }
 
 impl<A: Allocator> Ord for InternalKey<A> {
-    ghost cmp = { key_cmp };
+    ghost cmp = { spec.key_cmp };
 
-    ghost total = { Prim.search (comparing, rules) };
+    ghost total = { Prim.search (spec.comparing, rules) };
 
-    ghost matches_partial_cmp = { Prim.search (comparing, rules) };
+    ghost matches_partial_cmp = { Prim.search (spec.comparing, rules) };
 
-    ghost matches_eq = { Prim.search (comparing, rules) };
+    ghost matches_eq = { Prim.search (spec.comparing, rules) };
 
     fn cmp(&self, other: &InternalKey<A>) -> Ordering {
         self.user_key
@@ -61,10 +58,10 @@ impl<A: Allocator> Ord for InternalKey<A> {
 }
 
 impl<A: Allocator> PartialOrd for InternalKey<A> {
-    ghost partial_cmp = { as_partial_cmp key_cmp };
+    ghost partial_cmp = { spec.as_partial_cmp spec.key_cmp };
 
-    ghost laws = { partial_order_from_own_ties (Prim.search (comparing, rules) depth 9)
-        (Prim.search (comparing, rules) depth 9) };
+    ghost laws = { spec.partial_order_from_own_ties (Prim.search (spec.comparing, rules) depth 9)
+        (Prim.search (spec.comparing, rules) depth 9) };
 
     fn partial_cmp(&self, other: &InternalKey<A>) -> Option<Ordering> {
         Some(self.cmp(other))

@@ -1,7 +1,6 @@
 //! The order of entries by key and sequence number.
 ghost use Rattle.std.specs.Prelude.{◌≡◌, IsTrue, ◌↔◌, None};
-ghost use Rattle.sst_entries.specs.Point.{read_place};
-ghost use Rattle.sst_entries.specs.Strict.{IsStrict, is_strict_after, version_cmp};
+ghost use Rattle.sst_entries.specs.Words as spec;
 
 use crate::{InternalValue, SeqNo};
 use std::alloc::Allocator;
@@ -12,8 +11,8 @@ use std::cmp::Ordering;
 /// Kind and value are ignored.
 #[inline]
 pub fn compare_versions(key: &[u8], seqno: SeqNo, other_key: &[u8], other_seqno: SeqNo) -> Ordering
-    ensures { result ≡ version_cmp (read_place key.now seqno)
-        (read_place other_key.now other_seqno) }
+    ensures { result ≡ spec.version_cmp (spec.read_place key.now seqno)
+        (spec.read_place other_key.now other_seqno) }
 {
     key.cmp(other_key).then(other_seqno.cmp(&seqno))
 }
@@ -22,8 +21,8 @@ pub fn compare_versions(key: &[u8], seqno: SeqNo, other_key: &[u8], other_seqno:
 ///
 /// Every block and every table requires this order. The call is linear in the number of entries.
 pub fn are_strict<A: Allocator>(items: &[InternalValue<A>]) -> bool
-    ensures test { result ≡ is_strict_after None items.now }
-    ensures means { IsTrue result ↔ IsStrict items.now }
+    ensures test { result ≡ spec.is_strict_after None items.now }
+    ensures means { IsTrue result ↔ spec.IsStrict items.now }
 {
     let mut last: Option<&InternalValue<A>> = None;
     for item in items {

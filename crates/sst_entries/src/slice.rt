@@ -2,14 +2,9 @@
 ghost use Rattle.std.specs.Prelude.{◌≡◌, ◌<◌, ◌≤◌, ◌^◌, ◌↔◌, [], length, slice_range, IsTrue, IfOk};
 ghost use Rattle.std.specs.Prelude.{IfErr};
 ghost use Rattle.std.specs.Prelude.{nat_eq, refl, Some};
-ghost use Rattle.std.specs.Ordering.{nat_cmp};
+ghost use Rattle.sst_entries.specs.Words as spec;
 ghost use Rattle.std.specs.Hash as fed;
-ghost use Rattle.std.specs.Cmp.Lexicographic.{pointwise, slice_cmp, nat_list_eq_equiv};
-ghost use Rattle.std.specs.Cmp.Lexicographic.{nat_list_cmp_total, texts_ties, texts_po};
-ghost use Rattle.std.specs.Cmp.{partial_equiv_from_equiv};
-ghost use Rattle.std.specs.Cmp.Rules.{hashing};
 ghost use Rattle.std.proofs.Common.{rules};
-ghost use Rattle.sst_entries.specs.declared.error.Error.TheVariants.{OutOfMemory};
 
 use crate::Error;
 use bytes::Bytes;
@@ -118,7 +113,7 @@ impl<A: Allocator> Slice<A> {
         requires ordered { start ≤ end }
         requires within { end ≤ length self.now }
         ensures ok { IfOk result (λ s. s ≡ slice_range self.now start end) }
-        ensures err { IfErr result (λ e. e ≡ OutOfMemory) }
+        ensures err { IfErr result (λ e. e ≡ spec.OutOfMemory) }
     {
         Ok(Slice {
             bytes: self.bytes.slice(start..end)?,
@@ -134,7 +129,7 @@ impl<A: Allocator + Clone> Slice<A> {
     /// Fails only with [`Error::OutOfMemory`].
     pub fn from(alloc: A, bytes: &[u8]) -> Result<Slice<A>, Error>
         ensures ok { IfOk result (λ s. s ≡ bytes.now) }
-        ensures err { IfErr result (λ e. e ≡ OutOfMemory) }
+        ensures err { IfErr result (λ e. e ≡ spec.OutOfMemory) }
     {
         Ok(Slice {
             bytes: Bytes::copy_from_slice(alloc, bytes)?,
@@ -148,7 +143,7 @@ impl<A: Allocator + Clone> Slice<A> {
     /// Fails only with [`Error::OutOfMemory`].
     pub fn from_vec(vec: Vec<u8, A>) -> Result<Slice<A>, Error>
         ensures ok { IfOk result (λ s. s ≡ vec.items) }
-        ensures err { IfErr result (λ e. e ≡ OutOfMemory) }
+        ensures err { IfErr result (λ e. e ≡ spec.OutOfMemory) }
     {
         Ok(Slice {
             bytes: Bytes::from_vec(vec)?,
@@ -157,9 +152,9 @@ impl<A: Allocator + Clone> Slice<A> {
 }
 
 impl<A: Allocator> PartialEq for Slice<A> {
-    ghost eq = { pointwise nat_eq };
+    ghost eq = { spec.pointwise nat_eq };
 
-    ghost laws = { partial_equiv_from_equiv nat_list_eq_equiv };
+    ghost laws = { spec.partial_equiv_from_equiv spec.nat_list_eq_equiv };
 
     fn eq(&self, other: &Self) -> bool {
         self.as_slice() == other.as_slice()
@@ -167,13 +162,13 @@ impl<A: Allocator> PartialEq for Slice<A> {
 }
 
 impl<A: Allocator> Eq for Slice<A> {
-    ghost laws = { nat_list_eq_equiv };
+    ghost laws = { spec.nat_list_eq_equiv };
 }
 
 impl<A: Allocator> PartialOrd for Slice<A> {
-    ghost partial_cmp = { λ x y. Some (slice_cmp nat_cmp x y) };
+    ghost partial_cmp = { λ x y. Some (spec.slice_cmp spec.nat_cmp x y) };
 
-    ghost laws = { texts_po };
+    ghost laws = { spec.texts_po };
 
     fn partial_cmp(&self, other: &Self) -> Option<Ordering> {
         Some(self.cmp(other))
@@ -181,13 +176,13 @@ impl<A: Allocator> PartialOrd for Slice<A> {
 }
 
 impl<A: Allocator> Ord for Slice<A> {
-    ghost cmp = { slice_cmp nat_cmp };
+    ghost cmp = { spec.slice_cmp spec.nat_cmp };
 
-    ghost total = { nat_list_cmp_total };
+    ghost total = { spec.nat_list_cmp_total };
 
     ghost matches_partial_cmp = { λ x y. refl };
 
-    ghost matches_eq = { texts_ties };
+    ghost matches_eq = { spec.texts_ties };
 
     fn cmp(&self, other: &Self) -> Ordering {
         self.as_slice().cmp(other.as_slice())
@@ -197,7 +192,7 @@ impl<A: Allocator> Ord for Slice<A> {
 impl<A: Allocator> Hash for Slice<A> {
     ghost hash_input = { fed.slice fed.u8 };
 
-    ghost respects_eq = { Prim.search (hashing, rules) };
+    ghost respects_eq = { Prim.search (spec.hashing, rules) };
 
     fn hash<H: Hasher>(&self, state: &mut H) {
         self.as_slice().hash(state);

@@ -1,8 +1,6 @@
 //! Streams of results that are read from both ends.
 ghost use Rattle.std.specs.Prelude.{Bool, IfOk, OnErr};
-ghost use Rattle.sst_entries.specs.Stream.{AnswersOf, CanYield, YieldsExactly, YieldsInFront, LedBy, Runs};
-ghost use Rattle.sst_entries.specs.Stream.{Steps, nowhere, answer_stops};
-ghost use Rattle.sst_entries.specs.declared.error.Error.{Error};
+ghost use Rattle.sst_entries.specs.Words as spec;
 
 use crate::{Error, InternalValue};
 use std::alloc::{AllocError, Allocator, Global};
@@ -24,9 +22,10 @@ pub fn answer_at<I: DoubleEndedIterator<Item = Result<X, Error>>, X>(
     source: &mut I,
     end: Direction,
 ) -> Option<Result<X, Error>>
-    requires { CanYield I.next_gives I.next_back_gives I.can_next I.can_next_back source.old }
-    ensures steps { Steps I.next_gives I.next_back_gives end source.old result source.new }
-    ensures can { CanYield I.next_gives I.next_back_gives I.can_next I.can_next_back source.new }
+    requires { spec.CanYield I.next_gives I.next_back_gives I.can_next I.can_next_back source.old }
+    ensures steps { spec.Steps I.next_gives I.next_back_gives end source.old result source.new }
+    ensures can { spec.CanYield I.next_gives I.next_back_gives I.can_next I.can_next_back
+        source.new }
 {
     match end {
         Direction::Front => source.next(),
@@ -45,15 +44,16 @@ pub fn answers_at<I: DoubleEndedIterator<Item = Result<X, Error>>, X: Drop, A: A
     source: &mut I,
     ends: &[Direction],
 ) -> Result<Vec<Option<Result<X, Error>>, A>, AllocError>
-    requires { CanYield I.next_gives I.next_back_gives I.can_next I.can_next_back source.old }
+    requires { spec.CanYield I.next_gives I.next_back_gives I.can_next I.can_next_back source.old }
     ensures ran { IfOk result (λ answers.
-        Runs I.next_gives I.next_back_gives source.old ends.now answers.items source.new) }
+        spec.Runs I.next_gives I.next_back_gives source.old ends.now answers.items source.new) }
     // Up to an error that stops the source, the items are those of its list.
     ensures yielded { IfOk result (λ answers.
-        AnswersOf I.next_gives I.next_back_gives source.old ends.now answers.items) }
+        spec.AnswersOf I.next_gives I.next_back_gives source.old ends.now answers.items) }
     ensures refused { OnErr result (
-        LedBy I.next_gives I.next_back_gives source.old ends.now source.new) }
-    ensures can { CanYield I.next_gives I.next_back_gives I.can_next I.can_next_back source.new }
+        spec.LedBy I.next_gives I.next_back_gives source.old ends.now source.new) }
+    ensures can { spec.CanYield I.next_gives I.next_back_gives I.can_next I.can_next_back
+        source.new }
 {
     let mut answers = Vec::new(alloc);
     for end in ends {
@@ -67,7 +67,7 @@ pub fn answers_at<I: DoubleEndedIterator<Item = Result<X, Error>>, X: Drop, A: A
 pub fn source_of<X: Drop, A: Allocator>(
     items: Vec<Result<X, Error>, A>,
 ) -> std::vec::IntoIter<Result<X, Error>, A>
-    ensures { (stops : Error → Bool) → YieldsExactly (answer_stops stops)
+    ensures { (stops : spec.Error → Bool) → spec.YieldsExactly (spec.answer_stops stops)
         ⟦<std::vec::IntoIter<Result<X, Error>, A> as Iterator>⟧.next_gives
         ⟦<std::vec::IntoIter<Result<X, Error>, A> as DoubleEndedIterator>⟧.next_back_gives
         result items.items }
@@ -79,9 +79,9 @@ pub fn source_of<X: Drop, A: Allocator>(
 ///
 /// This is a lemma for proofs; the call has no effect.
 pub fn from_the_front<I: DoubleEndedIterator<Item = Result<X, Error>>, X>(source: &I)
-    ensures yields { YieldsInFront I.next_gives I.next_back_gives source.now }
-    ensures can { CanYield I.next_gives I.next_back_gives I.can_next I.can_next_back source.now →
-        CanYield I.next_gives nowhere I.can_next I.can_next source.now }
+    ensures yields { spec.YieldsInFront I.next_gives I.next_back_gives source.now }
+    ensures can { spec.CanYield I.next_gives I.next_back_gives I.can_next I.can_next_back
+        source.now → spec.CanYield I.next_gives spec.nowhere I.can_next I.can_next source.now }
 {
     let _ = source;
 }

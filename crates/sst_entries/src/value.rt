@@ -1,9 +1,6 @@
 //! Entries: a key with its sequence number and kind, and a value.
 ghost use Rattle.std.specs.Prelude.{◌≡◌};
-ghost use Rattle.std.specs.Option.{option_map};
-ghost use Rattle.sst_entries.specs.Entry.{entry};
-ghost use Rattle.sst_entries.specs.Kind.{is_tombstone_kind};
-ghost use Rattle.sst_entries.specs.Strict.{may_follow};
+ghost use Rattle.sst_entries.specs.Words as spec;
 
 use crate::{InternalKey, SeqNo, UserKey, UserValue, ValueType, compare_versions};
 use std::alloc::{AllocError, Allocator, Global};
@@ -67,7 +64,7 @@ impl<A: Allocator> InternalValue<A> {
         seqno: SeqNo,
         value_type: ValueType,
     ) -> InternalValue<A>
-        ensures { result ≡ entry user_key value seqno value_type }
+        ensures { result ≡ spec.entry user_key value seqno value_type }
     {
         InternalValue {
             key: InternalKey {
@@ -81,7 +78,7 @@ impl<A: Allocator> InternalValue<A> {
 
     /// Returns whether the entry is a tombstone, weak or not.
     pub fn is_tombstone(&self) -> bool
-        ensures { result ≡ is_tombstone_kind self.now.kind }
+        ensures { result ≡ spec.is_tombstone_kind self.now.kind }
     {
         self.key.value_type.is_tombstone()
     }
@@ -90,7 +87,7 @@ impl<A: Allocator> InternalValue<A> {
     ///
     /// With `None` it returns `true`.
     pub fn may_follow(&self, last: Option<&InternalValue<A>>) -> bool
-        ensures { result ≡ may_follow (option_map (λ e. e.now) last.entry) self.now }
+        ensures { result ≡ spec.may_follow (spec.option_map (λ e. e.now) last.entry) self.now }
     {
         match last {
             None => true,

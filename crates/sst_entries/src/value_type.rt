@@ -1,6 +1,6 @@
 //! Kinds of entries.
 ghost use Rattle.std.specs.Prelude.{◌≡◌};
-ghost use Rattle.sst_entries.specs.Kind.{tag_of, kind_of, is_tombstone_kind};
+ghost use Rattle.sst_entries.specs.Words as spec;
 
 /// The kind of an entry.
 ///
@@ -20,14 +20,14 @@ pub enum ValueType {
 impl ValueType {
     /// Returns the tag that blocks store for the kind.
     pub fn tag(self) -> u8
-        ensures { result ≡ tag_of self }
+        ensures { result ≡ spec.tag_of self }
     {
         self as u8
     }
 
     /// Returns the kind of a tag, or `None` if the byte is no tag.
     pub fn from_tag(tag: u8) -> Option<ValueType>
-        ensures { result ≡ kind_of tag }
+        ensures { result ≡ spec.kind_of tag }
     {
         match tag {
             0 => Some(ValueType::Value),
@@ -40,7 +40,7 @@ impl ValueType {
 
     /// Returns whether the kind is a tombstone, weak or not.
     pub fn is_tombstone(self) -> bool
-        ensures { result ≡ is_tombstone_kind self }
+        ensures { result ≡ spec.is_tombstone_kind self }
     {
         matches!(self, ValueType::Tombstone | ValueType::WeakTombstone)
     }

@@ -1,7 +1,6 @@
 //! The bounds that were sought in an index.
 ghost use Rattle.std.specs.Prelude.{◌≡◌, ◌↔◌, IsTrue, Some, None, OnOk, OnErr, IfErr};
-ghost use Rattle.sst_entries.specs.declared.error.Error.TheVariants.{OutOfMemory};
-ghost use Rattle.lsm_iters.specs.block_index.Words.{rest_in, window};
+ghost use Rattle.lsm_iters.specs.Words as spec;
 
 use crate::block_index::iter::OwnedIndexBlockIter;
 use sst_blocks::{Error, IndexBlock, SeqNo, Slice, UserKey};
@@ -51,7 +50,7 @@ impl<A: Allocator + Clone> Edges<A> {
     pub fn set_lower(&mut self, key: &[u8], seqno: SeqNo) -> Result<(), Error>
         ensures ok { OnOk result (self.new ≡ (Some (key.now, seqno), self.old.1)) }
         ensures unchanged { OnErr result (self.new ≡ self.old) }
-        ensures err { IfErr result (λ e. e ≡ OutOfMemory) }
+        ensures err { IfErr result (λ e. e ≡ spec.OutOfMemory) }
     {
         let key = Slice::from(self.alloc.clone()?, key)?;
         drop(self.lower.replace((key, seqno)));
@@ -66,7 +65,7 @@ impl<A: Allocator + Clone> Edges<A> {
     pub fn set_upper(&mut self, key: &[u8]) -> Result<(), Error>
         ensures ok { OnOk result (self.new ≡ (self.old.0, Some key.now)) }
         ensures unchanged { OnErr result (self.new ≡ self.old) }
-        ensures err { IfErr result (λ e. e ≡ OutOfMemory) }
+        ensures err { IfErr result (λ e. e ≡ spec.OutOfMemory) }
     {
         let key = Slice::from(self.alloc.clone()?, key)?;
         drop(self.upper.replace(key));
@@ -76,7 +75,7 @@ impl<A: Allocator + Clone> Edges<A> {
     /// Returns the handles of a block from the lower edge on.
     fn from_lower(&self, block: IndexBlock<A>) -> OwnedIndexBlockIter<A>
         ensures list { result.list ≡ block }
-        ensures rest { rest_in result ≡ window block self.now.0 None }
+        ensures rest { spec.rest_in result ≡ spec.window block self.now.0 None }
     {
         let mut iter = OwnedIndexBlockIter::new(block);
         match &self.lower {
@@ -90,7 +89,7 @@ impl<A: Allocator + Clone> Edges<A> {
 
     /// Returns the handles of a block between the edges.
     pub fn within(&self, block: IndexBlock<A>) -> OwnedIndexBlockIter<A>
-        ensures { rest_in result ≡ window block self.now.0 self.now.1 }
+        ensures { spec.rest_in result ≡ spec.window block self.now.0 self.now.1 }
     {
         let mut iter = self.from_lower(block);
         match &self.upper {

@@ -1,13 +1,7 @@
 //! The full index: one pinned block with the handle of every data block.
 ghost use Rattle.std.specs.Prelude.{◌≡◌, ◌-◌, Some, None, IfOk, IfErr, MatchOption, [], ◌↔◌};
 ghost use Rattle.std.specs.Prelude.{IsTrue};
-ghost use Rattle.std.specs.Iterator.{at_most};
-ghost use Rattle.sst_entries.specs.declared.error.Error.TheVariants.{OutOfMemory};
-ghost use Rattle.lsm_iters.specs.block_index.Words.{SpanGives, back_of, front_of, reaching_place};
-ghost use Rattle.lsm_iters.specs.block_index.Words.{rest_in};
-ghost use Rattle.lsm_iters.specs.block_index.Words.{AnswersAny, YieldsEnding, IsBetween};
-ghost use Rattle.lsm_iters.specs.block_index.Words.{IsSpanSought};
-ghost use Rattle.lsm_iters.specs.block_index.Words.{span_from, span_left, whole_span, window};
+ghost use Rattle.lsm_iters.specs.Words as spec;
 
 use crate::block_index::iter::OwnedIndexBlockIter;
 use crate::block_index::kinds::BlockIndexIter;
@@ -53,17 +47,19 @@ impl<A: Allocator> FullBlockIndex<A> {
     /// [`Error::OutOfMemory`] only.
     pub fn forward_reader(&self, key: &[u8], seqno: SeqNo) -> Result<Option<Iter<A>>, Error>
         ensures none { IfOk result (λ found. MatchOption found
-            (window self.now (Some (key.now, seqno)) None ≡ []) (λ i. rest_in i ≡ [] → ⊥)) }
-        ensures found { let place = reaching_place (key.now, seqno) self.now in
+            (spec.window self.now (Some (key.now, seqno)) None ≡ []) (λ i. spec.rest_in i ≡ [] →
+            ⊥)) }
+        ensures found { let place = spec.reaching_place (key.now, seqno) self.now in
             IfOk result (λ found. MatchOption found (Unit {0})
-            (λ i. i ≡ span_from place (whole_span self.now))) }
-        ensures kept { let handles = window self.now (Some (key.now, seqno)) None in
-            IfOk result (λ found. MatchOption found (Unit {0}) (λ i. rest_in i ≡ handles)) }
+            (λ i. i ≡ spec.span_from place (spec.whole_span self.now))) }
+        ensures kept { let handles = spec.window self.now (Some (key.now, seqno)) None in
+            IfOk result (λ found. MatchOption found (Unit {0}) (λ i. spec.rest_in i ≡ handles)) }
         ensures yields { let gives = ⟦<Iter<A> as Iterator>⟧.next_gives in
             let back_gives = ⟦<Iter<A> as DoubleEndedIterator>⟧.next_back_gives in
             IfOk result (λ found. MatchOption found (Unit {0}) (λ i.
-            YieldsEnding gives back_gives (λ _. Unit {0}) (λ _. Unit {0}) i (span_left i).results)) }
-        ensures err { IfErr result (λ e. e ≡ OutOfMemory) }
+            spec.YieldsEnding gives back_gives (λ _. Unit {0}) (λ _. Unit {0}) i
+            (spec.span_left i).results)) }
+        ensures err { IfErr result (λ e. e ≡ spec.OutOfMemory) }
     {
         let mut iter = self.iter()?;
         if iter.0.seek_lower(key, seqno) {
@@ -80,13 +76,13 @@ impl<A: Allocator> FullBlockIndex<A> {
     ///
     /// [`Error::OutOfMemory`] only.
     pub fn iter(&self) -> Result<Iter<A>, Error>
-        ensures whole { IfOk result (λ i. i ≡ whole_span self.now) }
-        ensures between { IfOk result (λ i. IsBetween (span_left i) None None) }
+        ensures whole { IfOk result (λ i. i ≡ spec.whole_span self.now) }
+        ensures between { IfOk result (λ i. spec.IsBetween (spec.span_left i) None None) }
         ensures yields { let gives = ⟦<Iter<A> as Iterator>⟧.next_gives in
             let back_gives = ⟦<Iter<A> as DoubleEndedIterator>⟧.next_back_gives in
-            IfOk result (λ i. YieldsEnding gives back_gives (λ _. Unit {0}) (λ _. Unit {0}) i
-            (span_left i).results) }
-        ensures err { IfErr result (λ e. e ≡ OutOfMemory) }
+            IfOk result (λ i. spec.YieldsEnding gives back_gives (λ _. Unit {0}) (λ _. Unit {0}) i
+            (spec.span_left i).results) }
+        ensures err { IfErr result (λ e. e ≡ spec.OutOfMemory) }
     {
         Ok(Iter(OwnedIndexBlockIter::new(self.0.clone()?)))
     }
@@ -110,7 +106,7 @@ impl<A: Allocator> Model for Iter<A> {
 impl<A: Allocator> Iter<A> {
     /// Returns whether all handles are left: no step was made, and no seek dropped a handle.
     pub(crate) fn is_unsought(&self) -> bool
-        ensures { IsTrue result ↔ IsSpanSought self.now None None }
+        ensures { IsTrue result ↔ spec.IsSpanSought self.now None None }
     {
         self.0.is_whole()
     }
@@ -121,9 +117,9 @@ impl<A: Allocator> Iterator for Iter<A> {
 
     ghost can_next = { λ _. Unit {0} };
 
-    ghost next_gives = { SpanGives front_of };
+    ghost next_gives = { spec.SpanGives spec.front_of };
 
-    ghost remaining = { λ s. at_most (s.to - s.from) };
+    ghost remaining = { λ s. spec.at_most (s.to - s.from) };
 
     fn next(&mut self) -> Option<Self::Item> {
         self.0.next()
@@ -133,7 +129,7 @@ impl<A: Allocator> Iterator for Iter<A> {
 impl<A: Allocator> DoubleEndedIterator for Iter<A> {
     ghost can_next_back = { λ _. Unit {0} };
 
-    ghost next_back_gives = { SpanGives back_of };
+    ghost next_back_gives = { spec.SpanGives spec.back_of };
 
     fn next_back(&mut self) -> Option<Self::Item> {
         self.0.next_back()
@@ -141,11 +137,11 @@ impl<A: Allocator> DoubleEndedIterator for Iter<A> {
 }
 
 impl<A: Allocator> BlockIndexIter<A> for Iter<A> {
-    ghost left = { span_left };
+    ghost left = { spec.span_left };
 
-    ghost sought = { IsSpanSought };
+    ghost sought = { spec.IsSpanSought };
 
-    ghost seek_answers = { AnswersAny };
+    ghost seek_answers = { spec.AnswersAny };
 
     ghost takes_memory = { λ _. ⊥ };
 

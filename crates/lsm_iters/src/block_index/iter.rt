@@ -1,12 +1,6 @@
 //! A double-ended iterator over the handles of an index block that it owns.
 ghost use Rattle.std.specs.Prelude.{◌≡◌, ◌+◌, ◌-◌, ◌↔◌, [], IsTrue, Some, None};
-ghost use Rattle.std.specs.Iterator.{at_most};
-ghost use Rattle.lsm_iters.specs.block_index.Words.{YieldsLeft, KeepsLowerEdge, KeepsUpperEdge};
-ghost use Rattle.lsm_iters.specs.block_index.Words.{PlaceGives, SpanGives};
-ghost use Rattle.lsm_iters.specs.block_index.Words.{above_place, back_of, front_of, reaching_place};
-ghost use Rattle.lsm_iters.specs.block_index.Words.{rest_in};
-ghost use Rattle.lsm_iters.specs.block_index.Words.{span_from, span_remains, span_to, taken_at};
-ghost use Rattle.lsm_iters.specs.block_index.Words.{whole_span, window};
+ghost use Rattle.lsm_iters.specs.Words as spec;
 
 use crate::Ends;
 use sst_blocks::{BlockHandle, Error, IndexBlock, KeyedBlockHandle, SeqNo};
@@ -40,8 +34,8 @@ impl<A: Allocator> Model for OwnedIndexBlockIter<A> {
 impl<A: Allocator> OwnedIndexBlockIter<A> {
     /// Returns an iterator over all handles of a block.
     pub fn new(block: IndexBlock<A>) -> OwnedIndexBlockIter<A>
-        ensures whole { result ≡ whole_span block }
-        ensures yields { YieldsLeft ⟦<OwnedIndexBlockIter<A> as Iterator>⟧.next_gives
+        ensures whole { result ≡ spec.whole_span block }
+        ensures yields { spec.YieldsLeft ⟦<OwnedIndexBlockIter<A> as Iterator>⟧.next_gives
             ⟦<OwnedIndexBlockIter<A> as DoubleEndedIterator>⟧.next_back_gives result }
     {
         let to = block.len();
@@ -53,12 +47,13 @@ impl<A: Allocator> OwnedIndexBlockIter<A> {
     /// An end key reaches them if it is greater than `key`, or equal with a sequence number below
     /// `seqno`. Returns whether a handle is left.
     pub fn seek_lower(&mut self, key: &[u8], seqno: SeqNo) -> bool
-        ensures narrowed { let place = reaching_place (key.now, seqno) self.old.list in
-            self.new ≡ span_from place self.old }
-        ensures left { IsTrue result ↔ (rest_in self.new ≡ [] → ⊥) }
-        ensures kept { rest_in self.new ≡ window (rest_in self.old) (Some (key.now, seqno)) None }
-        ensures both { KeepsUpperEdge (key.now, seqno) self.old self.new }
-        ensures yields { YieldsLeft ⟦<OwnedIndexBlockIter<A> as Iterator>⟧.next_gives
+        ensures narrowed { let place = spec.reaching_place (key.now, seqno) self.old.list in
+            self.new ≡ spec.span_from place self.old }
+        ensures left { IsTrue result ↔ (spec.rest_in self.new ≡ [] → ⊥) }
+        ensures kept { spec.rest_in self.new ≡ spec.window (spec.rest_in self.old)
+            (Some (key.now, seqno)) None }
+        ensures both { spec.KeepsUpperEdge (key.now, seqno) self.old self.new }
+        ensures yields { spec.YieldsLeft ⟦<OwnedIndexBlockIter<A> as Iterator>⟧.next_gives
             ⟦<OwnedIndexBlockIter<A> as DoubleEndedIterator>⟧.next_back_gives self.new }
     {
         self.from = self.from.max(self.block.first_reaching(key, seqno));
@@ -70,13 +65,14 @@ impl<A: Allocator> OwnedIndexBlockIter<A> {
     /// Returns whether a handle is left. The sequence number is ignored: versions of the key may
     /// continue in the block after a handle that ends with the key.
     pub fn seek_upper(&mut self, key: &[u8], _seqno: SeqNo) -> bool
-        ensures narrowed { self.new ≡ span_to (1 + above_place key.now self.old.list) self.old }
-        ensures left { IsTrue result ↔ (rest_in self.new ≡ [] → ⊥) }
+        ensures narrowed { self.new ≡ spec.span_to (1 + spec.above_place key.now self.old.list)
+            self.old }
+        ensures left { IsTrue result ↔ (spec.rest_in self.new ≡ [] → ⊥) }
         // The handles left are those within the list's window up to the key.
-        ensures kept { let upper = window self.old.list None (Some key.now) in
-            rest_in self.new ≡ rest_in (record self.old { list = upper }) }
-        ensures both { KeepsLowerEdge key.now self.old self.new }
-        ensures yields { YieldsLeft ⟦<OwnedIndexBlockIter<A> as Iterator>⟧.next_gives
+        ensures kept { let upper = spec.window self.old.list None (Some key.now) in
+            spec.rest_in self.new ≡ spec.rest_in (record self.old { list = upper }) }
+        ensures both { spec.KeepsLowerEdge key.now self.old self.new }
+        ensures yields { spec.YieldsLeft ⟦<OwnedIndexBlockIter<A> as Iterator>⟧.next_gives
             ⟦<OwnedIndexBlockIter<A> as DoubleEndedIterator>⟧.next_back_gives self.new }
     {
         let last = self.block.first_above(key);
@@ -88,7 +84,7 @@ impl<A: Allocator> OwnedIndexBlockIter<A> {
     ///
     /// It does not allocate, since the end key is not shared.
     pub(crate) fn next_place(&mut self) -> Option<BlockHandle>
-        ensures { PlaceGives front_of self.old result self.new }
+        ensures { spec.PlaceGives spec.front_of self.old result self.new }
     {
         if self.to <= self.from {
             return None;
@@ -102,7 +98,7 @@ impl<A: Allocator> OwnedIndexBlockIter<A> {
     ///
     /// It does not allocate, since the end key is not shared.
     pub(crate) fn next_place_back(&mut self) -> Option<BlockHandle>
-        ensures { PlaceGives back_of self.old result self.new }
+        ensures { spec.PlaceGives spec.back_of self.old result self.new }
     {
         if self.to <= self.from {
             return None;
@@ -116,7 +112,7 @@ impl<A: Allocator> OwnedIndexBlockIter<A> {
     ///
     /// It does not allocate.
     pub(crate) fn take_place(&mut self, at: Direction) -> Option<BlockHandle>
-        ensures { PlaceGives (taken_at at) self.old result self.new }
+        ensures { spec.PlaceGives (spec.taken_at at) self.old result self.new }
     {
         match at {
             Direction::Front => self.next_place(),
@@ -126,21 +122,21 @@ impl<A: Allocator> OwnedIndexBlockIter<A> {
 
     /// Returns whether all handles of the block are left.
     pub(crate) fn is_whole(&self) -> bool
-        ensures { IsTrue result ↔ (rest_in self.now ≡ self.now.list) }
+        ensures { IsTrue result ↔ (spec.rest_in self.now ≡ self.now.list) }
     {
         self.to.saturating_sub(self.from) == self.block.len()
     }
 
     /// Returns whether no handle is left.
     pub(crate) fn is_empty(&self) -> bool
-        ensures { IsTrue result ↔ (rest_in self.now ≡ []) }
+        ensures { IsTrue result ↔ (spec.rest_in self.now ≡ []) }
     {
         self.to <= self.from
     }
 
     /// Drops the handles that are left.
     pub(crate) fn end(&mut self)
-        ensures rest { rest_in self.new ≡ [] }
+        ensures rest { spec.rest_in self.new ≡ [] }
         ensures list { self.new.list ≡ self.old.list }
     {
         self.to = self.from.min(self.to);
@@ -152,9 +148,9 @@ impl<A: Allocator> Iterator for OwnedIndexBlockIter<A> {
 
     ghost can_next = { λ _. Unit {0} };
 
-    ghost next_gives = { SpanGives front_of };
+    ghost next_gives = { spec.SpanGives spec.front_of };
 
-    ghost remaining = { λ s. at_most (s.to - s.from) };
+    ghost remaining = { λ s. spec.at_most (s.to - s.from) };
 
     fn next(&mut self) -> Option<Self::Item> {
         if self.to <= self.from {
@@ -177,7 +173,7 @@ impl<A: Allocator> Iterator for OwnedIndexBlockIter<A> {
 impl<A: Allocator> DoubleEndedIterator for OwnedIndexBlockIter<A> {
     ghost can_next_back = { λ _. Unit {0} };
 
-    ghost next_back_gives = { SpanGives back_of };
+    ghost next_back_gives = { spec.SpanGives spec.back_of };
 
     fn next_back(&mut self) -> Option<Self::Item> {
         if self.to <= self.from {
@@ -200,7 +196,7 @@ impl<A: Allocator> DoubleEndedIterator for OwnedIndexBlockIter<A> {
 impl<A: Allocator> Ends for OwnedIndexBlockIter<A> {
     type Item = KeyedBlockHandle<A>;
 
-    ghost left = { span_remains };
+    ghost left = { spec.span_remains };
 
     #[inline(always)]
     fn step(&mut self, at: Direction) -> Option<Result<KeyedBlockHandle<A>, Error>> {

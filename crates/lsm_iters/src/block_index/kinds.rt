@@ -1,13 +1,7 @@
 //! The traits of block indexes and their three kinds.
 ghost use Rattle.std.specs.Prelude.{◌≡◌, ℕ, Bool, List, Option, [], Some, None, false, MatchOption};
 ghost use Rattle.std.specs.Prelude.{◌↔◌, IsTrue, OnOk, OnErr, IfOk, IfErr};
-ghost use Rattle.std.specs.Iterator.{at_most};
-ghost use Rattle.sst_entries.specs.declared.error.Error.TheVariants.{OutOfMemory};
-ghost use Rattle.lsm_iters.specs.block_index.Words.{YieldsEnding, Index, IsBetween, IsEnded, Left};
-ghost use Rattle.lsm_iters.specs.block_index.Words.{StaysEnded, left_size};
-ghost use Rattle.lsm_iters.specs.block_index.Kinds.{BackGives, FrontGives, HasReader, IsReader};
-ghost use Rattle.lsm_iters.specs.block_index.Kinds.{IsSought, SeekAnswers, TakesMemory};
-ghost use Rattle.lsm_iters.specs.block_index.Kinds.{index_of, left_of};
+ghost use Rattle.lsm_iters.specs.Words as spec;
 
 use crate::block_index::full::{self, FullBlockIndex};
 use crate::block_index::two_level::{self, TwoLevelBlockIndex};
@@ -26,7 +20,7 @@ pub trait BlockIndexIter<A: Allocator>: DoubleEndedIterator<
     Item = Result<KeyedBlockHandle<A>, Error>,
 > {
     // The handles and errors that it still yields.
-    ghost left: { Self → Left };
+    ghost left: { Self → spec.Left };
 
     // These edges were sought, and no step was made.
     ghost sought: { Self → Option (List ℕ × ℕ) → Option (List ℕ) → Type 0 };
@@ -50,24 +44,24 @@ pub trait BlockIndexIter<A: Allocator>: DoubleEndedIterator<
         ensures sought { (upper : Option (List ℕ)) → sought self.old None upper →
             OnOk result (sought self.new (Some (key.now, seqno)) upper) }
         ensures between { (upper : Option (List ℕ)) → sought self.old None upper →
-            OnOk result (IsBetween (left self.new) (Some (key.now, seqno)) upper) }
+            OnOk result (spec.IsBetween (left self.new) (Some (key.now, seqno)) upper) }
         ensures answers { IfOk result (λ any. seek_answers self.new any) }
         ensures none { IfOk result (λ any. any ≡ false → (left self.new).results ≡ []) }
         // A seek does not revive an exhausted iterator.
-        ensures over { IsEnded (left self.old) → IsEnded (left self.new) }
+        ensures over { spec.IsEnded (left self.old) → spec.IsEnded (left self.new) }
         // In any order of calls at both ends, the results left are yielded up to the first error.
-        ensures yields { YieldsEnding Self.next_gives Self.next_back_gives Self.can_next
+        ensures yields { spec.YieldsEnding Self.next_gives Self.next_back_gives Self.can_next
             Self.can_next_back self.new (left self.new).results }
         ensures index { (left self.new).index ≡ (left self.old).index }
         ensures opened { (left self.new).opened ≡ (left self.old).opened }
         // After an error, each call at either end returns `None` and loads nothing.
-        ensures ended { OnErr result (IsEnded (left self.new)) }
+        ensures ended { OnErr result (spec.IsEnded (left self.new)) }
         ensures stays { OnErr result
-            (StaysEnded Self.next_gives Self.next_back_gives left self.new) }
+            (spec.StaysEnded Self.next_gives Self.next_back_gives left self.new) }
         ensures refused { OnErr result (takes_memory self.old) }
         // A pinned full index never allocates in a seek, in any later state.
         ensures wants { takes_memory self.new → takes_memory self.old }
-        ensures err { IfErr result (λ e. e ≡ OutOfMemory) };
+        ensures err { IfErr result (λ e. e ≡ spec.OutOfMemory) };
 
     /// Drops the handles after the first whose end key is greater than a key.
     ///
@@ -81,20 +75,20 @@ pub trait BlockIndexIter<A: Allocator>: DoubleEndedIterator<
         ensures sought { (lower : Option (List ℕ × ℕ)) → sought self.old lower None →
             OnOk result (sought self.new lower (Some key.now)) }
         ensures between { (lower : Option (List ℕ × ℕ)) → sought self.old lower None →
-            OnOk result (IsBetween (left self.new) lower (Some key.now)) }
+            OnOk result (spec.IsBetween (left self.new) lower (Some key.now)) }
         ensures answers { IfOk result (λ any. seek_answers self.new any) }
         ensures none { IfOk result (λ any. any ≡ false → (left self.new).results ≡ []) }
-        ensures over { IsEnded (left self.old) → IsEnded (left self.new) }
-        ensures yields { YieldsEnding Self.next_gives Self.next_back_gives Self.can_next
+        ensures over { spec.IsEnded (left self.old) → spec.IsEnded (left self.new) }
+        ensures yields { spec.YieldsEnding Self.next_gives Self.next_back_gives Self.can_next
             Self.can_next_back self.new (left self.new).results }
         ensures index { (left self.new).index ≡ (left self.old).index }
         ensures opened { (left self.new).opened ≡ (left self.old).opened }
-        ensures ended { OnErr result (IsEnded (left self.new)) }
+        ensures ended { OnErr result (spec.IsEnded (left self.new)) }
         ensures stays { OnErr result
-            (StaysEnded Self.next_gives Self.next_back_gives left self.new) }
+            (spec.StaysEnded Self.next_gives Self.next_back_gives left self.new) }
         ensures refused { OnErr result (takes_memory self.old) }
         ensures wants { takes_memory self.new → takes_memory self.old }
-        ensures err { IfErr result (λ e. e ≡ OutOfMemory) };
+        ensures err { IfErr result (λ e. e ≡ spec.OutOfMemory) };
 
     /// Returns how many blocks of each kind were loaded.
     fn opened(&self) -> Opened
@@ -104,7 +98,7 @@ pub trait BlockIndexIter<A: Allocator>: DoubleEndedIterator<
 /// A block index: from keys to the handles of data blocks.
 pub trait BlockIndex<A: Allocator> {
     // Its handles between two edges.
-    ghost index: { Self → Index };
+    ghost index: { Self → spec.Index };
 
     // Whether there is a reader from an edge on.
     ghost has_reader: { Self → Option (List ℕ × ℕ) → Type 0 };
@@ -125,10 +119,10 @@ pub trait BlockIndex<A: Allocator> {
     ) -> Result<Option<BlockIndexIterImpl<A>>, Error>
         ensures found { let edge = Some (key.now, seqno) in
             IfOk result (λ found. MatchOption found ((index self.now).returned edge None ≡ [])
-            (λ i. IsReader i (index self.now) edge None)) }
+            (λ i. spec.IsReader i (index self.now) edge None)) }
         ensures reader { let has = has_reader self.now (Some (key.now, seqno)) in
             IfOk result (λ found. MatchOption found (has → ⊥) (λ i. has)) }
-        ensures err { IfErr result (λ e. e ≡ OutOfMemory) };
+        ensures err { IfErr result (λ e. e ≡ spec.OutOfMemory) };
 
     /// Returns an iterator over all handles.
     ///
@@ -138,8 +132,8 @@ pub trait BlockIndex<A: Allocator> {
     ///
     /// [`Error::OutOfMemory`] only.
     fn iter(&self) -> Result<BlockIndexIterImpl<A>, Error>
-        ensures all { IfOk result (λ i. IsReader i (index self.now) None None) }
-        ensures err { IfErr result (λ e. e ≡ OutOfMemory) };
+        ensures all { IfOk result (λ i. spec.IsReader i (index self.now) None None) }
+        ensures err { IfErr result (λ e. e ≡ spec.OutOfMemory) };
 }
 
 /// A block index of one of three kinds.
@@ -154,9 +148,9 @@ pub enum BlockIndexImpl<A: Allocator = Global> {
 }
 
 impl<A: Allocator + Clone> BlockIndex<A> for BlockIndexImpl<A> {
-    ghost index = { index_of };
+    ghost index = { spec.index_of };
 
-    ghost has_reader = { HasReader };
+    ghost has_reader = { spec.HasReader };
 
     fn forward_reader(
         &self,
@@ -204,7 +198,7 @@ impl<A: Allocator + Clone> BlockIndexIterImpl<A> {
     ///
     /// With a pinned full index, a seek that dropped no handle does not count.
     pub fn is_unsought(&self) -> bool
-        ensures { IsTrue result ↔ IsSought self.now None None }
+        ensures { IsTrue result ↔ spec.IsSought self.now None None }
     {
         match self {
             BlockIndexIterImpl::Full(iter) => iter.is_unsought(),
@@ -216,7 +210,7 @@ impl<A: Allocator + Clone> BlockIndexIterImpl<A> {
     /// Steps at the front, by kind.
     #[inline]
     fn step(&mut self) -> Option<Result<KeyedBlockHandle<A>, Error>>
-        ensures { FrontGives self.old result self.new }
+        ensures { spec.FrontGives self.old result self.new }
     {
         match self {
             BlockIndexIterImpl::Full(iter) => iter.next(),
@@ -228,7 +222,7 @@ impl<A: Allocator + Clone> BlockIndexIterImpl<A> {
     /// Steps at the back, by kind.
     #[inline]
     fn step_back(&mut self) -> Option<Result<KeyedBlockHandle<A>, Error>>
-        ensures { BackGives self.old result self.new }
+        ensures { spec.BackGives self.old result self.new }
     {
         match self {
             BlockIndexIterImpl::Full(iter) => iter.next_back(),
@@ -243,9 +237,9 @@ impl<A: Allocator + Clone> Iterator for BlockIndexIterImpl<A> {
 
     ghost can_next = { λ _. Unit {0} };
 
-    ghost next_gives = { FrontGives };
+    ghost next_gives = { spec.FrontGives };
 
-    ghost remaining = { λ s. at_most (left_size (left_of s)) };
+    ghost remaining = { λ s. spec.at_most (spec.left_size (spec.left_of s)) };
 
     fn next(&mut self) -> Option<Self::Item> {
         self.step()
@@ -255,7 +249,7 @@ impl<A: Allocator + Clone> Iterator for BlockIndexIterImpl<A> {
 impl<A: Allocator + Clone> DoubleEndedIterator for BlockIndexIterImpl<A> {
     ghost can_next_back = { λ _. Unit {0} };
 
-    ghost next_back_gives = { BackGives };
+    ghost next_back_gives = { spec.BackGives };
 
     fn next_back(&mut self) -> Option<Self::Item> {
         self.step_back()
@@ -263,13 +257,13 @@ impl<A: Allocator + Clone> DoubleEndedIterator for BlockIndexIterImpl<A> {
 }
 
 impl<A: Allocator + Clone> BlockIndexIter<A> for BlockIndexIterImpl<A> {
-    ghost left = { left_of };
+    ghost left = { spec.left_of };
 
-    ghost sought = { IsSought };
+    ghost sought = { spec.IsSought };
 
-    ghost seek_answers = { SeekAnswers };
+    ghost seek_answers = { spec.SeekAnswers };
 
-    ghost takes_memory = { TakesMemory };
+    ghost takes_memory = { spec.TakesMemory };
 
     fn seek_lower(&mut self, key: &[u8], seqno: SeqNo) -> Result<bool, Error> {
         match self {

@@ -1,10 +1,6 @@
 //! The handles left of an index block.
 ghost use Rattle.std.specs.Prelude.{◌≡◌, ◌∷◌, [], Err, false, IfOk, IfErr};
-ghost use Rattle.sst_entries.specs.Error.{FaultsFirst, is_memory};
-ghost use Rattle.sst_entries.specs.Stream.{ok_results};
-ghost use Rattle.lsm_iters.specs.block_index.Words.{PartGives, back_of, block_between, block_early};
-ghost use Rattle.lsm_iters.specs.block_index.Words.{body_of, front_of};
-ghost use Rattle.lsm_iters.specs.block_index.Words.{with_index_loads, rest_in};
+ghost use Rattle.lsm_iters.specs.Words as spec;
 
 use crate::block_index::edges::Edges;
 use crate::block_index::iter::OwnedIndexBlockIter;
@@ -40,7 +36,7 @@ impl<A: Allocator> Part<A> {
 
     /// Returns a part with the handles that an iterator still yields.
     pub fn of(iter: OwnedIndexBlockIter<A>) -> Part<A>
-        ensures { result ≡ rest_in iter }
+        ensures { result ≡ spec.rest_in iter }
     {
         Part { iter: Some(iter) }
     }
@@ -49,7 +45,7 @@ impl<A: Allocator> Part<A> {
     ///
     /// After an error nothing is left.
     pub fn next(&mut self) -> Option<Result<KeyedBlockHandle<A>, Error>>
-        ensures { PartGives front_of self.old result self.new }
+        ensures { spec.PartGives spec.front_of self.old result self.new }
     {
         match &mut self.iter {
             Some(iter) => iter.next(),
@@ -61,7 +57,7 @@ impl<A: Allocator> Part<A> {
     ///
     /// After an error nothing is left.
     pub fn next_back(&mut self) -> Option<Result<KeyedBlockHandle<A>, Error>>
-        ensures { PartGives back_of self.old result self.new }
+        ensures { spec.PartGives spec.back_of self.old result self.new }
     {
         match &mut self.iter {
             Some(iter) => iter.next_back(),
@@ -83,13 +79,15 @@ pub fn load_handles<A: Allocator + Clone>(
     edges: &Edges<A>,
     opened: &mut Opened,
 ) -> Result<OwnedIndexBlockIter<A>, Error>
-    ensures ok { let returned = block_between (body_of source.now) edges.now.0 edges.now.1 in
-        IfOk result (λ hs. ok_results (rest_in hs) ≡ returned handle.now) }
-    ensures err { let returned = block_between (body_of source.now) edges.now.0 edges.now.1 in
-        IfErr result (λ e. is_memory e ≡ false → Err e ∷ [] ≡ returned handle.now) }
+    ensures ok { let returned = spec.block_between (spec.body_of source.now) edges.now.0
+        edges.now.1 in IfOk result (λ hs. spec.ok_results (spec.rest_in hs) ≡ returned handle.now) }
+    ensures err { let returned = spec.block_between (spec.body_of source.now) edges.now.0
+        edges.now.1 in
+        IfErr result (λ e. spec.is_memory e ≡ false → Err e ∷ [] ≡ returned handle.now) }
     // An error that is found before allocating is returned rather than `OutOfMemory`.
-    ensures first { FaultsFirst result (block_early (body_of source.now) handle.now) }
-    ensures counted { opened.new ≡ with_index_loads 1 opened.old }
+    ensures first { spec.FaultsFirst result
+        (spec.block_early (spec.body_of source.now) handle.now) }
+    ensures counted { opened.new ≡ spec.with_index_loads 1 opened.old }
 {
     let block = source.load(handle, BlockType::Index, opened)?;
     Ok(edges.within(IndexBlock::new(block)))
@@ -108,12 +106,14 @@ pub fn load_part<A: Allocator + Clone>(
     edges: &Edges<A>,
     opened: &mut Opened,
 ) -> Result<Part<A>, Error>
-    ensures ok { let returned = block_between (body_of source.now) edges.now.0 edges.now.1 in
-        IfOk result (λ hs. ok_results hs ≡ returned handle.now) }
-    ensures err { let returned = block_between (body_of source.now) edges.now.0 edges.now.1 in
-        IfErr result (λ e. is_memory e ≡ false → Err e ∷ [] ≡ returned handle.now) }
-    ensures first { FaultsFirst result (block_early (body_of source.now) handle.now) }
-    ensures counted { opened.new ≡ with_index_loads 1 opened.old }
+    ensures ok { let returned = spec.block_between (spec.body_of source.now) edges.now.0
+        edges.now.1 in IfOk result (λ hs. spec.ok_results hs ≡ returned handle.now) }
+    ensures err { let returned = spec.block_between (spec.body_of source.now) edges.now.0
+        edges.now.1 in
+        IfErr result (λ e. spec.is_memory e ≡ false → Err e ∷ [] ≡ returned handle.now) }
+    ensures first { spec.FaultsFirst result
+        (spec.block_early (spec.body_of source.now) handle.now) }
+    ensures counted { opened.new ≡ spec.with_index_loads 1 opened.old }
 {
     match load_handles(source, handle, edges, opened) {
         Ok(iter) => Ok(Part::of(iter)),

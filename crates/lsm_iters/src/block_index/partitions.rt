@@ -1,6 +1,5 @@
 //! The partitions of a two-level index that are not loaded yet.
-ghost use Rattle.lsm_iters.specs.block_index.Partitions.{EndsPartitions, KeepsPartitions};
-ghost use Rattle.lsm_iters.specs.block_index.Partitions.{coming_partitions};
+ghost use Rattle.lsm_iters.specs.Words as spec;
 
 use crate::Parts;
 use crate::block_index::edges::Edges;
@@ -22,11 +21,11 @@ pub struct Partitions<A: Allocator> {
 impl<A: Allocator + Clone> Parts for Partitions<A> {
     type Part = OwnedIndexBlockIter<A>;
 
-    ghost coming = { coming_partitions };
+    ghost coming = { spec.coming_partitions };
 
-    ghost keeps = { KeepsPartitions };
+    ghost keeps = { spec.KeepsPartitions };
 
-    ghost ends = { EndsPartitions };
+    ghost ends = { spec.EndsPartitions };
 
     #[inline(never)]
     fn load(&mut self, at: Direction) -> Option<Result<OwnedIndexBlockIter<A>, Error>> {

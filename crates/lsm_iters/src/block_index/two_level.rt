@@ -1,14 +1,6 @@
 //! The two-level index: a pinned top level over partitions that each iterator loads one by one.
 ghost use Rattle.std.specs.Prelude.{◌≡◌, ◌↔◌, [], IsTrue, Some, None, IfOk, IfErr};
-ghost use Rattle.std.specs.Iterator.{at_most};
-ghost use Rattle.sst_entries.specs.declared.error.Error.TheVariants.{OutOfMemory};
-ghost use Rattle.lsm_iters.specs.block_index.Words.{AnswersTrue, YieldsEnding, IsBetween};
-ghost use Rattle.lsm_iters.specs.block_index.Words.{IsTwoLevelSought, TwoLevelGives, back_early};
-ghost use Rattle.lsm_iters.specs.block_index.Words.{back_needs, back_of, body_of, fault_at};
-ghost use Rattle.lsm_iters.specs.block_index.Words.{front_early};
-ghost use Rattle.lsm_iters.specs.block_index.Words.{front_needs, front_of, left_size, needs_at};
-ghost use Rattle.lsm_iters.specs.block_index.Words.{new_two_level, none_opened, rest_of, taken_at};
-ghost use Rattle.lsm_iters.specs.block_index.Words.{two_level, two_level_left};
+ghost use Rattle.lsm_iters.specs.Words as spec;
 
 use crate::block_index::edges::Edges;
 use crate::block_index::iter::OwnedIndexBlockIter;
@@ -48,7 +40,7 @@ impl<A: Allocator + Clone> TwoLevelBlockIndex<A> {
         source: BlockSource<A>,
         top_level_index: IndexBlock<A>,
     ) -> TwoLevelBlockIndex<A>
-        ensures { result ≡ (body_of source, top_level_index) }
+        ensures { result ≡ (spec.body_of source, top_level_index) }
     {
         TwoLevelBlockIndex {
             alloc,
@@ -66,17 +58,17 @@ impl<A: Allocator + Clone> TwoLevelBlockIndex<A> {
     ///
     /// [`Error::OutOfMemory`] only.
     pub fn forward_reader(&self, key: &[u8], seqno: SeqNo) -> Result<Iter<A>, Error>
-        ensures sought { IfOk result (λ i. IsTwoLevelSought i (Some (key.now, seqno)) None) }
+        ensures sought { IfOk result (λ i. spec.IsTwoLevelSought i (Some (key.now, seqno)) None) }
         ensures between { let edge = Some (key.now, seqno) in
-            IfOk result (λ i. IsBetween (two_level_left i) edge None) }
-        ensures index { let index = two_level self.now.0 self.now.1 in
-            IfOk result (λ i. (two_level_left i).index ≡ index) }
-        ensures opened { IfOk result (λ i. i.opened ≡ none_opened) }
+            IfOk result (λ i. spec.IsBetween (spec.two_level_left i) edge None) }
+        ensures index { let index = spec.two_level self.now.0 self.now.1 in
+            IfOk result (λ i. (spec.two_level_left i).index ≡ index) }
+        ensures opened { IfOk result (λ i. i.opened ≡ spec.none_opened) }
         ensures yields { let gives = ⟦<Iter<A> as Iterator>⟧.next_gives in
             let back_gives = ⟦<Iter<A> as DoubleEndedIterator>⟧.next_back_gives in
-            IfOk result (λ i. YieldsEnding gives back_gives (λ _. Unit {0}) (λ _. Unit {0}) i
-            (two_level_left i).results) }
-        ensures err { IfErr result (λ e. e ≡ OutOfMemory) }
+            IfOk result (λ i. spec.YieldsEnding gives back_gives (λ _. Unit {0}) (λ _. Unit {0}) i
+            (spec.two_level_left i).results) }
+        ensures err { IfErr result (λ e. e ≡ spec.OutOfMemory) }
     {
         let mut iter = self.iter()?;
         let sought = iter.seek_lower(key, seqno);
@@ -91,13 +83,13 @@ impl<A: Allocator + Clone> TwoLevelBlockIndex<A> {
     ///
     /// [`Error::OutOfMemory`] only.
     pub fn iter(&self) -> Result<Iter<A>, Error>
-        ensures unsought { IfOk result (λ i. i ≡ new_two_level self.now.0 self.now.1) }
-        ensures between { IfOk result (λ i. IsBetween (two_level_left i) None None) }
+        ensures unsought { IfOk result (λ i. i ≡ spec.new_two_level self.now.0 self.now.1) }
+        ensures between { IfOk result (λ i. spec.IsBetween (spec.two_level_left i) None None) }
         ensures yields { let gives = ⟦<Iter<A> as Iterator>⟧.next_gives in
             let back_gives = ⟦<Iter<A> as DoubleEndedIterator>⟧.next_back_gives in
-            IfOk result (λ i. YieldsEnding gives back_gives (λ _. Unit {0}) (λ _. Unit {0}) i
-            (two_level_left i).results) }
-        ensures err { IfErr result (λ e. e ≡ OutOfMemory) }
+            IfOk result (λ i. spec.YieldsEnding gives back_gives (λ _. Unit {0}) (λ _. Unit {0}) i
+            (spec.two_level_left i).results) }
+        ensures err { IfErr result (λ e. e ≡ spec.OutOfMemory) }
     {
         let alloc = self.alloc.clone()?;
         let tops = self.top_level_index.clone()?;
@@ -116,7 +108,7 @@ impl<A: Allocator + Clone> TwoLevelBlockIndex<A> {
 
 // Returns whether no handle is left of a partition; true if none is loaded.
 fn is_over<A: Allocator>(part: &Option<OwnedIndexBlockIter<A>>) -> bool
-    ensures { IsTrue result ↔ (rest_of part.now ≡ []) }
+    ensures { IsTrue result ↔ (spec.rest_of part.now ≡ []) }
 {
     match part {
         Some(part) => part.is_empty(),
@@ -148,7 +140,7 @@ impl<A: Allocator> Model for Iter<A> {
 impl<A: Allocator + Clone> Iter<A> {
     /// Returns whether no edge was sought and no step was made.
     pub(crate) fn is_unsought(&self) -> bool
-        ensures { IsTrue result ↔ IsTwoLevelSought self.now None None }
+        ensures { IsTrue result ↔ spec.IsTwoLevelSought self.now None None }
     {
         let parts = &self.walk.parts;
         let whole = parts.tops.is_whole() && parts.edges.are_none();
@@ -158,7 +150,8 @@ impl<A: Allocator + Clone> Iter<A> {
     /// Returns the next item at an end.
     #[inline(always)]
     fn answer(&mut self, at: Direction) -> Option<Result<KeyedBlockHandle<A>, Error>>
-        ensures { TwoLevelGives (taken_at at) (needs_at at) (fault_at at) self.old result self.new }
+        ensures { spec.TwoLevelGives (spec.taken_at at) (spec.needs_at at) (spec.fault_at at)
+            self.old result self.new }
     {
         self.walk.step(at)
     }
@@ -176,9 +169,9 @@ impl<A: Allocator + Clone> Iterator for Iter<A> {
 
     ghost can_next = { λ _. Unit {0} };
 
-    ghost next_gives = { TwoLevelGives front_of front_needs front_early };
+    ghost next_gives = { spec.TwoLevelGives spec.front_of spec.front_needs spec.front_early };
 
-    ghost remaining = { λ s. at_most (left_size (two_level_left s)) };
+    ghost remaining = { λ s. spec.at_most (spec.left_size (spec.two_level_left s)) };
 
     fn next(&mut self) -> Option<Self::Item> {
         self.answer(Direction::Front)
@@ -188,7 +181,7 @@ impl<A: Allocator + Clone> Iterator for Iter<A> {
 impl<A: Allocator + Clone> DoubleEndedIterator for Iter<A> {
     ghost can_next_back = { λ _. Unit {0} };
 
-    ghost next_back_gives = { TwoLevelGives back_of back_needs back_early };
+    ghost next_back_gives = { spec.TwoLevelGives spec.back_of spec.back_needs spec.back_early };
 
     fn next_back(&mut self) -> Option<Self::Item> {
         self.answer(Direction::Back)
@@ -196,11 +189,11 @@ impl<A: Allocator + Clone> DoubleEndedIterator for Iter<A> {
 }
 
 impl<A: Allocator + Clone> BlockIndexIter<A> for Iter<A> {
-    ghost left = { two_level_left };
+    ghost left = { spec.two_level_left };
 
-    ghost sought = { IsTwoLevelSought };
+    ghost sought = { spec.IsTwoLevelSought };
 
-    ghost seek_answers = { AnswersTrue };
+    ghost seek_answers = { spec.AnswersTrue };
 
     ghost takes_memory = { λ _. Unit {0} };
 

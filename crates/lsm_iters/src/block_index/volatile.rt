@@ -1,12 +1,6 @@
 //! The volatile index: one block with the handle of every data block, loaded by each iterator.
 ghost use Rattle.std.specs.Prelude.{◌≡◌, ◌↔◌, [], IsTrue, Some, None, IfOk, IfErr};
-ghost use Rattle.std.specs.Iterator.{at_most};
-ghost use Rattle.sst_entries.specs.declared.error.Error.TheVariants.{OutOfMemory};
-ghost use Rattle.lsm_iters.specs.block_index.Words.{AnswersTrue, YieldsEnding, IsBetween};
-ghost use Rattle.lsm_iters.specs.block_index.Words.{IsDemandSought, OnDemandGives, back_of};
-ghost use Rattle.lsm_iters.specs.block_index.Words.{body_of};
-ghost use Rattle.lsm_iters.specs.block_index.Words.{front_of};
-ghost use Rattle.lsm_iters.specs.block_index.Words.{left_size, new_on_demand, on_demand_left};
+ghost use Rattle.lsm_iters.specs.Words as spec;
 
 use crate::block_index::edges::Edges;
 use crate::block_index::kinds::BlockIndexIter;
@@ -41,7 +35,7 @@ impl<A: Allocator + Clone> VolatileBlockIndex<A> {
     ///
     /// Nothing is loaded.
     pub fn new(alloc: A, source: BlockSource<A>, handle: BlockHandle) -> VolatileBlockIndex<A>
-        ensures { result ≡ (body_of source, handle) }
+        ensures { result ≡ (spec.body_of source, handle) }
     {
         VolatileBlockIndex {
             alloc,
@@ -59,15 +53,15 @@ impl<A: Allocator + Clone> VolatileBlockIndex<A> {
     ///
     /// [`Error::OutOfMemory`] only.
     pub fn forward_reader(&self, key: &[u8], seqno: SeqNo) -> Result<Iter<A>, Error>
-        ensures sought { let unsought = new_on_demand self.now.0 self.now.1 in
+        ensures sought { let unsought = spec.new_on_demand self.now.0 self.now.1 in
             IfOk result (λ i. i ≡ record unsought { lower = Some (key.now, seqno) }) }
         ensures between { let edge = Some (key.now, seqno) in
-            IfOk result (λ i. IsBetween (on_demand_left i) edge None) }
+            IfOk result (λ i. spec.IsBetween (spec.on_demand_left i) edge None) }
         ensures yields { let gives = ⟦<Iter<A> as Iterator>⟧.next_gives in
             let back_gives = ⟦<Iter<A> as DoubleEndedIterator>⟧.next_back_gives in
-            IfOk result (λ i. YieldsEnding gives back_gives (λ _. Unit {0}) (λ _. Unit {0}) i
-            (on_demand_left i).results) }
-        ensures err { IfErr result (λ e. e ≡ OutOfMemory) }
+            IfOk result (λ i. spec.YieldsEnding gives back_gives (λ _. Unit {0}) (λ _. Unit {0}) i
+            (spec.on_demand_left i).results) }
+        ensures err { IfErr result (λ e. e ≡ spec.OutOfMemory) }
     {
         let mut iter = self.iter()?;
         let sought = iter.edges.set_lower(key, seqno);
@@ -82,13 +76,13 @@ impl<A: Allocator + Clone> VolatileBlockIndex<A> {
     ///
     /// [`Error::OutOfMemory`] only.
     pub fn iter(&self) -> Result<Iter<A>, Error>
-        ensures unsought { IfOk result (λ i. i ≡ new_on_demand self.now.0 self.now.1) }
-        ensures between { IfOk result (λ i. IsBetween (on_demand_left i) None None) }
+        ensures unsought { IfOk result (λ i. i ≡ spec.new_on_demand self.now.0 self.now.1) }
+        ensures between { IfOk result (λ i. spec.IsBetween (spec.on_demand_left i) None None) }
         ensures yields { let gives = ⟦<Iter<A> as Iterator>⟧.next_gives in
             let back_gives = ⟦<Iter<A> as DoubleEndedIterator>⟧.next_back_gives in
-            IfOk result (λ i. YieldsEnding gives back_gives (λ _. Unit {0}) (λ _. Unit {0}) i
-            (on_demand_left i).results) }
-        ensures err { IfErr result (λ e. e ≡ OutOfMemory) }
+            IfOk result (λ i. spec.YieldsEnding gives back_gives (λ _. Unit {0}) (λ _. Unit {0}) i
+            (spec.on_demand_left i).results) }
+        ensures err { IfErr result (λ e. e ≡ spec.OutOfMemory) }
     {
         let alloc = self.alloc.clone()?;
         let source = self.source.clone()?;
@@ -135,7 +129,7 @@ impl<A: Allocator> Model for Iter<A> {
 impl<A: Allocator + Clone> Iter<A> {
     /// Returns whether no edge was sought and no step was made.
     pub(crate) fn is_unsought(&self) -> bool
-        ensures { IsTrue result ↔ IsDemandSought self.now None None }
+        ensures { IsTrue result ↔ spec.IsDemandSought self.now None None }
     {
         self.part.is_none() && self.edges.are_none()
     }
@@ -155,9 +149,9 @@ impl<A: Allocator + Clone> Iterator for Iter<A> {
 
     ghost can_next = { λ _. Unit {0} };
 
-    ghost next_gives = { OnDemandGives front_of };
+    ghost next_gives = { spec.OnDemandGives spec.front_of };
 
-    ghost remaining = { λ s. at_most (left_size (on_demand_left s)) };
+    ghost remaining = { λ s. spec.at_most (spec.left_size (spec.on_demand_left s)) };
 
     fn next(&mut self) -> Option<Self::Item> {
         if let Some(part) = &mut self.part {
@@ -180,7 +174,7 @@ impl<A: Allocator + Clone> Iterator for Iter<A> {
 impl<A: Allocator + Clone> DoubleEndedIterator for Iter<A> {
     ghost can_next_back = { λ _. Unit {0} };
 
-    ghost next_back_gives = { OnDemandGives back_of };
+    ghost next_back_gives = { spec.OnDemandGives spec.back_of };
 
     fn next_back(&mut self) -> Option<Self::Item> {
         if let Some(part) = &mut self.part {
@@ -201,11 +195,11 @@ impl<A: Allocator + Clone> DoubleEndedIterator for Iter<A> {
 }
 
 impl<A: Allocator + Clone> BlockIndexIter<A> for Iter<A> {
-    ghost left = { on_demand_left };
+    ghost left = { spec.on_demand_left };
 
-    ghost sought = { IsDemandSought };
+    ghost sought = { spec.IsDemandSought };
 
-    ghost seek_answers = { AnswersTrue };
+    ghost seek_answers = { spec.AnswersTrue };
 
     ghost takes_memory = { λ _. Unit {0} };
 

@@ -1,15 +1,8 @@
 //! The approximate size of a key range in a table's file.
 ghost use Rattle.std.specs.Prelude.{◌≡◌, ◌≤◌, ◌<◌, ◌^◌, List, ℕ, Option, None, Result, IfErr};
 ghost use Rattle.std.specs.Prelude.{IfOk, OnOk};
-ghost use Rattle.std.specs.Iterator.{IsFinite};
-ghost use Rattle.sst_entries.specs.declared.error.Error.{Error};
+ghost use Rattle.lsm_readers.specs.Words as spec;
 ghost use Rattle.sst_entries.specs.declared.error.Error.TheVariants.{OutOfMemory};
-ghost use Rattle.sst_entries.specs.Stream.{front_of};
-ghost use Rattle.lsm_iters.specs.block_index.Kinds.{IsSought, left_of};
-ghost use Rattle.lsm_iters.specs.block_index.Left.{LeftGives};
-ghost use Rattle.lsm_iters.specs.Bounds.{lower_edge, upper_edge};
-ghost use Rattle.lsm_readers.specs.Words.{Entry, Gives, Handle, StoresList, index_read, key_bound};
-ghost use Rattle.lsm_readers.specs.Words.{size_result, size_within, sizes_result};
 
 use crate::Table;
 use lsm_iters::{BlockIndex, BlockIndexImpl, BlockIndexIter, BlockIndexIterImpl};
@@ -39,17 +32,17 @@ impl<A: Allocator + Clone> Table<A> {
         // Except for `OutOfMemory`, the result follows from the index between the edges of the
         // bounds.
         ensures returned { let size =
-            size_result self.now (key_bound lower.entry) (key_bound upper.entry) in
-            Gives (λ (n : ℕ). n) result size }
+            spec.size_result self.now (spec.key_bound lower.entry) (spec.key_bound upper.entry) in
+            spec.Gives (λ (n : ℕ). n) result size }
         // On bytes that store a list it is the total size of the blocks between the bounds.
-        ensures list { (es : List Entry) (t : StoresList self.now.bytes es) →
-            let size = size_within t (key_bound lower.entry) (key_bound upper.entry) in
-            IfOk result (λ n. n ≡ size) }
+        ensures list { (es : List spec.Entry) (t : spec.StoresList self.now.bytes es) →
+            let size = spec.size_within t (spec.key_bound lower.entry)
+            (spec.key_bound upper.entry) in IfOk result (λ n. n ≡ size) }
         // On such bytes it is at most the size of all data blocks.
-        ensures most { (es : List Entry) → StoresList self.now.bytes es →
+        ensures most { (es : List spec.Entry) → spec.StoresList self.now.bytes es →
             IfOk result (λ n. n ≤ self.now.parts.facts.file_size) }
         // On such bytes it fails with `OutOfMemory` only.
-        ensures err { (es : List Entry) → StoresList self.now.bytes es →
+        ensures err { (es : List spec.Entry) → spec.StoresList self.now.bytes es →
             IfErr result (λ e. e ≡ OutOfMemory) }
     {
         // These facts bound the sizes of a list's blocks.
@@ -76,9 +69,10 @@ fn handles_within<A: Allocator + Clone>(
     lower: Bound<&[u8]>,
     upper: Bound<&[u8]>,
 ) -> Result<BlockIndexIterImpl<A>, Error>
-    ensures between { let low = lower_edge (key_bound lower.entry) in
-        let high = upper_edge (key_bound upper.entry) in
-        IfOk result (λ i. (left_of i).results ≡ (index_read index.now).returned low high) }
+    ensures between { let low = spec.lower_edge (spec.key_bound lower.entry) in
+        let high = spec.upper_edge (spec.key_bound upper.entry) in
+        IfOk result (λ i. (spec.left_of i).results ≡ (spec.index_read index.now).returned low
+        high) }
     ensures err { IfErr result (λ e. e ≡ OutOfMemory) }
 {
     let mut handles = index.iter()?;
@@ -92,10 +86,10 @@ fn seek<A: Allocator + Clone>(
     lower: Bound<&[u8]>,
     upper: Bound<&[u8]>,
 ) -> Result<(), Error>
-    ensures sought { let low = lower_edge (key_bound lower.entry) in
-        let high = upper_edge (key_bound upper.entry) in
-        IsSought handles.old None None → OnOk result (IsSought handles.new low high) }
-    ensures index { (left_of handles.new).index ≡ (left_of handles.old).index }
+    ensures sought { let low = spec.lower_edge (spec.key_bound lower.entry) in
+        let high = spec.upper_edge (spec.key_bound upper.entry) in
+        spec.IsSought handles.old None None → OnOk result (spec.IsSought handles.new low high) }
+    ensures index { (spec.left_of handles.new).index ≡ (spec.left_of handles.old).index }
     ensures err { IfErr result (λ e. e ≡ OutOfMemory) }
 {
     seek_lower(handles, lower)?;
@@ -107,9 +101,9 @@ fn seek_lower<A: Allocator + Clone>(
     handles: &mut BlockIndexIterImpl<A>,
     lower: Bound<&[u8]>,
 ) -> Result<(), Error>
-    ensures sought { let low = lower_edge (key_bound lower.entry) in
-        IsSought handles.old None None → OnOk result (IsSought handles.new low None) }
-    ensures index { (left_of handles.new).index ≡ (left_of handles.old).index }
+    ensures sought { let low = spec.lower_edge (spec.key_bound lower.entry) in
+        spec.IsSought handles.old None None → OnOk result (spec.IsSought handles.new low None) }
+    ensures index { (spec.left_of handles.new).index ≡ (spec.left_of handles.old).index }
     ensures err { IfErr result (λ e. e ≡ OutOfMemory) }
 {
     match lower {
@@ -125,10 +119,10 @@ fn seek_upper<A: Allocator + Clone>(
     handles: &mut BlockIndexIterImpl<A>,
     upper: Bound<&[u8]>,
 ) -> Result<(), Error>
-    ensures sought { let high = upper_edge (key_bound upper.entry) in
-        (low : Option (List ℕ × ℕ)) → IsSought handles.old low None →
-        OnOk result (IsSought handles.new low high) }
-    ensures index { (left_of handles.new).index ≡ (left_of handles.old).index }
+    ensures sought { let high = spec.upper_edge (spec.key_bound upper.entry) in
+        (low : Option (List ℕ × ℕ)) → spec.IsSought handles.old low None →
+        OnOk result (spec.IsSought handles.new low high) }
+    ensures index { (spec.left_of handles.new).index ≡ (spec.left_of handles.old).index }
     ensures err { IfErr result (λ e. e ≡ OutOfMemory) }
 {
     match upper {
@@ -143,10 +137,10 @@ fn seek_upper<A: Allocator + Clone>(
 /// error.
 fn sum_sizes<I: BlockIndexIter<A> + Drop, A: Allocator>(handles: I) -> Result<u64, Error>
     requires can { I.can_next handles }
-    requires finite { IsFinite (I.remaining handles) }
-    requires steps { (s : I) (r : Option (Result Handle Error)) (t : I) → I.next_gives s r t →
-        LeftGives front_of (I.left s) r (I.left t) }
-    ensures { Gives (λ (n : ℕ). n) result (sizes_result (I.left handles).results) }
+    requires finite { spec.IsFinite (I.remaining handles) }
+    requires steps { (s : I) (r : Option (Result spec.Handle spec.Error)) (t : I) →
+        I.next_gives s r t → spec.LeftGives spec.front_of (I.left s) r (I.left t) }
+    ensures { spec.Gives (λ (n : ℕ). n) result (spec.sizes_result (I.left handles).results) }
 {
     let mut size = 0u64;
     for handle in handles {

@@ -1,8 +1,7 @@
 //! Point reads by a key and a sequence number alone.
 ghost use Rattle.std.specs.Prelude.{◌≡◌, [], IfErr, IfOk, IsOk, List, Option};
+ghost use Rattle.lsm_readers.specs.Words as spec;
 ghost use Rattle.sst_entries.specs.declared.error.Error.TheVariants.{OutOfMemory};
-ghost use Rattle.lsm_readers.specs.Words.{Entry, FaultsFirst, Gives, StoresList, lift, point};
-ghost use Rattle.lsm_readers.specs.Words.{table_answer};
 
 use crate::Table;
 use sst_blocks::{Error, InternalValue, SeqNo};
@@ -18,19 +17,20 @@ impl<A: Allocator + Clone> Table<A> {
     /// Those of [`Table::get`].
     #[tactic(auto, using(crate::proofs::ByKey::value_is))]
     pub fn get_by_key(&self, key: &[u8], seqno: SeqNo) -> Result<Option<InternalValue<A>>, Error>
-        ensures returned { Gives (λ (found : Option Entry). found) result
-            (table_answer self.now key.now seqno).returned }
-        ensures early { FaultsFirst result (table_answer self.now key.now seqno).early }
-        ensures calm { (table_answer self.now key.now seqno).loads ≡ [] → IsOk result }
+        ensures returned { spec.Gives (λ (found : Option spec.Entry). found) result
+            (spec.table_answer self.now key.now seqno).returned }
+        ensures early { spec.FaultsFirst result (spec.table_answer self.now key.now seqno).early }
+        ensures calm { (spec.table_answer self.now key.now seqno).loads ≡ [] → IsOk result }
         // On bytes that store a list it is the newest visible version in the list, global seqno
         // applied.
-        ensures list { (es : List Entry) → StoresList self.now.bytes es →
-            IfOk result (λ found. found ≡ point (lift es self.now.global_seqno) key.now seqno) }
+        ensures list { (es : List spec.Entry) → spec.StoresList self.now.bytes es →
+            IfOk result (λ found. found ≡ spec.point (spec.lift es self.now.global_seqno) key.now
+            seqno) }
         // With a global seqno of 0 it is the newest visible version in the list as stored.
-        ensures plain { (es : List Entry) → StoresList self.now.bytes es →
-            self.now.global_seqno ≡ 0 → IfOk result (λ found. found ≡ point es key.now seqno) }
+        ensures plain { (es : List spec.Entry) → spec.StoresList self.now.bytes es →
+            self.now.global_seqno ≡ 0 → IfOk result (λ found. found ≡ spec.point es key.now seqno) }
         // On such bytes it fails with `OutOfMemory` only.
-        ensures err { (es : List Entry) → StoresList self.now.bytes es →
+        ensures err { (es : List spec.Entry) → spec.StoresList self.now.bytes es →
             IfErr result (λ e. e ≡ OutOfMemory) }
     {
         self.get(key, seqno, Table::<A>::key_hash(key))

@@ -1,9 +1,7 @@
 //! A table's bytes, and the items of its meta block that opening does not read.
 ghost use Rattle.std.specs.Prelude.{◌≡◌, ◌+◌, ◌*◌, ◌/◌, ◌⊎◌, IfErr, IfOk, List, length, ℕ};
-ghost use Rattle.sst_blocks.specs.declared.block_type.BlockType.TheVariants.{Meta};
+ghost use Rattle.lsm_readers.specs.Words as spec;
 ghost use Rattle.sst_entries.specs.declared.error.Error.TheVariants.{OutOfMemory};
-ghost use Rattle.lsm_readers.specs.point.Meta.{meta_item_result};
-ghost use Rattle.lsm_readers.specs.Words.{FaultsFirst, Gives, body_of, place_fault};
 
 use crate::{Inner, Table, load_item};
 use sst_blocks::{Error, ItemName, Slice, UserValue};
@@ -54,12 +52,12 @@ impl<A: Allocator + Clone> Table<A> {
     /// [`Error::OutOfMemory`].
     pub fn meta_item(&self, name: ItemName) -> Result<UserValue<A>, Error>
         ensures returned { let place = self.now.parts.regions.metadata in
-            Gives (λ (value : List ℕ). value) result
-            (meta_item_result (body_of self.now.bytes) place name) }
+            spec.Gives (λ (value : List ℕ). value) result
+            (spec.meta_item_result (spec.body_of self.now.bytes) place name) }
         // A fault that is found before any allocation takes precedence over `OutOfMemory`.
         ensures early { let place = self.now.parts.regions.metadata in
-            FaultsFirst result
-            (place_fault (body_of self.now.bytes) place.offset place.size Meta) }
+            spec.FaultsFirst result
+            (spec.place_fault (spec.body_of self.now.bytes) place.offset place.size spec.Meta) }
     {
         let inner: &Inner<A> = &self.inner;
         load_item(&self.source, &inner.regions.metadata, name)

@@ -1,12 +1,6 @@
 //! Point reads that borrow the entry from the table's bytes.
 ghost use Rattle.std.specs.Prelude.{◌≡◌, [], IfOk, IfSome, IsOk, List, Ok, Option};
-ghost use Rattle.std.specs.Option.{option_map};
-ghost use Rattle.sst_blocks.specs.Asked.{result_map};
-ghost use Rattle.sst_blocks.specs.EntryPlace.{IsPlacedIn, entry_placed, placed_in};
-ghost use Rattle.sst_entries.specs.Lending.{entry_of_ref};
-ghost use Rattle.lsm_readers.specs.Words.{Entry, FaultsFirst, Gives, IsOpen, LoadsFew, Opens};
-ghost use Rattle.lsm_readers.specs.Words.{StoresList, hash_of, lift, none_opened, point};
-ghost use Rattle.lsm_readers.specs.Words.{table_answer};
+ghost use Rattle.lsm_readers.specs.Words as spec;
 
 use crate::{Inner, Table, place_in};
 use sst_blocks::{EntryPlace, EntryRef, Error, Opened, SeqNo};
@@ -28,24 +22,24 @@ impl<A: Allocator + Clone> Table<A> {
         seqno: SeqNo,
         key_hash: u64,
     ) -> (Result<Option<EntryPlace>, Error>, Opened)
-        requires { key_hash ≡ hash_of key.now }
-        ensures returned { Gives (option_map (entry_placed self.now.bytes)) result.0
-            (table_answer self.now key.now seqno).returned }
+        requires { key_hash ≡ spec.hash_of key.now }
+        ensures returned { spec.Gives (spec.option_map (spec.entry_placed self.now.bytes)) result.0
+            (spec.table_answer self.now key.now seqno).returned }
         // A fault that is found before any allocation takes precedence over `OutOfMemory`.
-        ensures early { FaultsFirst result.0 (table_answer self.now key.now seqno).early }
+        ensures early { spec.FaultsFirst result.0 (spec.table_answer self.now key.now seqno).early }
         // If no block is loaded, the read does not fail.
-        ensures calm { (table_answer self.now key.now seqno).loads ≡ [] → IsOk result.0 }
-        ensures opened { let loads = (table_answer self.now key.now seqno).loads in
-            Opens result.0 loads none_opened result.1 }
-        ensures few { LoadsFew self.now.parts none_opened result.1 }
-        ensures open { IsOpen self.now }
+        ensures calm { (spec.table_answer self.now key.now seqno).loads ≡ [] → IsOk result.0 }
+        ensures opened { let loads = (spec.table_answer self.now key.now seqno).loads in
+            spec.Opens result.0 loads spec.none_opened result.1 }
+        ensures few { spec.LoadsFew self.now.parts spec.none_opened result.1 }
+        ensures open { spec.IsOpen self.now }
         // The entry is within the table's bytes.
-        ensures placed { IfOk result.0 (λ found. IfSome found (IsPlacedIn self.now.bytes)) }
+        ensures placed { IfOk result.0 (λ found. IfSome found (spec.IsPlacedIn self.now.bytes)) }
         // On bytes that store a list it is the newest visible version in the list, global seqno
         // applied.
-        ensures list { (es : List Entry) → StoresList self.now.bytes es →
-            let found = point (lift es self.now.global_seqno) key.now seqno in
-            Gives (option_map (entry_placed self.now.bytes)) result.0 (Ok found) }
+        ensures list { (es : List spec.Entry) → spec.StoresList self.now.bytes es →
+            let found = spec.point (spec.lift es self.now.global_seqno) key.now seqno in
+            spec.Gives (spec.option_map (spec.entry_placed self.now.bytes)) result.0 (Ok found) }
     {
         let inner: &Inner<A> = &self.inner;
         place_in(&self.source, inner, key, seqno, key_hash)
@@ -58,7 +52,8 @@ impl<A: Allocator + Clone> Table<A> {
     /// end.
     #[inline]
     pub fn entry_at(&self, place: &EntryPlace) -> Option<EntryRef<'_>>
-        ensures { option_map entry_of_ref result ≡ placed_in self.now.bytes place.now }
+        ensures { spec.option_map spec.entry_of_ref result ≡ spec.placed_in self.now.bytes
+            place.now }
     {
         self.source.entry_at(place)
     }
@@ -68,9 +63,9 @@ impl<A: Allocator + Clone> Table<A> {
         &self,
         found: Result<Option<EntryPlace>, Error>,
     ) -> Result<Option<EntryRef<'_>>, Error>
-        requires { IfOk found (λ place. IfSome place (IsPlacedIn self.now.bytes)) }
-        ensures { result_map (option_map entry_of_ref) result
-            ≡ result_map (option_map (entry_placed self.now.bytes)) found }
+        requires { IfOk found (λ place. IfSome place (spec.IsPlacedIn self.now.bytes)) }
+        ensures { spec.result_map (spec.option_map spec.entry_of_ref) result
+            ≡ spec.result_map (spec.option_map (spec.entry_placed self.now.bytes)) found }
     {
         match found {
             Ok(Some(place)) => Ok(self.entry_at(&place)),
@@ -89,22 +84,22 @@ impl<A: Allocator + Clone> Table<A> {
         seqno: SeqNo,
         key_hash: u64,
     ) -> (Result<Option<EntryRef<'_>>, Error>, Opened)
-        requires { key_hash ≡ hash_of key.now }
-        ensures returned { Gives (option_map entry_of_ref) result.0
-            (table_answer self.now key.now seqno).returned }
+        requires { key_hash ≡ spec.hash_of key.now }
+        ensures returned { spec.Gives (spec.option_map spec.entry_of_ref) result.0
+            (spec.table_answer self.now key.now seqno).returned }
         // A fault that is found before any allocation takes precedence over `OutOfMemory`.
-        ensures early { FaultsFirst result.0 (table_answer self.now key.now seqno).early }
+        ensures early { spec.FaultsFirst result.0 (spec.table_answer self.now key.now seqno).early }
         // If no block is loaded, the read does not fail.
-        ensures calm { (table_answer self.now key.now seqno).loads ≡ [] → IsOk result.0 }
-        ensures opened { let loads = (table_answer self.now key.now seqno).loads in
-            Opens result.0 loads none_opened result.1 }
-        ensures few { LoadsFew self.now.parts none_opened result.1 }
-        ensures open { IsOpen self.now }
+        ensures calm { (spec.table_answer self.now key.now seqno).loads ≡ [] → IsOk result.0 }
+        ensures opened { let loads = (spec.table_answer self.now key.now seqno).loads in
+            spec.Opens result.0 loads spec.none_opened result.1 }
+        ensures few { spec.LoadsFew self.now.parts spec.none_opened result.1 }
+        ensures open { spec.IsOpen self.now }
         // On bytes that store a list it is the newest visible version in the list, global seqno
         // applied.
-        ensures list { (es : List Entry) → StoresList self.now.bytes es →
-            let found = point (lift es self.now.global_seqno) key.now seqno in
-            Gives (option_map entry_of_ref) result.0 (Ok found) }
+        ensures list { (es : List spec.Entry) → spec.StoresList self.now.bytes es →
+            let found = spec.point (spec.lift es self.now.global_seqno) key.now seqno in
+            spec.Gives (spec.option_map spec.entry_of_ref) result.0 (Ok found) }
     {
         let (found, opened) = self.get_place(key, seqno, key_hash);
         (self.found_at(found), opened)
@@ -126,16 +121,16 @@ impl<A: Allocator + Clone> Table<A> {
         seqno: SeqNo,
         key_hash: u64,
     ) -> Result<Option<EntryRef<'_>>, Error>
-        requires { key_hash ≡ hash_of key.now }
-        ensures returned { Gives (option_map entry_of_ref) result
-            (table_answer self.now key.now seqno).returned }
-        ensures early { FaultsFirst result (table_answer self.now key.now seqno).early }
-        ensures calm { (table_answer self.now key.now seqno).loads ≡ [] → IsOk result }
+        requires { key_hash ≡ spec.hash_of key.now }
+        ensures returned { spec.Gives (spec.option_map spec.entry_of_ref) result
+            (spec.table_answer self.now key.now seqno).returned }
+        ensures early { spec.FaultsFirst result (spec.table_answer self.now key.now seqno).early }
+        ensures calm { (spec.table_answer self.now key.now seqno).loads ≡ [] → IsOk result }
         // On bytes that store a list it is the newest visible version in the list, global seqno
         // applied.
-        ensures list { (es : List Entry) → StoresList self.now.bytes es →
-            let found = point (lift es self.now.global_seqno) key.now seqno in
-            Gives (option_map entry_of_ref) result (Ok found) }
+        ensures list { (es : List spec.Entry) → spec.StoresList self.now.bytes es →
+            let found = spec.point (spec.lift es self.now.global_seqno) key.now seqno in
+            spec.Gives (spec.option_map spec.entry_of_ref) result (Ok found) }
     {
         self.get_ref_counted(key, seqno, key_hash).0
     }

@@ -1,7 +1,6 @@
 //! Point reads of many keys in one table.
 ghost use Rattle.std.specs.Prelude.{◌≡◌, IsOk, List, Ok, [], map};
-ghost use Rattle.lsm_readers.specs.point.Many.{many_results};
-ghost use Rattle.lsm_readers.specs.Words.{Entry, Gives, IsOpen, StoresList, lift, point};
+ghost use Rattle.lsm_readers.specs.Words as spec;
 
 use crate::{Inner, Query, Table, many_in};
 use sst_blocks::{Error, InternalValue};
@@ -11,8 +10,9 @@ fn answers<A: Allocator + Clone>(
     table: &Table<A>,
     queries: &[Query<A>],
 ) -> Result<Vec<Option<InternalValue<A>>, A>, Error>
-    ensures returned { Gives (λ found. found.items) result (many_results table.now queries.now) }
-    ensures open { IsOpen table.now }
+    ensures returned { spec.Gives (λ found. found.items) result
+        (spec.many_results table.now queries.now) }
+    ensures open { spec.IsOpen table.now }
     ensures calm { queries.now ≡ [] → ((alloc : A) → A.is_infallible alloc) → IsOk result }
 {
     let inner: &Inner<A> = &table.inner;
@@ -36,12 +36,14 @@ pub fn get_many<A: Allocator + Clone>(
     table: &Table<A>,
     queries: &[Query<A>],
 ) -> Result<Vec<Option<InternalValue<A>>, A>, Error>
-    ensures returned { Gives (λ found. found.items) result (many_results table.now queries.now) }
+    ensures returned { spec.Gives (λ found. found.items) result
+        (spec.many_results table.now queries.now) }
     // On bytes that store a list it is each query's newest visible version in the list, global
     // seqno applied. It fails with `OutOfMemory` only.
-    ensures list { (es : List Entry) → StoresList table.now.bytes es →
-        let all = lift es table.now.global_seqno in
-        Gives (λ found. found.items) result (Ok (map (λ q. point all q.key q.seqno) queries.now)) }
+    ensures list { (es : List spec.Entry) → spec.StoresList table.now.bytes es →
+        let all = spec.lift es table.now.global_seqno in
+        spec.Gives (λ found. found.items) result
+        (Ok (map (λ q. spec.point all q.key q.seqno) queries.now)) }
     // Without queries it fails only if a clone of the allocator does.
     ensures calm { queries.now ≡ [] → ((alloc : A) → A.is_infallible alloc) → IsOk result }
 {

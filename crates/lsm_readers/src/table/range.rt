@@ -1,12 +1,7 @@
 //! Range reads of a table, from both ends.
 ghost use Rattle.std.specs.Prelude.{◌≡◌, List, ℕ, IfOk, IfErr};
-ghost use Rattle.std.specs.declared.ops.Bound.{Bound};
-ghost use Rattle.std.specs.declared.ops.Bound.TheVariants.{Unbounded};
+ghost use Rattle.lsm_readers.specs.Words as spec;
 ghost use Rattle.sst_entries.specs.declared.error.Error.TheVariants.{OutOfMemory};
-ghost use Rattle.lsm_readers.specs.Words.{YieldsAll, YieldsEnding, YieldsWithin, Entry, IsOpen};
-ghost use Rattle.lsm_readers.specs.Words.{IsRangeOf, LoadsAtMost, StoresList};
-ghost use Rattle.lsm_readers.specs.Words.{OpenTable, blocks_within, index_read, index_within};
-ghost use Rattle.lsm_readers.specs.Words.{range_results, table_index};
 
 use crate::{Inner, Table};
 use lsm_iters::{BlockIndex, BlockIndexImpl, Bound as Edge, Iter, beside};
@@ -23,40 +18,42 @@ impl<A: Allocator + Clone> Table<A> {
     ///
     /// [`Error::OutOfMemory`] only.
     pub fn iter(&self) -> Result<Iter<A>, Error>
-        ensures is { IfOk result (IsRangeOf self.now Unbounded Unbounded) }
+        ensures is { IfOk result (spec.IsRangeOf self.now spec.Unbounded spec.Unbounded) }
         ensures yields { let gives = ⟦<Iter<A> as Iterator>⟧.next_gives in
             let back_gives = ⟦<Iter<A> as DoubleEndedIterator>⟧.next_back_gives in
-            let returned = range_results self.now Unbounded Unbounded in
-            IfOk result (λ i. YieldsEnding gives back_gives (λ _. Unit {0}) (λ _. Unit {0}) i returned) }
+            let returned = spec.range_results self.now spec.Unbounded spec.Unbounded in
+            IfOk result (λ i. spec.YieldsEnding gives back_gives (λ _. Unit {0}) (λ _. Unit {0}) i
+            returned) }
         // On bytes that store a list it yields the list, global seqno applied.
         ensures list { let gives = ⟦<Iter<A> as Iterator>⟧.next_gives in
             let back_gives = ⟦<Iter<A> as DoubleEndedIterator>⟧.next_back_gives in
-            (es : List Entry) → StoresList self.now.bytes es → let g = self.now.global_seqno in
-            IfOk result (YieldsAll gives back_gives es g) }
+            (es : List spec.Entry) → spec.StoresList self.now.bytes es →
+            let g = self.now.global_seqno in IfOk result (spec.YieldsAll gives back_gives es g) }
         // As a lending iterator it yields the same at the front, also with calls at the back in
         // between.
         ensures lends { let advances = ⟦<Iter<A> as Lending>⟧.advances in
             let back_gives = ⟦<Iter<A> as DoubleEndedIterator>⟧.next_back_gives in
-            let returned = range_results self.now Unbounded Unbounded in IfOk result (λ i.
-            YieldsEnding advances back_gives (λ _. Unit {0}) (λ _. Unit {0}) i returned) }
+            let returned = spec.range_results self.now spec.Unbounded spec.Unbounded in
+            IfOk result (λ i.
+            spec.YieldsEnding advances back_gives (λ _. Unit {0}) (λ _. Unit {0}) i returned) }
         ensures lends_list { let advances = ⟦<Iter<A> as Lending>⟧.advances in
             let back_gives = ⟦<Iter<A> as DoubleEndedIterator>⟧.next_back_gives in
-            (es : List Entry) → StoresList self.now.bytes es → let g = self.now.global_seqno in
-            IfOk result (YieldsAll advances back_gives es g) }
+            (es : List spec.Entry) → spec.StoresList self.now.bytes es →
+            let g = self.now.global_seqno in IfOk result (spec.YieldsAll advances back_gives es g) }
         // It loads at most all data blocks, and the index blocks that lead to them. As a lending
         // iterator it loads no more.
         ensures few { let gives = ⟦<Iter<A> as Iterator>⟧.next_gives in
             let back_gives = ⟦<Iter<A> as DoubleEndedIterator>⟧.next_back_gives in
-            (es : List Entry) (t : StoresList self.now.bytes es) →
-            let blocks = blocks_within t Unbounded Unbounded in
-            let index = index_within self.now Unbounded Unbounded in
-            IfOk result (LoadsAtMost gives back_gives blocks index) }
+            (es : List spec.Entry) (t : spec.StoresList self.now.bytes es) →
+            let blocks = spec.blocks_within t spec.Unbounded spec.Unbounded in
+            let index = spec.index_within self.now spec.Unbounded spec.Unbounded in
+            IfOk result (spec.LoadsAtMost gives back_gives blocks index) }
         ensures lends_few { let advances = ⟦<Iter<A> as Lending>⟧.advances in
             let back_gives = ⟦<Iter<A> as DoubleEndedIterator>⟧.next_back_gives in
-            (es : List Entry) (t : StoresList self.now.bytes es) →
-            let blocks = blocks_within t Unbounded Unbounded in
-            let index = index_within self.now Unbounded Unbounded in
-            IfOk result (LoadsAtMost advances back_gives blocks index) }
+            (es : List spec.Entry) (t : spec.StoresList self.now.bytes es) →
+            let blocks = spec.blocks_within t spec.Unbounded spec.Unbounded in
+            let index = spec.index_within self.now spec.Unbounded spec.Unbounded in
+            IfOk result (spec.LoadsAtMost advances back_gives blocks index) }
         ensures err { IfErr result (λ e. e ≡ OutOfMemory) }
     {
         self.range(Bound::Unbounded, Bound::Unbounded)
@@ -78,43 +75,46 @@ impl<A: Allocator + Clone> Table<A> {
     ) -> Result<Iter<A>, Error>
         // It reads the table's bytes through the table's index with these bounds, and has made no
         // step.
-        ensures is { IfOk result (IsRangeOf self.now lower upper) }
+        ensures is { IfOk result (spec.IsRangeOf self.now lower upper) }
         // For any sequence of calls at the two ends, it yields the entries of the blocks between
         // the bounds, up to the first error.
         ensures yields { let gives = ⟦<Iter<A> as Iterator>⟧.next_gives in
             let back_gives = ⟦<Iter<A> as DoubleEndedIterator>⟧.next_back_gives in
-            let returned = range_results self.now lower upper in
-            IfOk result (λ i. YieldsEnding gives back_gives (λ _. Unit {0}) (λ _. Unit {0}) i returned) }
+            let returned = spec.range_results self.now lower upper in
+            IfOk result (λ i. spec.YieldsEnding gives back_gives (λ _. Unit {0}) (λ _. Unit {0}) i
+            returned) }
         // On bytes that store a list it yields the list's entries within the bounds, global seqno
         // applied.
         ensures list { let gives = ⟦<Iter<A> as Iterator>⟧.next_gives in
             let back_gives = ⟦<Iter<A> as DoubleEndedIterator>⟧.next_back_gives in
-            (es : List Entry) → StoresList self.now.bytes es → let g = self.now.global_seqno in
-            IfOk result (YieldsWithin gives back_gives lower upper es g) }
+            (es : List spec.Entry) → spec.StoresList self.now.bytes es →
+            let g = self.now.global_seqno in
+            IfOk result (spec.YieldsWithin gives back_gives lower upper es g) }
         // As a lending iterator it yields the same at the front, also with calls at the back in
         // between.
         ensures lends { let advances = ⟦<Iter<A> as Lending>⟧.advances in
             let back_gives = ⟦<Iter<A> as DoubleEndedIterator>⟧.next_back_gives in
-            let returned = range_results self.now lower upper in IfOk result (λ i.
-            YieldsEnding advances back_gives (λ _. Unit {0}) (λ _. Unit {0}) i returned) }
+            let returned = spec.range_results self.now lower upper in IfOk result (λ i.
+            spec.YieldsEnding advances back_gives (λ _. Unit {0}) (λ _. Unit {0}) i returned) }
         ensures lends_list { let advances = ⟦<Iter<A> as Lending>⟧.advances in
             let back_gives = ⟦<Iter<A> as DoubleEndedIterator>⟧.next_back_gives in
-            (es : List Entry) → StoresList self.now.bytes es → let g = self.now.global_seqno in
-            IfOk result (YieldsWithin advances back_gives lower upper es g) }
+            (es : List spec.Entry) → spec.StoresList self.now.bytes es →
+            let g = self.now.global_seqno in
+            IfOk result (spec.YieldsWithin advances back_gives lower upper es g) }
         // It loads at most the data blocks between the bounds, and the index blocks that lead to
         // them. As a lending iterator it loads no more.
         ensures few { let gives = ⟦<Iter<A> as Iterator>⟧.next_gives in
             let back_gives = ⟦<Iter<A> as DoubleEndedIterator>⟧.next_back_gives in
-            (es : List Entry) (t : StoresList self.now.bytes es) →
-            let blocks = blocks_within t lower upper in
-            let index = index_within self.now lower upper in
-            IfOk result (LoadsAtMost gives back_gives blocks index) }
+            (es : List spec.Entry) (t : spec.StoresList self.now.bytes es) →
+            let blocks = spec.blocks_within t lower upper in
+            let index = spec.index_within self.now lower upper in
+            IfOk result (spec.LoadsAtMost gives back_gives blocks index) }
         ensures lends_few { let advances = ⟦<Iter<A> as Lending>⟧.advances in
             let back_gives = ⟦<Iter<A> as DoubleEndedIterator>⟧.next_back_gives in
-            (es : List Entry) (t : StoresList self.now.bytes es) →
-            let blocks = blocks_within t lower upper in
-            let index = index_within self.now lower upper in
-            IfOk result (LoadsAtMost advances back_gives blocks index) }
+            (es : List spec.Entry) (t : spec.StoresList self.now.bytes es) →
+            let blocks = spec.blocks_within t lower upper in
+            let index = spec.index_within self.now lower upper in
+            IfOk result (spec.LoadsAtMost advances back_gives blocks index) }
         ensures err { IfErr result (λ e. e ≡ OutOfMemory) }
     {
         let ((lower, upper), mut iter) = beside((lower, upper), self.unbounded())?;
@@ -125,8 +125,8 @@ impl<A: Allocator + Clone> Table<A> {
 
     /// The entries of all blocks, before bounds are set.
     fn unbounded(&self) -> Result<Iter<A>, Error>
-        ensures is { IfOk result (IsRangeOf self.now Unbounded Unbounded) }
-        ensures open { IfOk result (λ _. IsOpen self.now) }
+        ensures is { IfOk result (spec.IsRangeOf self.now spec.Unbounded spec.Unbounded) }
+        ensures open { IfOk result (λ _. spec.IsOpen self.now) }
         ensures err { IfErr result (λ e. e ≡ OutOfMemory) }
     {
         let index = self.block_index()?;
@@ -137,9 +137,9 @@ impl<A: Allocator + Clone> Table<A> {
 
     /// The entries of all blocks in the table's index, before bounds are set.
     fn unbounded_by(&self, index: &BlockIndexImpl<A>) -> Result<Iter<A>, Error>
-        requires { index_read index.now ≡ table_index self.now }
-        ensures is { IfOk result (IsRangeOf self.now Unbounded Unbounded) }
-        ensures open { IsOpen self.now }
+        requires { spec.index_read index.now ≡ spec.table_index self.now }
+        ensures is { IfOk result (spec.IsRangeOf self.now spec.Unbounded spec.Unbounded) }
+        ensures open { spec.IsOpen self.now }
         ensures err { IfErr result (λ e. e ≡ OutOfMemory) }
     {
         let inner: &Inner<A> = &self.inner;
@@ -151,8 +151,8 @@ impl<A: Allocator + Clone> Table<A> {
 
 /// Sets a lower bound, if there is one.
 fn set_lower<A: Allocator + Clone>(iter: &mut Iter<A>, lower: Bound<UserKey<A>>)
-    ensures { (t : OpenTable) (high : Bound (List ℕ)) → IsRangeOf t Unbounded high iter.old →
-        IsRangeOf t lower high iter.new }
+    ensures { (t : spec.OpenTable) (high : spec.Bound (List ℕ)) →
+        spec.IsRangeOf t spec.Unbounded high iter.old → spec.IsRangeOf t lower high iter.new }
 {
     match lower {
         Bound::Included(key) => iter.set_lower_bound(Edge::Included(key)),
@@ -163,8 +163,8 @@ fn set_lower<A: Allocator + Clone>(iter: &mut Iter<A>, lower: Bound<UserKey<A>>)
 
 /// Sets an upper bound, if there is one.
 fn set_upper<A: Allocator + Clone>(iter: &mut Iter<A>, upper: Bound<UserKey<A>>)
-    ensures { (t : OpenTable) (low : Bound (List ℕ)) → IsRangeOf t low Unbounded iter.old →
-        IsRangeOf t low upper iter.new }
+    ensures { (t : spec.OpenTable) (low : spec.Bound (List ℕ)) →
+        spec.IsRangeOf t low spec.Unbounded iter.old → spec.IsRangeOf t low upper iter.new }
 {
     match upper {
         Bound::Included(key) => iter.set_upper_bound(Edge::Included(key)),

@@ -1,15 +1,9 @@
 //! Verifying a table step by step.
 ghost use Rattle.std.specs.Prelude.{◌≡◌, ◌+◌, IfErr, IfNone, IfOk, IfSome, List, Ok, false, length};
 ghost use Rattle.std.specs.Prelude.{true};
-ghost use Rattle.lsm_readers.specs.Findings.{IsFirstFinding};
-ghost use Rattle.lsm_readers.specs.Verify.{FindsFirst, Misses, is_found, table_found, verified_of};
-ghost use Rattle.lsm_readers.specs.Verification.{GoesOne, IsThrough, ReadsNext, ahead_of};
-ghost use Rattle.lsm_readers.specs.Verification.{bytes_read, next_found, next_size, rest_found};
-ghost use Rattle.lsm_readers.specs.Verification.{StepsCalmly, step_early, steps_of, verifying};
-ghost use Rattle.lsm_readers.specs.Words.{Entry, IsOpen, StoresList, body_of};
+ghost use Rattle.lsm_readers.specs.Words as spec;
 ghost use Rattle.sst_entries.specs.declared.error.Error.TheVariants as refusal;
-ghost use Rattle.lsm_readers.specs.declared.verify.Finding.{Finding};
-ghost use Rattle.lsm_readers.specs.declared.verify.VerifyError.TheVariants.{Found, OutOfMemory};
+ghost use Rattle.lsm_readers.specs.declared.verify.VerifyError.TheVariants.{OutOfMemory};
 
 use crate::verify::{Stage, Unread, step_stage, unread_table};
 use crate::{Inner, Table, Verified, VerifyError};
@@ -45,7 +39,7 @@ impl<A: Allocator> Model for Verification<A> {
 
 /// A verification of a table that has read nothing yet.
 fn begin<A: Allocator + Clone>(table: Table<A>) -> Verification<A>
-    ensures { result ≡ verifying table }
+    ensures { result ≡ spec.verifying table }
 {
     let left = table.unread();
     Verification {
@@ -64,7 +58,7 @@ impl<A: Allocator + Clone> Table<A> {
     ///
     /// [`Error::OutOfMemory`] only.
     pub fn verification(&self) -> Result<Verification<A>, Error>
-        ensures ok { IfOk result (λ v. v ≡ verifying self.now) }
+        ensures ok { IfOk result (λ v. v ≡ spec.verifying self.now) }
         ensures err { IfErr result (λ e. e ≡ refusal.OutOfMemory) }
     {
         Ok(begin(self.clone()?))
@@ -72,7 +66,7 @@ impl<A: Allocator + Clone> Table<A> {
 
     /// The counts that are left before the first step.
     fn unread(&self) -> Unread<A>
-        ensures { result ≡ (verifying self.now).left }
+        ensures { result ≡ (spec.verifying self.now).left }
     {
         let inner: &Inner<A> = &self.inner;
         unread_table(inner)
@@ -80,7 +74,7 @@ impl<A: Allocator + Clone> Table<A> {
 
     /// The counts that the meta block claims.
     fn says(&self) -> Verified
-        ensures { result ≡ verified_of self.now.parts.facts }
+        ensures { result ≡ spec.verified_of self.now.parts.facts }
     {
         let said = &self.inner.metadata;
         Verified {
@@ -99,23 +93,27 @@ impl<A: Allocator + Clone> Table<A> {
     /// Reads one more block or, if none is left, checks the end and returns `true`. On `true` and
     /// on an error nothing changes.
     fn read_next(&self, stage: &mut Stage<A>, left: &mut Unread<A>) -> Result<bool, VerifyError>
-        ensures open { IsOpen self.now }
+        ensures open { spec.IsOpen self.now }
         ensures goes { let parts = self.now.parts in IfOk result (λ ends. ends ≡ false →
-            GoesOne (body_of self.now.bytes) parts (ahead_of parts stage.old) left.old
-            (ahead_of parts stage.new) left.new) }
+            spec.GoesOne (spec.body_of self.now.bytes) parts (spec.ahead_of parts stage.old)
+            left.old (spec.ahead_of parts stage.new) left.new) }
         ensures ends { let parts = self.now.parts in IfOk result (λ ends. ends ≡ true →
-            IsThrough (body_of self.now.bytes) parts (ahead_of parts stage.old) left.old) }
+            spec.IsThrough (spec.body_of self.now.bytes) parts (spec.ahead_of parts stage.old)
+            left.old) }
         ensures answered { IfOk result (λ ends. ends ≡ true →
             (stage.new ≡ stage.old) × (left.new ≡ left.old)) }
-        ensures refused { let parts = self.now.parts in IfErr result (λ e. Misses e
-            (rest_found (body_of self.now.bytes) parts (ahead_of parts stage.old) left.old)) }
-        ensures next { let parts = self.now.parts in IfErr result (λ e. Misses e
-            (next_found (body_of self.now.bytes) parts (ahead_of parts stage.old) left.old)) }
-        ensures early { let parts = self.now.parts in FindsFirst result
-            (step_early (body_of self.now.bytes) parts (ahead_of parts stage.old) left.old) }
-        ensures calm { let ahead = ahead_of self.now.parts stage.old in
-            StepsCalmly (body_of self.now.bytes) ahead left.old →
-            IfErr result (λ e. is_found e ≡ true) }
+        ensures refused { let parts = self.now.parts in IfErr result (λ e. spec.Misses e
+            (spec.rest_found (spec.body_of self.now.bytes) parts (spec.ahead_of parts stage.old)
+            left.old)) }
+        ensures next { let parts = self.now.parts in IfErr result (λ e. spec.Misses e
+            (spec.next_found (spec.body_of self.now.bytes) parts (spec.ahead_of parts stage.old)
+            left.old)) }
+        ensures early { let parts = self.now.parts in spec.FindsFirst result
+            (spec.step_early (spec.body_of self.now.bytes) parts (spec.ahead_of parts stage.old)
+            left.old) }
+        ensures calm { let ahead = spec.ahead_of self.now.parts stage.old in
+            spec.StepsCalmly (spec.body_of self.now.bytes) ahead left.old →
+            IfErr result (λ e. spec.is_found e ≡ true) }
         ensures unchanged { IfErr result (λ _. (stage.new ≡ stage.old) × (left.new ≡ left.old)) }
     {
         let inner: &Inner<A> = &self.inner;
@@ -143,43 +141,45 @@ impl<A: Allocator + Clone> Verification<A> {
     pub fn step(&mut self) -> Result<Option<Verified>, VerifyError>
         ensures table { self.new.table ≡ self.old.table }
         // It reads a block as long as one is left.
-        ensures goes { IfOk result (λ v. IfNone v (steps_of self.old ≡ 1 + steps_of self.new)) }
-        ensures ends { IfOk result (λ v. IfSome v (λ _. steps_of self.old ≡ 0)) }
+        ensures goes { IfOk result
+            (λ v. IfNone v (spec.steps_of self.old ≡ 1 + spec.steps_of self.new)) }
+        ensures ends { IfOk result (λ v. IfSome v (λ _. spec.steps_of self.old ≡ 0)) }
         // It reads only that block, the next in the order of `Table::verify`.
         ensures reads { let t = self.old.table in IfOk result (λ v. IfNone v
-            (ReadsNext (body_of t.bytes) t.parts self.old.ahead self.old.left self.new.ahead
-            self.new.left)) }
+            (spec.ReadsNext (spec.body_of t.bytes) t.parts self.old.ahead self.old.left
+            self.new.ahead self.new.left)) }
         // If it is a data block, the remaining size decreases by its size.
         ensures sizes { IfOk result (λ v. IfNone v (self.old.left.counts.size ≡
-            next_size self.old.ahead + self.new.left.counts.size)) }
+            spec.next_size self.old.ahead + self.new.left.counts.size)) }
         // The result is that of `Table::verify`: the first fault, except for `OutOfMemory`.
         ensures returned { let t = self.old.table in IfOk result (λ v. IfSome v (λ v.
-            table_found (body_of t.bytes) t.parts ≡ Ok v)) }
+            spec.table_found (spec.body_of t.bytes) t.parts ≡ Ok v)) }
         ensures refused { let t = self.old.table in
-            IfErr result (λ e. Misses e (table_found (body_of t.bytes) t.parts)) }
+            IfErr result (λ e. spec.Misses e (spec.table_found (spec.body_of t.bytes) t.parts)) }
         // A fault is in the next block, or at the end if none is left.
-        ensures next { let t = self.old.table in IfErr result (λ e. Misses e
-            (next_found (body_of t.bytes) t.parts self.old.ahead self.old.left)) }
+        ensures next { let t = self.old.table in IfErr result (λ e. spec.Misses e
+            (spec.next_found (spec.body_of t.bytes) t.parts self.old.ahead self.old.left)) }
         // A fault of the next block that is found before any allocation takes precedence over
         // `OutOfMemory`. At the end this holds too, except for a data block without a handle.
-        ensures early { let t = self.old.table in FindsFirst result
-            (step_early (body_of t.bytes) t.parts self.old.ahead self.old.left) }
+        ensures early { let t = self.old.table in spec.FindsFirst result
+            (spec.step_early (spec.body_of t.bytes) t.parts self.old.ahead self.old.left) }
         // At the end only the check that an empty table has no data block allocates.
         ensures calm { let t = self.old.table in
-            StepsCalmly (body_of t.bytes) self.old.ahead self.old.left →
-            IfErr result (λ e. is_found e ≡ true) }
+            spec.StepsCalmly (spec.body_of t.bytes) self.old.ahead self.old.left →
+            IfErr result (λ e. spec.is_found e ≡ true) }
         // After a result or an error nothing changes.
         ensures answered { IfOk result (λ v. IfSome v (λ _. self.new ≡ self.old)) }
         ensures unchanged { IfErr result (λ _. self.new ≡ self.old) }
         // The fault is at its position, and all that is read before it is valid.
-        ensures first { let t = self.old.table in IfErr result (λ e. (f : Finding) → e ≡ Found f →
-            IsFirstFinding (body_of t.bytes) t.parts f) }
+        ensures first { let t = self.old.table in
+            IfErr result (λ e. (f : spec.Finding) → e ≡ spec.Found f →
+            spec.IsFirstFinding (spec.body_of t.bytes) t.parts f) }
         // A verified table stores a list with these counts of entries and data blocks.
         ensures sound { let bytes = self.old.table.bytes in IfOk result (λ v. IfSome v (λ v.
-            (es : List Entry) × (t : StoresList bytes es) × (v.item_count ≡ length es) ×
+            (es : List spec.Entry) × (t : spec.StoresList bytes es) × (v.item_count ≡ length es) ×
             (v.data_block_count ≡ length t.handles))) }
         // A table that stores a list fails with `OutOfMemory` only.
-        ensures complete { (es : List Entry) → StoresList self.old.table.bytes es →
+        ensures complete { (es : List spec.Entry) → spec.StoresList self.old.table.bytes es →
             IfErr result (λ e. e ≡ OutOfMemory) }
     {
         if self.table.read_next(&mut self.stage, &mut self.left)? {
@@ -194,7 +194,7 @@ impl<A: Allocator + Clone> Verification<A> {
     ///
     /// [`ParsedMeta::file_size`]: crate::ParsedMeta::file_size
     pub fn bytes_read(&self) -> u64
-        ensures { result ≡ bytes_read self.now }
+        ensures { result ≡ spec.bytes_read self.now }
     {
         self.table.said_size().saturating_sub(self.left.size_left())
     }

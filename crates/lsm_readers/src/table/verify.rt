@@ -1,14 +1,7 @@
 //! Verifying that a table's bytes store a list.
 ghost use Rattle.std.specs.Prelude.{◌≡◌, ◌≢◌, List, length, IfErr, IfOk};
-ghost use Rattle.std.specs.Result.{IsErrAnd};
-ghost use Rattle.sst_blocks.specs.Fnv.{fnv1a};
-ghost use Rattle.lsm_readers.specs.Findings.{IsFirstFinding};
-ghost use Rattle.lsm_readers.specs.Verify.{Finds, FindsFirst, other_checksum, table_early};
-ghost use Rattle.lsm_readers.specs.Verify.{table_found};
-ghost use Rattle.lsm_readers.specs.declared.verify.Finding.{Finding};
-ghost use Rattle.lsm_readers.specs.Words.{Entry, StoresList, body_of};
-ghost use Rattle.lsm_readers.specs.declared.verify.Verified.{Verified as Verification};
-ghost use Rattle.lsm_readers.specs.declared.verify.VerifyError.TheVariants.{Found, OutOfMemory};
+ghost use Rattle.lsm_readers.specs.Words as spec;
+ghost use Rattle.lsm_readers.specs.declared.verify.VerifyError.TheVariants.{OutOfMemory};
 
 use crate::verify::{test_checksum, verify_table};
 use crate::{Inner, Table, Verified, VerifyError};
@@ -28,21 +21,21 @@ impl<A: Allocator + Clone> Table<A> {
     /// - [`VerifyError::OutOfMemory`]. Nothing is known about the table then.
     pub fn verify(&self) -> Result<Verified, VerifyError>
         // Except for `OutOfMemory`, it reports the first fault.
-        ensures returned { Finds (λ (v : Verification). v) result
-            (table_found (body_of self.now.bytes) self.now.parts) }
+        ensures returned { spec.Finds (λ (v : spec.Verification). v) result
+            (spec.table_found (spec.body_of self.now.bytes) self.now.parts) }
         // A fault of the first loaded block that is found before any allocation takes precedence
         // over `OutOfMemory`.
-        ensures early { FindsFirst result
-            (table_early (body_of self.now.bytes) self.now.parts) }
+        ensures early { spec.FindsFirst result
+            (spec.table_early (spec.body_of self.now.bytes) self.now.parts) }
         // The fault is at its position, and all that is read before it is valid.
-        ensures first { IfErr result (λ e. (f : Finding) → e ≡ Found f →
-            IsFirstFinding (body_of self.now.bytes) self.now.parts f) }
+        ensures first { IfErr result (λ e. (f : spec.Finding) → e ≡ spec.Found f →
+            spec.IsFirstFinding (spec.body_of self.now.bytes) self.now.parts f) }
         // A verified table stores a list with these counts of entries and data blocks.
-        ensures sound { IfOk result (λ v. (es : List Entry) ×
-            (t : StoresList self.now.bytes es) × (v.item_count ≡ length es) ×
+        ensures sound { IfOk result (λ v. (es : List spec.Entry) ×
+            (t : spec.StoresList self.now.bytes es) × (v.item_count ≡ length es) ×
             (v.data_block_count ≡ length t.handles)) }
         // A table that stores a list fails with `OutOfMemory` only.
-        ensures complete { (es : List Entry) → StoresList self.now.bytes es →
+        ensures complete { (es : List spec.Entry) → spec.StoresList self.now.bytes es →
             IfErr result (λ e. e ≡ OutOfMemory) }
     {
         let inner: &Inner<A> = &self.inner;
@@ -59,23 +52,24 @@ impl<A: Allocator + Clone> Table<A> {
     /// block is read then. Otherwise the errors are those of [`Table::verify`].
     pub fn verify_with(&self, checksum: Checksum) -> Result<Verified, VerifyError>
         // Another checksum is reported, whatever memory there is.
-        ensures other { fnv1a self.now.bytes ≢ checksum.0 →
-            IsErrAnd result (λ e. e ≡ Found other_checksum) }
+        ensures other { spec.fnv1a self.now.bytes ≢ checksum.0 →
+            spec.IsErrAnd result (λ e. e ≡ spec.Found spec.other_checksum) }
         // A verified table has this checksum.
-        ensures same { IfOk result (λ _. fnv1a self.now.bytes ≡ checksum.0) }
+        ensures same { IfOk result (λ _. spec.fnv1a self.now.bytes ≡ checksum.0) }
         // If the checksum matches, the result is that of `Table::verify`.
-        ensures returned { fnv1a self.now.bytes ≡ checksum.0 → Finds (λ (v : Verification). v) result
-            (table_found (body_of self.now.bytes) self.now.parts) }
-        ensures early { fnv1a self.now.bytes ≡ checksum.0 → FindsFirst result
-            (table_early (body_of self.now.bytes) self.now.parts) }
-        ensures first { fnv1a self.now.bytes ≡ checksum.0 →
-            IfErr result (λ e. (f : Finding) → e ≡ Found f →
-            IsFirstFinding (body_of self.now.bytes) self.now.parts f) }
-        ensures sound { IfOk result (λ v. (es : List Entry) ×
-            (t : StoresList self.now.bytes es) × (v.item_count ≡ length es) ×
+        ensures returned { spec.fnv1a self.now.bytes ≡ checksum.0 →
+            spec.Finds (λ (v : spec.Verification). v) result
+            (spec.table_found (spec.body_of self.now.bytes) self.now.parts) }
+        ensures early { spec.fnv1a self.now.bytes ≡ checksum.0 → spec.FindsFirst result
+            (spec.table_early (spec.body_of self.now.bytes) self.now.parts) }
+        ensures first { spec.fnv1a self.now.bytes ≡ checksum.0 →
+            IfErr result (λ e. (f : spec.Finding) → e ≡ spec.Found f →
+            spec.IsFirstFinding (spec.body_of self.now.bytes) self.now.parts f) }
+        ensures sound { IfOk result (λ v. (es : List spec.Entry) ×
+            (t : spec.StoresList self.now.bytes es) × (v.item_count ≡ length es) ×
             (v.data_block_count ≡ length t.handles)) }
-        ensures complete { fnv1a self.now.bytes ≡ checksum.0 → (es : List Entry) →
-            StoresList self.now.bytes es → IfErr result (λ e. e ≡ OutOfMemory) }
+        ensures complete { spec.fnv1a self.now.bytes ≡ checksum.0 → (es : List spec.Entry) →
+            spec.StoresList self.now.bytes es → IfErr result (λ e. e ≡ OutOfMemory) }
     {
         test_checksum(self.source.bytes().as_slice(), checksum)?;
         self.verify()

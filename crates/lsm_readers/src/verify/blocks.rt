@@ -1,17 +1,9 @@
 //! Reading index blocks, and the data blocks of their handles.
 ghost use Rattle.std.specs.Prelude.{◌≡◌, ◌<◌, List, IfErr, IfOk, Some, length, true};
-ghost use Rattle.std.specs.List.{slice_get};
+ghost use Rattle.lsm_readers.specs.Words as spec;
 ghost use Rattle.lsm_readers.specs.declared.verify.VerifyError.TheVariants.{OutOfMemory};
 ghost use Rattle.sst_blocks.specs.declared.block_type.BlockType.TheVariants as block;
 ghost use Rattle.sst_blocks.specs.declared.section.SectionName.TheVariants as section;
-ghost use Rattle.lsm_readers.specs.Words.{Entry, Handle, body_of, parts_of};
-ghost use Rattle.lsm_readers.specs.declared.verify.Counts.{Counts as CountsLeft};
-ghost use Rattle.lsm_readers.specs.Verify.{Finds, FindsFirst, block_found, block_spent};
-ghost use Rattle.lsm_readers.specs.Verify.{blocks_found, chunk_found, contents_found};
-ghost use Rattle.lsm_readers.specs.Verify.{counted_found, early_at, end_named};
-ghost use Rattle.lsm_readers.specs.Verify.{handles_found, index_found, is_found};
-ghost use Rattle.lsm_readers.specs.Verify.{last_named, part_found, parts_found, place_found};
-ghost use Rattle.lsm_readers.specs.Verify.{top_named};
 
 use super::entries::{read_entries, spend};
 use super::{Counts, Fault, Unread, VerifyError, found, unloaded};
@@ -24,8 +16,8 @@ use std::alloc::Allocator;
 
 /// Checks that a data block's handle starts at the expected offset.
 fn test_place(at: u64, offset: u64) -> Result<(), VerifyError>
-    ensures returned { Finds (λ (_ : _). tt) result (place_found at offset) }
-    ensures calm { IfErr result (λ e. is_found e ≡ true) }
+    ensures returned { spec.Finds (λ (_ : _). tt) result (spec.place_found at offset) }
+    ensures calm { IfErr result (λ e. spec.is_found e ≡ true) }
 {
     if offset == at {
         Ok(())
@@ -37,8 +29,9 @@ fn test_place(at: u64, offset: u64) -> Result<(), VerifyError>
 /// Subtracts a data block from the counts.
 #[tactic(auto, unfolding(crate::specs::Verify::block_spent))]
 fn count_block(meta: u64, size: u32, counts: Counts) -> Result<Counts, VerifyError>
-    ensures returned { Finds (λ (c : CountsLeft). c) result (block_spent meta size counts) }
-    ensures calm { IfErr result (λ e. is_found e ≡ true) }
+    ensures returned { spec.Finds (λ (c : spec.CountsLeft). c) result
+        (spec.block_spent meta size counts) }
+    ensures calm { IfErr result (λ e. spec.is_found e ≡ true) }
 {
     let blocks = spend(meta, ItemName::BlockCountData, counts.blocks, 1)?;
     let size = spend(meta, ItemName::FileSize, counts.size, u64::from(size))?;
@@ -54,10 +47,10 @@ pub(super) fn load_chunk<A: Allocator + Clone>(
     source: &BlockSource<A>,
     handle: &BlockHandle,
 ) -> Result<DataBlock<A>, VerifyError>
-    ensures returned { Finds (λ (c : List Entry). c) result
-        (chunk_found (body_of source.now) handle.now) }
-    ensures early { let body = body_of source.now in
-        FindsFirst result (early_at body section.Data handle.now block.Data) }
+    ensures returned { spec.Finds (λ (c : List spec.Entry). c) result
+        (spec.chunk_found (spec.body_of source.now) handle.now) }
+    ensures early { let body = spec.body_of source.now in
+        spec.FindsFirst result (spec.early_at body section.Data handle.now block.Data) }
 {
     let at = handle.offset().0;
     // The next blocks are needed soon. Comparing their checksums with this one's costs little more.
@@ -79,10 +72,10 @@ pub(super) fn load_part<A: Allocator + Clone>(
     section: SectionName,
     place: &BlockHandle,
 ) -> Result<IndexBlock<A>, VerifyError>
-    ensures returned { Finds (λ (hs : List Handle). hs) result
-        (handles_found (body_of source.now) section place.now) }
-    ensures early { let body = body_of source.now in
-        FindsFirst result (early_at body section place.now block.Index) }
+    ensures returned { spec.Finds (λ (hs : List spec.Handle). hs) result
+        (spec.handles_found (spec.body_of source.now) section place.now) }
+    ensures early { let body = spec.body_of source.now in
+        spec.FindsFirst result (spec.early_at body section place.now block.Index) }
 {
     match load_handles(source, place) {
         Ok(handles) => Ok(handles),
@@ -97,8 +90,9 @@ fn test_end<A: Allocator>(
     key: &[u8],
     seqno: SeqNo,
 ) -> Result<(), VerifyError>
-    ensures returned { Finds (λ (_ : _). tt) result (end_named section handle.now key.now seqno) }
-    ensures calm { IfErr result (λ e. is_found e ≡ true) }
+    ensures returned { spec.Finds (λ (_ : _). tt) result
+        (spec.end_named section handle.now key.now seqno) }
+    ensures calm { IfErr result (λ e. spec.is_found e ≡ true) }
 {
     if handle.end_key().as_slice() != key {
         return Err(found(section, handle.offset().0, Fault::OtherKey));
@@ -115,8 +109,9 @@ fn test_last<A: Allocator>(
     handle: &KeyedBlockHandle<A>,
     last: &Option<InternalValue<A>>,
 ) -> Result<(), VerifyError>
-    ensures returned { Finds (λ (_ : _). tt) result (last_named section.Data handle.now last.now) }
-    ensures calm { IfErr result (λ e. is_found e ≡ true) }
+    ensures returned { spec.Finds (λ (_ : _). tt) result
+        (spec.last_named section.Data handle.now last.now) }
+    ensures calm { IfErr result (λ e. spec.is_found e ≡ true) }
 {
     match last {
         None => Err(found(SectionName::Data, handle.offset().0, Fault::Hollow)),
@@ -136,9 +131,9 @@ pub(super) fn count_at<A: Allocator>(
     counts: Counts,
     place: &BlockHandle,
 ) -> Result<Counts, VerifyError>
-    ensures returned { Finds (λ (c : CountsLeft). c) result
-        (counted_found (parts_of inner.now) counts place.now) }
-    ensures calm { IfErr result (λ e. is_found e ≡ true) }
+    ensures returned { spec.Finds (λ (c : spec.CountsLeft). c) result
+        (spec.counted_found (spec.parts_of inner.now) counts place.now) }
+    ensures calm { IfErr result (λ e. spec.is_found e ≡ true) }
 {
     let begins = inner.metadata.file_size.saturating_sub(counts.size);
     test_place(begins, place.offset().0)?;
@@ -155,8 +150,9 @@ pub(super) fn read_contents<A: Allocator + Clone>(
     handle: &KeyedBlockHandle<A>,
     block: &DataBlock<A>,
 ) -> Result<(), VerifyError>
-    ensures { Finds (λ (_ : _). left.new) result
-        (contents_found (body_of source.now) (parts_of inner.now) left.old handle.now block.now) }
+    ensures { spec.Finds (λ (_ : _). left.new) result
+        (spec.contents_found (spec.body_of source.now) (spec.parts_of inner.now) left.old handle.now
+        block.now) }
 {
     read_entries(source, inner, handle.offset().0, left, block)?;
     test_last(handle, &left.last)?;
@@ -171,8 +167,8 @@ fn read_block<A: Allocator + Clone>(
     left: &mut Unread<A>,
     handle: &KeyedBlockHandle<A>,
 ) -> Result<(), VerifyError>
-    ensures { Finds (λ (_ : _). left.new) result
-        (block_found (body_of source.now) (parts_of inner.now) left.old handle.now) }
+    ensures { spec.Finds (λ (_ : _). left.new) result
+        (spec.block_found (spec.body_of source.now) (spec.parts_of inner.now) left.old handle.now) }
 {
     let place = BlockHandle::new(handle.offset(), handle.size());
     let counts = count_at(inner, left.counts, &place)?;
@@ -187,7 +183,7 @@ pub(super) fn handle_at<A: Allocator>(
     index: usize,
 ) -> Result<KeyedBlockHandle<A>, VerifyError>
     requires { index < length handles.now }
-    ensures ok { IfOk result (λ h. slice_get handles.now index ≡ Some h) }
+    ensures ok { IfOk result (λ h. spec.slice_get handles.now index ≡ Some h) }
     ensures err { IfErr result (λ e. e ≡ OutOfMemory) }
 {
     match handles.handle(index) {
@@ -203,8 +199,9 @@ fn read_blocks<A: Allocator + Clone>(
     left: &mut Unread<A>,
     handles: &IndexBlock<A>,
 ) -> Result<(), VerifyError>
-    ensures { Finds (λ (_ : _). left.new) result
-        (blocks_found (body_of source.now) (parts_of inner.now) left.old handles.now) }
+    ensures { spec.Finds (λ (_ : _). left.new) result
+        (spec.blocks_found (spec.body_of source.now) (spec.parts_of inner.now) left.old
+        handles.now) }
 {
     for index in 0..handles.len() {
         let handle = handle_at(handles, index)?;
@@ -218,7 +215,7 @@ pub(super) fn test_top<A: Allocator>(
     top: &KeyedBlockHandle<A>,
     handles: &IndexBlock<A>,
 ) -> Result<(), VerifyError>
-    ensures { Finds (λ (_ : _). tt) result (top_named top.now handles.now) }
+    ensures { spec.Finds (λ (_ : _). tt) result (spec.top_named top.now handles.now) }
 {
     let count = handles.len();
     if count == 0 {
@@ -241,8 +238,8 @@ fn read_part<A: Allocator + Clone>(
     left: &mut Unread<A>,
     top: &KeyedBlockHandle<A>,
 ) -> Result<(), VerifyError>
-    ensures { Finds (λ (_ : _). left.new) result
-        (part_found (body_of source.now) (parts_of inner.now) left.old top.now) }
+    ensures { spec.Finds (λ (_ : _). left.new) result
+        (spec.part_found (spec.body_of source.now) (spec.parts_of inner.now) left.old top.now) }
 {
     let place = BlockHandle::new(top.offset(), top.size());
     let handles = load_part(source, SectionName::Index, &place)?;
@@ -257,8 +254,8 @@ fn read_parts<A: Allocator + Clone>(
     left: &mut Unread<A>,
     tops: &IndexBlock<A>,
 ) -> Result<(), VerifyError>
-    ensures { Finds (λ (_ : _). left.new) result
-        (parts_found (body_of source.now) (parts_of inner.now) left.old tops.now) }
+    ensures { spec.Finds (λ (_ : _). left.new) result
+        (spec.parts_found (spec.body_of source.now) (spec.parts_of inner.now) left.old tops.now) }
 {
     for index in 0..tops.len() {
         let top = handle_at(tops, index)?;
@@ -275,10 +272,11 @@ pub(super) fn read_index<A: Allocator + Clone>(
     inner: &Inner<A>,
     left: &mut Unread<A>,
 ) -> Result<(), VerifyError>
-    ensures returned { Finds (λ (_ : _). left.new) result
-        (index_found (body_of source.now) (parts_of inner.now) left.old) }
-    ensures early { let tli = (parts_of inner.now).regions.tli in
-        FindsFirst result (early_at (body_of source.now) section.Tli tli block.Index) }
+    ensures returned { spec.Finds (λ (_ : _). left.new) result
+        (spec.index_found (spec.body_of source.now) (spec.parts_of inner.now) left.old) }
+    ensures early { let tli = (spec.parts_of inner.now).regions.tli in
+        spec.FindsFirst result
+        (spec.early_at (spec.body_of source.now) section.Tli tli block.Index) }
 {
     let handles = load_part(source, SectionName::Tli, &inner.regions.tli)?;
     match inner.regions.index {

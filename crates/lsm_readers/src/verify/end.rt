@@ -1,15 +1,8 @@
 //! Checking the filter blocks, and the totals after all blocks are read.
 ghost use Rattle.std.specs.Prelude.{◌≡◌, IfErr, IsOk, [], None, Some, map, true};
-ghost use Rattle.sst_entries.specs.declared.error.Error.{Error};
+ghost use Rattle.lsm_readers.specs.Words as spec;
 ghost use Rattle.sst_blocks.specs.declared.block_type.BlockType.TheVariants as block;
 ghost use Rattle.sst_blocks.specs.declared.section.SectionName.TheVariants as section;
-ghost use Rattle.lsm_readers.specs.Words.{body_of, parts_of, place_of};
-ghost use Rattle.lsm_readers.specs.Words.{position_fault};
-ghost use Rattle.lsm_readers.specs.Verify.{Finds, FindsFirst, counts_found, early_at};
-ghost use Rattle.lsm_readers.specs.Verify.{early_filters, end_found, filter_found, filter_places};
-ghost use Rattle.lsm_readers.specs.Verify.{filters_found, is_found, key_same, same_found};
-ghost use Rattle.lsm_readers.specs.Verify.{tops_found, unnamed_found};
-ghost use Rattle.lsm_readers.specs.Verification.{EndsCalmly, end_early};
 
 use super::{Counts, Fault, Unread, VerifyError, found, unloaded};
 use crate::Inner;
@@ -23,9 +16,10 @@ pub(super) fn test_filter<A: Allocator + Clone>(
     source: &BlockSource<A>,
     place: &BlockHandle,
 ) -> Result<(), VerifyError>
-    ensures returned { Finds (λ (_ : _). tt) result (filter_found (body_of source.now) place.now) }
-    ensures early { let body = body_of source.now in
-        FindsFirst result (early_at body section.Filter place.now block.Filter) }
+    ensures returned { spec.Finds (λ (_ : _). tt) result
+        (spec.filter_found (spec.body_of source.now) place.now) }
+    ensures early { let body = spec.body_of source.now in
+        spec.FindsFirst result (spec.early_at body section.Filter place.now block.Filter) }
 {
     let mut opened = Opened::none();
     match source.load(place, BlockType::Filter, &mut opened) {
@@ -42,10 +36,11 @@ fn test_parts<A: Allocator + Clone>(
     source: &BlockSource<A>,
     tops: &IndexBlock<A>,
 ) -> Result<(), VerifyError>
-    ensures returned { Finds (λ (_ : _). tt) result (tops_found (body_of source.now) tops.now) }
-    ensures early { let places = map place_of tops.now in
-        FindsFirst result (early_filters (body_of source.now) places None) }
-    ensures calm { map place_of tops.now ≡ [] → IsOk result }
+    ensures returned { spec.Finds (λ (_ : _). tt) result
+        (spec.tops_found (spec.body_of source.now) tops.now) }
+    ensures early { let places = map spec.place_of tops.now in
+        spec.FindsFirst result (spec.early_filters (spec.body_of source.now) places None) }
+    ensures calm { map spec.place_of tops.now ≡ [] → IsOk result }
 {
     for index in 0..tops.len() {
         test_filter(source, &tops.place_at(index))?;
@@ -58,14 +53,14 @@ pub(super) fn test_filters<A: Allocator + Clone>(
     source: &BlockSource<A>,
     inner: &Inner<A>,
 ) -> Result<(), VerifyError>
-    ensures returned { Finds (λ (_ : _). tt) result
-        (filters_found (body_of source.now) (parts_of inner.now)) }
-    ensures early { let parts = parts_of inner.now in
-        let places = filter_places parts.pinned.filter_tops parts.regions.filter in
-        FindsFirst result (early_filters (body_of source.now) places None) }
+    ensures returned { spec.Finds (λ (_ : _). tt) result
+        (spec.filters_found (spec.body_of source.now) (spec.parts_of inner.now)) }
+    ensures early { let parts = spec.parts_of inner.now in
+        let places = spec.filter_places parts.pinned.filter_tops parts.regions.filter in
+        spec.FindsFirst result (spec.early_filters (spec.body_of source.now) places None) }
     // Without a filter block it does not fail.
-    ensures calm { let parts = parts_of inner.now in
-        filter_places parts.pinned.filter_tops parts.regions.filter ≡ [] → IsOk result }
+    ensures calm { let parts = spec.parts_of inner.now in
+        spec.filter_places parts.pinned.filter_tops parts.regions.filter ≡ [] → IsOk result }
 {
     if let Some(tops) = &inner.pinned_filter_index {
         return test_parts(source, tops);
@@ -78,8 +73,8 @@ pub(super) fn test_filters<A: Allocator + Clone>(
 
 /// Checks a number in the meta block at an offset against the one that was read.
 fn test_same(meta: u64, item: ItemName, said: u64, read: u64) -> Result<(), VerifyError>
-    ensures returned { Finds (λ (_ : _). tt) result (same_found meta item said read) }
-    ensures calm { IfErr result (λ e. is_found e ≡ true) }
+    ensures returned { spec.Finds (λ (_ : _). tt) result (spec.same_found meta item said read) }
+    ensures calm { IfErr result (λ e. spec.is_found e ≡ true) }
 {
     if said == read {
         Ok(())
@@ -91,8 +86,9 @@ fn test_same(meta: u64, item: ItemName, said: u64, read: u64) -> Result<(), Veri
 /// Checks that no count is left to read, and that the lowest and the highest seqno match.
 #[tactic(auto, unfolding(crate::specs::Verify::counts_found))]
 fn test_counts<A: Allocator>(inner: &Inner<A>, counts: &Counts) -> Result<(), VerifyError>
-    ensures returned { Finds (λ (_ : _). tt) result (counts_found (parts_of inner.now) counts.now) }
-    ensures calm { IfErr result (λ e. is_found e ≡ true) }
+    ensures returned { spec.Finds (λ (_ : _). tt) result
+        (spec.counts_found (spec.parts_of inner.now) counts.now) }
+    ensures calm { IfErr result (λ e. spec.is_found e ≡ true) }
 {
     let meta = inner.regions.metadata.offset().0;
     test_same(meta, ItemName::BlockCountData, counts.blocks, 0)?;
@@ -113,10 +109,11 @@ fn test_counts<A: Allocator>(inner: &Inner<A>, counts: &Counts) -> Result<(), Ve
 
 /// Checks that there is no data block at offset 0.
 fn test_unnamed<A: Allocator + Clone>(source: &BlockSource<A>) -> Result<(), VerifyError>
-    ensures returned { Finds (λ (_ : _). tt) result (unnamed_found (body_of source.now)) }
+    ensures returned { spec.Finds (λ (_ : _). tt) result
+        (spec.unnamed_found (spec.body_of source.now)) }
     // A load that fails before any allocation does not fail with `OutOfMemory`.
-    ensures calm { (e : Error) → position_fault (body_of source.now) 0 block.Data ≡ Some e →
-        IsOk result }
+    ensures calm { (e : spec.Error) →
+        spec.position_fault (spec.body_of source.now) 0 block.Data ≡ Some e → IsOk result }
 {
     let mut opened = Opened::none();
     match source.load_at(0, BlockType::Data, &mut opened) {
@@ -131,8 +128,9 @@ fn test_unnamed<A: Allocator + Clone>(source: &BlockSource<A>) -> Result<(), Ver
 
 /// Checks a key in the meta block at an offset against the one that was read.
 fn test_range_key(meta: u64, item: ItemName, said: &[u8], read: &[u8]) -> Result<(), VerifyError>
-    ensures returned { Finds (λ (_ : _). tt) result (key_same meta item said.now read.now) }
-    ensures calm { IfErr result (λ e. is_found e ≡ true) }
+    ensures returned { spec.Finds (λ (_ : _). tt) result
+        (spec.key_same meta item said.now read.now) }
+    ensures calm { IfErr result (λ e. spec.is_found e ≡ true) }
 {
     if said == read {
         Ok(())
@@ -148,12 +146,12 @@ pub(super) fn test_left<A: Allocator + Clone>(
     inner: &Inner<A>,
     left: &Unread<A>,
 ) -> Result<(), VerifyError>
-    ensures returned { Finds (λ (_ : _). tt) result
-        (end_found (body_of source.now) (parts_of inner.now) left.now) }
+    ensures returned { spec.Finds (λ (_ : _). tt) result
+        (spec.end_found (spec.body_of source.now) (spec.parts_of inner.now) left.now) }
     // A fault that is found before any allocation takes precedence over `OutOfMemory`.
-    ensures early { FindsFirst result (end_early (parts_of inner.now) left.now) }
-    ensures calm { EndsCalmly (body_of source.now) left.now.last →
-        IfErr result (λ e. is_found e ≡ true) }
+    ensures early { spec.FindsFirst result (spec.end_early (spec.parts_of inner.now) left.now) }
+    ensures calm { spec.EndsCalmly (spec.body_of source.now) left.now.last →
+        IfErr result (λ e. spec.is_found e ≡ true) }
 {
     let meta = inner.regions.metadata.offset().0;
     let range = &inner.metadata.key_range;

@@ -1,13 +1,7 @@
 //! Reading the entries of a data block.
 ghost use Rattle.std.specs.Prelude.{◌≡◌, ◌<◌, IfErr, IfOk, Some, length, true};
-ghost use Rattle.std.specs.List.{slice_get};
+ghost use Rattle.lsm_readers.specs.Words as spec;
 ghost use Rattle.lsm_readers.specs.declared.verify.VerifyError.TheVariants.{OutOfMemory};
-ghost use Rattle.lsm_readers.specs.Words.{body_of, parts_of};
-ghost use Rattle.lsm_readers.specs.declared.verify.Counts.{Counts as CountsLeft};
-ghost use Rattle.lsm_readers.specs.Verify.{Finds, admitted, entries_found, entry_found};
-ghost use Rattle.lsm_readers.specs.Verify.{entry_spent, entry_tested, first_found, is_reclaimable};
-ghost use Rattle.lsm_readers.specs.Verify.{is_found, is_weak, key_found, may_follow, order_found};
-ghost use Rattle.lsm_readers.specs.Verify.{spent, starts_key};
 
 use super::{Counts, Fault, Unread, VerifyError, found};
 use crate::Inner;
@@ -19,8 +13,8 @@ use std::alloc::Allocator;
 
 /// Subtracts from a count of the meta block at an offset. Fails if too little is left.
 pub(super) fn spend(meta: u64, item: ItemName, left: u64, by: u64) -> Result<u64, VerifyError>
-    ensures returned { Finds (λ n. n) result (spent meta item left by) }
-    ensures calm { IfErr result (λ e. is_found e ≡ true) }
+    ensures returned { spec.Finds (λ n. n) result (spec.spent meta item left by) }
+    ensures calm { IfErr result (λ e. spec.is_found e ≡ true) }
 {
     if left < by {
         return Err(found(SectionName::Meta, meta, Fault::Unborne(item)));
@@ -30,7 +24,7 @@ pub(super) fn spend(meta: u64, item: ItemName, left: u64, by: u64) -> Result<u64
 
 /// Whether an entry is the first of its key, given the entry directly before it.
 fn starts_key<A: Allocator>(last: &Option<InternalValue<A>>, entry: &InternalValue<A>) -> bool
-    ensures { result ≡ starts_key last.now entry.now }
+    ensures { result ≡ spec.starts_key last.now entry.now }
 {
     match last {
         None => true,
@@ -39,14 +33,14 @@ fn starts_key<A: Allocator>(last: &Option<InternalValue<A>>, entry: &InternalVal
 }
 
 fn is_weak<A: Allocator>(entry: &InternalValue<A>) -> bool
-    ensures { result ≡ is_weak entry.now }
+    ensures { result ≡ spec.is_weak entry.now }
 {
     matches!(entry.key.value_type, ValueType::WeakTombstone)
 }
 
 /// Whether an entry is a value directly after a weak tombstone of its key.
 fn is_reclaimable<A: Allocator>(last: &Option<InternalValue<A>>, entry: &InternalValue<A>) -> bool
-    ensures { result ≡ is_reclaimable last.now entry.now }
+    ensures { result ≡ spec.is_reclaimable last.now entry.now }
 {
     match last {
         None => false,
@@ -60,7 +54,7 @@ fn is_reclaimable<A: Allocator>(last: &Option<InternalValue<A>>, entry: &Interna
 
 /// Whether an entry is in order after the one before it.
 fn may_follow<A: Allocator>(last: &Option<InternalValue<A>>, entry: &InternalValue<A>) -> bool
-    ensures { result ≡ may_follow last.now entry.now }
+    ensures { result ≡ spec.may_follow last.now entry.now }
 {
     match last {
         None => true,
@@ -74,8 +68,8 @@ fn test_order<A: Allocator>(
     last: &Option<InternalValue<A>>,
     entry: &InternalValue<A>,
 ) -> Result<(), VerifyError>
-    ensures returned { Finds (λ (_ : _). tt) result (order_found at last.now entry.now) }
-    ensures calm { IfErr result (λ e. is_found e ≡ true) }
+    ensures returned { spec.Finds (λ (_ : _). tt) result (spec.order_found at last.now entry.now) }
+    ensures calm { IfErr result (λ e. spec.is_found e ≡ true) }
 {
     if entry.key.seqno < SeqNo::MAX {
         if may_follow(last, entry) {
@@ -94,9 +88,9 @@ fn test_first<A: Allocator>(
     last: &Option<InternalValue<A>>,
     entry: &InternalValue<A>,
 ) -> Result<(), VerifyError>
-    ensures returned { Finds (λ (_ : _). tt) result
-        (first_found (parts_of inner.now) last.now entry.now) }
-    ensures calm { IfErr result (λ e. is_found e ≡ true) }
+    ensures returned { spec.Finds (λ (_ : _). tt) result
+        (spec.first_found (spec.parts_of inner.now) last.now entry.now) }
+    ensures calm { IfErr result (λ e. spec.is_found e ≡ true) }
 {
     if last.is_some() || inner.metadata.key_range.min() == &entry.key.user_key {
         Ok(())
@@ -112,7 +106,7 @@ fn admits<A: Allocator + Clone>(
     inner: &Inner<A>,
     key: &[u8],
 ) -> Result<bool, Error>
-    ensures { result ≡ admitted (body_of source.now) (parts_of inner.now) key.now }
+    ensures { result ≡ spec.admitted (spec.body_of source.now) (spec.parts_of inner.now) key.now }
 {
     let hash = Builder::<A>::get_hash(key);
     let mut opened = Opened::none();
@@ -137,9 +131,9 @@ fn test_key<A: Allocator + Clone>(
     last: &Option<InternalValue<A>>,
     entry: &InternalValue<A>,
 ) -> Result<(), VerifyError>
-    ensures returned { Finds (λ (_ : _). tt) result
-        (key_found (body_of source.now) (parts_of inner.now) at last.now entry.now) }
-    ensures calm { IfErr result (λ e. is_found e ≡ true) }
+    ensures returned { spec.Finds (λ (_ : _). tt) result
+        (spec.key_found (spec.body_of source.now) (spec.parts_of inner.now) at last.now entry.now) }
+    ensures calm { IfErr result (λ e. spec.is_found e ≡ true) }
 {
     if !starts_key(last, entry) {
         return Ok(());
@@ -159,9 +153,9 @@ fn count_entry<A: Allocator>(
     entry: &InternalValue<A>,
     counts: Counts,
 ) -> Result<Counts, VerifyError>
-    ensures returned { Finds (λ (c : CountsLeft). c) result
-        (entry_spent meta last.now entry.now counts) }
-    ensures calm { IfErr result (λ e. is_found e ≡ true) }
+    ensures returned { spec.Finds (λ (c : spec.CountsLeft). c) result
+        (spec.entry_spent meta last.now entry.now counts) }
+    ensures calm { IfErr result (λ e. spec.is_found e ≡ true) }
 {
     let tombstone = u64::from(entry.is_tombstone());
     let weak = u64::from(is_weak(entry));
@@ -196,9 +190,10 @@ fn test_entry<A: Allocator + Clone>(
     left: &Unread<A>,
     entry: &InternalValue<A>,
 ) -> Result<Counts, VerifyError>
-    ensures returned { Finds (λ (c : CountsLeft). c) result
-        (entry_tested (body_of source.now) (parts_of inner.now) at left.now entry.now) }
-    ensures calm { IfErr result (λ e. is_found e ≡ true) }
+    ensures returned { spec.Finds (λ (c : spec.CountsLeft). c) result
+        (spec.entry_tested (spec.body_of source.now) (spec.parts_of inner.now) at left.now
+        entry.now) }
+    ensures calm { IfErr result (λ e. spec.is_found e ≡ true) }
 {
     test_order(at, &left.last, entry)?;
     test_first(inner, &left.last, entry)?;
@@ -216,9 +211,9 @@ fn read_entry<A: Allocator + Clone>(
     left: &mut Unread<A>,
     entry: InternalValue<A>,
 ) -> Result<(), VerifyError>
-    ensures returned { Finds (λ (_ : _). left.new) result
-        (entry_found (body_of source.now) (parts_of inner.now) at left.old entry) }
-    ensures calm { IfErr result (λ e. is_found e ≡ true) }
+    ensures returned { spec.Finds (λ (_ : _). left.new) result
+        (spec.entry_found (spec.body_of source.now) (spec.parts_of inner.now) at left.old entry) }
+    ensures calm { IfErr result (λ e. spec.is_found e ≡ true) }
 {
     let counts = test_entry(source, inner, at, left, &entry)?;
     left.last = Some(entry);
@@ -232,7 +227,7 @@ fn entry_at<A: Allocator>(
     index: usize,
 ) -> Result<InternalValue<A>, VerifyError>
     requires { index < length block.now }
-    ensures ok { IfOk result (λ e. slice_get block.now index ≡ Some e) }
+    ensures ok { IfOk result (λ e. spec.slice_get block.now index ≡ Some e) }
     ensures err { IfErr result (λ e. e ≡ OutOfMemory) }
 {
     match block.entry(index) {
@@ -249,8 +244,9 @@ pub(super) fn read_entries<A: Allocator + Clone>(
     left: &mut Unread<A>,
     block: &DataBlock<A>,
 ) -> Result<(), VerifyError>
-    ensures { Finds (λ (_ : _). left.new) result
-        (entries_found (body_of source.now) (parts_of inner.now) at left.old block.now) }
+    ensures { spec.Finds (λ (_ : _). left.new) result
+        (spec.entries_found (spec.body_of source.now) (spec.parts_of inner.now) at left.old
+        block.now) }
 {
     for index in 0..block.len() {
         let entry = entry_at(block, index)?;

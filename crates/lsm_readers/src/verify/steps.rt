@@ -1,17 +1,8 @@
 //! Reading a whole table in steps of one block each.
 ghost use Rattle.std.specs.Prelude.{◌≡◌, ◌∷◌, ◌<◌, ◌-◌, ◌^◌, [], List, IfErr, IfOk, IfNone};
 ghost use Rattle.std.specs.Prelude.{IfSome, IsOk, Ok, Some, drop, false, length, true};
-ghost use Rattle.std.specs.List.{slice_get};
-ghost use Rattle.lsm_readers.specs.Words.{Handle, body_of, parts_of, place_of};
+ghost use Rattle.lsm_readers.specs.Words as spec;
 ghost use Rattle.lsm_readers.specs.declared.verify.VerifyError.TheVariants.{OutOfMemory};
-ghost use Rattle.lsm_readers.specs.Verify.{Finds, Misses, Unread as UnreadLeft, block_found};
-ghost use Rattle.lsm_readers.specs.Verify.{FindsFirst, blocks_found, early_at, handles_found};
-ghost use Rattle.lsm_readers.specs.Verify.{is_found, passed};
-ghost use Rattle.lsm_readers.specs.Handles.{handles_ahead};
-ghost use Rattle.lsm_readers.specs.point.Parts.{Parts};
-ghost use Rattle.lsm_readers.specs.Verification.{GoesOne, IsThrough, ahead_of, before_index};
-ghost use Rattle.lsm_readers.specs.Verification.{in_index, next_found, partition_found, places_in};
-ghost use Rattle.lsm_readers.specs.Verification.{StepsCalmly, chunk_early, rest_found, step_early};
 ghost use Rattle.sst_blocks.specs.declared.block_type.BlockType.TheVariants as block;
 ghost use Rattle.sst_blocks.specs.declared.section.SectionName.TheVariants as section;
 
@@ -56,7 +47,8 @@ pub(crate) enum Stage<A: Allocator = Global> {
 impl<A: Allocator> Stage<A> {
     /// The stage before anything is read.
     pub(crate) fn start() -> Stage<A>
-        ensures { (parts : Parts) → ahead_of parts result ≡ before_index (places_in parts) }
+        ensures { (parts : spec.Parts) →
+            spec.ahead_of parts result ≡ spec.before_index (spec.places_in parts) }
     {
         Stage::Filter(0)
     }
@@ -73,7 +65,7 @@ impl<A: Allocator> Unread<A> {
 
 /// The number of handles in a block, or 0 without one.
 fn count_in<A: Allocator>(block: &Option<IndexBlock<A>>) -> usize
-    ensures { result ≡ length (handles_ahead 0 block.now) }
+    ensures { result ≡ length (spec.handles_ahead 0 block.now) }
 {
     match block {
         Some(block) => block.len(),
@@ -106,7 +98,7 @@ impl<A: Allocator> HandlesLeft<A> {
     /// so nothing is allocated.
     fn next(&self) -> Option<(&IndexBlock<A>, usize)>
         ensures some { IfSome result (λ next.
-            slice_get next.0.now next.1 ≡ slice_get self.now 0) }
+            spec.slice_get next.0.now next.1 ≡ spec.slice_get self.now 0) }
         ensures within { IfSome result (λ next. next.1 < length next.0.now) }
         ensures none { IfNone result (self.now ≡ []) }
     {
@@ -152,13 +144,14 @@ fn read_at<A: Allocator + Clone>(
     index: usize,
 ) -> Result<Unread<A>, VerifyError>
     requires { index < length handles.now }
-    ensures returned { (h : Handle) → slice_get handles.now index ≡ Some h →
-        Finds (λ (read : UnreadLeft). read) result
-        (block_found (body_of source.now) (parts_of inner.now) left.now h) }
-    ensures early { (h : Handle) → slice_get handles.now index ≡ Some h →
+    ensures returned { (h : spec.Handle) → spec.slice_get handles.now index ≡ Some h →
+        spec.Finds (λ (read : spec.UnreadLeft). read) result
+        (spec.block_found (spec.body_of source.now) (spec.parts_of inner.now) left.now h) }
+    ensures early { (h : spec.Handle) → spec.slice_get handles.now index ≡ Some h →
         let counts = left.now.counts in
-        FindsFirst result
-        (chunk_early (body_of source.now) (parts_of inner.now) counts (place_of h)) }
+        spec.FindsFirst result
+        (spec.chunk_early (spec.body_of source.now) (spec.parts_of inner.now) counts
+        (spec.place_of h)) }
 {
     let place = handles.place_at(index);
     let counts = count_at(inner, left.counts, &place)?;
@@ -178,19 +171,22 @@ fn step_block<A: Allocator + Clone>(
     left: &mut Unread<A>,
 ) -> Result<bool, VerifyError>
     ensures read { IfOk result (λ read. read ≡ true →
-        (h : Handle) × (handles.old ≡ h ∷ handles.new) ×
-        (block_found (body_of source.now) (parts_of inner.now) left.old h ≡ Ok left.new)) }
+        (h : spec.Handle) × (handles.old ≡ h ∷ handles.new) ×
+        (spec.block_found (spec.body_of source.now) (spec.parts_of inner.now) left.old h
+        ≡ Ok left.new)) }
     ensures none { IfOk result (λ read. read ≡ false →
         (handles.old ≡ []) × (handles.new ≡ []) × (left.new ≡ left.old)) }
-    ensures refused { IfErr result (λ e. Misses e
-        (blocks_found (body_of source.now) (parts_of inner.now) left.old handles.old)) }
-    ensures next { (h : Handle) (rest : List Handle) → handles.old ≡ h ∷ rest →
-        IfErr result (λ e. Misses e
-        (block_found (body_of source.now) (parts_of inner.now) left.old h)) }
-    ensures early { (h : Handle) (rest : List Handle) → handles.old ≡ h ∷ rest →
+    ensures refused { IfErr result (λ e. spec.Misses e
+        (spec.blocks_found (spec.body_of source.now) (spec.parts_of inner.now) left.old
+        handles.old)) }
+    ensures next { (h : spec.Handle) (rest : List spec.Handle) → handles.old ≡ h ∷ rest →
+        IfErr result (λ e. spec.Misses e
+        (spec.block_found (spec.body_of source.now) (spec.parts_of inner.now) left.old h)) }
+    ensures early { (h : spec.Handle) (rest : List spec.Handle) → handles.old ≡ h ∷ rest →
         let counts = left.old.counts in
-        FindsFirst result
-        (chunk_early (body_of source.now) (parts_of inner.now) counts (place_of h)) }
+        spec.FindsFirst result
+        (spec.chunk_early (spec.body_of source.now) (spec.parts_of inner.now) counts
+        (spec.place_of h)) }
     ensures calm { handles.old ≡ [] → IsOk result }
     ensures unchanged { IfErr result (λ _.
         (handles.new ≡ handles.old) × (left.new ≡ left.old)) }
@@ -213,12 +209,12 @@ fn load_partition<A: Allocator + Clone>(
     index: usize,
 ) -> Result<IndexBlock<A>, VerifyError>
     requires { index < length tops.now }
-    ensures returned { (top : Handle) → slice_get tops.now index ≡ Some top →
-        Finds (λ (handles : List Handle). handles) result
-        (partition_found (body_of source.now) top) }
-    ensures early { (top : Handle) → slice_get tops.now index ≡ Some top →
-        let body = body_of source.now in
-        FindsFirst result (early_at body section.Index (place_of top) block.Index) }
+    ensures returned { (top : spec.Handle) → spec.slice_get tops.now index ≡ Some top →
+        spec.Finds (λ (handles : List spec.Handle). handles) result
+        (spec.partition_found (spec.body_of source.now) top) }
+    ensures early { (top : spec.Handle) → spec.slice_get tops.now index ≡ Some top →
+        let body = spec.body_of source.now in
+        spec.FindsFirst result (spec.early_at body section.Index (spec.place_of top) block.Index) }
 {
     let handles = load_part(source, SectionName::Index, &tops.place_at(index))?;
     let top = handle_at(tops, index)?;
@@ -233,14 +229,15 @@ fn step_part<A: Allocator + Clone>(
     tops: &mut HandlesLeft<A>,
 ) -> Result<Option<IndexBlock<A>>, VerifyError>
     ensures read { IfOk result (λ read. IfSome read (λ handles.
-        (top : Handle) × (tops.old ≡ top ∷ tops.new) ×
-        (partition_found (body_of source.now) top ≡ Ok handles))) }
+        (top : spec.Handle) × (tops.old ≡ top ∷ tops.new) ×
+        (spec.partition_found (spec.body_of source.now) top ≡ Ok handles))) }
     ensures none { IfOk result (λ read. IfNone read ((tops.old ≡ []) × (tops.new ≡ []))) }
-    ensures refused { IfErr result (λ e. (top : Handle) (rest : List Handle) →
-        tops.old ≡ top ∷ rest → Misses e (partition_found (body_of source.now) top)) }
-    ensures early { (top : Handle) (rest : List Handle) → tops.old ≡ top ∷ rest →
-        let body = body_of source.now in
-        FindsFirst result (early_at body section.Index (place_of top) block.Index) }
+    ensures refused { IfErr result (λ e. (top : spec.Handle) (rest : List spec.Handle) →
+        tops.old ≡ top ∷ rest →
+        spec.Misses e (spec.partition_found (spec.body_of source.now) top)) }
+    ensures early { (top : spec.Handle) (rest : List spec.Handle) → tops.old ≡ top ∷ rest →
+        let body = spec.body_of source.now in
+        spec.FindsFirst result (spec.early_at body section.Index (spec.place_of top) block.Index) }
     ensures calm { tops.old ≡ [] → IsOk result }
     ensures unchanged { IfErr result (λ _. tops.new ≡ tops.old) }
 {
@@ -263,23 +260,25 @@ fn step_index<A: Allocator + Clone>(
     left: &mut Unread<A>,
 ) -> Result<bool, VerifyError>
     ensures goes { IfOk result (λ ends. ends ≡ false →
-        GoesOne (body_of source.now) (parts_of inner.now) (in_index handles.old tops.old) left.old
-        (in_index handles.new tops.new) left.new) }
+        spec.GoesOne (spec.body_of source.now) (spec.parts_of inner.now)
+        (spec.in_index handles.old tops.old) left.old
+        (spec.in_index handles.new tops.new) left.new) }
     ensures ends { IfOk result (λ ends. ends ≡ true →
-        IsThrough (body_of source.now) (parts_of inner.now) (in_index handles.old tops.old)
-        left.old) }
+        spec.IsThrough (spec.body_of source.now) (spec.parts_of inner.now)
+        (spec.in_index handles.old tops.old) left.old) }
     ensures answered { IfOk result (λ ends. ends ≡ true →
         (handles.new ≡ handles.old) × (tops.new ≡ tops.old) × (left.new ≡ left.old)) }
-    ensures refused { let ahead = in_index handles.old tops.old in
-        IfErr result (λ e. Misses e
-        (rest_found (body_of source.now) (parts_of inner.now) ahead left.old)) }
-    ensures next { let ahead = in_index handles.old tops.old in
-        IfErr result (λ e. Misses e
-        (next_found (body_of source.now) (parts_of inner.now) ahead left.old)) }
-    ensures early { let ahead = in_index handles.old tops.old in
-        FindsFirst result (step_early (body_of source.now) (parts_of inner.now) ahead left.old) }
-    ensures calm { StepsCalmly (body_of source.now) (in_index handles.old tops.old) left.old →
-        IfErr result (λ e. is_found e ≡ true) }
+    ensures refused { let ahead = spec.in_index handles.old tops.old in
+        IfErr result (λ e. spec.Misses e
+        (spec.rest_found (spec.body_of source.now) (spec.parts_of inner.now) ahead left.old)) }
+    ensures next { let ahead = spec.in_index handles.old tops.old in
+        IfErr result (λ e. spec.Misses e
+        (spec.next_found (spec.body_of source.now) (spec.parts_of inner.now) ahead left.old)) }
+    ensures early { let ahead = spec.in_index handles.old tops.old in
+        spec.FindsFirst result (spec.step_early (spec.body_of source.now) (spec.parts_of inner.now)
+        ahead left.old) }
+    ensures calm { spec.StepsCalmly (spec.body_of source.now) (spec.in_index handles.old tops.old)
+        left.old → IfErr result (λ e. spec.is_found e ≡ true) }
     ensures unchanged { IfErr result (λ _.
         (handles.new ≡ handles.old) × (tops.new ≡ tops.old) × (left.new ≡ left.old)) }
 {
@@ -300,7 +299,7 @@ fn step_index<A: Allocator + Clone>(
 
 /// The handle of the filter block at an index, if there is one.
 fn filter_at<A: Allocator>(inner: &Inner<A>, index: usize) -> Option<BlockHandle>
-    ensures place { result ≡ slice_get (places_in (parts_of inner.now)) index }
+    ensures place { result ≡ spec.slice_get (spec.places_in (spec.parts_of inner.now)) index }
     ensures room { IfSome result (λ _. index < 2 ^ 64 - 1) }
 {
     match &inner.pinned_filter_index {
@@ -326,15 +325,18 @@ fn open_index<A: Allocator + Clone>(
     source: &BlockSource<A>,
     inner: &Inner<A>,
 ) -> Result<Stage<A>, VerifyError>
-    ensures goes { (left : UnreadLeft) → let parts = parts_of inner.now in
-        IfOk result (λ stage. GoesOne (body_of source.now) parts (before_index []) left
-        (ahead_of parts stage) left) }
-    ensures refused { (left : UnreadLeft) → IfErr result (λ e. Misses e
-        (rest_found (body_of source.now) (parts_of inner.now) (before_index []) left)) }
-    ensures next { let tli = (parts_of inner.now).regions.tli in IfErr result (λ e. Misses e
-        (passed (handles_found (body_of source.now) section.Tli tli))) }
-    ensures early { let tli = (parts_of inner.now).regions.tli in
-        FindsFirst result (early_at (body_of source.now) section.Tli tli block.Index) }
+    ensures goes { (left : spec.UnreadLeft) → let parts = spec.parts_of inner.now in
+        IfOk result (λ stage. spec.GoesOne (spec.body_of source.now) parts (spec.before_index [])
+        left (spec.ahead_of parts stage) left) }
+    ensures refused { (left : spec.UnreadLeft) → IfErr result (λ e. spec.Misses e
+        (spec.rest_found (spec.body_of source.now) (spec.parts_of inner.now) (spec.before_index [])
+        left)) }
+    ensures next { let tli = (spec.parts_of inner.now).regions.tli in
+        IfErr result (λ e. spec.Misses e
+        (spec.passed (spec.handles_found (spec.body_of source.now) section.Tli tli))) }
+    ensures early { let tli = (spec.parts_of inner.now).regions.tli in
+        spec.FindsFirst result
+        (spec.early_at (spec.body_of source.now) section.Tli tli block.Index) }
 {
     let handles = load_part(source, SectionName::Tli, &inner.regions.tli)?;
     let handles = HandlesLeft::all(handles);
@@ -356,19 +358,21 @@ fn step_filter<A: Allocator + Clone>(
     inner: &Inner<A>,
     index: usize,
 ) -> Result<Stage<A>, VerifyError>
-    ensures goes { (left : UnreadLeft) → let parts = parts_of inner.now in
-        let ahead = before_index (drop index (places_in parts)) in
-        IfOk result (λ stage. GoesOne (body_of source.now) parts ahead left
-        (ahead_of parts stage) left) }
-    ensures refused { (left : UnreadLeft) → let parts = parts_of inner.now in
-        let ahead = before_index (drop index (places_in parts)) in
-        IfErr result (λ e. Misses e (rest_found (body_of source.now) parts ahead left)) }
-    ensures next { (left : UnreadLeft) → let parts = parts_of inner.now in
-        let ahead = before_index (drop index (places_in parts)) in
-        IfErr result (λ e. Misses e (next_found (body_of source.now) parts ahead left)) }
-    ensures early { (left : UnreadLeft) → let parts = parts_of inner.now in
-        let ahead = before_index (drop index (places_in parts)) in
-        FindsFirst result (step_early (body_of source.now) parts ahead left) }
+    ensures goes { (left : spec.UnreadLeft) → let parts = spec.parts_of inner.now in
+        let ahead = spec.before_index (drop index (spec.places_in parts)) in
+        IfOk result (λ stage. spec.GoesOne (spec.body_of source.now) parts ahead left
+        (spec.ahead_of parts stage) left) }
+    ensures refused { (left : spec.UnreadLeft) → let parts = spec.parts_of inner.now in
+        let ahead = spec.before_index (drop index (spec.places_in parts)) in
+        IfErr result (λ e. spec.Misses e
+        (spec.rest_found (spec.body_of source.now) parts ahead left)) }
+    ensures next { (left : spec.UnreadLeft) → let parts = spec.parts_of inner.now in
+        let ahead = spec.before_index (drop index (spec.places_in parts)) in
+        IfErr result (λ e. spec.Misses e
+        (spec.next_found (spec.body_of source.now) parts ahead left)) }
+    ensures early { (left : spec.UnreadLeft) → let parts = spec.parts_of inner.now in
+        let ahead = spec.before_index (drop index (spec.places_in parts)) in
+        spec.FindsFirst result (spec.step_early (spec.body_of source.now) parts ahead left) }
 {
     match filter_at(inner, index) {
         Some(place) => {
@@ -387,23 +391,29 @@ pub(crate) fn step_stage<A: Allocator + Clone>(
     stage: &mut Stage<A>,
     left: &mut Unread<A>,
 ) -> Result<bool, VerifyError>
-    ensures goes { let parts = parts_of inner.now in IfOk result (λ ends. ends ≡ false →
-        GoesOne (body_of source.now) parts (ahead_of parts stage.old) left.old
-        (ahead_of parts stage.new) left.new) }
-    ensures ends { let parts = parts_of inner.now in IfOk result (λ ends. ends ≡ true →
-        IsThrough (body_of source.now) parts (ahead_of parts stage.old) left.old) }
+    ensures goes { let parts = spec.parts_of inner.now in IfOk result (λ ends. ends ≡ false →
+        spec.GoesOne (spec.body_of source.now) parts (spec.ahead_of parts stage.old) left.old
+        (spec.ahead_of parts stage.new) left.new) }
+    ensures ends { let parts = spec.parts_of inner.now in IfOk result (λ ends. ends ≡ true →
+        spec.IsThrough (spec.body_of source.now) parts (spec.ahead_of parts stage.old) left.old) }
     ensures answered { IfOk result (λ ends. ends ≡ true →
         (stage.new ≡ stage.old) × (left.new ≡ left.old)) }
-    ensures refused { let parts = parts_of inner.now in let ahead = ahead_of parts stage.old in
-        IfErr result (λ e. Misses e (rest_found (body_of source.now) parts ahead left.old)) }
+    ensures refused { let parts = spec.parts_of inner.now in
+        let ahead = spec.ahead_of parts stage.old in
+        IfErr result (λ e. spec.Misses e
+        (spec.rest_found (spec.body_of source.now) parts ahead left.old)) }
     // A fault is in the next block, or at the end.
-    ensures next { let parts = parts_of inner.now in let ahead = ahead_of parts stage.old in
-        IfErr result (λ e. Misses e (next_found (body_of source.now) parts ahead left.old)) }
+    ensures next { let parts = spec.parts_of inner.now in
+        let ahead = spec.ahead_of parts stage.old in
+        IfErr result (λ e. spec.Misses e
+        (spec.next_found (spec.body_of source.now) parts ahead left.old)) }
     // A fault that is found before any allocation takes precedence over `OutOfMemory`.
-    ensures early { let parts = parts_of inner.now in let ahead = ahead_of parts stage.old in
-        FindsFirst result (step_early (body_of source.now) parts ahead left.old) }
-    ensures calm { let ahead = ahead_of (parts_of inner.now) stage.old in
-        StepsCalmly (body_of source.now) ahead left.old → IfErr result (λ e. is_found e ≡ true) }
+    ensures early { let parts = spec.parts_of inner.now in
+        let ahead = spec.ahead_of parts stage.old in
+        spec.FindsFirst result (spec.step_early (spec.body_of source.now) parts ahead left.old) }
+    ensures calm { let ahead = spec.ahead_of (spec.parts_of inner.now) stage.old in
+        spec.StepsCalmly (spec.body_of source.now) ahead left.old →
+        IfErr result (λ e. spec.is_found e ≡ true) }
     ensures unchanged { IfErr result (λ _. (stage.new ≡ stage.old) × (left.new ≡ left.old)) }
 {
     match stage {

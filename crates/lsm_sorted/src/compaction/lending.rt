@@ -3,31 +3,7 @@
 ghost use Rattle.std.specs.Prelude.{◌≡◌, ◌<◌, ◌≤◌, ◌&&◌, true, false, cond, if◌then◌else◌};
 ghost use Rattle.std.specs.Prelude.{Bool, List, Result, nat_lt};
 ghost use Rattle.std.specs.Prelude.{IfErr, IfOk, IsSome, None, Ok, OnErr, Some, is_some};
-ghost use Rattle.sst_entries.specs.Entry.{Entry, entry};
-ghost use Rattle.sst_entries.specs.Key.{same_key};
-ghost use Rattle.sst_entries.specs.Kind.{is_tombstone_kind};
-ghost use Rattle.sst_entries.specs.Lending.{came, entry_of_ref};
-ghost use Rattle.sst_entries.specs.Stream.{CanYield, Lowers, nowhere};
-ghost use Rattle.sst_entries.specs.declared.error.Error.{Error};
-ghost use Rattle.sst_entries.specs.declared.error.Error.TheVariants.{OutOfMemory};
-ghost use Rattle.lsm_sorted.specs.Compaction.{Verdict, is_value, keep, reports_by};
-ghost use Rattle.lsm_sorted.specs.Compacting.{Asks, GetsAll};
-ghost use Rattle.lsm_sorted.specs.CompactionState.{answer_of, failure};
-ghost use Rattle.lsm_sorted.specs.Verdicts.{said};
-ghost use Rattle.lsm_sorted.specs.lending.LentCompaction.{AdvancesCompacted, CompactsLent};
-ghost use Rattle.lsm_sorted.specs.lending.LentCompaction.{CompactsLentResults};
-ghost use Rattle.lsm_sorted.specs.lending.LentCompaction.{YieldsCompactedEntries};
-ghost use Rattle.lsm_sorted.specs.lending.LentCompaction.{YieldsCompactedResults, FetchesCompacted};
-ghost use Rattle.lsm_sorted.specs.lending.LentCompaction.{MayLendCompacted, SettlesCompacted};
-ghost use Rattle.lsm_sorted.specs.lending.LentCompaction.{StepsCompacted, compacted_left, fresh_of};
-ghost use Rattle.lsm_sorted.specs.lending.LentCompaction.{has_to_wait, lender, lent_callback};
-ghost use Rattle.lsm_sorted.specs.lending.LentCompaction.{lent_compacted, lent_filter, one_more_if};
-ghost use Rattle.lsm_sorted.specs.lending.LentCompaction.{put_into};
-ghost use Rattle.lsm_sorted.specs.lending.LentFaults.{AlwaysReports, FilterSays, PassesAll};
-ghost use Rattle.lsm_sorted.specs.lending.LentFaults.{PassesAllOr};
-ghost use Rattle.lsm_sorted.specs.lending.LentFaults.{StaysOver, StaysOverOr};
-ghost use Rattle.lsm_sorted.specs.lending.LentNewest.{is_given};
-ghost use Rattle.lsm_sorted.specs.declared.compaction.lending.Lends.TheVariants.{Nothing};
+ghost use Rattle.lsm_sorted.specs.Words as spec;
 
 use crate::compaction::Rules;
 use crate::compaction::stream::{NoCallback, NoFilter, StreamFilterVerdict};
@@ -40,7 +16,7 @@ use std::alloc::{Allocator, Global};
 /// version.
 pub trait LentFilter<A: Allocator> {
     // `gives f x v g`: filter `f` returns `v` for entry `x` and becomes `g`.
-    ghost gives: { Self → Entry → Result Verdict Error → Self → Type 0 };
+    ghost gives: { Self → spec.Entry → Result spec.Verdict spec.Error → Self → Type 0 };
 
     /// Returns the verdict on an entry.
     ///
@@ -48,7 +24,7 @@ pub trait LentFilter<A: Allocator> {
     ///
     /// The compaction passes on any error.
     fn filter_ref(&mut self, entry: &EntryRef<'_>) -> Result<StreamFilterVerdict<A>, Error>
-        ensures { gives self.old (entry_of_ref entry.now) (said result) self.new };
+        ensures { gives self.old (spec.entry_of_ref entry.now) (spec.said result) self.new };
 }
 
 /// A callback that receives, borrowed, the entries that a compaction removes or changes.
@@ -57,15 +33,15 @@ pub trait LentFilter<A: Allocator> {
 /// hides. Tombstones that the compaction itself drops are not reported.
 pub trait LentCallback {
     // `gets c x d`: callback `c` receives entry `x` and becomes `d`.
-    ghost gets: { Self → Entry → Self → Type 0 };
+    ghost gets: { Self → spec.Entry → Self → Type 0 };
 
     /// Receives an entry as it was before the filter.
     fn on_dropped_ref(&mut self, kv: &EntryRef<'_>)
-        ensures { gets self.old (entry_of_ref kv.now) self.new };
+        ensures { gets self.old (spec.entry_of_ref kv.now) self.new };
 }
 
 impl<A: Allocator> LentFilter<A> for NoFilter {
-    ghost gives = { λ f x v g. v ≡ Ok keep };
+    ghost gives = { λ f x v g. v ≡ Ok spec.keep };
 
     fn filter_ref(&mut self, _entry: &EntryRef<'_>) -> Result<StreamFilterVerdict<A>, Error> {
         Ok(StreamFilterVerdict::Keep)
@@ -134,7 +110,7 @@ pub struct LendingCompaction<L, F = NoFilter, C = NoCallback, A: Allocator = Glo
 // Whether the next entry decides if this one stays.
 #[inline(always)]
 fn has_to_wait(rules: &Rules, entry: &EntryRef<'_>) -> bool
-    ensures { result ≡ has_to_wait rules.now (entry_of_ref entry.now) }
+    ensures { result ≡ spec.has_to_wait rules.now (spec.entry_of_ref entry.now) }
 {
     if entry.seqno < rules.watermark {
         entry.value_type == ValueType::WeakTombstone
@@ -146,7 +122,8 @@ fn has_to_wait(rules: &Rules, entry: &EntryRef<'_>) -> bool
 // Whether an entry that need not wait is dropped.
 #[inline(always)]
 fn goes_at_once(rules: &Rules, entry: &EntryRef<'_>) -> bool
-    ensures { result ≡ (rules.now.evict && is_tombstone_kind (entry_of_ref entry.now).kind) }
+    ensures { result ≡ (rules.now.evict && spec.is_tombstone_kind
+        (spec.entry_of_ref entry.now).kind) }
 {
     rules.evict && entry.is_tombstone()
 }
@@ -168,7 +145,7 @@ fn zeroed(rules: &Rules, seqno: SeqNo) -> SeqNo
 #[inline(always)]
 fn remember<A: Allocator>(buffer: &mut Vec<u8, A>, bytes: &[u8]) -> Result<(), Error>
     ensures bytes { IfOk result (λ _. buffer.new.items ≡ bytes.now) }
-    ensures err { IfErr result (λ e. e ≡ OutOfMemory) }
+    ensures err { IfErr result (λ e. e ≡ spec.OutOfMemory) }
 {
     buffer.clear();
     buffer.extend_from_slice(bytes)?;
@@ -177,7 +154,7 @@ fn remember<A: Allocator>(buffer: &mut Vec<u8, A>, bytes: &[u8]) -> Result<(), E
 
 #[inline(always)]
 fn is_version<A: Allocator>(key: &Vec<u8, A>, entry: &EntryRef<'_>) -> bool
-    ensures { result ≡ same_key (entry_of_ref entry.now).user_key key.now.items }
+    ensures { result ≡ spec.same_key (spec.entry_of_ref entry.now).user_key key.now.items }
 {
     entry.user_key == key.as_slice()
 }
@@ -186,14 +163,14 @@ fn is_version<A: Allocator>(key: &Vec<u8, A>, entry: &EntryRef<'_>) -> bool
 #[inline(always)]
 fn is_given<A: Allocator>(hides: bool, key: &Vec<u8, A>, entry: &EntryRef<'_>) -> bool
     ensures { result ≡
-        is_given (cond hides (Some key.now.items) None) (entry_of_ref entry.now) }
+        spec.is_given (cond hides (Some key.now.items) None) (spec.entry_of_ref entry.now) }
 {
     hides && is_version(key, entry)
 }
 
 #[inline(always)]
 fn is_value(kind: ValueType) -> bool
-    ensures { result ≡ is_value kind }
+    ensures { result ≡ spec.is_value kind }
 {
     matches!(kind, ValueType::Value)
 }
@@ -206,9 +183,10 @@ fn ask<F: LentFilter<A>, C: LentCallback, A: Allocator>(
     callback: &mut C,
     entry: &EntryRef<'_>,
 ) -> Result<StreamFilterVerdict<A>, Error>
-    ensures asks { Asks F.gives filter.old (entry_of_ref entry.now) (said result) filter.new }
-    ensures reports { GetsAll C.gets callback.old
-        (reports_by (entry_of_ref entry.now) (said result)) callback.new }
+    ensures asks { spec.Asks F.gives filter.old (spec.entry_of_ref entry.now) (spec.said result)
+        filter.new }
+    ensures reports { spec.GetsAll C.gets callback.old
+        (spec.reports_by (spec.entry_of_ref entry.now) (spec.said result)) callback.new }
 {
     if entry.is_tombstone() {
         return Ok(StreamFilterVerdict::Keep);
@@ -235,26 +213,28 @@ impl<L: Lending, A: Allocator> LendingCompaction<L, NoFilter, NoCallback, A> {
         // It has no current entry yet.
         ensures none { IfOk result (λ c. ⟦<LendingCompaction<L, NoFilter, NoCallback, A> as Lending>⟧.lent c ≡ None) }
         // For a list without errors, it yields the entries that a compaction keeps.
-        ensures kept { IfOk result (λ c. YieldsCompactedEntries L.advances source
+        ensures kept { IfOk result (λ c. spec.YieldsCompactedEntries L.advances source
             ⟦<LendingCompaction<L, NoFilter, NoCallback, A> as Lending>⟧.advances c rules) }
         // With errors, it yields the entries kept between them, and each error in order.
-        ensures places { IfOk result (λ c. YieldsCompactedResults L.advances source
+        ensures places { IfOk result (λ c. spec.YieldsCompactedResults L.advances source
             ⟦<LendingCompaction<L, NoFilter, NoCallback, A> as Lending>⟧.advances c rules) }
         // For any source, it passes on each error. Its only error of its own is `OutOfMemory`.
-        ensures faults { IfOk result (AlwaysReports PassesAll L.advances source lender
+        ensures faults { IfOk result
+            (spec.AlwaysReports spec.PassesAll L.advances source spec.lender
             ⟦<LendingCompaction<L, NoFilter, NoCallback, A> as Lending>⟧.advances) }
         // After its own `OutOfMemory` it is exhausted. After the end it advances the source again,
         // and yields nothing while the source yields nothing.
-        ensures over { IfOk result (AlwaysReports StaysOver L.advances source lender
+        ensures over { IfOk result (spec.AlwaysReports spec.StaysOver L.advances source spec.lender
             ⟦<LendingCompaction<L, NoFilter, NoCallback, A> as Lending>⟧.advances) }
         // It can be advanced as often as the source can.
-        ensures can { CanYield L.advances nowhere L.can_advance L.can_advance source →
-            IfOk result (CanYield ⟦<LendingCompaction<L, NoFilter, NoCallback, A> as Lending>⟧.advances nowhere
+        ensures can { spec.CanYield L.advances spec.nowhere L.can_advance L.can_advance source →
+            IfOk result (spec.CanYield
+            ⟦<LendingCompaction<L, NoFilter, NoCallback, A> as Lending>⟧.advances spec.nowhere
             ⟦<LendingCompaction<L, NoFilter, NoCallback, A> as Lending>⟧.can_advance
             ⟦<LendingCompaction<L, NoFilter, NoCallback, A> as Lending>⟧.can_advance) }
-        ensures advance { CanYield L.advances nowhere L.can_advance L.can_advance source →
+        ensures advance { spec.CanYield L.advances spec.nowhere L.can_advance L.can_advance source →
             IfOk result ⟦<LendingCompaction<L, NoFilter, NoCallback, A> as Lending>⟧.can_advance }
-        ensures err { IfErr result (λ e. e ≡ OutOfMemory) }
+        ensures err { IfErr result (λ e. e ≡ spec.OutOfMemory) }
     {
         Self::fresh(alloc, source, rules, NoFilter, NoCallback)
     }
@@ -281,30 +261,31 @@ impl<L: Lending, F: LentFilter<A> + Drop, C: LentCallback + Drop, A: Allocator> 
         ensures none { IfOk result (λ c.
             ⟦<LendingCompaction<L, F, C, A> as Lending>⟧.lent c ≡ None) }
         // For a list without errors, it yields, filters and reports as a compaction does.
-        ensures whole { IfOk result (λ s. CompactsLent L.advances source
+        ensures whole { IfOk result (λ s. spec.CompactsLent L.advances source
             ⟦<LendingCompaction<L, F, C, A> as Lending>⟧.advances s rules F.gives C.gets
-            filter callback lent_filter lent_callback) }
+            filter callback spec.lent_filter spec.lent_callback) }
         // With errors, the same between them, and each error in order.
-        ensures places { IfOk result (λ s. CompactsLentResults L.advances source
+        ensures places { IfOk result (λ s. spec.CompactsLentResults L.advances source
             ⟦<LendingCompaction<L, F, C, A> as Lending>⟧.advances s rules F.gives C.gets
-            filter callback lender lent_filter lent_callback) }
+            filter callback spec.lender spec.lent_filter spec.lent_callback) }
         // For any source, it passes on each error. Its only other errors are the filter's and its
         // own `OutOfMemory`.
-        ensures faults { IfOk result (AlwaysReports (PassesAllOr (FilterSays F.gives)) L.advances
-            source lender ⟦<LendingCompaction<L, F, C, A> as Lending>⟧.advances) }
+        ensures faults { IfOk result
+            (spec.AlwaysReports (spec.PassesAllOr (spec.FilterSays F.gives)) L.advances
+            source spec.lender ⟦<LendingCompaction<L, F, C, A> as Lending>⟧.advances) }
         // After its own `OutOfMemory` it is exhausted; this is stated for filters that never return
         // `OutOfMemory`. After the end it advances the source again, and yields nothing while the
         // source yields nothing.
-        ensures over { IfOk result (AlwaysReports (StaysOverOr (FilterSays F.gives)) L.advances
-            source lender ⟦<LendingCompaction<L, F, C, A> as Lending>⟧.advances) }
+        ensures over { IfOk result (spec.AlwaysReports (spec.StaysOverOr (spec.FilterSays F.gives))
+            L.advances source spec.lender ⟦<LendingCompaction<L, F, C, A> as Lending>⟧.advances) }
         // It can be advanced as often as the source can.
-        ensures can { CanYield L.advances nowhere L.can_advance L.can_advance source →
-            IfOk result (CanYield ⟦<LendingCompaction<L, F, C, A> as Lending>⟧.advances
-            nowhere ⟦<LendingCompaction<L, F, C, A> as Lending>⟧.can_advance
+        ensures can { spec.CanYield L.advances spec.nowhere L.can_advance L.can_advance source →
+            IfOk result (spec.CanYield ⟦<LendingCompaction<L, F, C, A> as Lending>⟧.advances
+            spec.nowhere ⟦<LendingCompaction<L, F, C, A> as Lending>⟧.can_advance
             ⟦<LendingCompaction<L, F, C, A> as Lending>⟧.can_advance) }
-        ensures advance { CanYield L.advances nowhere L.can_advance L.can_advance source →
+        ensures advance { spec.CanYield L.advances spec.nowhere L.can_advance L.can_advance source →
             IfOk result ⟦<LendingCompaction<L, F, C, A> as Lending>⟧.can_advance }
-        ensures err { IfErr result (λ e. e ≡ OutOfMemory) }
+        ensures err { IfErr result (λ e. e ≡ spec.OutOfMemory) }
     {
         Self::fresh(alloc, source, rules, filter, callback)
     }
@@ -314,8 +295,8 @@ impl<L: Lending, F: LentFilter<A> + Drop, C: LentCallback + Drop, A: Allocator> 
     where
         L: Drop,
         A: Clone,
-        ensures fresh { IfOk result (λ s. s ≡ fresh_of source rules filter callback s) }
-        ensures err { IfErr result (λ e. e ≡ OutOfMemory) }
+        ensures fresh { IfOk result (λ s. s ≡ spec.fresh_of source rules filter callback s) }
+        ensures err { IfErr result (λ e. e ≡ spec.OutOfMemory) }
     {
         let key = Vec::new(alloc.clone()?);
         Ok(LendingCompaction {
@@ -334,7 +315,7 @@ impl<L: Lending, F: LentFilter<A> + Drop, C: LentCallback + Drop, A: Allocator> 
 
     /// Returns the callback.
     pub fn callback(&self) -> &C
-        ensures { result.now ≡ lent_callback self.now }
+        ensures { result.now ≡ spec.lent_callback self.now }
     {
         &self.callback
     }
@@ -343,7 +324,7 @@ impl<L: Lending, F: LentFilter<A> + Drop, C: LentCallback + Drop, A: Allocator> 
     pub fn into_callback(self) -> C
     where
         L: Drop,
-        ensures { result ≡ lent_callback self }
+        ensures { result ≡ spec.lent_callback self }
     {
         self.callback
     }
@@ -351,20 +332,21 @@ impl<L: Lending, F: LentFilter<A> + Drop, C: LentCallback + Drop, A: Allocator> 
     // Ensures that an entry is pending, and returns whether there is one.
     #[inline(always)]
     fn fetch(&mut self) -> Result<bool, Error>
-        requires may { MayLendCompacted L.advances L.can_advance self.old }
+        requires may { spec.MayLendCompacted L.advances L.can_advance self.old }
         requires live { self.old.is_over ≡ false }
-        ensures may { MayLendCompacted L.advances L.can_advance self.new }
-        ensures fetches { FetchesCompacted F.gives C.gets L.advances L.lent self.old (failure result)
-            self.new }
+        ensures may { spec.MayLendCompacted L.advances L.can_advance self.new }
+        ensures fetches { spec.FetchesCompacted F.gives C.gets L.advances L.lent self.old
+            (spec.failure result) self.new }
         ensures over { self.new.is_over ≡ self.old.is_over }
         ensures lends { self.new.lends ≡ self.old.lends }
         ensures pending { IfOk result (λ more. self.new.is_pending ≡ more) }
-        ensures ends { IfOk result (λ more. more ≡ false → compacted_left L.left self.new ≡ 0) }
+        ensures ends { IfOk result (λ more. more ≡ false →
+            spec.compacted_left L.left self.new ≡ 0) }
         ensures rests { OnErr result (self.new.is_pending ≡ false) }
         ensures few { IfOk result (λ _.
-            compacted_left L.left self.new ≤ compacted_left L.left self.old) }
+            spec.compacted_left L.left self.new ≤ spec.compacted_left L.left self.old) }
         ensures fewer { IfErr result (λ _.
-            compacted_left L.left self.new < compacted_left L.left self.old) }
+            spec.compacted_left L.left self.new < spec.compacted_left L.left self.old) }
     {
         if self.is_pending {
             return Ok(true);
@@ -384,22 +366,23 @@ impl<L: Lending, F: LentFilter<A> + Drop, C: LentCallback + Drop, A: Allocator> 
     // Advances the source after a head whose key is in the buffer. Returns whether the head is
     // dropped.
     fn lets_go(&mut self, seqno: SeqNo) -> Result<bool, Error>
-        requires may { MayLendCompacted L.advances L.can_advance self.old }
+        requires may { spec.MayLendCompacted L.advances L.can_advance self.old }
         requires live { self.old.is_over ≡ false }
         requires pending { self.old.is_pending ≡ false }
         requires hides { self.old.hides ≡ false }
-        ensures may { MayLendCompacted L.advances L.can_advance self.new }
+        ensures may { spec.MayLendCompacted L.advances L.can_advance self.new }
         ensures rules { self.new.rules ≡ self.old.rules }
         ensures over { self.new.is_over ≡ self.old.is_over }
         ensures lends { self.new.lends ≡ self.old.lends }
         ensures key { self.new.key ≡ self.old.key }
         ensures value { self.new.value ≡ self.old.value }
         ensures rests { OnErr result (self.new.is_pending ≡ false) }
-        ensures settles { (head : Entry) →
-            has_to_wait self.old.rules head ≡ true → head.user_key ≡ self.old.key.items →
-            head.seqno ≡ seqno → SettlesCompacted F.gives C.gets L.advances L.lent self.old head
-            (answer_of self.old.rules head result) self.new }
-        ensures few { one_more_if self.new.is_pending (L.left self.new.source) ≤
+        ensures settles { (head : spec.Entry) →
+            spec.has_to_wait self.old.rules head ≡ true → head.user_key ≡ self.old.key.items →
+            head.seqno ≡ seqno →
+            spec.SettlesCompacted F.gives C.gets L.advances L.lent self.old head
+            (spec.answer_of self.old.rules head result) self.new }
+        ensures few { spec.one_more_if self.new.is_pending (L.left self.new.source) ≤
             L.left self.old.source }
     {
         self.is_pending = self.source.advance()?;
@@ -420,23 +403,23 @@ impl<L: Lending, F: LentFilter<A> + Drop, C: LentCallback + Drop, A: Allocator> 
 
     // Makes the waiting head in the buffers current, or drops it.
     fn settle(&mut self, seqno: SeqNo, kind: ValueType) -> Result<bool, Error>
-        requires may { MayLendCompacted L.advances L.can_advance self.old }
+        requires may { spec.MayLendCompacted L.advances L.can_advance self.old }
         requires live { self.old.is_over ≡ false }
         requires pending { self.old.is_pending ≡ false }
         requires hides { self.old.hides ≡ false }
-        requires empty { self.old.lends ≡ Nothing }
-        requires waits { has_to_wait self.old.rules
-            (entry self.old.key.items self.old.value.items seqno kind) ≡ true }
-        ensures may { MayLendCompacted L.advances L.can_advance self.new }
-        ensures settles { SettlesCompacted F.gives C.gets L.advances L.lent self.old
-            (entry self.old.key.items self.old.value.items seqno kind)
-            (came result (lent_compacted L.lent self.new)) self.new }
+        requires empty { self.old.lends ≡ spec.Nothing }
+        requires waits { spec.has_to_wait self.old.rules
+            (spec.entry self.old.key.items self.old.value.items seqno kind) ≡ true }
+        ensures may { spec.MayLendCompacted L.advances L.can_advance self.new }
+        ensures settles { spec.SettlesCompacted F.gives C.gets L.advances L.lent self.old
+            (spec.entry self.old.key.items self.old.value.items seqno kind)
+            (spec.came result (spec.lent_compacted L.lent self.new)) self.new }
         ensures rests { OnErr result (self.new.is_pending ≡ false) }
-        ensures more { IfOk result (λ more. more ≡ is_some (lent_compacted L.lent self.new)) }
-        ensures err { OnErr result (lent_compacted L.lent self.new ≡ None) }
+        ensures more { IfOk result (λ more. more ≡ is_some (spec.lent_compacted L.lent self.new)) }
+        ensures err { OnErr result (spec.lent_compacted L.lent self.new ≡ None) }
         ensures live { self.new.is_over ≡ false }
-        ensures empty { IfOk result (λ more. more ≡ false → self.new.lends ≡ Nothing) }
-        ensures few { compacted_left L.left self.new ≤ L.left self.old.source }
+        ensures empty { IfOk result (λ more. more ≡ false → self.new.lends ≡ spec.Nothing) }
+        ensures few { spec.compacted_left L.left self.new ≤ L.left self.old.source }
     {
         if self.lets_go(seqno)? {
             return Ok(false);
@@ -447,24 +430,24 @@ impl<L: Lending, F: LentFilter<A> + Drop, C: LentCallback + Drop, A: Allocator> 
 
     // Makes the pending head current as it is, or drops it. The head has to wait, so it is copied.
     fn wait(&mut self) -> Result<bool, Error>
-        requires may { MayLendCompacted L.advances L.can_advance self.old }
+        requires may { spec.MayLendCompacted L.advances L.can_advance self.old }
         requires live { self.old.is_over ≡ false }
         requires pending { self.old.is_pending ≡ true }
         requires hides { self.old.hides ≡ false }
-        requires empty { self.old.lends ≡ Nothing }
+        requires empty { self.old.lends ≡ spec.Nothing }
         requires some { IsSome (L.lent self.old.source) }
-        requires waits { (head : Entry) → L.lent self.old.source ≡ Some head →
-            has_to_wait self.old.rules head ≡ true }
-        ensures may { MayLendCompacted L.advances L.can_advance self.new }
-        ensures settles { (head : Entry) → L.lent self.old.source ≡ Some head →
-            SettlesCompacted F.gives C.gets L.advances L.lent self.old head
-            (came result (lent_compacted L.lent self.new)) self.new }
+        requires waits { (head : spec.Entry) → L.lent self.old.source ≡ Some head →
+            spec.has_to_wait self.old.rules head ≡ true }
+        ensures may { spec.MayLendCompacted L.advances L.can_advance self.new }
+        ensures settles { (head : spec.Entry) → L.lent self.old.source ≡ Some head →
+            spec.SettlesCompacted F.gives C.gets L.advances L.lent self.old head
+            (spec.came result (spec.lent_compacted L.lent self.new)) self.new }
         ensures rests { OnErr result (self.new.is_pending ≡ false) }
-        ensures more { IfOk result (λ more. more ≡ is_some (lent_compacted L.lent self.new)) }
-        ensures err { OnErr result (lent_compacted L.lent self.new ≡ None) }
+        ensures more { IfOk result (λ more. more ≡ is_some (spec.lent_compacted L.lent self.new)) }
+        ensures err { OnErr result (spec.lent_compacted L.lent self.new ≡ None) }
         ensures live { IfOk result (λ _. self.new.is_over ≡ false) }
-        ensures empty { IfOk result (λ more. more ≡ false → self.new.lends ≡ Nothing) }
-        ensures fewer { compacted_left L.left self.new < compacted_left L.left self.old }
+        ensures empty { IfOk result (λ more. more ≡ false → self.new.lends ≡ spec.Nothing) }
+        ensures fewer { spec.compacted_left L.left self.new < spec.compacted_left L.left self.old }
     {
         self.is_pending = false;
         let Some(head) = self.source.entry() else {
@@ -485,22 +468,23 @@ impl<L: Lending, F: LentFilter<A> + Drop, C: LentCallback + Drop, A: Allocator> 
 
     // Makes the pending head current with this kind and value, or drops it.
     fn replace(&mut self, kind: ValueType, value: &[u8]) -> Result<bool, Error>
-        requires may { MayLendCompacted L.advances L.can_advance self.old }
+        requires may { spec.MayLendCompacted L.advances L.can_advance self.old }
         requires live { self.old.is_over ≡ false }
         requires pending { self.old.is_pending ≡ true }
         requires hides { self.old.hides ≡ false }
-        requires empty { self.old.lends ≡ Nothing }
+        requires empty { self.old.lends ≡ spec.Nothing }
         requires some { IsSome (L.lent self.old.source) }
-        ensures may { MayLendCompacted L.advances L.can_advance self.new }
-        ensures settles { (head : Entry) → L.lent self.old.source ≡ Some head →
-            SettlesCompacted F.gives C.gets L.advances L.lent self.old
-            (put_into head kind value.now) (came result (lent_compacted L.lent self.new)) self.new }
+        ensures may { spec.MayLendCompacted L.advances L.can_advance self.new }
+        ensures settles { (head : spec.Entry) → L.lent self.old.source ≡ Some head →
+            spec.SettlesCompacted F.gives C.gets L.advances L.lent self.old
+            (spec.put_into head kind value.now)
+            (spec.came result (spec.lent_compacted L.lent self.new)) self.new }
         ensures rests { OnErr result (self.new.is_pending ≡ false) }
-        ensures more { IfOk result (λ more. more ≡ is_some (lent_compacted L.lent self.new)) }
-        ensures err { OnErr result (lent_compacted L.lent self.new ≡ None) }
+        ensures more { IfOk result (λ more. more ≡ is_some (spec.lent_compacted L.lent self.new)) }
+        ensures err { OnErr result (spec.lent_compacted L.lent self.new ≡ None) }
         ensures live { IfOk result (λ _. self.new.is_over ≡ false) }
-        ensures empty { IfOk result (λ more. more ≡ false → self.new.lends ≡ Nothing) }
-        ensures fewer { compacted_left L.left self.new < compacted_left L.left self.old }
+        ensures empty { IfOk result (λ more. more ≡ false → self.new.lends ≡ spec.Nothing) }
+        ensures fewer { spec.compacted_left L.left self.new < spec.compacted_left L.left self.old }
     {
         self.is_pending = false;
         let Some(head) = self.source.entry() else {
@@ -540,19 +524,19 @@ impl<L: Lending, F: LentFilter<A> + Drop, C: LentCallback + Drop, A: Allocator> 
     // Processes the source's current entry, and returns whether it yields one.
     #[inline(always)]
     fn look(&mut self) -> Result<bool, Error>
-        requires may { MayLendCompacted L.advances L.can_advance self.old }
+        requires may { spec.MayLendCompacted L.advances L.can_advance self.old }
         requires live { self.old.is_over ≡ false }
         requires pending { self.old.is_pending ≡ true }
-        requires empty { self.old.lends ≡ Nothing }
-        ensures may { MayLendCompacted L.advances L.can_advance self.new }
-        ensures steps { StepsCompacted F.gives C.gets L.advances L.lent self.old
-            (came result (lent_compacted L.lent self.new)) self.new }
+        requires empty { self.old.lends ≡ spec.Nothing }
+        ensures may { spec.MayLendCompacted L.advances L.can_advance self.new }
+        ensures steps { spec.StepsCompacted F.gives C.gets L.advances L.lent self.old
+            (spec.came result (spec.lent_compacted L.lent self.new)) self.new }
         ensures rests { OnErr result (self.new.is_pending ≡ false) }
-        ensures more { IfOk result (λ more. more ≡ is_some (lent_compacted L.lent self.new)) }
-        ensures err { OnErr result (lent_compacted L.lent self.new ≡ None) }
+        ensures more { IfOk result (λ more. more ≡ is_some (spec.lent_compacted L.lent self.new)) }
+        ensures err { OnErr result (spec.lent_compacted L.lent self.new ≡ None) }
         ensures live { IfOk result (λ _. self.new.is_over ≡ false) }
-        ensures empty { IfOk result (λ more. more ≡ false → self.new.lends ≡ Nothing) }
-        ensures fewer { compacted_left L.left self.new < compacted_left L.left self.old }
+        ensures empty { IfOk result (λ more. more ≡ false → self.new.lends ≡ spec.Nothing) }
+        ensures fewer { spec.compacted_left L.left self.new < spec.compacted_left L.left self.old }
     {
         let Some(head) = self.source.entry() else {
             self.is_pending = false;
@@ -601,15 +585,15 @@ impl<L: Lending, F: LentFilter<A> + Drop, C: LentCallback + Drop, A: Allocator> 
 
     // Advances to the next entry that is kept.
     fn go_on(&mut self) -> Result<bool, Error>
-        requires may { MayLendCompacted L.advances L.can_advance self.old }
+        requires may { spec.MayLendCompacted L.advances L.can_advance self.old }
         requires live { self.old.is_over ≡ false }
-        requires empty { self.old.lends ≡ Nothing }
-        ensures goes { AdvancesCompacted L.advances L.lent L.can_advance F.gives C.gets self.old
-            (came result (lent_compacted L.lent self.new)) self.new }
-        ensures more { IfOk result (λ more. more ≡ is_some (lent_compacted L.lent self.new)) }
-        ensures err { OnErr result (lent_compacted L.lent self.new ≡ None) }
-        ensures lowers { Lowers (came result (lent_compacted L.lent self.new))
-            (compacted_left L.left self.old) (compacted_left L.left self.new) }
+        requires empty { self.old.lends ≡ spec.Nothing }
+        ensures goes { spec.AdvancesCompacted L.advances L.lent L.can_advance F.gives C.gets
+            self.old (spec.came result (spec.lent_compacted L.lent self.new)) self.new }
+        ensures more { IfOk result (λ more. more ≡ is_some (spec.lent_compacted L.lent self.new)) }
+        ensures err { OnErr result (spec.lent_compacted L.lent self.new ≡ None) }
+        ensures lowers { spec.Lowers (spec.came result (spec.lent_compacted L.lent self.new))
+            (spec.compacted_left L.left self.old) (spec.compacted_left L.left self.new) }
     {
         while self.fetch()? {
             if self.look()? {
@@ -622,13 +606,13 @@ impl<L: Lending, F: LentFilter<A> + Drop, C: LentCallback + Drop, A: Allocator> 
 
 impl<L: Lending, F: LentFilter<A> + Drop, C: LentCallback + Drop, A: Allocator> Lending
     for LendingCompaction<L, F, C, A> {
-    ghost can_advance = { MayLendCompacted L.advances L.can_advance };
+    ghost can_advance = { spec.MayLendCompacted L.advances L.can_advance };
 
-    ghost advances = { AdvancesCompacted L.advances L.lent L.can_advance F.gives C.gets };
+    ghost advances = { spec.AdvancesCompacted L.advances L.lent L.can_advance F.gives C.gets };
 
-    ghost lent = { lent_compacted L.lent };
+    ghost lent = { spec.lent_compacted L.lent };
 
-    ghost left = { compacted_left L.left };
+    ghost left = { spec.compacted_left L.left };
 
     fn advance(&mut self) -> Result<bool, Error> {
         self.lends = Lends::Nothing;

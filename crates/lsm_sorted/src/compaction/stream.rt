@@ -1,17 +1,7 @@
 //! A stream of entries without those that no reader needs.
 ghost use Rattle.std.specs.Prelude.{◌≡◌, ◌≤◌, nat_lt, Bool, false, List, Some, None, Result, Ok};
 ghost use Rattle.std.specs.Prelude.{IfOk};
-ghost use Rattle.std.specs.Iterator.{at_most, IsFinite};
-ghost use Rattle.lsm_sorted.specs.Words.{CanYield, Compacts, CompactsHeard, CompactsNext};
-ghost use Rattle.lsm_sorted.specs.Words.{CompactsWhole, YieldsExactly, YieldsKept, YieldsOuts, DrainsIn};
-ghost use Rattle.lsm_sorted.specs.Words.{DrainsKey, Entry, Filters, GetsAll, GivesOuts, Hears};
-ghost use Rattle.lsm_sorted.specs.Words.{HoldsAhead, MayCompact, PartLaw, R, ReadLaw, Settles};
-ghost use Rattle.lsm_sorted.specs.Words.{SettlesIn, StaysStrict, Verdict, answer_stops, before_any};
-ghost use Rattle.lsm_sorted.specs.Words.{callback_of, compaction_outlook, compaction_size, failure};
-ghost use Rattle.lsm_sorted.specs.Words.{filter_of, goes, keep, nowhere, reports_by, rules_of};
-ghost use Rattle.lsm_sorted.specs.Words.{said, same_key, source_of, told_by, verdict_of, zeroed};
-ghost use Rattle.sst_entries.specs.declared.error.Error.{Error};
-ghost use Rattle.sst_entries.specs.declared.stream.Direction.TheVariants.{Front};
+ghost use Rattle.lsm_sorted.specs.Words as spec;
 
 use crate::ahead::Ahead;
 use crate::give_up::give_up;
@@ -24,7 +14,7 @@ use std::alloc::{Allocator, Global};
 /// hides. Tombstones that the compaction itself drops are not reported.
 pub trait DroppedKvCallback<A: Allocator> {
     // `gets c x d`: callback `c` receives entry `x` and becomes `d`.
-    ghost gets: { Self → Entry → Self → Type 0 };
+    ghost gets: { Self → spec.Entry → Self → Type 0 };
 
     /// Receives an entry as it was before the filter.
     fn on_dropped(&mut self, kv: &InternalValue<A>)
@@ -49,7 +39,7 @@ pub enum StreamFilterVerdict<A: Allocator = Global> {
 /// version.
 pub trait StreamFilter<A: Allocator> {
     // `gives f x v g`: filter `f` returns `v` for entry `x` and becomes `g`.
-    ghost gives: { Self → Entry → Result Verdict Error → Self → Type 0 };
+    ghost gives: { Self → spec.Entry → Result spec.Verdict spec.Error → Self → Type 0 };
 
     /// Returns the verdict on an entry.
     ///
@@ -57,7 +47,7 @@ pub trait StreamFilter<A: Allocator> {
     ///
     /// The compaction passes on any error.
     fn filter_item(&mut self, item: &InternalValue<A>) -> Result<StreamFilterVerdict<A>, Error>
-        ensures { gives self.old item.now (said result) self.new };
+        ensures { gives self.old item.now (spec.said result) self.new };
 }
 
 /// A filter that keeps every entry.
@@ -65,7 +55,7 @@ pub trait StreamFilter<A: Allocator> {
 pub struct NoFilter;
 
 impl<A: Allocator> StreamFilter<A> for NoFilter {
-    ghost gives = { λ f x v g. v ≡ Ok keep };
+    ghost gives = { λ f x v g. v ≡ Ok spec.keep };
 
     fn filter_item(&mut self, _item: &InternalValue<A>) -> Result<StreamFilterVerdict<A>, Error> {
         Ok(StreamFilterVerdict::Keep)
@@ -109,13 +99,14 @@ impl<I: Iterator<Item = IterItem<A>>, A: Allocator> CompactionStream<I, NoFilter
     ///
     /// It evicts no tombstones and zeroes no seqnos. It has no filter and no callback.
     pub fn new(iter: I, gc_seqno_threshold: SeqNo) -> Self
-        ensures starts { compaction_outlook result ≡ before_any iter }
-        ensures compacts { (stops : Error → Bool) (xs : List R) →
-            YieldsExactly (answer_stops stops) I.next_gives nowhere iter xs →
-            Compacts stops I.next_gives result xs }
-        ensures may { CanYield I.next_gives nowhere I.can_next I.can_next iter →
-            IsFinite (I.remaining iter) → MayCompact I.next_gives I.can_next I.remaining result }
-        ensures rules { rules_of result ≡ record {
+        ensures starts { spec.compaction_outlook result ≡ spec.before_any iter }
+        ensures compacts { (stops : spec.Error → Bool) (xs : List spec.R) →
+            spec.YieldsExactly (spec.answer_stops stops) I.next_gives spec.nowhere iter xs →
+            spec.Compacts stops I.next_gives result xs }
+        ensures may { spec.CanYield I.next_gives spec.nowhere I.can_next I.can_next iter →
+            spec.IsFinite (I.remaining iter) →
+            spec.MayCompact I.next_gives I.can_next I.remaining result }
+        ensures rules { spec.rules_of result ≡ record {
           watermark = gc_seqno_threshold;
           evict = false;
           zeroing =
@@ -138,10 +129,10 @@ impl<I: Iterator<Item = IterItem<A>>, F, C, A: Allocator> CompactionStream<I, F,
     pub fn with_filter<NF>(self, filter: NF) -> CompactionStream<I, NF, C>
     where
         F: Drop,
-        ensures source { source_of result ≡ source_of self }
-        ensures rules { rules_of result ≡ rules_of self }
-        ensures filter { filter_of result ≡ filter }
-        ensures callback { callback_of result ≡ callback_of self }
+        ensures source { spec.source_of result ≡ spec.source_of self }
+        ensures rules { spec.rules_of result ≡ spec.rules_of self }
+        ensures filter { spec.filter_of result ≡ filter }
+        ensures callback { spec.callback_of result ≡ spec.callback_of self }
     {
         let CompactionStream {
             inner,
@@ -165,10 +156,10 @@ impl<I: Iterator<Item = IterItem<A>>, F, C, A: Allocator> CompactionStream<I, F,
     pub fn with_drop_callback<NC>(self, callback: NC) -> CompactionStream<I, F, NC>
     where
         C: Drop,
-        ensures source { source_of result ≡ source_of self }
-        ensures rules { rules_of result ≡ rules_of self }
-        ensures filter { filter_of result ≡ filter_of self }
-        ensures callback { callback_of result ≡ callback }
+        ensures source { spec.source_of result ≡ spec.source_of self }
+        ensures rules { spec.rules_of result ≡ spec.rules_of self }
+        ensures filter { spec.filter_of result ≡ spec.filter_of self }
+        ensures callback { spec.callback_of result ≡ callback }
     {
         CompactionStream {
             inner: self.inner,
@@ -185,15 +176,15 @@ impl<I: Iterator<Item = IterItem<A>>, F, C, A: Allocator> CompactionStream<I, F,
     /// A weak tombstone stays if it hides a next version that is not a value. Set this only if no
     /// older version of the keys exists elsewhere.
     pub fn evict_tombstones(mut self, b: bool) -> Self
-        ensures source { source_of result ≡ source_of self }
-        ensures rules { rules_of result ≡ record {
-          watermark = (rules_of self).watermark;
+        ensures source { spec.source_of result ≡ spec.source_of self }
+        ensures rules { spec.rules_of result ≡ record {
+          watermark = (spec.rules_of self).watermark;
           evict = b;
           zeroing =
-              (rules_of self).zeroing;
+              (spec.rules_of self).zeroing;
         } }
-        ensures filter { filter_of result ≡ filter_of self }
-        ensures callback { callback_of result ≡ callback_of self }
+        ensures filter { spec.filter_of result ≡ spec.filter_of self }
+        ensures callback { spec.callback_of result ≡ spec.callback_of self }
     {
         self.evict_tombstones = b;
         self
@@ -203,15 +194,15 @@ impl<I: Iterator<Item = IterItem<A>>, F, C, A: Allocator> CompactionStream<I, F,
     ///
     /// A small seqno takes less space where seqnos are stored with variable length.
     pub fn zero_seqnos(mut self, b: bool) -> Self
-        ensures source { source_of result ≡ source_of self }
-        ensures rules { rules_of result ≡ record {
-          watermark = (rules_of self).watermark;
-          evict = (rules_of
+        ensures source { spec.source_of result ≡ spec.source_of self }
+        ensures rules { spec.rules_of result ≡ record {
+          watermark = (spec.rules_of self).watermark;
+          evict = (spec.rules_of
               self).evict;
           zeroing = b;
         } }
-        ensures filter { filter_of result ≡ filter_of self }
-        ensures callback { callback_of result ≡ callback_of self }
+        ensures filter { spec.filter_of result ≡ spec.filter_of self }
+        ensures callback { spec.callback_of result ≡ spec.callback_of self }
     {
         self.zero_seqnos = b;
         self
@@ -219,7 +210,7 @@ impl<I: Iterator<Item = IterItem<A>>, F, C, A: Allocator> CompactionStream<I, F,
 
     /// Returns the callback.
     pub fn callback(&self) -> &C
-        ensures { result.now ≡ callback_of self.now }
+        ensures { result.now ≡ spec.callback_of self.now }
     {
         &self.dropped_callback
     }
@@ -229,14 +220,14 @@ impl<I: Iterator<Item = IterItem<A>>, F, C, A: Allocator> CompactionStream<I, F,
     where
         I: Drop,
         F: Drop,
-        ensures { result ≡ callback_of self }
+        ensures { result ≡ spec.callback_of self }
     {
         self.dropped_callback
     }
 }
 
 fn has_key_of<A: Allocator>(x: &InternalValue<A>, head: &InternalValue<A>) -> bool
-    ensures { result ≡ same_key x.now.user_key head.now.user_key }
+    ensures { result ≡ spec.same_key x.now.user_key head.now.user_key }
 {
     x.key.user_key == head.key.user_key
 }
@@ -248,9 +239,9 @@ fn apply_verdict<C: DroppedKvCallback<A>, A: Allocator>(
     mut head: InternalValue<A>,
     verdict: StreamFilterVerdict<A>,
 ) -> Option<InternalValue<A>>
-    ensures returned { Ok result ≡ told_by head (Ok (verdict_of verdict)) }
-    ensures reports { GetsAll C.gets callback.old (reports_by head (Ok (verdict_of verdict)))
-        callback.new }
+    ensures returned { Ok result ≡ spec.told_by head (Ok (spec.verdict_of verdict)) }
+    ensures reports { spec.GetsAll C.gets callback.old
+        (spec.reports_by head (Ok (spec.verdict_of verdict))) callback.new }
 {
     match verdict {
         StreamFilterVerdict::Keep => Some(head),
@@ -275,10 +266,11 @@ impl<
 > CompactionStream<I, F, C> {
     // The head after the filter, or `None` if the filter drops it.
     fn filtered(&mut self, head: InternalValue<A>) -> Result<Option<InternalValue<A>>, Error>
-        ensures source { source_of self.new ≡ source_of self.old }
-        ensures rules { rules_of self.new ≡ rules_of self.old }
-        ensures filters { Filters F.gives C.gets head (filter_of self.old) (callback_of self.old)
-            result (filter_of self.new) (callback_of self.new) }
+        ensures source { spec.source_of self.new ≡ spec.source_of self.old }
+        ensures rules { spec.rules_of self.new ≡ spec.rules_of self.old }
+        ensures filters { spec.Filters F.gives C.gets head (spec.filter_of self.old)
+            (spec.callback_of self.old)
+            result (spec.filter_of self.new) (spec.callback_of self.new) }
     {
         if head.is_tombstone() {
             return Ok(Some(head));
@@ -289,17 +281,21 @@ impl<
 
     // Reads the next entries of the head's key, and reports them.
     fn drain_key(&mut self, head: &InternalValue<A>) -> Result<(), Error>
-        requires { MayCompact I.next_gives I.can_next I.remaining self.old }
-        ensures may { MayCompact I.next_gives I.can_next I.remaining self.new }
-        ensures rules { rules_of self.new ≡ rules_of self.old }
-        ensures filter { filter_of self.new ≡ filter_of self.old }
-        ensures size { compaction_size I.remaining self.new ≤ compaction_size I.remaining self.old }
-        ensures drains { (stops : Error → Bool) →
-            DrainsKey stops (HoldsAhead stops I.next_gives) C.gets head.now.user_key (source_of
-            self.old) (callback_of self.old) result (source_of self.new) (callback_of self.new) }
-        ensures hears { Hears I.next_gives Front (failure result)
-            (DrainsIn C.gets head.now.user_key (callback_of self.old) result (callback_of self.new))
-            (compaction_outlook self.old) (compaction_outlook self.new) }
+        requires { spec.MayCompact I.next_gives I.can_next I.remaining self.old }
+        ensures may { spec.MayCompact I.next_gives I.can_next I.remaining self.new }
+        ensures rules { spec.rules_of self.new ≡ spec.rules_of self.old }
+        ensures filter { spec.filter_of self.new ≡ spec.filter_of self.old }
+        ensures size { spec.compaction_size I.remaining self.new ≤ spec.compaction_size I.remaining
+            self.old }
+        ensures drains { (stops : spec.Error → Bool) →
+            spec.DrainsKey stops (spec.HoldsAhead stops I.next_gives) C.gets head.now.user_key
+            (spec.source_of
+            self.old) (spec.callback_of self.old) result (spec.source_of self.new)
+            (spec.callback_of self.new) }
+        ensures hears { spec.Hears I.next_gives spec.Front (spec.failure result)
+            (spec.DrainsIn C.gets head.now.user_key (spec.callback_of self.old) result
+            (spec.callback_of self.new))
+            (spec.compaction_outlook self.old) (spec.compaction_outlook self.new) }
     {
         loop {
             match self.inner.next() {
@@ -320,19 +316,21 @@ impl<
     // Whether the head is dropped, which depends on the entry after it. Older versions that no
     // reader needs are drained.
     fn lets_go(&mut self, head: &InternalValue<A>) -> Result<bool, Error>
-        requires { MayCompact I.next_gives I.can_next I.remaining self.old }
-        ensures may { MayCompact I.next_gives I.can_next I.remaining self.new }
-        ensures rules { rules_of self.new ≡ rules_of self.old }
-        ensures filter { filter_of self.new ≡ filter_of self.old }
-        ensures size { compaction_size I.remaining self.new ≤ compaction_size I.remaining self.old }
-        ensures settles { (stops : Error → Bool) →
-            Settles stops (HoldsAhead stops I.next_gives) C.gets (rules_of self.old) head.now
-            (source_of self.old) (callback_of self.old) result (source_of self.new) (callback_of
-            self.new) }
-        ensures hears { Hears I.next_gives Front (failure result)
-            (SettlesIn C.gets (rules_of self.old) head.now (callback_of self.old) result
-            (callback_of self.new))
-            (compaction_outlook self.old) (compaction_outlook self.new) }
+        requires { spec.MayCompact I.next_gives I.can_next I.remaining self.old }
+        ensures may { spec.MayCompact I.next_gives I.can_next I.remaining self.new }
+        ensures rules { spec.rules_of self.new ≡ spec.rules_of self.old }
+        ensures filter { spec.filter_of self.new ≡ spec.filter_of self.old }
+        ensures size { spec.compaction_size I.remaining self.new ≤ spec.compaction_size I.remaining
+            self.old }
+        ensures settles { (stops : spec.Error → Bool) →
+            spec.Settles stops (spec.HoldsAhead stops I.next_gives) C.gets (spec.rules_of self.old)
+            head.now
+            (spec.source_of self.old) (spec.callback_of self.old) result (spec.source_of self.new)
+            (spec.callback_of self.new) }
+        ensures hears { spec.Hears I.next_gives spec.Front (spec.failure result)
+            (spec.SettlesIn C.gets (spec.rules_of self.old) head.now (spec.callback_of self.old)
+            result (spec.callback_of self.new))
+            (spec.compaction_outlook self.old) (spec.compaction_outlook self.new) }
     {
         let next = match self.inner.next() {
             Some(Ok(next)) => next,
@@ -360,21 +358,23 @@ impl<
         head: &InternalValue<A>,
         next: &InternalValue<A>,
     ) -> Result<bool, Error>
-        requires { MayCompact I.next_gives I.can_next I.remaining self.old }
-        ensures may { MayCompact I.next_gives I.can_next I.remaining self.new }
-        ensures rules { rules_of self.new ≡ rules_of self.old }
-        ensures filter { filter_of self.new ≡ filter_of self.old }
-        ensures size { compaction_size I.remaining self.new ≤ compaction_size I.remaining self.old }
-        ensures goes { IfOk result (λ b. b ≡ goes (rules_of self.old).evict head.now.kind (Some
-            next.now)) }
-        ensures drains { (stops : Error → Bool) →
-            ((d : C) × C.gets (callback_of self.old) next.now d × DrainsKey stops (HoldsAhead stops
-            I.next_gives) C.gets head.now.user_key (source_of self.old) d result (source_of
-            self.new) (callback_of self.new)) }
-        ensures hears { (d : C) × C.gets (callback_of self.old) next.now d ×
-            Hears I.next_gives Front (failure result)
-            (DrainsIn C.gets head.now.user_key d result (callback_of self.new))
-            (compaction_outlook self.old) (compaction_outlook self.new) }
+        requires { spec.MayCompact I.next_gives I.can_next I.remaining self.old }
+        ensures may { spec.MayCompact I.next_gives I.can_next I.remaining self.new }
+        ensures rules { spec.rules_of self.new ≡ spec.rules_of self.old }
+        ensures filter { spec.filter_of self.new ≡ spec.filter_of self.old }
+        ensures size { spec.compaction_size I.remaining self.new ≤ spec.compaction_size I.remaining
+            self.old }
+        ensures goes { IfOk result (λ b. b ≡ spec.goes (spec.rules_of self.old).evict head.now.kind
+            (Some next.now)) }
+        ensures drains { (stops : spec.Error → Bool) →
+            ((d : C) × C.gets (spec.callback_of self.old) next.now d
+            × spec.DrainsKey stops (spec.HoldsAhead stops
+            I.next_gives) C.gets head.now.user_key (spec.source_of self.old) d result
+            (spec.source_of self.new) (spec.callback_of self.new)) }
+        ensures hears { (d : C) × C.gets (spec.callback_of self.old) next.now d ×
+            spec.Hears I.next_gives spec.Front (spec.failure result)
+            (spec.DrainsIn C.gets head.now.user_key d result (spec.callback_of self.new))
+            (spec.compaction_outlook self.old) (spec.compaction_outlook self.new) }
     {
         self.dropped_callback.on_dropped(next);
         self.drain_key(head)?;
@@ -384,21 +384,21 @@ impl<
 
 impl<I: Iterator<Item = IterItem<A>>, F, C, A: Allocator> CompactionStream<I, F, C> {
     fn is_below_threshold(&self, head: &InternalValue<A>) -> bool
-        ensures { result ≡ nat_lt head.now.seqno (rules_of self.now).watermark }
+        ensures { result ≡ nat_lt head.now.seqno (spec.rules_of self.now).watermark }
     {
         head.key.seqno < self.gc_seqno_threshold
     }
 
     // Whether a head is dropped that no older version follows.
     fn goes_alone(&self, head: &InternalValue<A>) -> bool
-        ensures { result ≡ goes (rules_of self.now).evict head.now.kind None }
+        ensures { result ≡ spec.goes (spec.rules_of self.now).evict head.now.kind None }
     {
         self.evict_tombstones && head.is_tombstone()
     }
 
     // Whether a head is dropped that hides this version and all older ones.
     fn goes_before(&self, head: &InternalValue<A>, next: &InternalValue<A>) -> bool
-        ensures { result ≡ goes (rules_of self.now).evict head.now.kind (Some next.now) }
+        ensures { result ≡ spec.goes (spec.rules_of self.now).evict head.now.kind (Some next.now) }
     {
         match head.key.value_type {
             ValueType::Tombstone => self.evict_tombstones,
@@ -409,7 +409,7 @@ impl<I: Iterator<Item = IterItem<A>>, F, C, A: Allocator> CompactionStream<I, F,
 
     // The head as the stream yields it.
     fn zeroed(&self, mut head: InternalValue<A>) -> InternalValue<A>
-        ensures { result ≡ zeroed (rules_of self.now) head }
+        ensures { result ≡ spec.zeroed (spec.rules_of self.now) head }
     {
         if self.zero_seqnos && self.is_below_threshold(&head) {
             head.key.seqno = 0;
@@ -426,11 +426,11 @@ impl<
 > Iterator for CompactionStream<I, F, C> {
     type Item = IterItem<A>;
 
-    ghost can_next = { MayCompact I.next_gives I.can_next I.remaining };
+    ghost can_next = { spec.MayCompact I.next_gives I.can_next I.remaining };
 
-    ghost next_gives = { CompactsNext I.next_gives I.can_next I.remaining F.gives C.gets };
+    ghost next_gives = { spec.CompactsNext I.next_gives I.can_next I.remaining F.gives C.gets };
 
-    ghost remaining = { λ s. at_most (compaction_size I.remaining s) };
+    ghost remaining = { λ s. spec.at_most (spec.compaction_size I.remaining s) };
 
     fn next(&mut self) -> Option<IterItem<A>> {
         loop {
@@ -469,13 +469,13 @@ impl<
     /// entries. After each call the stream may be called again. This call does nothing: its
     /// contract states the law.
     pub fn whole_run(&self)
-        ensures gives { CompactsWhole I.next_gives
+        ensures gives { spec.CompactsWhole I.next_gives
             ⟦<CompactionStream<I, F, C> as Iterator>⟧.next_gives self.now F.gives C.gets }
         // Before any call, this holds for any source, errors included.
-        ensures heard { CompactsHeard I.next_gives
+        ensures heard { spec.CompactsHeard I.next_gives
             ⟦<CompactionStream<I, F, C> as Iterator>⟧.next_gives self.now F.gives C.gets }
-        ensures can { MayCompact I.next_gives I.can_next I.remaining self.now →
-            CanYield ⟦<CompactionStream<I, F, C> as Iterator>⟧.next_gives nowhere
+        ensures can { spec.MayCompact I.next_gives I.can_next I.remaining self.now →
+            spec.CanYield ⟦<CompactionStream<I, F, C> as Iterator>⟧.next_gives spec.nowhere
             ⟦<CompactionStream<I, F, C> as Iterator>⟧.can_next
             ⟦<CompactionStream<I, F, C> as Iterator>⟧.can_next self.now }
     {}
@@ -491,12 +491,12 @@ impl<
     /// For any list of results, it yields the output of the compaction rules. For entries without
     /// errors, these are the entries kept. The call does nothing: its contract states the law.
     pub fn unfiltered_run(&self)
-        ensures outs { YieldsOuts I.next_gives
+        ensures outs { spec.YieldsOuts I.next_gives
             ⟦<CompactionStream<I, NoFilter, C> as Iterator>⟧.next_gives self.now }
-        ensures kept { YieldsKept I.next_gives
+        ensures kept { spec.YieldsKept I.next_gives
             ⟦<CompactionStream<I, NoFilter, C> as Iterator>⟧.next_gives self.now }
         // Before any call, this holds for any source, errors included.
-        ensures heard { GivesOuts I.next_gives
+        ensures heard { spec.GivesOuts I.next_gives
             ⟦<CompactionStream<I, NoFilter, C> as Iterator>⟧.next_gives self.now }
     {}
 }
@@ -518,7 +518,7 @@ impl<
 ///
 /// The call does nothing: its contract states the laws.
 pub fn read_law()
-    ensures reads { ReadLaw }
-    ensures strict { StaysStrict }
-    ensures part { PartLaw }
+    ensures reads { spec.ReadLaw }
+    ensures strict { spec.StaysStrict }
+    ensures part { spec.PartLaw }
 {}

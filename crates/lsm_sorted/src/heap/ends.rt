@@ -1,11 +1,6 @@
 //! An iterator that is not polled again after `None`, since it then promises nothing.
-ghost use Rattle.sst_entries.specs.declared.error.Error.{Error};
-ghost use Rattle.sst_entries.specs.declared.stream.Direction.{Direction};
-ghost use Rattle.sst_entries.specs.declared.stream.Direction.TheVariants.{Front, Back};
 ghost use Rattle.std.specs.Prelude.{Bool, ◌≡◌, false, Option};
-ghost use Rattle.std.specs.Iterator.{MakesProgress};
-ghost use Rattle.sst_entries.specs.Stream.{CanYield, Steps, nowhere, YieldsFirst, YieldsLast, Lowers};
-ghost use Rattle.lsm_sorted.specs.merge.Ends.{Left, Goes, Asked, YieldsAt, ends_size};
+ghost use Rattle.lsm_sorted.specs.Words as spec;
 
 use sst_entries::{Direction, IterItem};
 use std::alloc::Allocator;
@@ -17,16 +12,17 @@ pub trait End<I: Iterator> {
 
     ghost can_back: { I → Type 0 };
 
-    ghost end: { Direction };
+    ghost end: { spec.Direction };
 
     fn end() -> Direction
         ensures { result ≡ end };
 
     // Polls the iterator at this end.
     fn ask(iter: &mut I) -> Option<I::Item>
-        requires { CanYield I.next_gives back_gives I.can_next can_back iter.old }
-        ensures steps { Steps I.next_gives back_gives end iter.old result iter.new }
-        ensures goes { MakesProgress (CanYield I.next_gives back_gives I.can_next can_back)
+        requires { spec.CanYield I.next_gives back_gives I.can_next can_back iter.old }
+        ensures steps { spec.Steps I.next_gives back_gives end iter.old result iter.new }
+        ensures goes { spec.MakesProgress
+            (spec.CanYield I.next_gives back_gives I.can_next can_back)
             I.remaining iter.old result iter.new };
 }
 
@@ -37,11 +33,11 @@ pub struct AtFront;
 pub struct AtBack;
 
 impl<I: Iterator> End<I> for AtFront {
-    ghost back_gives = { nowhere };
+    ghost back_gives = { spec.nowhere };
 
     ghost can_back = { I.can_next };
 
-    ghost end = { Front };
+    ghost end = { spec.Front };
 
     fn end() -> Direction {
         Direction::Front
@@ -57,7 +53,7 @@ impl<I: DoubleEndedIterator> End<I> for AtBack {
 
     ghost can_back = { I.can_next_back };
 
-    ghost end = { Back };
+    ghost end = { spec.Back };
 
     fn end() -> Direction {
         Direction::Back
@@ -88,13 +84,16 @@ impl<I: Iterator<Item = IterItem<A>>, A: Allocator> Ends<I> {
     // Polls the iterator at an end.
     #[inline(always)]
     pub fn ask<E: End<I>>(&mut self) -> Option<IterItem<A>>
-        requires { Goes I.next_gives E.back_gives I.can_next E.can_back I.remaining self.old }
-        ensures goes { Goes I.next_gives E.back_gives I.can_next E.can_back I.remaining self.new }
-        ensures yields { (stops : Error → Bool) →
-            YieldsAt E.end stops (Left stops I.next_gives E.back_gives) self.old result self.new }
-        ensures asked { Asked (Steps I.next_gives E.back_gives E.end) self.old result self.new }
-        ensures lowers { Lowers result (ends_size I.remaining self.old)
-            (ends_size I.remaining self.new) }
+        requires { spec.Goes I.next_gives E.back_gives I.can_next E.can_back I.remaining self.old }
+        ensures goes { spec.Goes I.next_gives E.back_gives I.can_next E.can_back I.remaining
+            self.new }
+        ensures yields { (stops : spec.Error → Bool) →
+            spec.YieldsAt E.end stops (spec.Left stops I.next_gives E.back_gives) self.old result
+            self.new }
+        ensures asked { spec.Asked (spec.Steps I.next_gives E.back_gives E.end) self.old result
+            self.new }
+        ensures lowers { spec.Lowers result (spec.ends_size I.remaining self.old)
+            (spec.ends_size I.remaining self.new) }
     {
         if self.done {
             return None;
@@ -106,13 +105,15 @@ impl<I: Iterator<Item = IterItem<A>>, A: Allocator> Ends<I> {
 
     // The next item of an iterator that is polled at the front only.
     pub fn next_in_front(&mut self) -> Option<IterItem<A>>
-        requires { Goes I.next_gives nowhere I.can_next I.can_next I.remaining self.old }
-        ensures goes { Goes I.next_gives nowhere I.can_next I.can_next I.remaining self.new }
-        ensures yields { (stops : Error → Bool) →
-            YieldsFirst stops (Left stops I.next_gives nowhere) self.old result self.new }
-        ensures asked { Asked I.next_gives self.old result self.new }
-        ensures lowers { Lowers result (ends_size I.remaining self.old)
-            (ends_size I.remaining self.new) }
+        requires { spec.Goes I.next_gives spec.nowhere I.can_next I.can_next I.remaining self.old }
+        ensures goes { spec.Goes I.next_gives spec.nowhere I.can_next I.can_next I.remaining
+            self.new }
+        ensures yields { (stops : spec.Error → Bool) →
+            spec.YieldsFirst stops (spec.Left stops I.next_gives spec.nowhere) self.old result
+            self.new }
+        ensures asked { spec.Asked I.next_gives self.old result self.new }
+        ensures lowers { spec.Lowers result (spec.ends_size I.remaining self.old)
+            (spec.ends_size I.remaining self.new) }
     {
         self.ask::<AtFront>()
     }
@@ -121,30 +122,30 @@ impl<I: Iterator<Item = IterItem<A>>, A: Allocator> Ends<I> {
 impl<I: DoubleEndedIterator<Item = IterItem<A>>, A: Allocator> Ends<I> {
     // The first item of an iterator that is polled at both ends.
     pub fn next(&mut self) -> Option<IterItem<A>>
-        requires { Goes I.next_gives I.next_back_gives I.can_next I.can_next_back I.remaining
+        requires { spec.Goes I.next_gives I.next_back_gives I.can_next I.can_next_back I.remaining
             self.old }
-        ensures goes { Goes I.next_gives I.next_back_gives I.can_next I.can_next_back I.remaining
-            self.new }
-        ensures yields { (stops : Error → Bool) → YieldsFirst stops
-            (Left stops I.next_gives I.next_back_gives) self.old result self.new }
-        ensures asked { Asked I.next_gives self.old result self.new }
-        ensures lowers { Lowers result (ends_size I.remaining self.old)
-            (ends_size I.remaining self.new) }
+        ensures goes { spec.Goes I.next_gives I.next_back_gives I.can_next I.can_next_back
+            I.remaining self.new }
+        ensures yields { (stops : spec.Error → Bool) → spec.YieldsFirst stops
+            (spec.Left stops I.next_gives I.next_back_gives) self.old result self.new }
+        ensures asked { spec.Asked I.next_gives self.old result self.new }
+        ensures lowers { spec.Lowers result (spec.ends_size I.remaining self.old)
+            (spec.ends_size I.remaining self.new) }
     {
         self.next_in_front()
     }
 
     // The last item of an iterator that is polled at both ends.
     pub fn next_back(&mut self) -> Option<IterItem<A>>
-        requires { Goes I.next_gives I.next_back_gives I.can_next I.can_next_back I.remaining
+        requires { spec.Goes I.next_gives I.next_back_gives I.can_next I.can_next_back I.remaining
             self.old }
-        ensures goes { Goes I.next_gives I.next_back_gives I.can_next I.can_next_back I.remaining
-            self.new }
-        ensures yields { (stops : Error → Bool) → YieldsLast stops
-            (Left stops I.next_gives I.next_back_gives) self.old result self.new }
-        ensures asked { Asked I.next_back_gives self.old result self.new }
-        ensures lowers { Lowers result (ends_size I.remaining self.old)
-            (ends_size I.remaining self.new) }
+        ensures goes { spec.Goes I.next_gives I.next_back_gives I.can_next I.can_next_back
+            I.remaining self.new }
+        ensures yields { (stops : spec.Error → Bool) → spec.YieldsLast stops
+            (spec.Left stops I.next_gives I.next_back_gives) self.old result self.new }
+        ensures asked { spec.Asked I.next_back_gives self.old result self.new }
+        ensures lowers { spec.Lowers result (spec.ends_size I.remaining self.old)
+            (spec.ends_size I.remaining self.new) }
     {
         self.ask::<AtBack>()
     }

@@ -1,9 +1,7 @@
 //! A double-ended priority queue, as an interval heap.
 ghost use Rattle.std.specs.Prelude.{◌≡◌, ◌⊎◌, ℕ, ◌+◌, ◌*◌, ◌/◌, ◌%◌, ◌<◌, ◌≤◌, [], ◌∷◌, length};
 ghost use Rattle.std.specs.Prelude.{IfOk, IfErr, IfNone, IfSome, IsPermutation, MatchOption};
-ghost use Rattle.sst_entries.specs.declared.error.Error.TheVariants.{OutOfMemory};
-ghost use Rattle.lsm_sorted.specs.merge.Bag.{IsLeast, IsGreatest};
-ghost use Rattle.lsm_sorted.specs.merge.Order.{toward};
+ghost use Rattle.lsm_sorted.specs.Words as spec;
 
 mod intervals;
 
@@ -45,7 +43,7 @@ impl<T: Ord, A: Allocator> IntervalHeap<T, A> {
     pub fn with_capacity(alloc: A, capacity: usize) -> Result<Self, Error>
         ensures empty { IfOk result (λ h. h.items ≡ []) }
         ensures room { IfOk result (λ h. h.room ≡ capacity) }
-        ensures err { IfErr result (λ e. e ≡ OutOfMemory) }
+        ensures err { IfErr result (λ e. e ≡ spec.OutOfMemory) }
     {
         Ok(IntervalHeap {
             items: Vec::with_capacity(alloc, capacity)?,
@@ -76,7 +74,7 @@ impl<T: Ord, A: Allocator> IntervalHeap<T, A> {
         ensures none { IfNone result (self.old.items ≡ []) }
         ensures unchanged { IfNone result (self.new.items ≡ []) }
         ensures taken { IfSome result (λ x. IsPermutation self.old.items (x ∷ self.new.items)) }
-        ensures least { IfSome result (λ x. IsLeast T.cmp x self.old.items) }
+        ensures least { IfSome result (λ x. spec.IsLeast T.cmp x self.old.items) }
         ensures room { self.new.room ≡ self.old.room }
     {
         self.pop(Direction::Front)
@@ -87,7 +85,7 @@ impl<T: Ord, A: Allocator> IntervalHeap<T, A> {
         ensures none { IfNone result (self.old.items ≡ []) }
         ensures unchanged { IfNone result (self.new.items ≡ []) }
         ensures taken { IfSome result (λ x. IsPermutation self.old.items (x ∷ self.new.items)) }
-        ensures greatest { IfSome result (λ x. IsGreatest T.cmp x self.old.items) }
+        ensures greatest { IfSome result (λ x. spec.IsGreatest T.cmp x self.old.items) }
         ensures room { self.new.room ≡ self.old.room }
     {
         self.pop(Direction::Back)
@@ -98,7 +96,7 @@ impl<T: Ord, A: Allocator> IntervalHeap<T, A> {
         ensures none { IfNone result (self.old.items ≡ []) }
         ensures unchanged { IfNone result (self.new.items ≡ []) }
         ensures taken { IfSome result (λ x. IsPermutation self.old.items (x ∷ self.new.items)) }
-        ensures first { IfSome result (λ x. IsLeast (toward end T.cmp) x self.old.items) }
+        ensures first { IfSome result (λ x. spec.IsLeast (spec.toward end T.cmp) x self.old.items) }
         ensures room { self.new.room ≡ self.old.room }
     {
         if self.items.is_empty() {

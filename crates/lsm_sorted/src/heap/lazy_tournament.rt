@@ -2,12 +2,7 @@
 //! first pop at its end on.
 ghost use Rattle.std.specs.Prelude.{◌≡◌, ◌+◌, ◌<◌, [], ◌∷◌, length, true, false, IfOk, IfErr};
 ghost use Rattle.std.specs.Prelude.{IfNone, IfSome, IsPermutation};
-ghost use Rattle.sst_entries.specs.declared.error.Error.TheVariants.{OutOfMemory};
-ghost use Rattle.sst_entries.specs.declared.stream.Direction.TheVariants.{Front, Back};
-ghost use Rattle.lsm_sorted.specs.merge.Bag.{IsLeast, IsGreatest};
-ghost use Rattle.lsm_sorted.specs.merge.Order.{toward};
-ghost use Rattle.lsm_sorted.specs.merge.Tournament.{rematches, first_round, PlaysAtMost, SameEnds};
-ghost use Rattle.lsm_sorted.specs.merge.Tournament.{PlaysFrom};
+ghost use Rattle.lsm_sorted.specs.Words as spec;
 
 mod brackets;
 mod slots;
@@ -66,7 +61,7 @@ impl<T: Ord, A: Allocator + Clone> LazyTournament<T, A> {
         ensures steps { IfOk result (λ t. t.steps ≡ 0) }
         ensures front { IfOk result (λ t. t.plays_front ≡ false) }
         ensures back { IfOk result (λ t. t.plays_back ≡ false) }
-        ensures err { IfErr result (λ e. e ≡ OutOfMemory) }
+        ensures err { IfErr result (λ e. e ≡ spec.OutOfMemory) }
     {
         Self::new(alloc, capacity, false)
     }
@@ -78,7 +73,7 @@ impl<T: Ord, A: Allocator + Clone> LazyTournament<T, A> {
         ensures steps { IfOk result (λ t. t.steps ≡ 0) }
         ensures front { IfOk result (λ t. t.plays_front ≡ is_played) }
         ensures back { IfOk result (λ t. t.plays_back ≡ is_played) }
-        ensures err { IfErr result (λ e. e ≡ OutOfMemory) }
+        ensures err { IfErr result (λ e. e ≡ spec.OutOfMemory) }
     {
         // More than 2^63 slots do not fit in memory.
         let Some(leaves) = capacity.checked_next_power_of_two() else {
@@ -114,8 +109,8 @@ impl<T: Ord, A: Allocator> LazyTournament<T, A> {
         requires { length self.old.items < self.old.room }
         ensures items { IsPermutation (item ∷ self.old.items) self.new.items }
         ensures room { self.new.room ≡ self.old.room }
-        ensures steps { PlaysAtMost (rematches self.old) self.old self.new }
-        ensures ends { SameEnds self.old self.new }
+        ensures steps { spec.PlaysAtMost (spec.rematches self.old) self.old self.new }
+        ensures ends { spec.SameEnds self.old self.new }
     {
         let slot = self.slots.insert(item);
         self.brackets.emptied = None;
@@ -127,10 +122,10 @@ impl<T: Ord, A: Allocator> LazyTournament<T, A> {
         ensures none { IfNone result (self.old.items ≡ []) }
         ensures unchanged { IfNone result (self.new.items ≡ []) }
         ensures taken { IfSome result (λ x. IsPermutation self.old.items (x ∷ self.new.items)) }
-        ensures least { IfSome result (λ x. IsLeast T.cmp x self.old.items) }
+        ensures least { IfSome result (λ x. spec.IsLeast T.cmp x self.old.items) }
         ensures room { self.new.room ≡ self.old.room }
-        ensures steps { PlaysAtMost (rematches self.old + first_round Front self.old) self.old
-            self.new }
+        ensures steps { spec.PlaysAtMost
+            (spec.rematches self.old + spec.first_round spec.Front self.old) self.old self.new }
         ensures front { self.new.plays_front ≡ true }
         ensures back { self.new.plays_back ≡ self.old.plays_back }
     {
@@ -142,10 +137,10 @@ impl<T: Ord, A: Allocator> LazyTournament<T, A> {
         ensures none { IfNone result (self.old.items ≡ []) }
         ensures unchanged { IfNone result (self.new.items ≡ []) }
         ensures taken { IfSome result (λ x. IsPermutation self.old.items (x ∷ self.new.items)) }
-        ensures greatest { IfSome result (λ x. IsGreatest T.cmp x self.old.items) }
+        ensures greatest { IfSome result (λ x. spec.IsGreatest T.cmp x self.old.items) }
         ensures room { self.new.room ≡ self.old.room }
-        ensures steps { PlaysAtMost (rematches self.old + first_round Back self.old) self.old
-            self.new }
+        ensures steps { spec.PlaysAtMost
+            (spec.rematches self.old + spec.first_round spec.Back self.old) self.old self.new }
         ensures front { self.new.plays_front ≡ self.old.plays_front }
         ensures back { self.new.plays_back ≡ true }
     {
@@ -158,11 +153,11 @@ impl<T: Ord, A: Allocator> LazyTournament<T, A> {
         ensures none { IfNone result (self.old.items ≡ []) }
         ensures unchanged { IfNone result (self.new.items ≡ []) }
         ensures taken { IfSome result (λ x. IsPermutation self.old.items (x ∷ self.new.items)) }
-        ensures first { IfSome result (λ x. IsLeast (toward end T.cmp) x self.old.items) }
+        ensures first { IfSome result (λ x. spec.IsLeast (spec.toward end T.cmp) x self.old.items) }
         ensures room { self.new.room ≡ self.old.room }
-        ensures steps { PlaysAtMost (rematches self.old + first_round end self.old) self.old
-            self.new }
-        ensures plays { PlaysFrom end self.old self.new }
+        ensures steps { spec.PlaysAtMost (spec.rematches self.old + spec.first_round end self.old)
+            self.old self.new }
+        ensures plays { spec.PlaysFrom end self.old self.new }
     {
         let slot = self.brackets.winner(self.slots.as_slice(), end);
         let item = self.slots.remove(slot)?;

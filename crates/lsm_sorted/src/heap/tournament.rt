@@ -1,9 +1,7 @@
 //! A double-ended priority queue, as two tournaments over the same slots.
 ghost use Rattle.std.specs.Prelude.{◌≡◌, ◌*◌, ◌<◌, [], ◌∷◌, length, IfOk, IfErr, IfNone, IfSome};
 ghost use Rattle.std.specs.Prelude.{IsPermutation};
-ghost use Rattle.sst_entries.specs.declared.error.Error.TheVariants.{OutOfMemory};
-ghost use Rattle.lsm_sorted.specs.merge.Bag.{IsLeast, IsGreatest};
-ghost use Rattle.lsm_sorted.specs.merge.Tournament.{height, PlaysAtMost};
+ghost use Rattle.lsm_sorted.specs.Words as spec;
 
 use crate::heap::lazy_tournament::LazyTournament;
 use sst_entries::Error;
@@ -48,7 +46,7 @@ impl<T: Ord, A: Allocator + Clone> Tournament<T, A> {
         ensures empty { IfOk result (λ h. h.items ≡ []) }
         ensures room { IfOk result (λ h. h.room ≡ capacity) }
         ensures steps { IfOk result (λ h. h.steps ≡ 0) }
-        ensures err { IfErr result (λ e. e ≡ OutOfMemory) }
+        ensures err { IfErr result (λ e. e ≡ spec.OutOfMemory) }
     {
         Ok(Tournament {
             queue: LazyTournament::new(alloc, capacity, true)?,
@@ -78,7 +76,7 @@ impl<T: Ord, A: Allocator> Tournament<T, A> {
         requires { length self.old.items < self.old.room }
         ensures items { IsPermutation (item ∷ self.old.items) self.new.items }
         ensures room { self.new.room ≡ self.old.room }
-        ensures steps { PlaysAtMost (2 * height self.old.room) self.old self.new }
+        ensures steps { spec.PlaysAtMost (2 * spec.height self.old.room) self.old self.new }
     {
         self.queue.push(item);
     }
@@ -88,9 +86,9 @@ impl<T: Ord, A: Allocator> Tournament<T, A> {
         ensures none { IfNone result (self.old.items ≡ []) }
         ensures unchanged { IfNone result (self.new.items ≡ []) }
         ensures taken { IfSome result (λ x. IsPermutation self.old.items (x ∷ self.new.items)) }
-        ensures least { IfSome result (λ x. IsLeast T.cmp x self.old.items) }
+        ensures least { IfSome result (λ x. spec.IsLeast T.cmp x self.old.items) }
         ensures room { self.new.room ≡ self.old.room }
-        ensures steps { PlaysAtMost (2 * height self.old.room) self.old self.new }
+        ensures steps { spec.PlaysAtMost (2 * spec.height self.old.room) self.old self.new }
     {
         self.queue.pop_min()
     }
@@ -100,9 +98,9 @@ impl<T: Ord, A: Allocator> Tournament<T, A> {
         ensures none { IfNone result (self.old.items ≡ []) }
         ensures unchanged { IfNone result (self.new.items ≡ []) }
         ensures taken { IfSome result (λ x. IsPermutation self.old.items (x ∷ self.new.items)) }
-        ensures greatest { IfSome result (λ x. IsGreatest T.cmp x self.old.items) }
+        ensures greatest { IfSome result (λ x. spec.IsGreatest T.cmp x self.old.items) }
         ensures room { self.new.room ≡ self.old.room }
-        ensures steps { PlaysAtMost (2 * height self.old.room) self.old self.new }
+        ensures steps { spec.PlaysAtMost (2 * spec.height self.old.room) self.old self.new }
     {
         self.queue.pop_max()
     }

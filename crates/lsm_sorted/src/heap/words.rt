@@ -1,10 +1,6 @@
 //! Comparison of keys, eight bytes at a time.
 ghost use Rattle.std.specs.Prelude.{◌≡◌};
-ghost use Rattle.std.specs.Ordering.{nat_cmp};
-ghost use Rattle.std.specs.Cmp.Lexicographic.{slice_cmp};
-ghost use Rattle.sst_entries.specs.Key.{key_cmp};
-ghost use Rattle.sst_entries.specs.Lending.{entry_of_ref};
-ghost use Rattle.lsm_sorted.specs.merge.Union.{item_cmp};
+ghost use Rattle.lsm_sorted.specs.Words as spec;
 
 use sst_entries::{EntryRef, InternalKey};
 use std::alloc::Allocator;
@@ -13,7 +9,7 @@ use std::cmp::Ordering;
 // Compares as slices do, eight bytes at once as one number.
 #[inline(always)]
 fn compare_bytes(first: &[u8], second: &[u8]) -> Ordering
-    ensures { result ≡ slice_cmp nat_cmp first.now second.now }
+    ensures { result ≡ spec.slice_cmp spec.nat_cmp first.now second.now }
 {
     let mut x = first;
     let mut y = second;
@@ -36,7 +32,7 @@ fn compare_bytes(first: &[u8], second: &[u8]) -> Ordering
 // Compares as `InternalKey::cmp` does. A merge makes many of these comparisons.
 #[inline(always)]
 pub(crate) fn compare_keys<A: Allocator>(x: &InternalKey<A>, y: &InternalKey<A>) -> Ordering
-    ensures { result ≡ key_cmp x.now y.now }
+    ensures { result ≡ spec.key_cmp x.now y.now }
 {
     // The rest is compared only on a tie.
     match compare_bytes(x.user_key.as_slice(), y.user_key.as_slice()) {
@@ -51,7 +47,7 @@ pub(crate) fn compare_keys<A: Allocator>(x: &InternalKey<A>, y: &InternalKey<A>)
 /// are compared at once.
 #[inline(always)]
 pub fn compare_refs(x: &EntryRef<'_>, y: &EntryRef<'_>) -> Ordering
-    ensures { result ≡ item_cmp (entry_of_ref x.now) (entry_of_ref y.now) }
+    ensures { result ≡ spec.item_cmp (spec.entry_of_ref x.now) (spec.entry_of_ref y.now) }
 {
     match compare_bytes(x.user_key, y.user_key) {
         Ordering::Equal => y.seqno.cmp(&x.seqno).then(x.value_type.cmp(&y.value_type)),

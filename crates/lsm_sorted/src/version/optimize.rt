@@ -2,22 +2,7 @@
 ghost use Rattle.std.specs.Prelude.{◌≡◌, ◌≢◌, ◌<◌, ◌≤◌, ◌∷◌, ◌++◌, ⊤, true, List, [], length};
 ghost use Rattle.std.specs.Prelude.{reverse, Contains, IsSome, IfOk, IfErr, IfSome, MatchOption};
 ghost use Rattle.std.specs.Prelude.{OnOk, None, Ok, Some};
-ghost use Rattle.std.specs.Option.{option_copied};
-ghost use Rattle.sst_entries.specs.declared.error.Error.TheVariants.{OutOfMemory};
-ghost use Rattle.lsm_sorted.specs.version.Links.{runs_with_places, run_with_places, IsStack};
-ghost use Rattle.lsm_sorted.specs.version.Links.{TableWithPlace};
-ghost use Rattle.lsm_sorted.specs.version.LinkedRuns.{link_range, AreAtPlaces, AreEarlier};
-ghost use Rattle.lsm_sorted.specs.version.LinkedRuns.{ArePackedLinks};
-ghost use Rattle.lsm_sorted.specs.version.LinkedRuns.{IsBelow};
-ghost use Rattle.lsm_sorted.specs.declared.version.optimize.Link.{Link};
-ghost use Rattle.lsm_sorted.specs.version.Packing.{count_to_last, put, put_all, tables_in, touches};
-ghost use Rattle.lsm_sorted.specs.version.Packing.{AddsTables, AreDisjointRuns};
-ghost use Rattle.lsm_sorted.specs.version.Packing.{AreTablesWellFormed};
-ghost use Rattle.lsm_sorted.specs.version.Packing.{AreInOrder, AreNotEmpty, ArePacked, ArePlaced};
-ghost use Rattle.lsm_sorted.specs.version.Packing.{AreWellFormed, IsChain, IsLeastSize};
-ghost use Rattle.lsm_sorted.specs.version.Packing.{SameHolders};
-ghost use Rattle.lsm_sorted.specs.version.Packing.{SameTables};
-ghost use Rattle.lsm_sorted.specs.version.Run.{IsInOrder};
+ghost use Rattle.lsm_sorted.specs.Words as spec;
 
 use crate::{KeyRange, Ranged, Run};
 use sst_entries::Error;
@@ -44,16 +29,16 @@ pub fn optimize_runs<T: Clone + Ranged + Drop, A: Allocator + Clone>(
     runs: Vec<Run<T, A>, A>,
 ) -> Result<Vec<Run<T, A>, A>, Error>
     ensures one { length runs.items ≤ 1 → result ≡ Ok runs }
-    ensures tables { IfOk result (λ packed. SameTables runs.items packed.items) }
-    ensures holders { IfOk result (λ packed. AreWellFormed T.range runs.items →
-        SameHolders T.range runs.items packed.items) }
-    ensures ordered { IfOk result (λ packed. AreWellFormed T.range runs.items →
-        1 < length runs.items → ArePacked T.range packed.items) }
-    ensures placed { IfOk result (λ packed. AreWellFormed T.range runs.items →
-        1 < length runs.items → ArePlaced T.range (tables_in runs.items) packed.items) }
-    ensures least { IfOk result (λ packed. AreDisjointRuns T.range runs.items →
-        IsLeastSize T.range runs.items (length packed.items)) }
-    ensures err { IfErr result (λ e. e ≡ OutOfMemory) }
+    ensures tables { IfOk result (λ packed. spec.SameTables runs.items packed.items) }
+    ensures holders { IfOk result (λ packed. spec.AreWellFormed T.range runs.items →
+        spec.SameHolders T.range runs.items packed.items) }
+    ensures ordered { IfOk result (λ packed. spec.AreWellFormed T.range runs.items →
+        1 < length runs.items → spec.ArePacked T.range packed.items) }
+    ensures placed { IfOk result (λ packed. spec.AreWellFormed T.range runs.items →
+        1 < length runs.items → spec.ArePlaced T.range (spec.tables_in runs.items) packed.items) }
+    ensures least { IfOk result (λ packed. spec.AreDisjointRuns T.range runs.items →
+        spec.IsLeastSize T.range runs.items (length packed.items)) }
+    ensures err { IfErr result (λ e. e ≡ spec.OutOfMemory) }
 {
     if runs.len() <= 1 {
         Ok(runs)
@@ -67,10 +52,10 @@ fn pack<T: Ranged + Drop, A: Allocator + Clone>(
     alloc: &A,
     runs: Vec<Run<T, A>, A>,
 ) -> Result<Vec<Run<T, A>, A>, Error>
-    ensures ok { IfOk result (λ packed. AreWellFormed T.range runs.items →
-        packed.items ≡ put_all T.range (tables_in runs.items) []) }
-    ensures permutation { IfOk result (λ packed. SameTables runs.items packed.items) }
-    ensures err { IfErr result (λ e. e ≡ OutOfMemory) }
+    ensures ok { IfOk result (λ packed. spec.AreWellFormed T.range runs.items →
+        packed.items ≡ spec.put_all T.range (spec.tables_in runs.items) []) }
+    ensures permutation { IfOk result (λ packed. spec.SameTables runs.items packed.items) }
+    ensures err { IfErr result (λ e. e ≡ spec.OutOfMemory) }
 {
     let mut packed = Vec::new(alloc.clone()?);
     for run in runs {
@@ -85,11 +70,12 @@ fn place_all<T: Ranged + Drop, A: Allocator + Clone>(
     packed: &mut Vec<Run<T, A>, A>,
     tables: Vec<T, A>,
 ) -> Result<(), Error>
-    ensures ok { OnOk result (AreTablesWellFormed T.range tables.items →
-        ArePacked T.range packed.old.items →
-        packed.new.items ≡ put_all T.range tables.items packed.old.items) }
-    ensures permutation { OnOk result (AddsTables packed.old.items tables.items packed.new.items) }
-    ensures err { IfErr result (λ e. e ≡ OutOfMemory) }
+    ensures ok { OnOk result (spec.AreTablesWellFormed T.range tables.items →
+        spec.ArePacked T.range packed.old.items →
+        packed.new.items ≡ spec.put_all T.range tables.items packed.old.items) }
+    ensures permutation { OnOk result
+        (spec.AddsTables packed.old.items tables.items packed.new.items) }
+    ensures err { IfErr result (λ e. e ≡ spec.OutOfMemory) }
 {
     for table in tables {
         place(alloc, packed, table)?;
@@ -111,11 +97,11 @@ pub fn overlap_chain<T: Ranged, A: Allocator + Clone, B: Allocator>(
     alloc: A,
     runs: &[Run<T, B>],
 ) -> Result<Vec<(usize, usize), A>, Error>
-    ensures chain { IfOk result (λ chain. IsChain T.range runs.now chain.items) }
-    ensures least { IfOk result (λ chain. AreDisjointRuns T.range runs.now →
-        IsLeastSize T.range runs.now (length chain.items)) }
-    ensures some { IfOk result (λ chain. chain.items ≡ [] → tables_in runs.now ≡ []) }
-    ensures err { IfErr result (λ e. e ≡ OutOfMemory) }
+    ensures chain { IfOk result (λ chain. spec.IsChain T.range runs.now chain.items) }
+    ensures least { IfOk result (λ chain. spec.AreDisjointRuns T.range runs.now →
+        spec.IsLeastSize T.range runs.now (length chain.items)) }
+    ensures some { IfOk result (λ chain. chain.items ≡ [] → spec.tables_in runs.now ≡ []) }
+    ensures err { IfErr result (λ e. e ≡ spec.OutOfMemory) }
 {
     let mut packed = Vec::new(alloc.clone()?);
     pack_links(&alloc, &mut packed, runs)?;
@@ -156,8 +142,8 @@ fn pack_links<'a, T: Ranged, A: Allocator + Clone, B: Allocator>(
 ) -> Result<(), Error>
     requires { packed.old.items ≡ [] }
     ensures ok { OnOk result
-        (ArePackedLinks T.range (runs_with_places 0 runs.now) packed.new.items) }
-    ensures err { IfErr result (λ e. e ≡ OutOfMemory) }
+        (spec.ArePackedLinks T.range (spec.runs_with_places 0 runs.now) packed.new.items) }
+    ensures err { IfErr result (λ e. e ≡ spec.OutOfMemory) }
 {
     for (run, tables) in runs.iter().enumerate() {
         place_links(alloc, packed, run, tables.as_slice())?;
@@ -171,10 +157,11 @@ fn place_links<'a, T: Ranged, A: Allocator + Clone>(
     run: usize,
     tables: &'a [T],
 ) -> Result<(), Error>
-    ensures ok { OnOk result ((ts : List (TableWithPlace T)) →
-        ArePackedLinks T.range ts packed.old.items →
-        ArePackedLinks T.range (ts ++ run_with_places run 0 tables.now) packed.new.items) }
-    ensures err { IfErr result (λ e. e ≡ OutOfMemory) }
+    ensures ok { OnOk result ((ts : List (spec.TableWithPlace T)) →
+        spec.ArePackedLinks T.range ts packed.old.items →
+        spec.ArePackedLinks T.range (ts ++ spec.run_with_places run 0 tables.now)
+        packed.new.items) }
+    ensures err { IfErr result (λ e. e ≡ spec.OutOfMemory) }
 {
     for (index, table) in tables.iter().enumerate() {
         place(alloc, packed, Link { table, run, index })?;
@@ -188,13 +175,15 @@ fn walk_down<'a, T: Ranged, A: Allocator>(
     chain: &mut Vec<(usize, usize), A>,
 ) -> Result<(), Error>
     requires { chain.old.items ≡ [] }
-    ensures chain { OnOk result ((runs : List (List T)) → AreAtPlaces runs (tables_in packed.now) →
-        IsChain T.range runs (reverse chain.new.items)) }
-    ensures whole { OnOk result (IsStack (link_range T.range) (λ link. link.run) packed.now →
+    ensures chain { OnOk result ((runs : List (List T)) →
+        spec.AreAtPlaces runs (spec.tables_in packed.now) →
+        spec.IsChain T.range runs (reverse chain.new.items)) }
+    ensures whole { OnOk result
+        (spec.IsStack (spec.link_range T.range) (λ link. link.run) packed.now →
         length chain.new.items ≡ length packed.now) }
-    ensures some { OnOk result (AreNotEmpty packed.now →
+    ensures some { OnOk result (spec.AreNotEmpty packed.now →
         chain.new.items ≡ [] → packed.now ≡ []) }
-    ensures err { IfErr result (λ e. e ≡ OutOfMemory) }
+    ensures err { IfErr result (λ e. e ≡ spec.OutOfMemory) }
 {
     let mut above: Option<&Link<'a, T>> = None;
     for level in (0..packed.len()).rev() {
@@ -213,12 +202,12 @@ fn link_below<'r, 'a, T: Ranged, A: Allocator>(
     above: Option<&Link<'a, T>>,
 ) -> Option<&'r Link<'a, T>>
     ensures found { IfSome result (λ link. Contains run.now link.now ×
-        MatchOption (option_copied above.entry) ⊤ (λ a. IsBelow T.range link.now a)) }
-    ensures first { option_copied above.entry ≡ None → run.now ≢ [] → IsSome result }
-    ensures next { let range = link_range T.range in
-        (a : Link T) → option_copied above.entry ≡ Some a →
-        IsInOrder range run.now → AreEarlier T.range run.now a →
-        touches range (range a) run.now ≡ true → IsSome result }
+        MatchOption (spec.option_copied above.entry) ⊤ (λ a. spec.IsBelow T.range link.now a)) }
+    ensures first { spec.option_copied above.entry ≡ None → run.now ≢ [] → IsSome result }
+    ensures next { let range = spec.link_range T.range in
+        (a : spec.Link T) → spec.option_copied above.entry ≡ Some a →
+        spec.IsInOrder range run.now → spec.AreEarlier T.range run.now a →
+        spec.touches range (range a) run.now ≡ true → IsSome result }
 {
     match above {
         Some(above) => link_to(run, above),
@@ -231,9 +220,11 @@ fn link_to<'r, 'a, T: Ranged, A: Allocator>(
     above: &Link<'a, T>,
 ) -> Option<&'r Link<'a, T>>
     ensures found { IfSome result (λ link.
-        Contains run.now link.now × IsBelow T.range link.now above.now) }
-    ensures next { IsInOrder (link_range T.range) run.now → AreEarlier T.range run.now above.now →
-        touches (link_range T.range) (link_range T.range above.now) run.now ≡ true → IsSome result }
+        Contains run.now link.now × spec.IsBelow T.range link.now above.now) }
+    ensures next { spec.IsInOrder (spec.link_range T.range) run.now →
+        spec.AreEarlier T.range run.now above.now →
+        spec.touches (spec.link_range T.range) (spec.link_range T.range above.now) run.now ≡ true →
+        IsSome result }
 {
     let link = run.get_overlapping(above.key_range()).first()?;
     if link.run < above.run && link.key_range().overlaps_with_key_range(above.key_range()) {
@@ -249,11 +240,13 @@ fn place<T: Ranged + Drop, A: Allocator + Clone>(
     packed: &mut Vec<Run<T, A>, A>,
     table: T,
 ) -> Result<(), Error>
-    ensures ok { OnOk result (AreInOrder T.range packed.old.items →
-        packed.new.items ≡ put T.range table packed.old.items) }
-    ensures permutation { OnOk result (AddsTables packed.old.items (table ∷ []) packed.new.items) }
-    ensures some { OnOk result (AreNotEmpty packed.old.items → AreNotEmpty packed.new.items) }
-    ensures err { IfErr result (λ e. e ≡ OutOfMemory) }
+    ensures ok { OnOk result (spec.AreInOrder T.range packed.old.items →
+        packed.new.items ≡ spec.put T.range table packed.old.items) }
+    ensures permutation { OnOk result
+        (spec.AddsTables packed.old.items (table ∷ []) packed.new.items) }
+    ensures some { OnOk result (spec.AreNotEmpty packed.old.items →
+        spec.AreNotEmpty packed.new.items) }
+    ensures err { IfErr result (λ e. e ≡ spec.OutOfMemory) }
 {
     let level = count_to_last_touched(packed, table.key_range());
     if level < packed.len() {
@@ -270,8 +263,8 @@ fn count_to_last_touched<T: Ranged, A: Allocator>(
     packed: &[Run<T, A>],
     range: &KeyRange<T::Alloc>,
 ) -> usize
-    ensures value { AreInOrder T.range packed.now →
-        result ≡ count_to_last (touches T.range range.now) packed.now }
+    ensures value { spec.AreInOrder T.range packed.now →
+        result ≡ spec.count_to_last (spec.touches T.range range.now) packed.now }
     ensures within { result ≤ length packed.now }
 {
     for level in (0..packed.len()).rev() {
@@ -283,7 +276,7 @@ fn count_to_last_touched<T: Ranged, A: Allocator>(
 }
 
 fn has_overlap<T: Ranged, A: Allocator>(run: &Run<T, A>, range: &KeyRange<T::Alloc>) -> bool
-    ensures { IsInOrder T.range run.now → result ≡ touches T.range range.now run.now }
+    ensures { spec.IsInOrder T.range run.now → result ≡ spec.touches T.range range.now run.now }
 {
     !run.get_overlapping(range).is_empty()
 }

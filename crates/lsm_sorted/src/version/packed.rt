@@ -1,8 +1,6 @@
 //! Packing tables that are each a run of their own.
 ghost use Rattle.std.specs.Prelude.{◌≡◌, ◌∷◌, [], IfErr, IfOk};
-ghost use Rattle.sst_entries.specs.declared.error.Error.TheVariants.{OutOfMemory};
-ghost use Rattle.lsm_sorted.specs.version.Packing.{AreTablesWellFormed, IsChain, SameTables};
-ghost use Rattle.lsm_sorted.specs.version.Packed.{IsPackedOf, alone, placed};
+ghost use Rattle.lsm_sorted.specs.Words as spec;
 
 use crate::{KeyRange, Ranged, Run, optimize_runs, overlap_chain};
 use sst_entries::Error;
@@ -61,8 +59,8 @@ fn run_of<T: Ranged + Drop, A: Allocator>(
     place: usize,
     table: T,
 ) -> Result<Run<Placed<T>, A>, Error>
-    ensures ok { IfOk result (λ run. run ≡ placed place table ∷ []) }
-    ensures err { IfErr result (λ e. e ≡ OutOfMemory) }
+    ensures ok { IfOk result (λ run. run ≡ spec.placed place table ∷ []) }
+    ensures err { IfErr result (λ e. e ≡ spec.OutOfMemory) }
 {
     let mut alone = Vec::new(alloc);
     alone.push(Placed { place, table })?;
@@ -75,8 +73,8 @@ fn runs_of<T: Ranged + Drop, A: Allocator + Copy>(
     alloc: A,
     tables: Vec<T, A>,
 ) -> Result<Vec<Run<Placed<T>, A>, A>, Error>
-    ensures ok { IfOk result (λ runs. runs.items ≡ alone 0 tables.items) }
-    ensures err { IfErr result (λ e. e ≡ OutOfMemory) }
+    ensures ok { IfOk result (λ runs. runs.items ≡ spec.alone 0 tables.items) }
+    ensures err { IfErr result (λ e. e ≡ spec.OutOfMemory) }
 {
     let mut runs = Vec::new(alloc);
     for table in tables {
@@ -102,13 +100,13 @@ pub fn pack_each<T: Clone + Ranged + Drop, A: Allocator + Copy>(
     alloc: A,
     tables: Vec<T, A>,
 ) -> Result<Packed<T, A>, Error>
-    ensures same { IfOk result (λ p. SameTables (alone 0 tables.items) p.runs.items) }
+    ensures same { IfOk result (λ p. spec.SameTables (spec.alone 0 tables.items) p.runs.items) }
     ensures chain { IfOk result (λ p.
-        IsChain (λ t. T.range t.table) (alone 0 tables.items) p.chain.items) }
+        spec.IsChain (λ t. T.range t.table) (spec.alone 0 tables.items) p.chain.items) }
     ensures some { IfOk result (λ p. p.chain.items ≡ [] → tables.items ≡ []) }
-    ensures packed { IfOk result (λ p. AreTablesWellFormed T.range tables.items →
-        IsPackedOf T.range tables.items p) }
-    ensures err { IfErr result (λ e. e ≡ OutOfMemory) }
+    ensures packed { IfOk result (λ p. spec.AreTablesWellFormed T.range tables.items →
+        spec.IsPackedOf T.range tables.items p) }
+    ensures err { IfErr result (λ e. e ≡ spec.OutOfMemory) }
 {
     let runs = runs_of(alloc, tables)?;
     let chain = overlap_chain(alloc, &runs)?;

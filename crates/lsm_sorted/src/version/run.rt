@@ -2,21 +2,7 @@
 ghost use Rattle.std.specs.Prelude.{◌≡◌, ◌≢◌, ◌<◌, ◌≤◌, ◌∷◌, ◌++◌, IsTrue, List, Ok, Some, map};
 ghost use Rattle.std.specs.Prelude.{Contains, IfOk, IfSome, [], length, remove, slice_get};
 ghost use Rattle.std.specs.Prelude.{IsPermutation, MatchOption, OnOk, OnErr, IfErr};
-ghost use Rattle.std.specs.Borrow.{Lends, sem};
-ghost use Rattle.std.specs.Cmp.Lexicographic.{pointwise, lists_per, lists_equiv};
-ghost use Rattle.std.specs.Fn.{CalledAt};
-ghost use Rattle.std.specs.List.Retain.{IsFiltered};
-ghost use Rattle.std.specs.Option.{option_copied};
-ghost use Rattle.sst_entries.specs.declared.error.Error.TheVariants.{OutOfMemory};
-ghost use Rattle.lsm_sorted.specs.version.KeyRange.{key_bound, Interval};
-ghost use Rattle.lsm_sorted.specs.version.Packing.{with_table};
-ghost use Rattle.lsm_sorted.specs.version.Run.{ends_before, ends_within, first_to_last, how_many};
-ghost use Rattle.lsm_sorted.specs.version.Run.{are_in_order, may_come_next, overlap_indexes};
-ghost use Rattle.lsm_sorted.specs.version.Run.{starts_before};
-ghost use Rattle.lsm_sorted.specs.version.Run.{starts_within, tables_across, tables_inside};
-ghost use Rattle.lsm_sorted.specs.version.Run.{table_of_key};
-ghost use Rattle.lsm_sorted.specs.version.Run.{ArePlacesOf, IsInOrder, IsPartOf, IsSortedByMin};
-ghost use Rattle.lsm_sorted.specs.version.Run.{IsStableByMin};
+ghost use Rattle.lsm_sorted.specs.Words as spec;
 
 use crate::KeyRange;
 use crate::key_range::{is_at_most, is_from_lower, is_up_to_upper};
@@ -36,7 +22,7 @@ pub trait Ranged {
     ghost meaning: { Self → Meaning };
 
     // The key range.
-    ghost range: { Self → Interval };
+    ghost range: { Self → spec.Interval };
 
     /// Returns the range from the least to the greatest key.
     fn key_range(&self) -> &KeyRange<Self::Alloc>
@@ -105,15 +91,17 @@ impl<T: Ranged> Deref for Indexed<T> {
 pub struct Run<T, A: Allocator = Global>(Vec<T, A>);
 
 impl<T, A: Allocator> Model for Run<T, A> {
+    ghost use Rattle.std.specs.Prelude.{List};
+
     ghost Value = { List T };
 
     ghost view = { λ run. run.0.items };
 }
 
 impl<T: PartialEq, A: Allocator> PartialEq for Run<T, A> {
-    ghost eq = { pointwise T.eq };
+    ghost eq = { spec.pointwise T.eq };
 
-    ghost laws = { lists_per T.laws };
+    ghost laws = { spec.lists_per T.laws };
 
     fn eq(&self, other: &Self) -> bool {
         self.0.as_slice() == other.0.as_slice()
@@ -121,7 +109,7 @@ impl<T: PartialEq, A: Allocator> PartialEq for Run<T, A> {
 }
 
 impl<T: Eq, A: Allocator> Eq for Run<T, A> {
-    ghost laws = { lists_equiv T.Eq.laws };
+    ghost laws = { spec.lists_equiv T.Eq.laws };
 }
 
 impl<T: Ranged, A: Allocator> Run<T, A> {
@@ -140,7 +128,7 @@ impl<T: Ranged, A: Allocator> Run<T, A> {
     ///
     /// It returns true for no tables.
     pub fn is_in_order(&self) -> bool
-        ensures { result ≡ are_in_order (map T.range self.now) }
+        ensures { result ≡ spec.are_in_order (map T.range self.now) }
     {
         let mut last: Option<&UserKey<T::Alloc>> = None;
         for table in &self.0 {
@@ -157,8 +145,8 @@ impl<T: Ranged, A: Allocator> Run<T, A> {
     ///
     /// This holds for a run in order. For any other run, it returns some table or `None`.
     pub fn get_for_key(&self, key: &[u8]) -> Option<&T>
-        ensures found { IsInOrder T.range self.now →
-            option_copied result ≡ table_of_key T.range key.now self.now }
+        ensures found { spec.IsInOrder T.range self.now →
+            spec.option_copied result ≡ spec.table_of_key T.range key.now self.now }
         ensures within { IfSome result (λ t. Contains self.now t.now) }
     {
         let tables = self.0.as_slice();
@@ -180,10 +168,10 @@ impl<T: Ranged, A: Allocator> Run<T, A> {
         lower: Bound<&[u8]>,
         upper: Bound<&[u8]>,
     ) -> Option<(usize, usize)>
-        ensures found { IsInOrder T.range self.now →
-            result ≡ overlap_indexes (key_bound lower.entry) (key_bound upper.entry)
+        ensures found { spec.IsInOrder T.range self.now →
+            result ≡ spec.overlap_indexes (spec.key_bound lower.entry) (spec.key_bound upper.entry)
             (map T.range self.now) }
-        ensures within { IfSome result (λ ends. ArePlacesOf self.now ends) }
+        ensures within { IfSome result (λ ends. spec.ArePlacesOf self.now ends) }
     {
         let tables = self.0.as_slice();
         let first = count_ends_before(tables, lower);
@@ -200,9 +188,9 @@ impl<T: Ranged, A: Allocator> Run<T, A> {
     ///
     /// This holds for a run in order. For any other run, it returns some adjacent tables.
     pub fn get_overlapping(&self, key_range: &KeyRange<T::Alloc>) -> &[T]
-        ensures found { IsInOrder T.range self.now →
-            result.now ≡ tables_across T.range key_range.now self.now }
-        ensures within { IsPartOf self.now result.now }
+        ensures found { spec.IsInOrder T.range self.now →
+            result.now ≡ spec.tables_across T.range key_range.now self.now }
+        ensures within { spec.IsPartOf self.now result.now }
     {
         let tables = self.0.as_slice();
         let (_, rest) = tables.split_at(count_ends_before(
@@ -220,9 +208,9 @@ impl<T: Ranged, A: Allocator> Run<T, A> {
     ///
     /// This holds for a run in order. For any other run, it returns some adjacent tables.
     pub fn get_contained(&self, key_range: &KeyRange<T::Alloc>) -> &[T]
-        ensures found { IsInOrder T.range self.now →
-            result.now ≡ tables_inside T.range key_range.now self.now }
-        ensures within { IsPartOf self.now result.now }
+        ensures found { spec.IsInOrder T.range self.now →
+            result.now ≡ spec.tables_inside T.range key_range.now self.now }
+        ensures within { spec.IsPartOf self.now result.now }
     {
         let tables = self.0.as_slice();
         let (_, rest) = tables.split_at(count_starts_before(tables, key_range.min().as_slice()));
@@ -239,8 +227,8 @@ impl<T: Ranged, A: Allocator> Run<T, A> {
     /// [`Error::OutOfMemory`] if a reference count cannot be incremented.
     pub fn aggregate_key_range(&self) -> Result<KeyRange<T::Alloc>, Error>
         requires { 0 < length self.now }
-        ensures ok { IfOk result (λ range. first_to_last (map T.range self.now) ≡ Some range) }
-        ensures err { IfErr result (λ e. e ≡ OutOfMemory) }
+        ensures ok { IfOk result (λ range. spec.first_to_last (map T.range self.now) ≡ Some range) }
+        ensures err { IfErr result (λ e. e ≡ spec.OutOfMemory) }
     {
         let tables = self.0.as_slice();
         let first = tables[0].key_range();
@@ -265,10 +253,10 @@ impl<T: Ranged, A: Allocator> Run<T, A> {
     pub(crate) fn insert_in_order(&mut self, table: T) -> Result<(), Error>
     where
         T: Drop,
-        ensures sorted { OnOk result (IsInOrder T.range self.old →
-            self.new ≡ with_table T.range table self.old) }
+        ensures sorted { OnOk result (spec.IsInOrder T.range self.old →
+            self.new ≡ spec.with_table T.range table self.old) }
         ensures permutation { OnOk result (IsPermutation (self.old ++ table ∷ []) self.new) }
-        ensures err { IfErr result (λ e. e ≡ OutOfMemory) }
+        ensures err { IfErr result (λ e. e ≡ spec.OutOfMemory) }
     {
         let start = table.key_range().min().as_slice();
         let place = count_starts_within(self.0.as_slice(), Bound::Included(start));
@@ -299,7 +287,7 @@ impl<T: Ranged, A: Allocator> Run<T, A> {
         ensures ok { OnOk result (self.new ≡ self.old ++ items.items) }
         // Without tables it does not fail.
         ensures none { items.items ≡ [] → (result ≡ Ok tt) × (self.new ≡ self.old) }
-        ensures err { IfErr result (λ e. (e ≡ OutOfMemory) × (self.new ≡ self.old)) }
+        ensures err { IfErr result (λ e. (e ≡ spec.OutOfMemory) × (self.new ≡ self.old)) }
     {
         let mut items = items;
         if !items.is_empty() {
@@ -315,7 +303,7 @@ impl<T: Ranged, A: Allocator> Run<T, A> {
     where
         T: Drop,
         requires { F.IsAlwaysCallable keeps }
-        ensures { IsFiltered (CalledAt F.FnMut) keeps self.old self.new }
+        ensures { spec.IsFiltered (spec.CalledAt F.FnMut) keeps self.old self.new }
     {
         self.0.retain(keeps)
     }
@@ -324,7 +312,7 @@ impl<T: Ranged, A: Allocator> Run<T, A> {
     ///
     /// The run can be left empty or out of order.
     pub fn inner_mut(&mut self) -> &mut Vec<T, A>
-        ensures* writes_back { sem 𝓛 (Lends (the_row T.row A.row A.Allocator)
+        ensures* writes_back { spec.sem 𝓛 (spec.Lends (the_row T.row A.row A.Allocator)
             (vec.the_row T.row A.row A.Allocator) self.entry result (λ v. v.items)) }
         ensures value { result.now.items ≡ self.old }
     {
@@ -342,9 +330,9 @@ impl<T: Ranged + Drop, A: Allocator> Run<T, A> {
     /// [`Error::OutOfMemory`] only. The run is then unchanged, and the table is dropped.
     pub fn push(&mut self, item: T) -> Result<(), Error>
         ensures permutation { OnOk result (IsPermutation (self.old ++ item ∷ []) self.new) }
-        ensures sorted { OnOk result (IsSortedByMin T.range self.new) }
-        ensures stable { OnOk result (IsStableByMin T.range (self.old ++ item ∷ []) self.new) }
-        ensures err { IfErr result (λ e. (e ≡ OutOfMemory) × (self.new ≡ self.old)) }
+        ensures sorted { OnOk result (spec.IsSortedByMin T.range self.new) }
+        ensures stable { OnOk result (spec.IsStableByMin T.range (self.old ++ item ∷ []) self.new) }
+        ensures err { IfErr result (λ e. (e ≡ spec.OutOfMemory) × (self.new ≡ self.old)) }
     {
         self.0.push(item)?;
         if starts_ascend(self.0.as_slice()) {
@@ -372,7 +360,7 @@ impl<T: Ranged + Drop, A: Allocator> Run<T, A> {
 
 // Whether a range is well-formed and starts above the last key, if there is one.
 fn goes_on<B: Allocator>(last: Option<&UserKey<B>>, range: &KeyRange<B>) -> bool
-    ensures { result ≡ may_come_next (option_copied last.entry) range.now }
+    ensures { result ≡ spec.may_come_next (spec.option_copied last.entry) range.now }
 {
     let starts_above = match last {
         Some(last) => last < range.min(),
@@ -384,7 +372,7 @@ fn goes_on<B: Allocator>(last: Option<&UserKey<B>>, range: &KeyRange<B>) -> bool
 // Whether no table starts before its predecessor. The last two are compared first, so a new last
 // table out of order is found at once.
 fn starts_ascend<T: Ranged>(tables: &[T]) -> bool
-    ensures { IsTrue result → IsSortedByMin T.range tables.now }
+    ensures { IsTrue result → spec.IsSortedByMin T.range tables.now }
 {
     for place in (1..tables.len()).rev() {
         if tables[place].key_range().min() < tables[place - 1].key_range().min() {
@@ -396,40 +384,42 @@ fn starts_ascend<T: Ranged>(tables: &[T]) -> bool
 
 fn sort_by_min<T: Ranged, A: Allocator>(tables: &mut Vec<T, A>) -> Result<(), AllocError>
     ensures permutation { IsPermutation tables.old.items tables.new.items }
-    ensures sorted { OnOk result (IsSortedByMin T.range tables.new.items) }
-    ensures stable { IsStableByMin T.range tables.old.items tables.new.items }
+    ensures sorted { OnOk result (spec.IsSortedByMin T.range tables.new.items) }
+    ensures stable { spec.IsStableByMin T.range tables.old.items tables.new.items }
     ensures err { OnErr result (tables.new.items ≡ tables.old.items) }
 {
     tables.sort_by(|a, b| a.key_range().min().cmp(b.key_range().min()))
 }
 
 fn count_ends_before<T: Ranged>(tables: &[T], lower: Bound<&[u8]>) -> usize
-    ensures exact { IsInOrder T.range tables.now →
-        result ≡ how_many (ends_before (key_bound lower.entry)) (map T.range tables.now) }
+    ensures exact { spec.IsInOrder T.range tables.now →
+        result ≡ spec.how_many (spec.ends_before (spec.key_bound lower.entry))
+        (map T.range tables.now) }
     ensures within { result ≤ length tables.now }
 {
     tables.partition_point(|table| !is_from_lower(&lower, table.key_range().max().as_slice()))
 }
 
 fn count_starts_within<T: Ranged>(tables: &[T], upper: Bound<&[u8]>) -> usize
-    ensures exact { IsInOrder T.range tables.now →
-        result ≡ how_many (starts_within (key_bound upper.entry)) (map T.range tables.now) }
+    ensures exact { spec.IsInOrder T.range tables.now →
+        result ≡ spec.how_many (spec.starts_within (spec.key_bound upper.entry))
+        (map T.range tables.now) }
     ensures within { result ≤ length tables.now }
 {
     tables.partition_point(|table| is_up_to_upper(&upper, table.key_range().min().as_slice()))
 }
 
 fn count_starts_before<T: Ranged>(tables: &[T], key: &[u8]) -> usize
-    ensures exact { IsInOrder T.range tables.now →
-        result ≡ how_many (starts_before key.now) (map T.range tables.now) }
+    ensures exact { spec.IsInOrder T.range tables.now →
+        result ≡ spec.how_many (spec.starts_before key.now) (map T.range tables.now) }
     ensures within { result ≤ length tables.now }
 {
     tables.partition_point(|table| table.key_range().min().as_slice().cmp(key).is_lt())
 }
 
 fn count_ends_within<T: Ranged>(tables: &[T], key: &[u8]) -> usize
-    ensures exact { IsInOrder T.range tables.now →
-        result ≡ how_many (ends_within key.now) (map T.range tables.now) }
+    ensures exact { spec.IsInOrder T.range tables.now →
+        result ≡ spec.how_many (spec.ends_within key.now) (map T.range tables.now) }
     ensures within { result ≤ length tables.now }
 {
     tables.partition_point(|table| is_at_most(table.key_range().max().as_slice(), key))

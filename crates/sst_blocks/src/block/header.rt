@@ -1,10 +1,6 @@
 //! Block headers.
 ghost use Rattle.std.specs.Prelude.{◌≡◌, ◌∷◌, ◌++◌, [], length, None, Some, IfOk, MatchResult};
-ghost use Rattle.sst_blocks.specs.Block.{header_len};
-ghost use Rattle.sst_blocks.specs.Block.{kind_tag, header_fault, version_in, data_len};
-ghost use Rattle.sst_blocks.specs.Block.{uncompressed_len, stored_checksum};
-ghost use Rattle.sst_blocks.specs.Number.{le4, le8};
-ghost use Rattle.sst_blocks.specs.Version.{mark};
+ghost use Rattle.sst_blocks.specs.Words as spec;
 
 use crate::number::{u32_at, u64_at};
 use crate::{BlockType, Error, TableVersion, TagName};
@@ -29,7 +25,7 @@ impl Header {
 
     /// Returns the length of a header in bytes.
     pub fn serialized_len() -> usize
-        ensures { result ≡ header_len }
+        ensures { result ≡ spec.header_len }
     {
         Self::LEN as usize
     }
@@ -37,8 +33,8 @@ impl Header {
     /// Encodes the header for a block of a kind.
     #[tactic(auto, unfolding(crate::specs::Number::le4, crate::specs::Number::le8))]
     pub(crate) fn encode(self, kind: BlockType) -> [u8; 24]
-        ensures { result ≡ mark self.version ++ (kind_tag kind ∷ 0 ∷ 0 ∷ 0 ∷ [])
-            ++ le4 self.data_len ++ le4 self.uncompressed_len ++ le8 self.checksum }
+        ensures { result ≡ spec.mark self.version ++ (spec.kind_tag kind ∷ 0 ∷ 0 ∷ 0 ∷ [])
+            ++ spec.le4 self.data_len ++ spec.le4 self.uncompressed_len ++ spec.le8 self.checksum }
     {
         let mut bytes = [0; 24];
         bytes[..4].copy_from_slice(&self.version.mark());
@@ -56,14 +52,14 @@ impl Header {
     /// Fails with the first of these faults: [`Error::InvalidHeader`] for the magic number or the
     /// reserved bytes, [`Error::InvalidTag`], [`Error::UnsupportedCompression`].
     pub(crate) fn decode(bytes: &[u8], kind: BlockType) -> Result<Header, Error>
-        requires { length bytes.now ≡ header_len }
-        ensures fault { MatchResult result (λ _. header_fault kind bytes.now ≡ None)
-            (λ e. header_fault kind bytes.now ≡ Some e) }
-        ensures version { IfOk result (λ h. h.version ≡ version_in bytes.now) }
-        ensures data_len { IfOk result (λ h. h.data_len ≡ data_len bytes.now) }
-        ensures uncompressed_len { let len = uncompressed_len bytes.now in
+        requires { length bytes.now ≡ spec.header_len }
+        ensures fault { MatchResult result (λ _. spec.header_fault kind bytes.now ≡ None)
+            (λ e. spec.header_fault kind bytes.now ≡ Some e) }
+        ensures version { IfOk result (λ h. h.version ≡ spec.version_in bytes.now) }
+        ensures data_len { IfOk result (λ h. h.data_len ≡ spec.data_len bytes.now) }
+        ensures uncompressed_len { let len = spec.uncompressed_len bytes.now in
             IfOk result (λ h. h.uncompressed_len ≡ len) }
-        ensures checksum { IfOk result (λ h. h.checksum ≡ stored_checksum bytes.now) }
+        ensures checksum { IfOk result (λ h. h.checksum ≡ spec.stored_checksum bytes.now) }
     {
         let Some(version) = TableVersion::from_mark(&bytes[..4]) else {
             return Err(Error::InvalidHeader);

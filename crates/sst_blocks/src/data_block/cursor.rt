@@ -1,14 +1,7 @@
 //! A cursor over the entries of a data block.
 ghost use Rattle.std.specs.Prelude.{◌≡◌, ◌<◌, ◌≤◌, List, Some, true, unwrap_or, [], length, is_some};
 ghost use Rattle.std.specs.Prelude.{IfErr, IfOk, slice_range};
-ghost use Rattle.std.specs.List.{slice_get};
-ghost use Rattle.std.specs.Option.{option_map};
-ghost use Rattle.sst_blocks.specs.Cursor.{advanced, cursor_of, over_cursor, retreated, unlent};
-ghost use Rattle.sst_blocks.specs.EntryPlace.{IsPlacedIn, entry_placed};
-ghost use Rattle.sst_blocks.specs.Reading.{entries_in};
-ghost use Rattle.sst_blocks.specs.Starts.{EntriesAt};
-ghost use Rattle.sst_entries.specs.Lending.{entry_of_ref};
-ghost use Rattle.sst_entries.specs.declared.error.Error.TheVariants.{OutOfMemory};
+ghost use Rattle.sst_blocks.specs.Words as spec;
 
 use super::entry_ref::head_len;
 use crate::entry_place::EntryPlace;
@@ -27,11 +20,11 @@ fn place_at<A: Allocator>(
     starts: &Starts<A>,
     index: usize,
 ) -> EntryPlace
-    requires spelled { EntriesAt version payload.now starts.now }
+    requires spelled { spec.EntriesAt version payload.now starts.now }
     requires within { index < length starts.now }
-    ensures found { let entries = unwrap_or (entries_in version payload.now) [] in
-        slice_get entries index ≡ Some (entry_placed payload.now result) }
-    ensures placed { IsPlacedIn payload.now result }
+    ensures found { let entries = unwrap_or (spec.entries_in version payload.now) [] in
+        spec.slice_get entries index ≡ Some (spec.entry_placed payload.now result) }
+    ensures placed { spec.IsPlacedIn payload.now result }
 {
     let entry: EntryRef<'_> = item_at(version, payload.as_slice(), starts, index);
     EntryPlace::of(starts.at(index) + head_len(version), &entry)
@@ -79,10 +72,10 @@ impl<A: Allocator> Cursor<A> {
         from: usize,
         to: usize,
     ) -> Cursor<A>
-        requires spelled { EntriesAt version payload starts }
+        requires spelled { spec.EntriesAt version payload starts }
         requires within { to ≤ length starts }
-        ensures { let entries = unwrap_or (entries_in version payload) [] in
-            result ≡ cursor_of (slice_range entries from to) }
+        ensures { let entries = unwrap_or (spec.entries_in version payload) [] in
+            result ≡ spec.cursor_of (slice_range entries from to) }
     {
         Cursor {
             version,
@@ -99,7 +92,7 @@ impl<A: Allocator> Cursor<A> {
     /// Afterwards the previous entry is no longer available.
     #[inline(always)]
     pub fn advance(&mut self) -> bool
-        ensures goes { self.new ≡ advanced self.old }
+        ensures goes { self.new ≡ spec.advanced self.old }
         ensures more { result ≡ is_some self.new.lent }
     {
         if self.to <= self.from {
@@ -116,7 +109,7 @@ impl<A: Allocator> Cursor<A> {
     /// Afterwards the previous entry is no longer available.
     #[inline(always)]
     pub fn advance_back(&mut self) -> bool
-        ensures goes { self.new ≡ retreated self.old }
+        ensures goes { self.new ≡ spec.retreated self.old }
         ensures more { result ≡ is_some self.new.lent }
     {
         if self.to <= self.from {
@@ -133,7 +126,7 @@ impl<A: Allocator> Cursor<A> {
     /// It returns `None` before the first move and after the last entry.
     #[inline(always)]
     pub fn entry(&self) -> Option<EntryRef<'_>>
-        ensures { option_map entry_of_ref result ≡ self.now.lent }
+        ensures { spec.option_map spec.entry_of_ref result ≡ self.now.lent }
     {
         match &self.lent {
             None => None,
@@ -152,7 +145,7 @@ impl<A: Allocator> Cursor<A> {
     pub fn share(&self) -> Result<InternalValue<A>, Error>
         requires { is_some self.now.lent ≡ true }
         ensures found { IfOk result (λ e. self.now.lent ≡ Some e) }
-        ensures err { IfErr result (λ e. e ≡ OutOfMemory) }
+        ensures err { IfErr result (λ e. e ≡ spec.OutOfMemory) }
     {
         let Some(place) = &self.lent else {
             unreachable!()
@@ -163,14 +156,14 @@ impl<A: Allocator> Cursor<A> {
     /// Clears the current entry until the next move.
     #[inline(always)]
     pub fn unlend(&mut self)
-        ensures { self.new ≡ unlent self.old }
+        ensures { self.new ≡ spec.unlent self.old }
     {
         self.lent = None;
     }
 
     /// Drops the current entry and all that remain.
     pub fn end(&mut self)
-        ensures { self.new ≡ over_cursor }
+        ensures { self.new ≡ spec.over_cursor }
     {
         self.to = 0;
         self.lent = None;

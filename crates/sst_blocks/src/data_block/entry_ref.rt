@@ -1,9 +1,6 @@
 //! Decoding an entry of a data block.
 ghost use Rattle.std.specs.Prelude.{◌≡◌, ◌+◌, ◌≤◌, length};
-ghost use Rattle.std.specs.Option.{option_map};
-ghost use Rattle.sst_blocks.specs.Reading.{parts_at};
-ghost use Rattle.sst_entries.specs.Lending.{entry_of_ref};
-ghost use Rattle.sst_blocks.specs.Version.{key_width};
+ghost use Rattle.sst_blocks.specs.Words as spec;
 
 use crate::number::{key_len_at, key_width, u32_at, u64_at};
 use crate::reading::ItemRef;
@@ -13,7 +10,7 @@ use sst_entries::compare_versions;
 /// The size of an entry before its key: the tag, the sequence number and both lengths.
 #[inline]
 pub(crate) fn head_len(version: TableVersion) -> usize
-    ensures { result ≡ 13 + key_width version }
+    ensures { result ≡ 13 + spec.key_width version }
 {
     13 + key_width(version)
 }
@@ -26,9 +23,9 @@ fn read_parts(
     seqno: SeqNo,
     bytes: &[u8],
 ) -> Option<(EntryRef<'_>, &[u8])>
-    requires { key_width version + 4 ≤ length bytes.now }
-    ensures { option_map (λ x. (entry_of_ref x.0, x.1.now)) result ≡
-        parts_at version kind seqno bytes.now }
+    requires { spec.key_width version + 4 ≤ length bytes.now }
+    ensures { spec.option_map (λ x. (spec.entry_of_ref x.0, x.1.now)) result ≡
+        spec.parts_at version kind seqno bytes.now }
 {
     let key_len = key_len_at(version, bytes);
     let bytes = &bytes[key_width(version)..];

@@ -2,12 +2,7 @@
 ghost use Rattle.std.specs.Prelude.{◌≡◌, ◌+◌, ◌<◌, ◌≤◌, ◌^◌, [], Some, None, true, length};
 ghost use Rattle.std.specs.Prelude.{is_some, unwrap_or, drop, find, slice_range};
 ghost use Rattle.std.specs.Prelude.{IsTrue, IfOk, IfErr, IfSome, OnOk};
-ghost use Rattle.std.specs.Option.{option_map};
-ghost use Rattle.sst_blocks.specs.Reading.{entries_in, entry_at};
-ghost use Rattle.sst_entries.specs.Lending.{entry_of_ref};
-ghost use Rattle.sst_entries.specs.declared.error.Error.TheVariants.{InvalidBlock, OutOfMemory};
-ghost use Rattle.sst_entries.specs.Point.{read_place};
-ghost use Rattle.sst_entries.specs.Strict.{is_before};
+ghost use Rattle.sst_blocks.specs.Words as spec;
 
 use crate::reading::find_item;
 use crate::{EntryRef, Error, SeqNo, TableVersion};
@@ -30,16 +25,16 @@ pub(crate) fn find_entry<'a>(
     is_tested: bool,
 ) -> Result<Option<(usize, EntryRef<'a>)>, Error>
     requires long { 4 ≤ length payload.now }
-    requires tested { IsTrue is_tested → is_some (entries_in version payload.now) ≡ true }
-    ensures whole { OnOk result (is_some (entries_in version payload.now) ≡ true) }
-    ensures found { let entries = unwrap_or (entries_in version payload.now) [] in
-        IfOk result (λ found. option_map (λ x. entry_of_ref x.1) found ≡
-        find (is_before (read_place key.now seqno)) entries) }
+    requires tested { IsTrue is_tested → is_some (spec.entries_in version payload.now) ≡ true }
+    ensures whole { OnOk result (is_some (spec.entries_in version payload.now) ≡ true) }
+    ensures found { let entries = unwrap_or (spec.entries_in version payload.now) [] in
+        IfOk result (λ found. spec.option_map (λ x. spec.entry_of_ref x.1) found ≡
+        find (spec.is_before (spec.read_place key.now seqno)) entries) }
     ensures place { IfOk result (λ found. IfSome found (λ x.
-        option_map (λ y. y.0) (entry_at version (drop x.0 payload.now)) ≡
-        Some (entry_of_ref x.1))) }
+        spec.option_map (λ y. y.0) (spec.entry_at version (drop x.0 payload.now)) ≡
+        Some (spec.entry_of_ref x.1))) }
     ensures fault { IfErr result (λ e.
-        (e ≡ InvalidBlock) × (entries_in version payload.now ≡ None)) }
+        (e ≡ spec.InvalidBlock) × (spec.entries_in version payload.now ≡ None)) }
 {
     find_item(version, payload, key, seqno, is_tested)
 }

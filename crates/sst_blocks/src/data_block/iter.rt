@@ -1,12 +1,6 @@
 //! An iterator over the entries of a data block.
 ghost use Rattle.std.specs.Prelude.{◌≡◌, ◌-◌, ◌↔◌, [], IsTrue};
-ghost use Rattle.std.specs.Iterator.{at_most};
-ghost use Rattle.std.specs.declared.ops.Bound.TheVariants.{Included, Excluded, Unbounded};
-ghost use Rattle.sst_entries.specs.Point.{lower_place, upper_place, within};
-ghost use Rattle.sst_entries.specs.Span.{SpanGives, rest_in};
-ghost use Rattle.sst_entries.specs.Stream.{front_of, back_of};
-ghost use Rattle.sst_blocks.specs.Seeking.{whole_span, span_from, span_to, YieldsLeft, KeepsLower};
-ghost use Rattle.sst_blocks.specs.Seeking.{KeepsUpper};
+ghost use Rattle.sst_blocks.specs.Words as spec;
 
 use super::DataBlock;
 use crate::IterItem;
@@ -37,7 +31,7 @@ impl<'a, A: Allocator> Model for Iter<'a, A> {
 
 impl<'a, A: Allocator> Iter<'a, A> {
     pub(super) fn new(block: &'a DataBlock<A>) -> Iter<'a, A>
-        ensures { result ≡ whole_span block.now }
+        ensures { result ≡ spec.whole_span block.now }
     {
         Iter {
             block,
@@ -48,12 +42,13 @@ impl<'a, A: Allocator> Iter<'a, A> {
 
     /// Drops the entries with keys below `key`, and returns whether any remain.
     pub fn seek(&mut self, key: &[u8]) -> bool
-        ensures narrowed { let place = lower_place (Included key.now) self.old.list in
-            self.new ≡ span_from place self.old }
-        ensures left { IsTrue result ↔ (rest_in self.new ≡ [] → ⊥) }
-        ensures kept { rest_in self.new ≡ within (Included key.now) Unbounded (rest_in self.old) }
-        ensures both { KeepsUpper (Included key.now) self.old self.new }
-        ensures yields { YieldsLeft ⟦<Iter<'a, A> as Iterator>⟧.next_gives
+        ensures narrowed { let place = spec.lower_place (spec.Included key.now) self.old.list in
+            self.new ≡ spec.span_from place self.old }
+        ensures left { IsTrue result ↔ (spec.rest_in self.new ≡ [] → ⊥) }
+        ensures kept { spec.rest_in self.new ≡ spec.within (spec.Included key.now) spec.Unbounded
+            (spec.rest_in self.old) }
+        ensures both { spec.KeepsUpper (spec.Included key.now) self.old self.new }
+        ensures yields { spec.YieldsLeft ⟦<Iter<'a, A> as Iterator>⟧.next_gives
             ⟦<Iter<'a, A> as DoubleEndedIterator>⟧.next_back_gives self.new }
     {
         self.from = self.from.max(self.block.first_at_least(key));
@@ -62,12 +57,13 @@ impl<'a, A: Allocator> Iter<'a, A> {
 
     /// Drops the entries with keys up to and including `key`, and returns whether any remain.
     pub fn seek_exclusive(&mut self, key: &[u8]) -> bool
-        ensures narrowed { let place = lower_place (Excluded key.now) self.old.list in
-            self.new ≡ span_from place self.old }
-        ensures left { IsTrue result ↔ (rest_in self.new ≡ [] → ⊥) }
-        ensures kept { rest_in self.new ≡ within (Excluded key.now) Unbounded (rest_in self.old) }
-        ensures both { KeepsUpper (Excluded key.now) self.old self.new }
-        ensures yields { YieldsLeft ⟦<Iter<'a, A> as Iterator>⟧.next_gives
+        ensures narrowed { let place = spec.lower_place (spec.Excluded key.now) self.old.list in
+            self.new ≡ spec.span_from place self.old }
+        ensures left { IsTrue result ↔ (spec.rest_in self.new ≡ [] → ⊥) }
+        ensures kept { spec.rest_in self.new ≡ spec.within (spec.Excluded key.now) spec.Unbounded
+            (spec.rest_in self.old) }
+        ensures both { spec.KeepsUpper (spec.Excluded key.now) self.old self.new }
+        ensures yields { spec.YieldsLeft ⟦<Iter<'a, A> as Iterator>⟧.next_gives
             ⟦<Iter<'a, A> as DoubleEndedIterator>⟧.next_back_gives self.new }
     {
         self.from = self.from.max(self.block.first_above(key));
@@ -76,12 +72,13 @@ impl<'a, A: Allocator> Iter<'a, A> {
 
     /// Drops the entries with keys above `key`, and returns whether any remain.
     pub fn seek_upper(&mut self, key: &[u8]) -> bool
-        ensures narrowed { let place = upper_place (Included key.now) self.old.list in
-            self.new ≡ span_to place self.old }
-        ensures left { IsTrue result ↔ (rest_in self.new ≡ [] → ⊥) }
-        ensures kept { rest_in self.new ≡ within Unbounded (Included key.now) (rest_in self.old) }
-        ensures both { KeepsLower (Included key.now) self.old self.new }
-        ensures yields { YieldsLeft ⟦<Iter<'a, A> as Iterator>⟧.next_gives
+        ensures narrowed { let place = spec.upper_place (spec.Included key.now) self.old.list in
+            self.new ≡ spec.span_to place self.old }
+        ensures left { IsTrue result ↔ (spec.rest_in self.new ≡ [] → ⊥) }
+        ensures kept { spec.rest_in self.new ≡ spec.within spec.Unbounded (spec.Included key.now)
+            (spec.rest_in self.old) }
+        ensures both { spec.KeepsLower (spec.Included key.now) self.old self.new }
+        ensures yields { spec.YieldsLeft ⟦<Iter<'a, A> as Iterator>⟧.next_gives
             ⟦<Iter<'a, A> as DoubleEndedIterator>⟧.next_back_gives self.new }
     {
         self.to = self.to.min(self.block.first_above(key));
@@ -90,12 +87,13 @@ impl<'a, A: Allocator> Iter<'a, A> {
 
     /// Drops the entries with keys from `key` on, and returns whether any remain.
     pub fn seek_upper_exclusive(&mut self, key: &[u8]) -> bool
-        ensures narrowed { let place = upper_place (Excluded key.now) self.old.list in
-            self.new ≡ span_to place self.old }
-        ensures left { IsTrue result ↔ (rest_in self.new ≡ [] → ⊥) }
-        ensures kept { rest_in self.new ≡ within Unbounded (Excluded key.now) (rest_in self.old) }
-        ensures both { KeepsLower (Excluded key.now) self.old self.new }
-        ensures yields { YieldsLeft ⟦<Iter<'a, A> as Iterator>⟧.next_gives
+        ensures narrowed { let place = spec.upper_place (spec.Excluded key.now) self.old.list in
+            self.new ≡ spec.span_to place self.old }
+        ensures left { IsTrue result ↔ (spec.rest_in self.new ≡ [] → ⊥) }
+        ensures kept { spec.rest_in self.new ≡ spec.within spec.Unbounded (spec.Excluded key.now)
+            (spec.rest_in self.old) }
+        ensures both { spec.KeepsLower (spec.Excluded key.now) self.old self.new }
+        ensures yields { spec.YieldsLeft ⟦<Iter<'a, A> as Iterator>⟧.next_gives
             ⟦<Iter<'a, A> as DoubleEndedIterator>⟧.next_back_gives self.new }
     {
         self.to = self.to.min(self.block.first_at_least(key));
@@ -108,9 +106,9 @@ impl<A: Allocator> Iterator for Iter<'_, A> {
 
     ghost can_next = { λ _. Unit {0} };
 
-    ghost next_gives = { SpanGives front_of };
+    ghost next_gives = { spec.SpanGives spec.front_of };
 
-    ghost remaining = { λ s. at_most (s.to - s.from) };
+    ghost remaining = { λ s. spec.at_most (s.to - s.from) };
 
     fn next(&mut self) -> Option<IterItem<A>> {
         if self.to <= self.from {
@@ -133,7 +131,7 @@ impl<A: Allocator> Iterator for Iter<'_, A> {
 impl<A: Allocator> DoubleEndedIterator for Iter<'_, A> {
     ghost can_next_back = { λ _. Unit {0} };
 
-    ghost next_back_gives = { SpanGives back_of };
+    ghost next_back_gives = { spec.SpanGives spec.back_of };
 
     fn next_back(&mut self) -> Option<IterItem<A>> {
         if self.to <= self.from {

@@ -1,15 +1,12 @@
 //! Bit arrays, and the probes of a hash.
 ghost use Rattle.std.specs.Prelude.{◌≡◌, ◌+◌, ◌*◌, ◌%◌, ◌^◌, ◌==◌, ◌||◌, ◌<◌, length, true};
 ghost use Rattle.std.specs.Prelude.{List, ℕ};
-ghost use Rattle.std.specs.List.{list_all};
-ghost use Rattle.sst_blocks.specs.filter.Filter.{admits, filter_in, IsFilterOf, is_in, is_set};
-ghost use Rattle.sst_blocks.specs.filter.Filter.{probes};
-ghost use Rattle.sst_blocks.specs.filter.Filter.{stride};
+ghost use Rattle.sst_blocks.specs.Words as spec;
 
 // The distance between the probes of a hash.
 #[inline(always)]
 fn stride(hash: u64) -> u64
-    ensures { result ≡ stride hash }
+    ensures { result ≡ spec.stride hash }
 {
     (hash >> 32) | 1
 }
@@ -17,7 +14,7 @@ fn stride(hash: u64) -> u64
 #[inline(always)]
 fn has_bit(bits: &[u8], place: u64) -> bool
     requires { place < 8 * length bits.now }
-    ensures { result ≡ is_set bits.now place }
+    ensures { result ≡ spec.is_set bits.now place }
 {
     (bits[(place / 8) as usize] >> (place % 8)) & 1 == 1
 }
@@ -27,7 +24,7 @@ fn set_bit(bits: &mut [u8], place: u64)
     requires { place < 8 * length bits.old }
     ensures length { length bits.new ≡ length bits.old }
     ensures bits { (p : ℕ) → p < 8 * length bits.old →
-        is_set bits.new p ≡ (is_set bits.old p || (place == p)) }
+        spec.is_set bits.new p ≡ (spec.is_set bits.old p || (place == p)) }
 {
     bits[(place / 8) as usize] |= 1 << (place % 8);
 }
@@ -61,8 +58,8 @@ pub(crate) fn set_probes(bits: &mut [u8], count: u8, hash: u64)
     requires short { length bits.old < 2 ^ 60 }
     ensures length { length bits.new ≡ length bits.old }
     ensures bits { (p : ℕ) → p < 8 * length bits.old →
-        is_set bits.new p ≡
-        (is_set bits.old p || is_in p (probes (8 * length bits.old) hash count)) }
+        spec.is_set bits.new p ≡
+        (spec.is_set bits.old p || spec.is_in p (spec.probes (8 * length bits.old) hash count)) }
 {
     let len = bits.len() as u64 * 8;
     let stride = stride(hash);
@@ -79,7 +76,8 @@ pub(crate) fn set_probes(bits: &mut [u8], count: u8, hash: u64)
 fn has_probes(bits: &[u8], count: u8, hash: u64) -> bool
     requires some { 0 < length bits.now }
     requires short { length bits.now < 2 ^ 60 }
-    ensures { result ≡ list_all (is_set bits.now) (probes (8 * length bits.now) hash count) }
+    ensures { result ≡ spec.list_all (spec.is_set bits.now)
+        (spec.probes (8 * length bits.now) hash count) }
 {
     let len = bits.len() as u64 * 8;
     let stride = stride(hash);
@@ -99,7 +97,7 @@ fn has_probes(bits: &[u8], count: u8, hash: u64) -> bool
 fn admits(payload: &[u8], hash: u64) -> bool
     requires some { 1 < length payload.now }
     requires short { length payload.now < 2 ^ 60 }
-    ensures { result ≡ admits (filter_in payload.now) hash }
+    ensures { result ≡ spec.admits (spec.filter_in payload.now) hash }
 {
     has_probes(&payload[1..], payload[0], hash)
 }
@@ -112,10 +110,10 @@ fn admits(payload: &[u8], hash: u64) -> bool
 pub fn contains_hash(payload: &[u8], hash: u64) -> bool
     requires some { 1 < length payload.now }
     requires short { length payload.now < 2 ^ 60 }
-    ensures admits { result ≡ admits (filter_in payload.now) hash }
+    ensures admits { result ≡ spec.admits (spec.filter_in payload.now) hash }
     // A hash that was set is admitted.
-    ensures yes { (hashes : List ℕ) → IsFilterOf (filter_in payload.now) hashes →
-        is_in hash hashes ≡ true → result ≡ true }
+    ensures yes { (hashes : List ℕ) → spec.IsFilterOf (spec.filter_in payload.now) hashes →
+        spec.is_in hash hashes ≡ true → result ≡ true }
 {
     admits(payload, hash)
 }

@@ -1,7 +1,6 @@
 //! Building a Bloom filter.
 ghost use Rattle.std.specs.Prelude.{◌≡◌, ◌<◌, ◌++◌, ◌∷◌, [], length, List, ℕ};
-ghost use Rattle.sst_blocks.specs.filter.Filter.{Gains, IsBuilt, IsFilterOf, filter_in, payload_of};
-ghost use Rattle.sst_blocks.specs.filter.KeyHash.{hash_of};
+ghost use Rattle.sst_blocks.specs.Words as spec;
 
 use crate::filter::bit_array::set_probes;
 use crate::hash;
@@ -33,30 +32,30 @@ impl<A: Allocator> Builder<A> {
     // The builder of a payload.
     pub(crate) fn of(payload: Vec<u8, A>) -> Builder<A>
         requires some { 0 < length payload.items }
-        requires built { IsBuilt (filter_in payload.items) }
-        ensures { result ≡ filter_in payload.items }
+        requires built { spec.IsBuilt (spec.filter_in payload.items) }
+        ensures { result ≡ spec.filter_in payload.items }
     {
         Builder { payload }
     }
 
     /// Returns the hash by which a filter stores and tests a key.
     pub fn get_hash(key: &[u8]) -> u64
-        ensures { result ≡ hash_of key.now }
+        ensures { result ≡ spec.hash_of key.now }
     {
         hash(key)
     }
 
     /// Sets the bits of a hash.
     pub fn set_with_hash(&mut self, hash: u64)
-        ensures gains { Gains self.old hash self.new }
-        ensures hashes { (hashes : List ℕ) → IsFilterOf self.old hashes →
-            IsFilterOf self.new (hashes ++ hash ∷ []) }
+        ensures gains { spec.Gains self.old hash self.new }
+        ensures hashes { (hashes : List ℕ) → spec.IsFilterOf self.old hashes →
+            spec.IsFilterOf self.new (hashes ++ hash ∷ []) }
     {
         self.gain(hash);
     }
 
     fn gain(&mut self, hash: u64)
-        ensures { Gains self.old hash self.new }
+        ensures { spec.Gains self.old hash self.new }
     {
         let count = self.payload[0];
         set_probes(&mut self.payload[1..], count, hash);
@@ -64,10 +63,10 @@ impl<A: Allocator> Builder<A> {
 
     /// Returns the payload of the filter's block: the number of probes in one byte, then the bits.
     pub fn build(self) -> Vec<u8, A>
-        ensures payload { result.items ≡ payload_of self }
+        ensures payload { result.items ≡ spec.payload_of self }
         // The payload matches the grammar of filter blocks, and its block is shorter than 2^32
         // bytes.
-        ensures built { IsBuilt self }
+        ensures built { spec.IsBuilt self }
     {
         self.payload
     }

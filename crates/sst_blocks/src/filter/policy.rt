@@ -1,9 +1,6 @@
 //! The size of filters.
 ghost use Rattle.std.specs.Prelude.{◌≡◌, ◌<◌, ◌^◌, nat_lt, IfOk, IfErr, Some, []};
-ghost use Rattle.sst_blocks.specs.filter.Filter.{IsFilterOf};
-ghost use Rattle.sst_entries.specs.Error.{Faults, FaultsFirst};
-ghost use Rattle.sst_blocks.specs.filter.Policy.{bound_for, empty_filter, fault_for, probe_count};
-ghost use Rattle.sst_blocks.specs.filter.Policy.{size_for, tenths_of};
+ghost use Rattle.sst_blocks.specs.Words as spec;
 
 use crate::Builder;
 use sst_entries::Error;
@@ -37,7 +34,7 @@ fn fits(bound: u64) -> bool
 
 impl BloomConstructionPolicy {
     fn tenths(&self) -> u32
-        ensures { result ≡ tenths_of self.now }
+        ensures { result ≡ spec.tenths_of self.now }
     {
         let BloomConstructionPolicy::BitsPerKey(tenths) = self;
         *tenths
@@ -45,7 +42,7 @@ impl BloomConstructionPolicy {
 
     /// Returns whether filters are written at all: the number of bits per key is not 0.
     pub fn is_active(&self) -> bool
-        ensures { result ≡ nat_lt 0 (tenths_of self.now) }
+        ensures { result ≡ nat_lt 0 (spec.tenths_of self.now) }
     {
         self.tenths() > 0
     }
@@ -54,7 +51,7 @@ impl BloomConstructionPolicy {
     ///
     /// It is at least 8, and saturates at `usize::MAX`.
     pub fn estimated_filter_size(&self, n: usize) -> usize
-        ensures { result ≡ size_for (tenths_of self.now) n }
+        ensures { result ≡ spec.size_for (spec.tenths_of self.now) n }
     {
         let bits = n as u128 * u128::from(self.tenths());
         let size = bits.div_ceil(80).max(8);
@@ -63,7 +60,7 @@ impl BloomConstructionPolicy {
 
     // The number of probes per hash.
     fn probe_count(&self) -> u8
-        ensures { result ≡ probe_count (tenths_of self.now) }
+        ensures { result ≡ spec.probe_count (spec.tenths_of self.now) }
     {
         let count = u64::from(self.tenths()) * 69 / 1_000;
         count.clamp(1, 30) as u8
@@ -76,10 +73,10 @@ impl BloomConstructionPolicy {
     /// Fails with [`Error::BlockTooLarge`] exactly if [`filter_bound`] is 2^32 or more; this is
     /// checked before any allocation. Otherwise it fails only with [`Error::OutOfMemory`].
     pub fn init<A: Allocator>(&self, alloc: A, n: usize) -> Result<Builder<A>, Error>
-        ensures empty { IfOk result (λ b. b ≡ empty_filter (tenths_of self.now) n) }
-        ensures hashes { IfOk result (λ b. IsFilterOf b []) }
-        ensures refused { Faults result (fault_for (tenths_of self.now) n) }
-        ensures first { FaultsFirst result (fault_for (tenths_of self.now) n) }
+        ensures empty { IfOk result (λ b. b ≡ spec.empty_filter (spec.tenths_of self.now) n) }
+        ensures hashes { IfOk result (λ b. spec.IsFilterOf b []) }
+        ensures refused { spec.Faults result (spec.fault_for (spec.tenths_of self.now) n) }
+        ensures first { spec.FaultsFirst result (spec.fault_for (spec.tenths_of self.now) n) }
     {
         if !fits(filter_bound(self, n)) {
             return Err(Error::BlockTooLarge);
@@ -96,7 +93,7 @@ impl BloomConstructionPolicy {
 ///
 /// It saturates at `u64::MAX`.
 pub fn filter_bound(policy: &BloomConstructionPolicy, n: usize) -> u64
-    ensures { result ≡ bound_for (tenths_of policy.now) n }
+    ensures { result ≡ spec.bound_for (spec.tenths_of policy.now) n }
 {
     (policy.estimated_filter_size(n) as u64).saturating_add(25)
 }

@@ -1,10 +1,7 @@
 //! Finding one handle of a payload in one pass without allocation.
 ghost use Rattle.std.specs.Prelude.{◌≡◌, ◌≤◌, [], None, true, length, is_some, unwrap_or};
 ghost use Rattle.std.specs.Prelude.{find, IsTrue, IfOk, IfErr, OnOk};
-ghost use Rattle.std.specs.Option.{option_map};
-ghost use Rattle.sst_blocks.specs.Handles.{handles_in, reaches};
-ghost use Rattle.sst_blocks.specs.SeenHandle.{handle_of_ref};
-ghost use Rattle.sst_entries.specs.declared.error.Error.TheVariants.{InvalidBlock};
+ghost use Rattle.sst_blocks.specs.Words as spec;
 
 use super::read::HandleRef;
 use crate::reading::find_item;
@@ -28,13 +25,13 @@ pub(crate) fn find_handle<'a>(
     is_tested: bool,
 ) -> Result<Option<HandleRef<'a>>, Error>
     requires long { 4 ≤ length payload.now }
-    requires tested { IsTrue is_tested → is_some (handles_in version payload.now) ≡ true }
-    ensures whole { OnOk result (is_some (handles_in version payload.now) ≡ true) }
-    ensures found { let handles = unwrap_or (handles_in version payload.now) [] in
-        IfOk result (λ found. option_map handle_of_ref found ≡
-        find (reaches key.now seqno) handles) }
+    requires tested { IsTrue is_tested → is_some (spec.handles_in version payload.now) ≡ true }
+    ensures whole { OnOk result (is_some (spec.handles_in version payload.now) ≡ true) }
+    ensures found { let handles = unwrap_or (spec.handles_in version payload.now) [] in
+        IfOk result (λ found. spec.option_map spec.handle_of_ref found ≡
+        find (spec.reaches key.now seqno) handles) }
     ensures fault { IfErr result (λ e.
-        (e ≡ InvalidBlock) × (handles_in version payload.now ≡ None)) }
+        (e ≡ spec.InvalidBlock) × (spec.handles_in version payload.now ≡ None)) }
 {
     let found = find_item::<HandleRef<'a>>(version, payload, key, seqno, is_tested)?;
     match found {

@@ -1,11 +1,6 @@
 //! An iterator over the handles of an index block.
 ghost use Rattle.std.specs.Prelude.{◌≡◌, ◌+◌, ◌-◌, ◌↔◌, [], IsTrue, Some, None};
-ghost use Rattle.std.specs.Iterator.{at_most};
-ghost use Rattle.sst_blocks.specs.Handles.{window};
-ghost use Rattle.sst_entries.specs.Span.{SpanGives, rest_in};
-ghost use Rattle.sst_entries.specs.Stream.{front_of, back_of};
-ghost use Rattle.sst_blocks.specs.Seeking.{whole_span, span_from, span_to, reaching_place};
-ghost use Rattle.sst_blocks.specs.Seeking.{above_place, YieldsLeft, KeepsLowerEdge, KeepsUpperEdge};
+ghost use Rattle.sst_blocks.specs.Words as spec;
 
 use super::IndexBlock;
 use crate::{Error, KeyedBlockHandle, SeqNo};
@@ -36,7 +31,7 @@ impl<'a, A: Allocator> Model for Iter<'a, A> {
 
 impl<'a, A: Allocator> Iter<'a, A> {
     pub(super) fn new(block: &'a IndexBlock<A>) -> Iter<'a, A>
-        ensures { result ≡ whole_span block.now }
+        ensures { result ≡ spec.whole_span block.now }
     {
         Iter {
             block,
@@ -51,12 +46,13 @@ impl<'a, A: Allocator> Iter<'a, A> {
     /// A handle reaches it if its end key is greater, or equal with a sequence number below
     /// `seqno`.
     pub fn seek(&mut self, key: &[u8], seqno: SeqNo) -> bool
-        ensures narrowed { let place = reaching_place (key.now, seqno) self.old.list in
-            self.new ≡ span_from place self.old }
-        ensures left { IsTrue result ↔ (rest_in self.new ≡ [] → ⊥) }
-        ensures kept { rest_in self.new ≡ window (rest_in self.old) (Some (key.now, seqno)) None }
-        ensures both { KeepsUpperEdge (key.now, seqno) self.old self.new }
-        ensures yields { YieldsLeft ⟦<Iter<'a, A> as Iterator>⟧.next_gives
+        ensures narrowed { let place = spec.reaching_place (key.now, seqno) self.old.list in
+            self.new ≡ spec.span_from place self.old }
+        ensures left { IsTrue result ↔ (spec.rest_in self.new ≡ [] → ⊥) }
+        ensures kept { spec.rest_in self.new ≡ spec.window (spec.rest_in self.old)
+            (Some (key.now, seqno)) None }
+        ensures both { spec.KeepsUpperEdge (key.now, seqno) self.old self.new }
+        ensures yields { spec.YieldsLeft ⟦<Iter<'a, A> as Iterator>⟧.next_gives
             ⟦<Iter<'a, A> as DoubleEndedIterator>⟧.next_back_gives self.new }
     {
         self.from = self.from.max(self.block.first_reaching(key, seqno));
@@ -69,13 +65,14 @@ impl<'a, A: Allocator> Iter<'a, A> {
     /// The sequence number is ignored. If a block ends with the key, the next one may contain more
     /// versions of it.
     pub fn seek_upper(&mut self, key: &[u8], _seqno: SeqNo) -> bool
-        ensures narrowed { self.new ≡ span_to (1 + above_place key.now self.old.list) self.old }
-        ensures left { IsTrue result ↔ (rest_in self.new ≡ [] → ⊥) }
+        ensures narrowed { self.new ≡ spec.span_to (1 + spec.above_place key.now self.old.list)
+            self.old }
+        ensures left { IsTrue result ↔ (spec.rest_in self.new ≡ [] → ⊥) }
         // Keeps the remaining handles within the list's window up to the key.
-        ensures kept { let upper = window self.old.list None (Some key.now) in
-            rest_in self.new ≡ rest_in (record self.old { list = upper }) }
-        ensures both { KeepsLowerEdge key.now self.old self.new }
-        ensures yields { YieldsLeft ⟦<Iter<'a, A> as Iterator>⟧.next_gives
+        ensures kept { let upper = spec.window self.old.list None (Some key.now) in
+            spec.rest_in self.new ≡ spec.rest_in (record self.old { list = upper }) }
+        ensures both { spec.KeepsLowerEdge key.now self.old self.new }
+        ensures yields { spec.YieldsLeft ⟦<Iter<'a, A> as Iterator>⟧.next_gives
             ⟦<Iter<'a, A> as DoubleEndedIterator>⟧.next_back_gives self.new }
     {
         let last = self.block.first_above(key);
@@ -89,9 +86,9 @@ impl<A: Allocator> Iterator for Iter<'_, A> {
 
     ghost can_next = { λ _. Unit {0} };
 
-    ghost next_gives = { SpanGives front_of };
+    ghost next_gives = { spec.SpanGives spec.front_of };
 
-    ghost remaining = { λ s. at_most (s.to - s.from) };
+    ghost remaining = { λ s. spec.at_most (s.to - s.from) };
 
     fn next(&mut self) -> Option<Self::Item> {
         if self.to <= self.from {
@@ -114,7 +111,7 @@ impl<A: Allocator> Iterator for Iter<'_, A> {
 impl<A: Allocator> DoubleEndedIterator for Iter<'_, A> {
     ghost can_next_back = { λ _. Unit {0} };
 
-    ghost next_back_gives = { SpanGives back_of };
+    ghost next_back_gives = { spec.SpanGives spec.back_of };
 
     fn next_back(&mut self) -> Option<Self::Item> {
         if self.to <= self.from {

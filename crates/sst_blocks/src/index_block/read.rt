@@ -1,6 +1,6 @@
 //! Decoding a handle of an index block.
 ghost use Rattle.std.specs.Prelude.{◌≡◌, ◌+◌};
-ghost use Rattle.sst_blocks.specs.Version.{key_width};
+ghost use Rattle.sst_blocks.specs.Words as spec;
 
 use crate::number::{key_len_at, key_width, u32_at, u64_at};
 use crate::reading::ItemRef;
@@ -19,7 +19,7 @@ pub(crate) struct HandleRef<'a> {
 /// The size of a handle before its end key: sequence number, offset, size and key length.
 #[inline]
 pub(crate) fn head_len(version: TableVersion) -> usize
-    ensures { result ≡ 20 + key_width version }
+    ensures { result ≡ 20 + spec.key_width version }
 {
     20 + key_width(version)
 }

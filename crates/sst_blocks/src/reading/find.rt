@@ -2,11 +2,7 @@
 ghost use Rattle.std.specs.Prelude.{◌≡◌, ◌≤◌, [], Some, None, true, length};
 ghost use Rattle.std.specs.Prelude.{drop, find, is_some, unwrap_or, if◌then◌else◌};
 ghost use Rattle.std.specs.Prelude.{IfErr, IfOk, IfSome, IsTrue, OnOk};
-ghost use Rattle.std.specs.Option.{option_map, option_or};
-ghost use Rattle.sst_blocks.specs.Format.{items_in};
-ghost use Rattle.sst_entries.specs.Point.{read_place};
-ghost use Rattle.sst_entries.specs.Strict.{is_before};
-ghost use Rattle.sst_entries.specs.declared.error.Error.TheVariants.{InvalidBlock};
+ghost use Rattle.sst_blocks.specs.Words as spec;
 
 use super::ItemRef;
 use crate::number::u32_at;
@@ -28,17 +24,18 @@ pub(crate) fn find_item<'a, R: ItemRef<'a>>(
     is_tested: bool,
 ) -> Result<Option<(usize, R)>, Error>
     requires long { 4 ≤ length payload.now }
-    requires tested { IsTrue is_tested → is_some (items_in (R.format version) payload.now) ≡ true }
-    ensures whole { OnOk result (is_some (items_in (R.format version) payload.now) ≡ true) }
+    requires tested { IsTrue is_tested →
+        is_some (spec.items_in (R.format version) payload.now) ≡ true }
+    ensures whole { OnOk result (is_some (spec.items_in (R.format version) payload.now) ≡ true) }
     ensures found { let f = R.format version in
-        let items = unwrap_or (items_in f payload.now) [] in
-        IfOk result (λ found. option_map (λ x. R.returned x.1) found ≡
-        find (λ x. is_before (read_place key.now seqno) (f.key x)) items) }
+        let items = unwrap_or (spec.items_in f payload.now) [] in
+        IfOk result (λ found. spec.option_map (λ x. R.returned x.1) found ≡
+        find (λ x. spec.is_before (spec.read_place key.now seqno) (f.key x)) items) }
     ensures place { IfOk result (λ found. IfSome found (λ x.
-        option_map (λ y. y.0) ((R.format version).read (drop x.0 payload.now)) ≡
+        spec.option_map (λ y. y.0) ((R.format version).read (drop x.0 payload.now)) ≡
         Some (R.returned x.1))) }
     ensures fault { IfErr result (λ e.
-        (e ≡ InvalidBlock) × (items_in (R.format version) payload.now ≡ None)) }
+        (e ≡ spec.InvalidBlock) × (spec.items_in (R.format version) payload.now ≡ None)) }
 {
     if is_tested {
         Ok(find_tested(version, payload, key, seqno))
@@ -56,13 +53,13 @@ fn find_tested<'a, R: ItemRef<'a>>(
     seqno: SeqNo,
 ) -> Option<(usize, R)>
     requires long { 4 ≤ length payload.now }
-    requires tested { is_some (items_in (R.format version) payload.now) ≡ true }
+    requires tested { is_some (spec.items_in (R.format version) payload.now) ≡ true }
     ensures found { let f = R.format version in
-        let items = unwrap_or (items_in f payload.now) [] in
-        option_map (λ x. R.returned x.1) result ≡
-        find (λ x. is_before (read_place key.now seqno) (f.key x)) items }
+        let items = unwrap_or (spec.items_in f payload.now) [] in
+        spec.option_map (λ x. R.returned x.1) result ≡
+        find (λ x. spec.is_before (spec.read_place key.now seqno) (f.key x)) items }
     ensures place { IfSome result (λ x.
-        option_map (λ y. y.0) ((R.format version).read (drop x.0 payload.now)) ≡
+        spec.option_map (λ y. y.0) ((R.format version).read (drop x.0 payload.now)) ≡
         Some (R.returned x.1)) }
 {
     R::is_format(version);
@@ -89,16 +86,16 @@ fn find_and_test<'a, R: ItemRef<'a>>(
     seqno: SeqNo,
 ) -> Result<Option<(usize, R)>, Error>
     requires long { 4 ≤ length payload.now }
-    ensures whole { OnOk result (is_some (items_in (R.format version) payload.now) ≡ true) }
+    ensures whole { OnOk result (is_some (spec.items_in (R.format version) payload.now) ≡ true) }
     ensures found { let f = R.format version in
-        let items = unwrap_or (items_in f payload.now) [] in
-        IfOk result (λ found. option_map (λ x. R.returned x.1) found ≡
-        find (λ x. is_before (read_place key.now seqno) (f.key x)) items) }
+        let items = unwrap_or (spec.items_in f payload.now) [] in
+        IfOk result (λ found. spec.option_map (λ x. R.returned x.1) found ≡
+        find (λ x. spec.is_before (spec.read_place key.now seqno) (f.key x)) items) }
     ensures place { IfOk result (λ found. IfSome found (λ x.
-        option_map (λ y. y.0) ((R.format version).read (drop x.0 payload.now)) ≡
+        spec.option_map (λ y. y.0) ((R.format version).read (drop x.0 payload.now)) ≡
         Some (R.returned x.1))) }
     ensures fault { IfErr result (λ e.
-        (e ≡ InvalidBlock) × (items_in (R.format version) payload.now ≡ None)) }
+        (e ≡ spec.InvalidBlock) × (spec.items_in (R.format version) payload.now ≡ None)) }
 {
     R::is_format(version);
     let count = u32_at(payload);
@@ -133,8 +130,9 @@ fn put_first<'a, R: ItemRef<'a>>(
     seqno: SeqNo,
 )
     ensures { (v : TableVersion) →
-        let is_past = is_before (read_place key.now seqno) ((R.format v).key (R.returned item)) in
-        found.new ≡ option_or found.old (if is_past then Some (start, item) else None) }
+        let is_past = spec.is_before (spec.read_place key.now seqno)
+        ((R.format v).key (R.returned item)) in
+        found.new ≡ spec.option_or found.old (if is_past then Some (start, item) else None) }
 {
     if found.is_none() && item.is_past(key, seqno) {
         *found = Some((start, item));

@@ -1,12 +1,6 @@
 //! Reading items by index, and binary search among them.
 ghost use Rattle.std.specs.Prelude.{◌≡◌, ◌<◌, ◌≤◌, ℕ, Bool, List, Some, length};
-ghost use Rattle.std.specs.List.{slice_get};
-ghost use Rattle.std.specs.List.Sorted.{IsPartitionedBy};
-ghost use Rattle.std.specs.Option.{option_map};
-ghost use Rattle.sst_blocks.specs.Format.{items_of};
-ghost use Rattle.sst_blocks.specs.Reading.{key_and_number};
-ghost use Rattle.sst_blocks.specs.Starts.{ItemsAt};
-ghost use Rattle.sst_entries.specs.Span.{front_length};
+ghost use Rattle.sst_blocks.specs.Words as spec;
 
 use super::ItemRef;
 use crate::starts::Starts;
@@ -21,9 +15,10 @@ pub(crate) fn item_at<'a, R: ItemRef<'a>, A: Allocator>(
     starts: &Starts<A>,
     index: usize,
 ) -> R
-    requires spelled { ItemsAt (R.format version) payload.now starts.now }
+    requires spelled { spec.ItemsAt (R.format version) payload.now starts.now }
     requires within { index < length starts.now }
-    ensures { slice_get (items_of (R.format version) payload.now) index ≡ Some (R.returned result) }
+    ensures { spec.slice_get (spec.items_of (R.format version) payload.now) index
+        ≡ Some (R.returned result) }
 {
     R::is_format(version);
     let start = starts.at(index);
@@ -41,11 +36,11 @@ pub(crate) fn key_at<'a, R: ItemRef<'a>, A: Allocator>(
     starts: &Starts<A>,
     index: usize,
 ) -> (&'a [u8], SeqNo)
-    requires spelled { ItemsAt (R.format version) payload.now starts.now }
+    requires spelled { spec.ItemsAt (R.format version) payload.now starts.now }
     requires within { index < length starts.now }
     ensures { let f = R.format version in
-        option_map (λ x. key_and_number (f.key x)) (slice_get (items_of f payload.now) index)
-        ≡ Some (result.0.now, result.1) }
+        spec.option_map (λ x. spec.key_and_number (f.key x))
+        (spec.slice_get (spec.items_of f payload.now) index) ≡ Some (result.0.now, result.1) }
 {
     R::is_format(version);
     let start = starts.at(index);
@@ -61,15 +56,15 @@ pub(crate) fn front_len<'a, R: ItemRef<'a>, A: Allocator, P: Fn(&[u8], SeqNo) ->
     starts: &Starts<A>,
     passes: P,
 ) -> usize
-    requires spelled { ItemsAt (R.format version) payload.now starts.now }
+    requires spelled { spec.ItemsAt (R.format version) payload.now starts.now }
     requires callable { P.IsAlwaysCallable passes }
     ensures within { result ≤ length starts.now }
     ensures value { (p : List ℕ → ℕ → Bool) →
         ((key : _) (n : _) (r : _) → P.post passes key n r → r ≡ p key.now n) →
         let f = R.format version in
         let q = λ (x : R.Reported). p (f.key x).user_key (f.key x).seqno in
-        let items = items_of f payload.now in
-        IsPartitionedBy q items → result ≡ front_length q items }
+        let items = spec.items_of f payload.now in
+        spec.IsPartitionedBy q items → result ≡ spec.front_length q items }
 {
     let mut low = 0;
     let mut high = starts.len();

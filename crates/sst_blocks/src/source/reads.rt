@@ -1,19 +1,7 @@
 //! Queries of one block that need no memory for the offsets of its items.
 ghost use Rattle.std.specs.Prelude.{◌≡◌, Option, Ok, Err, Some, true, slice_range, IfOk, IfErr};
 ghost use Rattle.std.specs.Prelude.{IfSome};
-ghost use Rattle.std.specs.Option.{option_map};
-ghost use Rattle.sst_blocks.specs.EntryPlace.{IsPlacedIn, entry_placed, placed_in};
-ghost use Rattle.sst_entries.specs.Lending.{entry_of_ref};
-ghost use Rattle.sst_blocks.specs.Asked.{IsSure, find_result, maybe_in, maybe_result, place_for};
-ghost use Rattle.sst_blocks.specs.Asked.{point_of, point_result, result_map};
-ghost use Rattle.sst_blocks.specs.Block.{checked_payload, in_grammar, load_result, place_fault};
-ghost use Rattle.sst_blocks.specs.declared.block_type.BlockType.TheVariants.{Data, Filter, Index};
-ghost use Rattle.sst_blocks.specs.declared.opened.Opened.{Opened};
-ghost use Rattle.sst_blocks.specs.Opened.{with_load};
-ghost use Rattle.sst_blocks.specs.Placed.{IsValid, IsValidAt, IsValidHeaded};
-ghost use Rattle.sst_entries.specs.Entry.{Entry};
-ghost use Rattle.sst_entries.specs.Error.{FaultsFirst, Gives};
-ghost use Rattle.sst_blocks.specs.Sections.{body_of};
+ghost use Rattle.sst_blocks.specs.Words as spec;
 
 use super::BlockSource;
 use crate::block::Header;
@@ -51,13 +39,14 @@ impl<A: Allocator + Clone> BlockSource<A> {
         seqno: SeqNo,
         opened: &mut Opened,
     ) -> Result<Option<EntryPlace>, Error>
-        ensures returned { let body = body_of self.now in
-            result_map (option_map (entry_placed self.now)) result
-            ≡ point_result body handle.now.offset handle.now.size key.now seqno }
-        ensures placed { IfOk result (λ found. IfSome found (IsPlacedIn self.now)) }
-        ensures first { let body = body_of self.now in
-            FaultsFirst result (place_fault body handle.now.offset handle.now.size Data) }
-        ensures counted { opened.new ≡ with_load Data opened.old }
+        ensures returned { let body = spec.body_of self.now in
+            spec.result_map (spec.option_map (spec.entry_placed self.now)) result
+            ≡ spec.point_result body handle.now.offset handle.now.size key.now seqno }
+        ensures placed { IfOk result (λ found. IfSome found (spec.IsPlacedIn self.now)) }
+        ensures first { let body = spec.body_of self.now in
+            spec.FaultsFirst result
+            (spec.place_fault body handle.now.offset handle.now.size spec.Data) }
+        ensures counted { opened.new ≡ spec.with_load spec.Data opened.old }
     {
         opened.count(BlockType::Data);
         let sound = self.sound(handle, BlockType::Data)?;
@@ -67,7 +56,7 @@ impl<A: Allocator + Clone> BlockSource<A> {
     /// Borrows the entry at a position, or returns `None` if the bytes end before it.
     #[inline]
     pub fn entry_at(&self, place: &EntryPlace) -> Option<EntryRef<'_>>
-        ensures { option_map entry_of_ref result ≡ placed_in self.now place.now }
+        ensures { spec.option_map spec.entry_of_ref result ≡ spec.placed_in self.now place.now }
     {
         place.find(self.bytes.as_slice())
     }
@@ -89,15 +78,17 @@ impl<A: Allocator + Clone> BlockSource<A> {
         seqno: SeqNo,
         opened: &mut Opened,
     ) -> Result<Option<InternalValue<A>>, Error>
-        ensures returned { let body = body_of self.now in
-            Gives (λ (found : Option Entry). found) result
-            (point_result body handle.now.offset handle.now.size key.now seqno) }
+        ensures returned { let body = spec.body_of self.now in
+            spec.Gives (λ (found : Option spec.Entry). found) result
+            (spec.point_result body handle.now.offset handle.now.size key.now seqno) }
         // Only sharing an existing entry can fail with `OutOfMemory`.
-        ensures sure { let body = body_of self.now in
-            IsSure result (point_result body handle.now.offset handle.now.size key.now seqno) }
-        ensures first { let body = body_of self.now in
-            FaultsFirst result (place_fault body handle.now.offset handle.now.size Data) }
-        ensures counted { opened.new ≡ with_load Data opened.old }
+        ensures sure { let body = spec.body_of self.now in
+            spec.IsSure result (spec.point_result body handle.now.offset handle.now.size key.now
+            seqno) }
+        ensures first { let body = spec.body_of self.now in
+            spec.FaultsFirst result
+            (spec.place_fault body handle.now.offset handle.now.size spec.Data) }
+        ensures counted { opened.new ≡ spec.with_load spec.Data opened.old }
     {
         match self.point_place(handle, key, seqno, opened) {
             Ok(Some(place)) => Ok(Some(place.share(&self.bytes)?)),
@@ -122,11 +113,12 @@ impl<A: Allocator + Clone> BlockSource<A> {
         seqno: SeqNo,
         opened: &mut Opened,
     ) -> Result<Option<BlockHandle>, Error>
-        ensures returned { let body = body_of self.now in
-            result ≡ find_result body handle.now.offset handle.now.size key.now seqno }
-        ensures first { let body = body_of self.now in
-            FaultsFirst result (place_fault body handle.now.offset handle.now.size Index) }
-        ensures counted { opened.new ≡ with_load Index opened.old }
+        ensures returned { let body = spec.body_of self.now in
+            result ≡ spec.find_result body handle.now.offset handle.now.size key.now seqno }
+        ensures first { let body = spec.body_of self.now in
+            spec.FaultsFirst result
+            (spec.place_fault body handle.now.offset handle.now.size spec.Index) }
+        ensures counted { opened.new ≡ spec.with_load spec.Index opened.old }
     {
         opened.count(BlockType::Index);
         let sound = self.sound(handle, BlockType::Index)?;
@@ -146,11 +138,12 @@ impl<A: Allocator + Clone> BlockSource<A> {
         hash: u64,
         opened: &mut Opened,
     ) -> Result<bool, Error>
-        ensures returned { let body = body_of self.now in
-            result ≡ maybe_result body handle.now.offset handle.now.size hash }
-        ensures first { let body = body_of self.now in
-            FaultsFirst result (place_fault body handle.now.offset handle.now.size Filter) }
-        ensures counted { opened.new ≡ with_load Filter opened.old }
+        ensures returned { let body = spec.body_of self.now in
+            result ≡ spec.maybe_result body handle.now.offset handle.now.size hash }
+        ensures first { let body = spec.body_of self.now in
+            spec.FaultsFirst result
+            (spec.place_fault body handle.now.offset handle.now.size spec.Filter) }
+        ensures counted { opened.new ≡ spec.with_load spec.Filter opened.old }
     {
         opened.count(BlockType::Filter);
         let sound = self.sound(handle, BlockType::Filter)?;
@@ -160,12 +153,14 @@ impl<A: Allocator + Clone> BlockSource<A> {
     /// Returns the payload of the block of a kind, with its checksum and count verified.
     fn sound(&self, handle: &BlockHandle, kind: BlockType) -> Result<Valid, Error>
         ensures sound { IfOk result (λ s.
-            IsValidAt (body_of self.now) handle.now.offset handle.now.size kind s) }
-        ensures headed { IfOk result (IsValidHeaded self.now kind) }
-        ensures returned { let body = body_of self.now in
-            IfErr result (λ e. load_result body handle.now.offset handle.now.size kind ≡ Err e) }
-        ensures first { let body = body_of self.now in
-            IfErr result (λ e. place_fault body handle.now.offset handle.now.size kind ≡ Some e) }
+            spec.IsValidAt (spec.body_of self.now) handle.now.offset handle.now.size kind s) }
+        ensures headed { IfOk result (spec.IsValidHeaded self.now kind) }
+        ensures returned { let body = spec.body_of self.now in
+            IfErr result (λ e. spec.load_result body handle.now.offset handle.now.size kind
+            ≡ Err e) }
+        ensures first { let body = spec.body_of self.now in
+            IfErr result (λ e. spec.place_fault body handle.now.offset handle.now.size kind
+            ≡ Some e) }
     {
         let placed = self.place(handle, kind)?;
         let is_tested = self.test(&placed.header, kind, placed.start, placed.end)?;
@@ -184,14 +179,15 @@ impl<A: Allocator + Clone> BlockSource<A> {
         key: &[u8],
         seqno: SeqNo,
     ) -> Result<Option<EntryPlace>, Error>
-        requires sound { IsValid (body_of self.now) Data sound.now }
-        requires headed { IsValidHeaded self.now Data sound.now }
-        ensures returned { let body = body_of self.now in
+        requires sound { spec.IsValid (spec.body_of self.now) spec.Data sound.now }
+        requires headed { spec.IsValidHeaded self.now spec.Data sound.now }
+        ensures returned { let body = spec.body_of self.now in
             let payload = slice_range body sound.now.start sound.now.end in
             let header = sound.now.header in
-            result_map (option_map (entry_placed self.now)) result ≡ result_map (point_of key.now seqno)
-            (checked_payload header.version header.checksum Data payload) }
-        ensures placed { IfOk result (λ found. IfSome found (IsPlacedIn self.now)) }
+            spec.result_map (spec.option_map (spec.entry_placed self.now)) result
+            ≡ spec.result_map (spec.point_of key.now seqno)
+            (spec.checked_payload header.version header.checksum spec.Data payload) }
+        ensures placed { IfOk result (λ found. IfSome found (spec.IsPlacedIn self.now)) }
     {
         let version = sound.header.version;
         let payload = &self.body()[sound.start..sound.end];
@@ -214,13 +210,13 @@ impl<A: Allocator + Clone> BlockSource<A> {
         key: &[u8],
         seqno: SeqNo,
     ) -> Result<Option<BlockHandle>, Error>
-        requires sound { IsValid (body_of self.now) Index sound.now }
-        requires headed { IsValidHeaded self.now Index sound.now }
-        ensures returned { let body = body_of self.now in
+        requires sound { spec.IsValid (spec.body_of self.now) spec.Index sound.now }
+        requires headed { spec.IsValidHeaded self.now spec.Index sound.now }
+        ensures returned { let body = spec.body_of self.now in
             let payload = slice_range body sound.now.start sound.now.end in
             let header = sound.now.header in
-            result ≡ result_map (place_for key.now seqno)
-            (checked_payload header.version header.checksum Index payload) }
+            result ≡ spec.result_map (spec.place_for key.now seqno)
+            (spec.checked_payload header.version header.checksum spec.Index payload) }
     {
         let payload = &self.body()[sound.start..sound.end];
         let first = find_handle(sound.header.version, payload, key, seqno, sound.is_tested)?;
@@ -233,13 +229,13 @@ impl<A: Allocator + Clone> BlockSource<A> {
 
     /// Returns whether the filter of a payload may contain a hash.
     fn has_hash_in(&self, sound: &Valid, hash: u64) -> bool
-        requires sound { IsValid (body_of self.now) Filter sound.now }
-        requires headed { IsValidHeaded self.now Filter sound.now }
-        ensures returned { let body = body_of self.now in
+        requires sound { spec.IsValid (spec.body_of self.now) spec.Filter sound.now }
+        requires headed { spec.IsValidHeaded self.now spec.Filter sound.now }
+        ensures returned { let body = spec.body_of self.now in
             let payload = slice_range body sound.now.start sound.now.end in
             let header = sound.now.header in
-            Ok result ≡ result_map (maybe_in hash)
-            (checked_payload header.version header.checksum Filter payload) }
+            Ok result ≡ spec.result_map (spec.maybe_in hash)
+            (spec.checked_payload header.version header.checksum spec.Filter payload) }
     {
         // A filter's grammar is the check that `test` has made already.
         self.remember_walk(sound, BlockType::Filter);
@@ -248,11 +244,11 @@ impl<A: Allocator + Clone> BlockSource<A> {
 
     /// Caches that a payload's grammar was checked, unless the cache says so already.
     fn remember_walk(&self, sound: &Valid, kind: BlockType)
-        requires sound { IsValid (body_of self.now) kind sound.now }
-        requires headed { IsValidHeaded self.now kind sound.now }
-        requires items { let body = body_of self.now in
+        requires sound { spec.IsValid (spec.body_of self.now) kind sound.now }
+        requires headed { spec.IsValidHeaded self.now kind sound.now }
+        requires items { let body = spec.body_of self.now in
             let payload = slice_range body sound.now.start sound.now.end in
-            in_grammar sound.now.header.version kind payload ≡ true }
+            spec.in_grammar sound.now.header.version kind payload ≡ true }
     {
         if !sound.is_tested {
             self.remember_test(sound.start);

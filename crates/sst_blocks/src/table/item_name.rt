@@ -1,6 +1,6 @@
 //! The items of a meta block.
 ghost use Rattle.std.specs.Prelude.{◌≡◌};
-ghost use Rattle.sst_blocks.specs.table.MetaBlock.{name_of};
+ghost use Rattle.sst_blocks.specs.Words as spec;
 
 /// The meta block's code for the hash function of filters.
 pub const FILTER_HASH_TYPE: u8 = 1;
@@ -45,7 +45,7 @@ impl ItemName {
     /// Returns the item's key in the meta block.
     #[tactic(auto, unfolding(crate::specs::table::MetaBlock::name_of))]
     pub fn key(self) -> &'static [u8]
-        ensures { result.now ≡ name_of self }
+        ensures { result.now ≡ spec.name_of self }
     {
         match self {
             ItemName::BlockCountData => b"block_count#data",

@@ -1,7 +1,6 @@
 //! The options of a table writer.
 ghost use Rattle.std.specs.Prelude.{◌≡◌};
-ghost use Rattle.sst_blocks.specs.table.Kinds.{filter_with_size, index_with_size};
-ghost use Rattle.sst_blocks.specs.table.Options.{default_options};
+ghost use Rattle.sst_blocks.specs.Words as spec;
 
 use crate::BloomConstructionPolicy;
 
@@ -17,7 +16,7 @@ pub enum IndexKind {
 impl IndexKind {
     /// Returns the kind with partitions of this size; a full index stays full.
     pub fn with_size(self, size: u32) -> IndexKind
-        ensures { result ≡ index_with_size size self }
+        ensures { result ≡ spec.index_with_size size self }
     {
         match self {
             IndexKind::Full => IndexKind::Full,
@@ -38,7 +37,7 @@ pub enum FilterKind {
 impl FilterKind {
     /// Returns the kind with partitions of this size; a full filter stays full.
     pub fn with_size(self, size: u32) -> FilterKind
-        ensures { result ≡ filter_with_size size self }
+        ensures { result ≡ spec.filter_with_size size self }
     {
         match self {
             FilterKind::Full => FilterKind::Full,

@@ -1,11 +1,7 @@
 // Restoring the order of an interval heap after one item has changed.
 ghost use Rattle.std.specs.Prelude.{◌≡◌, ◌⊎◌, ℕ, ◌+◌, ◌-◌, ◌*◌, ◌/◌, ◌%◌, ◌<◌, ◌≤◌, length, take};
 ghost use Rattle.std.specs.Prelude.{IfNone, IfSome, IsPermutation};
-ghost use Rattle.lsm_sorted.specs.merge.Intervals.{IsIntervalHeap, IsRoot, IsEnd, above_of};
-ghost use Rattle.lsm_sorted.specs.merge.Intervals.{IsRisingAt};
-ghost use Rattle.lsm_sorted.specs.merge.Intervals.{IsSinkingAt, IsChildEnd, InOrder, IsNode};
-ghost use Rattle.lsm_sorted.specs.merge.Intervals.{PrecedesOn};
-ghost use Rattle.lsm_sorted.specs.merge.Intervals.{SinksFrom};
+ghost use Rattle.lsm_sorted.specs.Words as spec;
 
 use crate::heap::order::is_before;
 use sst_entries::Direction;
@@ -13,7 +9,7 @@ use sst_entries::Direction;
 // The index of the root's end at this side, in a heap of `places` items.
 pub(crate) fn root_end(side: Direction, places: usize) -> usize
     requires { 0 < places }
-    ensures root { IsRoot side places result }
+    ensures root { spec.IsRoot side places result }
     ensures within { result < places }
 {
     match side {
@@ -26,9 +22,9 @@ pub(crate) fn root_end(side: Direction, places: usize) -> usize
 // Moves the last item to its position. All others are in order.
 pub(crate) fn order_last<T: Ord>(items: &mut [T])
     requires some { 0 < length items.old }
-    requires others { IsIntervalHeap T.cmp (take (length items.old - 1) items.old) }
+    requires others { spec.IsIntervalHeap T.cmp (take (length items.old - 1) items.old) }
     ensures items { IsPermutation items.old items.new }
-    ensures heap { IsIntervalHeap T.cmp items.new }
+    ensures heap { spec.IsIntervalHeap T.cmp items.new }
 {
     let last = items.len() - 1;
     if last % 2 == 1 {
@@ -41,10 +37,10 @@ pub(crate) fn order_last<T: Ord>(items: &mut [T])
 // Moves the last item, the second of its node, to its position. All others are in order.
 fn order_second<T: Ord>(items: &mut [T], last: usize)
     requires last { length items.old ≡ last + 1 }
-    requires others { IsIntervalHeap T.cmp (take last items.old) }
+    requires others { spec.IsIntervalHeap T.cmp (take last items.old) }
     requires odd { last % 2 ≡ 1 }
     ensures items { IsPermutation items.old items.new }
-    ensures heap { IsIntervalHeap T.cmp items.new }
+    ensures heap { spec.IsIntervalHeap T.cmp items.new }
 {
     let first = last - 1;
     if is_before(Direction::Front, &items[last], &items[first]) {
@@ -59,11 +55,11 @@ fn order_second<T: Ord>(items: &mut [T], last: usize)
 // order.
 fn order_single<T: Ord>(items: &mut [T], last: usize)
     requires last { length items.old ≡ last + 1 }
-    requires others { IsIntervalHeap T.cmp (take last items.old) }
+    requires others { spec.IsIntervalHeap T.cmp (take last items.old) }
     requires even { last % 2 ≡ 0 }
     requires some { 0 < last }
     ensures items { IsPermutation items.old items.new }
-    ensures heap { IsIntervalHeap T.cmp items.new }
+    ensures heap { spec.IsIntervalHeap T.cmp items.new }
 {
     let above = place_above(Direction::Front, last);
     if is_before(Direction::Front, &items[last], &items[above]) {
@@ -76,7 +72,7 @@ fn order_single<T: Ord>(items: &mut [T], last: usize)
 // The index of the end at this side of the parent node.
 fn place_above(side: Direction, place: usize) -> usize
     requires { 2 ≤ place }
-    ensures { result ≡ above_of side place }
+    ensures { result ≡ spec.above_of side place }
 {
     let node = (place - 2) / 4;
     match side {
@@ -87,9 +83,9 @@ fn place_above(side: Direction, place: usize) -> usize
 
 // Moves an item toward the root while it comes before the one above it.
 fn rise<T: Ord>(items: &mut [T], side: Direction, mut place: usize)
-    requires { IsRisingAt side T.cmp items.old place }
+    requires { spec.IsRisingAt side T.cmp items.old place }
     ensures items { IsPermutation items.old items.new }
-    ensures heap { IsIntervalHeap T.cmp items.new }
+    ensures heap { spec.IsIntervalHeap T.cmp items.new }
 {
     while place > 1 {
         let above = place_above(side, place);
@@ -103,9 +99,9 @@ fn rise<T: Ord>(items: &mut [T], side: Direction, mut place: usize)
 
 // Moves an item away from the root while it comes after one below it.
 pub(crate) fn sink<T: Ord>(items: &mut [T], side: Direction, mut place: usize)
-    requires { SinksFrom side T.cmp items.old place }
+    requires { spec.SinksFrom side T.cmp items.old place }
     ensures items { IsPermutation items.old items.new }
-    ensures heap { IsIntervalHeap T.cmp items.new }
+    ensures heap { spec.IsIntervalHeap T.cmp items.new }
 {
     if place >= items.len() {
         return;
@@ -125,11 +121,11 @@ pub(crate) fn sink<T: Ord>(items: &mut [T], side: Direction, mut place: usize)
 
 // Orders the two ends of a node.
 fn order_node<T: Ord>(items: &mut [T], side: Direction, place: usize)
-    requires { IsSinkingAt side T.cmp items.old place }
+    requires { spec.IsSinkingAt side T.cmp items.old place }
     ensures items { IsPermutation items.old items.new }
-    ensures sinking { IsSinkingAt side T.cmp items.new place }
-    ensures ordered { (b : ℕ) → PrecedesOn side (length items.new) place b →
-        b / 2 ≡ place / 2 → InOrder side T.cmp items.new place b }
+    ensures sinking { spec.IsSinkingAt side T.cmp items.new place }
+    ensures ordered { (b : ℕ) → spec.PrecedesOn side (length items.new) place b →
+        b / 2 ≡ place / 2 → spec.InOrder side T.cmp items.new place b }
 {
     let other = if place % 2 == 0 { place + 1 } else { place - 1 };
     if other < items.len() && is_before(side, &items[other], &items[place]) {
@@ -140,11 +136,11 @@ fn order_node<T: Ord>(items: &mut [T], side: Direction, place: usize)
 // The index of the first in order among the child nodes' ends at this side.
 fn first_child<T: Ord>(items: &[T], side: Direction, place: usize) -> Option<usize>
     requires within { place < length items.now }
-    requires end { IsEnd side (length items.now) place }
-    ensures none { IfNone result ((b : ℕ) → IsChildEnd side (length items.now) place b → ⊥) }
-    ensures some { IfSome result (λ c. IsChildEnd side (length items.now) place c) }
-    ensures first { IfSome result (λ c. (b : ℕ) → IsChildEnd side (length items.now) place b →
-        InOrder side T.cmp items.now c b) }
+    requires end { spec.IsEnd side (length items.now) place }
+    ensures none { IfNone result ((b : ℕ) → spec.IsChildEnd side (length items.now) place b → ⊥) }
+    ensures some { IfSome result (λ c. spec.IsChildEnd side (length items.now) place c) }
+    ensures first { IfSome result (λ c. (b : ℕ) → spec.IsChildEnd side (length items.now) place b →
+        spec.InOrder side T.cmp items.now c b) }
 {
     let child = place / 2 * 2 + 1;
     let left = end_of(side, child, items.len())?;
@@ -164,7 +160,7 @@ fn end_of(side: Direction, node: usize, places: usize) -> Option<usize>
     ensures none { IfNone result (places ≤ 2 * node) }
     ensures node { IfSome result (λ k. k / 2 ≡ node) }
     ensures within { IfSome result (λ k. k < places) }
-    ensures end { IfSome result (λ k. IsEnd side places k) }
+    ensures end { IfSome result (λ k. spec.IsEnd side places k) }
 {
     let last = places - 1;
     if node > last / 2 {

@@ -1,14 +1,7 @@
 // Two tournaments over the same slots, one that the least item wins and one that the greatest wins.
 ghost use Rattle.std.specs.Prelude.{◌≡◌, ◌⊎◌, ℕ, ◌+◌, ◌-◌, ◌^◌, ◌<◌, ◌≤◌, length, min, true, false};
 ghost use Rattle.std.specs.Prelude.{if◌then◌else◌, IfOk};
-ghost use Rattle.std.specs.Ordering.{is_gt};
-ghost use Rattle.sst_entries.specs.declared.stream.Direction.TheVariants.{Front, Back};
-ghost use Rattle.lsm_sorted.specs.merge.Order.{toward};
-ghost use Rattle.lsm_sorted.specs.merge.Slots.{slot_at};
-ghost use Rattle.lsm_sorted.specs.merge.Tournament.{total_height};
-ghost use Rattle.lsm_sorted.specs.merge.Brackets.{is_beaten, IsUnbeaten, IsBracket, IsUnplayed};
-ghost use Rattle.lsm_sorted.specs.merge.Brackets.{IsWon};
-ghost use Rattle.lsm_sorted.specs.merge.Brackets.{WasWon, IsKept, AreKept, PlaysEnd, is_played_at};
+ghost use Rattle.lsm_sorted.specs.Words as spec;
 
 use crate::heap::order::is_before;
 use sst_entries::Direction;
@@ -37,10 +30,10 @@ impl<A: Allocator + Clone> Brackets<A> {
     // Two tournaments over `leaves` empty slots.
     pub(crate) fn new(alloc: A, leaves: usize, is_played: bool) -> Result<Self, AllocError>
         requires { 0 < leaves }
-        ensures front { IfOk result (λ b. IsUnplayed leaves b.front) }
-        ensures back { IfOk result (λ b. IsUnplayed leaves b.back) }
-        ensures front_end { IfOk result (λ b. b.front.end ≡ Front) }
-        ensures back_end { IfOk result (λ b. b.back.end ≡ Back) }
+        ensures front { IfOk result (λ b. spec.IsUnplayed leaves b.front) }
+        ensures back { IfOk result (λ b. spec.IsUnplayed leaves b.back) }
+        ensures front_end { IfOk result (λ b. b.front.end ≡ spec.Front) }
+        ensures back_end { IfOk result (λ b. b.back.end ≡ spec.Back) }
         ensures front_played { IfOk result (λ b. b.front.is_played ≡ is_played) }
         ensures back_played { IfOk result (λ b. b.back.is_played ≡ is_played) }
         ensures emptied { IfOk result (λ b. b.emptied ≡ None) }
@@ -60,17 +53,17 @@ impl<A: Allocator> Brackets<A> {
     // The slot that wins at an end, once the matches that are left are played.
     pub(crate) fn winner<T: Ord>(&mut self, slots: &[Option<T>], end: Direction) -> usize
         requires some { 0 < length slots.now }
-        requires kept { AreKept self.old.emptied T.cmp slots.now self.old }
+        requires kept { spec.AreKept self.old.emptied T.cmp slots.now self.old }
         ensures within { result < length slots.now }
-        ensures wins { IsUnbeaten (toward end T.cmp) slots.now result }
-        ensures kept { AreKept None T.cmp slots.now self.new }
+        ensures wins { spec.IsUnbeaten (spec.toward end T.cmp) slots.now result }
+        ensures kept { spec.AreKept None T.cmp slots.now self.new }
         ensures emptied { self.new.emptied ≡ None }
-        ensures plays { PlaysEnd end self.old self.new }
+        ensures plays { spec.PlaysEnd end self.old self.new }
         ensures rises { self.old.steps ≤ self.new.steps }
         ensures bound { let old = self.old in let leaves = length slots.now in
             (h : ℕ) → leaves ≡ 2 ^ h →
-            self.new.steps ≤ old.steps + total_height old.front.is_played old.back.is_played h
-            + (if is_played_at end old then 0 else leaves - 1) }
+            self.new.steps ≤ old.steps + spec.total_height old.front.is_played old.back.is_played h
+            + (if spec.is_played_at end old then 0 else leaves - 1) }
     {
         self.settle(slots);
         match end {
@@ -81,14 +74,14 @@ impl<A: Allocator> Brackets<A> {
 
     // Plays the matches above the slot that was emptied last.
     fn settle<T: Ord>(&mut self, slots: &[Option<T>])
-        requires { AreKept self.old.emptied T.cmp slots.now self.old }
-        ensures kept { AreKept None T.cmp slots.now self.new }
+        requires { spec.AreKept self.old.emptied T.cmp slots.now self.old }
+        ensures kept { spec.AreKept None T.cmp slots.now self.new }
         ensures emptied { self.new.emptied ≡ None }
         ensures front { self.new.front.is_played ≡ self.old.front.is_played }
         ensures back { self.new.back.is_played ≡ self.old.back.is_played }
         ensures rises { self.old.steps ≤ self.new.steps }
         ensures bound { (h : ℕ) → length slots.now ≡ 2 ^ h → self.new.steps ≤ self.old.steps
-            + total_height self.old.front.is_played self.old.back.is_played h }
+            + spec.total_height self.old.front.is_played self.old.back.is_played h }
     {
         match self.emptied {
             Some(slot) => {
@@ -101,14 +94,14 @@ impl<A: Allocator> Brackets<A> {
 
     // Plays the matches above a slot again, after its item has changed.
     pub(crate) fn follow<T: Ord>(&mut self, slots: &[Option<T>], slot: usize)
-        requires { AreKept (Some slot) T.cmp slots.now self.old }
-        ensures kept { AreKept None T.cmp slots.now self.new }
+        requires { spec.AreKept (Some slot) T.cmp slots.now self.old }
+        ensures kept { spec.AreKept None T.cmp slots.now self.new }
         ensures emptied { self.new.emptied ≡ self.old.emptied }
         ensures front { self.new.front.is_played ≡ self.old.front.is_played }
         ensures back { self.new.back.is_played ≡ self.old.back.is_played }
         ensures rises { self.old.steps ≤ self.new.steps }
         ensures bound { (h : ℕ) → length slots.now ≡ 2 ^ h → self.new.steps ≤ self.old.steps
-            + total_height self.old.front.is_played self.old.back.is_played h }
+            + spec.total_height self.old.front.is_played self.old.back.is_played h }
     {
         self.front.follow(slots, slot, &mut self.steps);
         self.back.follow(slots, slot, &mut self.steps);
@@ -119,7 +112,7 @@ impl<A: Allocator> Bracket<A> {
     // A tournament over empty slots: of two, the first wins.
     fn new(alloc: A, end: Direction, leaves: usize, is_played: bool) -> Result<Self, AllocError>
         requires { 0 < leaves }
-        ensures unplayed { IfOk result (λ b. IsUnplayed leaves b) }
+        ensures unplayed { IfOk result (λ b. spec.IsUnplayed leaves b) }
         ensures end { IfOk result (λ b. b.end ≡ end) }
         ensures played { IfOk result (λ b. b.is_played ≡ is_played) }
     {
@@ -144,10 +137,10 @@ impl<A: Allocator> Bracket<A> {
     // The slot that wins. From this call on, its matches are played.
     fn winner<T: Ord>(&mut self, slots: &[Option<T>], steps: &mut u64) -> usize
         requires some { 0 < length slots.now }
-        requires kept { IsKept None T.cmp slots.now self.old }
+        requires kept { spec.IsKept None T.cmp slots.now self.old }
         ensures within { result < length slots.now }
-        ensures wins { IsUnbeaten (toward self.old.end T.cmp) slots.now result }
-        ensures kept { IsKept None T.cmp slots.now self.new }
+        ensures wins { spec.IsUnbeaten (spec.toward self.old.end T.cmp) slots.now result }
+        ensures kept { spec.IsKept None T.cmp slots.now self.new }
         ensures end { self.new.end ≡ self.old.end }
         ensures played { self.new.is_played ≡ true }
         ensures rises { steps.old ≤ steps.new }
@@ -161,8 +154,8 @@ impl<A: Allocator> Bracket<A> {
     // Plays the matches, if they were not played yet.
     fn keep<T: Ord>(&mut self, slots: &[Option<T>], steps: &mut u64)
         requires some { 0 < length slots.now }
-        requires kept { IsKept None T.cmp slots.now self.old }
-        ensures won { IsWon T.cmp slots.now self.new }
+        requires kept { spec.IsKept None T.cmp slots.now self.old }
+        ensures won { spec.IsWon T.cmp slots.now self.new }
         ensures end { self.new.end ≡ self.old.end }
         ensures played { self.new.is_played ≡ true }
         ensures rises { steps.old ≤ steps.new }
@@ -177,8 +170,8 @@ impl<A: Allocator> Bracket<A> {
     // Plays each match, those of the leaves first.
     fn play<T: Ord>(&mut self, slots: &[Option<T>], steps: &mut u64)
         requires some { 0 < length slots.now }
-        requires nodes { IsBracket (length slots.now) self.old.nodes.items }
-        ensures won { IsWon T.cmp slots.now self.new }
+        requires nodes { spec.IsBracket (length slots.now) self.old.nodes.items }
+        ensures won { spec.IsWon T.cmp slots.now self.new }
         ensures end { self.new.end ≡ self.old.end }
         ensures played { self.new.is_played ≡ true }
         ensures rises { steps.old ≤ steps.new }
@@ -193,8 +186,8 @@ impl<A: Allocator> Bracket<A> {
 
     // Plays the matches above a slot again after its item has changed, unless none were played yet.
     fn follow<T: Ord>(&mut self, slots: &[Option<T>], slot: usize, steps: &mut u64)
-        requires { IsKept (Some slot) T.cmp slots.now self.old }
-        ensures kept { IsKept None T.cmp slots.now self.new }
+        requires { spec.IsKept (Some slot) T.cmp slots.now self.old }
+        ensures kept { spec.IsKept None T.cmp slots.now self.new }
         ensures end { self.new.end ≡ self.old.end }
         ensures played { self.new.is_played ≡ self.old.is_played }
         ensures rises { steps.old ≤ steps.new }
@@ -209,8 +202,8 @@ impl<A: Allocator> Bracket<A> {
     // Plays the matches above a slot again. It stops at a match whose winner stays and is another
     // slot, since the matches above do not change.
     fn replay<T: Ord>(&mut self, slots: &[Option<T>], slot: usize, steps: &mut u64)
-        requires { WasWon T.cmp slots.now slot self.old }
-        ensures won { IsWon T.cmp slots.now self.new }
+        requires { spec.WasWon T.cmp slots.now slot self.old }
+        ensures won { spec.IsWon T.cmp slots.now self.new }
         ensures end { self.new.end ≡ self.old.end }
         ensures played { self.new.is_played ≡ self.old.is_played }
         ensures rises { steps.old ≤ steps.new }
@@ -241,10 +234,10 @@ fn winner_of<T: Ord>(
     requires first { first < length slots.now }
     requires second { second < length slots.now }
     ensures from { (result ≡ first) ⊎ (result ≡ second) }
-    ensures first { is_beaten (toward end T.cmp) (slot_at slots.now result)
-        (slot_at slots.now first) ≡ false }
-    ensures second { is_beaten (toward end T.cmp) (slot_at slots.now result)
-        (slot_at slots.now second) ≡ false }
+    ensures first { spec.is_beaten (spec.toward end T.cmp) (spec.slot_at slots.now result)
+        (spec.slot_at slots.now first) ≡ false }
+    ensures second { spec.is_beaten (spec.toward end T.cmp) (spec.slot_at slots.now result)
+        (spec.slot_at slots.now second) ≡ false }
     ensures rises { steps.old ≤ steps.new }
     ensures bound { steps.new ≤ steps.old + 1 }
 {
@@ -264,7 +257,7 @@ fn winner_of<T: Ord>(
 // Whether `y` comes before `x` at this end. Each comparison of two items is made and counted here.
 #[inline(always)]
 fn beats<T: Ord>(end: Direction, y: &T, x: &T, steps: &mut u64) -> bool
-    ensures value { result ≡ is_gt (toward end T.cmp x.now y.now) }
+    ensures value { result ≡ spec.is_gt (spec.toward end T.cmp x.now y.now) }
     ensures counted { steps.new ≡ min (steps.old + 1) (2 ^ 64 - 1) }
     ensures rises { steps.old ≤ steps.new }
 {

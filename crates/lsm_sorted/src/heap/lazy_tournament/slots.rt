@@ -1,8 +1,7 @@
 // Slots for items, with a list of the free ones.
 ghost use Rattle.std.specs.Prelude.{◌≡◌, ℕ, ◌+◌, ◌<◌, ◌≤◌, [], ◌∷◌, ◌++◌, IfSome, length};
 ghost use Rattle.std.specs.Prelude.{replicate, slice_index, slice_set, IfOk};
-ghost use Rattle.std.specs.Vec.{vec_capacity};
-ghost use Rattle.lsm_sorted.specs.merge.Slots.{occupants, slot_at};
+ghost use Rattle.lsm_sorted.specs.Words as spec;
 
 use std::alloc::{AllocError, Allocator};
 use std::marker::Model;
@@ -45,7 +44,7 @@ impl<T, A: Allocator + Clone> Slots<T, A> {
 
 impl<T, A: Allocator> Slots<T, A> {
     pub(crate) fn len(&self) -> usize
-        ensures { result ≡ length (occupants self.now.places) }
+        ensures { result ≡ length (spec.occupants self.now.places) }
     {
         self.free.capacity() - self.free.len()
     }
@@ -58,9 +57,9 @@ impl<T, A: Allocator> Slots<T, A> {
 
     // Puts an item into an empty slot, and returns the slot.
     pub(crate) fn insert(&mut self, item: T) -> usize
-        requires { length (occupants self.old.places) < self.old.room }
+        requires { length (spec.occupants self.old.places) < self.old.room }
         ensures within { result < length self.old.places }
-        ensures empty { slot_at self.old.places result ≡ None }
+        ensures empty { spec.slot_at self.old.places result ≡ None }
         ensures places { self.new.places ≡ slice_set self.old.places result (Some item) }
         ensures room { self.new.room ≡ self.old.room }
         ensures last { self.old.free ≡ self.new.free ++ result ∷ [] }
@@ -77,7 +76,7 @@ impl<T, A: Allocator> Slots<T, A> {
     // Empties a slot.
     pub(crate) fn remove(&mut self, slot: usize) -> Option<T>
         requires { slot < length self.old.places }
-        ensures value { result ≡ slot_at self.old.places slot }
+        ensures value { result ≡ spec.slot_at self.old.places slot }
         ensures places { self.new.places ≡ slice_set self.old.places slot None }
         ensures room { self.new.room ≡ self.old.room }
         ensures last { IfSome result (λ _. self.new.free ≡ self.old.free ++ slot ∷ []) }
@@ -90,7 +89,7 @@ impl<T, A: Allocator> Slots<T, A> {
 
 // The slots below `count`, the lowest last.
 fn first_slots<A: Allocator>(alloc: A, count: usize) -> Result<Vec<usize, A>, AllocError>
-    ensures room { IfOk result (λ v. vec_capacity v ≡ count) }
+    ensures room { IfOk result (λ v. spec.vec_capacity v ≡ count) }
     ensures count { IfOk result (λ v. length v.items ≡ count) }
     ensures each { IfOk result (λ v. (i : ℕ) → i < count → slice_index v.items i + i + 1 ≡ count) }
 {
