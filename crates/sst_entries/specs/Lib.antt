@@ -7,3 +7,4 @@ pub mod Stream
 pub mod Lending
 pub mod Span
 pub mod Point
+pub mod Words

@@ -1,4 +1,4 @@
--- The words of the clauses, those of the crates below among them, from one place.
+-- Names in one place all definitions that clauses of this crate cite.
 pub use Rattle.std.specs.Cmp.{partial_equiv_from_equiv, partial_order_from_own_ties}
 pub use Rattle.std.specs.Cmp.Lexicographic.{nat_list_cmp_total, nat_list_eq_equiv, pointwise}
 pub use Rattle.std.specs.Cmp.Lexicographic.{slice_cmp, texts_po, texts_ties}
