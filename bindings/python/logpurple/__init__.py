@@ -26,8 +26,8 @@ b'green'
 
 - `Table` reads one table, and `Runs` several as one.
 - `Writer` writes a table, and `compact` merges several into new ones. Both return `FinishedTable`,
-  which is `bytes` with an `id` and a `checksum`.
-- `Entry`, `Facts`, `Memory`, `Packing`, `Verified` and `Finding` are named tuples.
+  which is `bytes` with an `id` and a `checksum`. Its `save`, and `Writer.finish_to`, write a file.
+- `Entry`, `Facts`, `Memory`, `Packing`, `Verified`, `Finding` and `WrittenFile` are named tuples.
 - Errors are exceptions of the class `TableError`. `Table.verify` raises `Faulty`.
 - `NEWEST` is the largest sequence number, and the default snapshot.
 
@@ -48,15 +48,17 @@ from . import _errors
 from ._errors import *  # noqa: F401,F403
 from ._iterators import Entries, Scan
 from ._records import (NEWEST, Entry, Facts, Fault, Finding, Kind, Memory, Packing, Section,
-                       Verified)
-from ._tables import BytesLike, Items, Keys, Runs, Table, Values
+                       Verified, WrittenFile)
+from ._resources import BytesLike
+from ._tables import Runs, Table
+from ._views import Items, Keys, Values
 from ._writing import Compacted, FinishedTable, Writer, compact
 
 __version__ = "1.0.0"
 
 __all__ = ["NEWEST", "BytesLike", "Compacted", "Entries", "Entry", "Facts", "Fault", "Finding",
            "FinishedTable", "Items", "Keys", "Kind", "Memory", "Packing", "Runs", "Scan",
-           "Section", "Table", "Values", "Verified", "Writer", "compact"]
+           "Section", "Table", "Values", "Verified", "WrittenFile", "Writer", "compact"]
 __all__ += _errors.__all__
 
 # The names of the package are the public ones, as errors and `help` show them.

@@ -104,6 +104,21 @@ class Verified(NamedTuple):
     data_block_count: int
 
 
+class WrittenFile(NamedTuple):
+    """A file that `Writer.finish_to` wrote.
+
+    `path`: its path, as it was passed.
+    `id`: the id of the table.
+    `checksum`: the FNV-1a hash of all bytes, which is not part of them.
+    `size`: the number of bytes.
+    """
+
+    path: str
+    id: int
+    checksum: int
+    size: int
+
+
 class Section(enum.IntEnum):
     """A section of a table.
 

@@ -2,13 +2,18 @@
 
 from __future__ import annotations
 
+import array
+import mmap
 import operator
 import threading
 from ctypes import addressof
-from typing import Any, List, NoReturn, Optional, Tuple, Type, TypeVar
+from typing import Any, List, NoReturn, Optional, Tuple, Type, TypeVar, Union
 
 from . import _calls
 from ._errors import TableError, error
+
+#: An object with a buffer, whose bytes a call reads.
+BytesLike = Union[bytes, bytearray, memoryview, mmap.mmap, "array.array[Any]"]
 
 _SomeResource = TypeVar("_SomeResource", bound="Resource")
 

@@ -4,109 +4,27 @@ from __future__ import annotations
 
 import array
 import ctypes
-import mmap
-import operator
 import os
 from ctypes import addressof, byref
-from typing import (Any, Callable, Generator, Generic, Iterable, Iterator, List, Optional, Tuple,
+from typing import (Any, Callable, Generator, Iterable, Iterator, List, Optional, Sequence, Tuple,
                     Type, TypeVar, Union, overload)
 
 from . import _calls
 from ._calls import copied
 from ._errors import Faulty, check, faulty
-from ._iterators import DELETIONS, KINDS, Batch, Bounds, Entries, Scan, Steps, visible
+from ._files import Path
+from ._iterators import DELETIONS, KINDS, Batch, Bounds, Entries, Pairs, Scan, Steps, visible
+from ._merging import merged
 from ._records import NEWEST, Entry, Facts, Fault, Finding, Memory, Packing, Section, Verified
-from ._resources import Resource, Returned, number, plain
-
-#: An object with a buffer, whose bytes a call reads.
-BytesLike = Union[bytes, bytearray, memoryview, mmap.mmap, "array.array[Any]"]
+from ._resources import BytesLike, Resource, Returned, number, plain
+from ._views import Items, Keys, Values
 
 _Default = TypeVar("_Default")
-_Item = TypeVar("_Item")
 _SomeTable = TypeVar("_SomeTable", bound="Table")
+_SomeRuns = TypeVar("_SomeRuns", bound="Runs")
 
 # The kinds of what a read finds that has no value: no entry, and deletions.
 _WITHOUT_VALUE = (0, *DELETIONS)
-_first, _second = operator.itemgetter(0), operator.itemgetter(1)
-
-
-class _View(Generic[_Item]):
-    """Keys, values or pairs of a table or of several. Each iteration starts anew."""
-
-    def __init__(self, reader: _Reader) -> None:
-        self._reader = reader
-
-    # Begins an iteration.
-    def _begin(self, reverse: bool) -> Iterator[_Item]:
-        raise NotImplementedError
-
-    def __iter__(self) -> Iterator[_Item]:
-        return self._begin(False)
-
-    def __reversed__(self) -> Iterator[_Item]:
-        return self._begin(True)
-
-    def __repr__(self) -> str:
-        return f"<{type(self).__name__} of {self._reader!r}>"
-
-
-class Keys(_View[bytes]):
-    """The keys that have a value, which `Table.keys` and `Runs.keys` return.
-
-    Each iteration reads the table from the start, and `reversed` from the end. `in` is a point
-    read.
-
-    >>> writer = Writer()
-    >>> writer.add_many([(b"a", b"1"), (b"b", b"2")])
-    >>> keys = Table.open(writer.finish()).keys()
-    >>> list(keys), list(reversed(keys)), b"a" in keys
-    ([b'a', b'b'], [b'b', b'a'], True)
-    """
-
-    def _begin(self, reverse: bool) -> Iterator[bytes]:
-        return map(_first, self._reader.range(reverse=reverse))
-
-    def __contains__(self, key: BytesLike) -> bool:
-        return key in self._reader
-
-
-class Values(_View[bytes]):
-    """The newest values, in key order, which `Table.values` and `Runs.values` return.
-
-    Each iteration reads the table from the start, and `reversed` from the end. `in` is an
-    iteration.
-
-    >>> writer = Writer()
-    >>> writer.add_many([(b"a", b"1"), (b"b", b"2")])
-    >>> values = Table.open(writer.finish()).values()
-    >>> list(values), list(reversed(values)), b"3" in values
-    ([b'1', b'2'], [b'2', b'1'], False)
-    """
-
-    def _begin(self, reverse: bool) -> Iterator[bytes]:
-        return map(_second, self._reader.range(reverse=reverse))
-
-
-class Items(_View[Tuple[bytes, bytes]]):
-    """The keys and their newest values, which `Table.items` and `Runs.items` return.
-
-    Each iteration reads the table from the start, and `reversed` from the end. `in` is a point
-    read.
-
-    >>> writer = Writer()
-    >>> writer.add_many([(b"a", b"1"), (b"b", b"2")])
-    >>> items = Table.open(writer.finish()).items()
-    >>> dict(items), next(reversed(items)), (b"a", b"2") in items
-    ({b'a': b'1', b'b': b'2'}, (b'b', b'2'), False)
-    """
-
-    def _begin(self, reverse: bool) -> Iterator[Tuple[bytes, bytes]]:
-        return self._reader.range(reverse=reverse)
-
-    def __contains__(self, item: Tuple[BytesLike, BytesLike]) -> bool:
-        key, value = item
-        found = self._reader.get(key)
-        return found is not None and found == value
 
 
 class _Reader(Resource):
@@ -116,8 +34,7 @@ class _Reader(Resource):
     _get: Callable[..., int]
 
     # Begins to read the entries of a range: those that are visible at a snapshot, or more.
-    def _range(self, lower: Optional[BytesLike], upper: Optional[BytesLike], reverse: bool,
-               at: int) -> Steps:
+    def _range(self, bounds: Bounds, reverse: bool, at: int) -> Steps:
         raise NotImplementedError
 
     def entry(self, key: BytesLike, at: int = NEWEST) -> Optional[Entry]:
@@ -179,14 +96,21 @@ class _Reader(Resource):
             return copied(lent.value, lent.value_len)
 
     def range(self, lower: Optional[BytesLike] = None, upper: Optional[BytesLike] = None,
-              reverse: bool = False,
-              at: int = NEWEST) -> Generator[Tuple[bytes, bytes], None, None]:
+              reverse: bool = False, at: int = NEWEST, *, prefix: Optional[BytesLike] = None,
+              memtable: Optional[Sequence[Entry]] = None
+              ) -> Generator[Tuple[bytes, bytes], None, None]:
         """Yields the keys from `lower` on and below `upper`, with their values at a snapshot.
 
         The snapshot `at` sees the versions whose sequence numbers are below it. The pairs are in
         key order or, if `reverse`, in reverse. `None` is no bound. There are no pairs if `lower` is
         not below `upper`. Keys for which `get` finds no value are left out. The cost is that of
         reading every version of each key in the range.
+
+        `prefix`: only the keys that begin with it.
+        `memtable`: entries that no table has yet, in the order of a table, as a list. The range
+        reads them as if they were a table, and only those within the bounds. It must not change
+        meanwhile. If a table has the same version of a key, that of the memtable is yielded. Raises
+        `OutOfOrder` where it reads two entries that are not in order.
 
         The iterator can be left at any time. It is released with the last reference to it, or by
         its `close`. One thread at a time may use it.
@@ -197,9 +121,15 @@ class _Reader(Resource):
         >>> table = Table.open(writer.finish())
         >>> list(table.range(reverse=True)), list(Runs(table).range(at=2))
         ([(b'b', b'3'), (b'a', b'2')], [(b'a', b'1')])
+        >>> new = [Entry(b"a", 5, Kind.TOMBSTONE, b""), Entry(b"be", 4, Kind.VALUE, b"4")]
+        >>> list(table.range(memtable=new)), list(table.range(prefix=b"b", memtable=new, at=4))
+        ([(b'b', b'3'), (b'be', b'4')], [(b'b', b'3')])
         """
-        at = number(at)
-        return visible(self._range(lower, upper, reverse, at), at, bool(reverse))
+        at, bounds, reverse = number(at), _bounds(lower, upper, prefix), bool(reverse)
+        steps = self._range(bounds, reverse, at)
+        if memtable is None:
+            return visible(steps, at, reverse)
+        return _pairs(merged(steps, memtable, bounds, at, reverse))
 
     def keys(self) -> Keys:
         """Returns a view of the keys that have a value. `for key in table` is the same.
@@ -330,7 +260,7 @@ class Table(Returned, _Reader):
     _get = _calls.table_get
 
     @classmethod
-    def open(cls: Type[_SomeTable], source: Union[BytesLike, str, os.PathLike[str]],
+    def open(cls: Type[_SomeTable], source: Union[BytesLike, Path],
              global_seqno: int = 0, pin_filter: bool = True, pin_index: bool = True,
              kept: bool = False) -> _SomeTable:
         """Opens a table from its bytes or from the path of a file.
@@ -492,12 +422,13 @@ class Table(Returned, _Reader):
             return zip(found[0::4], found[1::4], key_lens, value_lens), room.raw
 
     def entries(self, lower: Optional[BytesLike] = None, upper: Optional[BytesLike] = None,
-                reverse: bool = False) -> Entries:
+                reverse: bool = False, *, prefix: Optional[BytesLike] = None) -> Entries:
         """Returns an iterator over every version of the keys from `lower` on and below `upper`.
 
         The entries are in key order, and those of one key from the newest to the oldest; if
-        `reverse`, all of this in reverse. `None` is no bound. There are no entries if `lower` is
-        not below `upper`. Nothing is loaded before the first entry is taken.
+        `reverse`, all of this in reverse. `None` is no bound, and `prefix` leaves only the keys
+        that begin with it. There are no entries if `lower` is not below `upper`. Nothing is loaded
+        before the first entry is taken.
 
         >>> writer = Writer()
         >>> for key, seqno in ((b"a", 2), (b"a", 1), (b"b", 3)):
@@ -506,13 +437,11 @@ class Table(Returned, _Reader):
         >>> [(entry.key, entry.seqno) for entry in table.entries(b"a", b"b", reverse=True)]
         [(b'a', 1), (b'a', 2)]
         """
-        return self._range(lower, upper, reverse, NEWEST)
+        return self._range(_bounds(lower, upper, prefix), bool(reverse), NEWEST)
 
-    def _range(self, lower: Optional[BytesLike], upper: Optional[BytesLike], reverse: bool,
-               at: int) -> Entries:
-        bounds = _bounds(lower, upper)
+    def _range(self, bounds: Bounds, reverse: bool, at: int) -> Entries:
         entries = Entries._empty()
-        entries._bounds, entries._reverse = bounds, bool(reverse)
+        entries._bounds, entries._reverse = bounds, reverse
         with self._turn:
             entries._kept, entries._path = self._kept, self._path
             self._check(_calls.range_open(self._ref, *bounds, entries._ref))
@@ -644,11 +573,32 @@ class Table(Returned, _Reader):
 _NUMBER = array.array("Q", [0])
 
 
-# The bounds of a range as a call takes them: from the lower one on, and below the upper one.
-def _bounds(lower: Optional[BytesLike], upper: Optional[BytesLike]) -> Bounds:
-    low = b"" if lower is None else plain(lower)
-    high = b"" if upper is None else plain(upper)
-    return (0 if lower is None else 1, low, len(low), 0 if upper is None else 2, high, len(high))
+# The bounds of a range as a call takes them: from the lower one on, and below the upper one, and
+# only the keys that begin with a prefix.
+def _bounds(lower: Optional[BytesLike], upper: Optional[BytesLike],
+            prefix: Optional[BytesLike]) -> Bounds:
+    low = None if lower is None else plain(lower)
+    high = None if upper is None else plain(upper)
+    if prefix is not None:
+        first = plain(prefix)
+        after = _after(first)
+        low = first if low is None else max(low, first)
+        high = after if high is None else high if after is None else min(high, after)
+    below, above = low or b"", high or b""
+    return (0 if low is None else 1, below, len(below), 0 if high is None else 2, above, len(above))
+
+
+# The least key above all that begin with a prefix; `None` if there is none.
+def _after(prefix: bytes) -> Optional[bytes]:
+    rest = prefix.rstrip(b"\xff")
+    return rest[:-1] + bytes([rest[-1] + 1]) if rest else None
+
+
+# Yields the keys and values of some entries, without the deletions.
+def _pairs(entries: Iterator[Entry]) -> Pairs:
+    for entry in entries:
+        if not entry.kind.is_deletion:
+            yield entry.key, entry.value
 
 
 class Runs(_Reader):
@@ -678,6 +628,32 @@ class Runs(_Reader):
         check(_calls.runs_open(self._ref))
         for table in tables:
             self.add(table)
+
+    @classmethod
+    def of_runs(cls: Type[_SomeRuns], runs: Iterable[Iterable[Table]]) -> _SomeRuns:
+        """Reads several runs as one, the newest first. Each is some tables that do not overlap.
+
+        A point read searches one table of a run. If tables of one run overlap, the first of them is
+        read as the newest, and they are searched one by one. The tables may be closed then.
+
+        Raises the errors of `add`.
+
+        >>> tables = []
+        >>> for key, seqno in ((b"a", 2), (b"c", 2), (b"a", 1)):
+        ...     writer = Writer()
+        ...     writer.add(key, b"%d" % seqno, seqno)
+        ...     tables.append(Table.open(writer.finish()))
+        >>> runs = Runs.of_runs([tables[:2], tables[2:]])
+        >>> list(runs.items()), runs.packing().runs
+        ([(b'a', b'2'), (b'c', b'2')], [[0, 1], [2]])
+        """
+        each = cls()
+        with each:
+            for run in runs:
+                for table in listed(run):
+                    each.add(table)
+            # Tables that do not overlap go into one run.
+            return each.packed()
 
     @property
     def table_count(self) -> int:
@@ -709,14 +685,15 @@ class Runs(_Reader):
             self._table_count += 1
 
     def entries(self, lower: Optional[BytesLike] = None, upper: Optional[BytesLike] = None,
-                reverse: bool = False, at: int = NEWEST) -> Entries:
+                reverse: bool = False, at: int = NEWEST, *,
+                prefix: Optional[BytesLike] = None) -> Entries:
         """Returns an iterator over the newest versions of the keys from `lower` on and below
         `upper`, at the snapshot `at`.
 
         It yields the newest version of each key whose sequence number is below `at`. This may be a
-        deletion. The entries are in key order or, if `reverse`, in reverse. `None` is no bound.
-        There are no entries if `lower` is not below `upper`. A table that is added later is not
-        read.
+        deletion. The entries are in key order or, if `reverse`, in reverse. `None` is no bound, and
+        `prefix` leaves only the keys that begin with it. There are no entries if `lower` is not
+        below `upper`. A table that is added later is not read.
 
         >>> newer, older = Writer(), Writer()
         >>> newer.delete(b"a", seqno=2)
@@ -728,7 +705,7 @@ class Runs(_Reader):
         ['VALUE']
         """
         at = number(at)
-        bounds = _bounds(lower, upper)
+        bounds = _bounds(lower, upper, prefix)
         entries = Entries._empty()
         entries._bounds, entries._reverse = bounds, bool(reverse)
         with self._turn:
@@ -738,9 +715,7 @@ class Runs(_Reader):
                 self._check(_calls.runs_scan_open(self._ref, *bounds, at, entries._scanned()))
         return entries
 
-    def _range(self, lower: Optional[BytesLike], upper: Optional[BytesLike], reverse: bool,
-               at: int) -> Steps:
-        bounds = _bounds(lower, upper)
+    def _range(self, bounds: Bounds, reverse: bool, at: int) -> Steps:
         steps: Steps = Entries._empty() if reverse else Scan._empty()
         open_steps = _calls.runs_range_open if reverse else _calls.runs_scan_open
         with self._turn:
@@ -748,7 +723,7 @@ class Runs(_Reader):
             self._check(open_steps(self._ref, *bounds, at, steps._ref))
         return steps
 
-    def packed(self) -> Runs:
+    def packed(self: _SomeRuns) -> _SomeRuns:
         """Returns the same tables in as few runs as possible.
 
         Tables that do not overlap go into one run, and each key keeps the order of its tables. So

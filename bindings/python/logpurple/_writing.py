@@ -6,15 +6,18 @@ import array
 import ctypes
 import itertools
 from ctypes import byref
-from typing import Iterable, List, Optional, Tuple, Union
+from typing import Iterable, Iterator, List, Optional, Tuple, Union
 
 from . import _calls
-from ._records import NEWEST, Kind
-from ._resources import Resource, number, plain
-from ._tables import BytesLike, Runs, Table, listed
+from ._files import Path, save
+from ._records import NEWEST, Kind, WrittenFile
+from ._resources import BytesLike, Resource, number, plain
+from ._tables import Runs, Table, listed
 
-# How many entries `Writer.add_many` passes to a call.
+# How many entries `Writer.add_many` passes to a call, and how many bytes of a file are copied at a
+# time.
 _MANY = 256
+_PIECE = 1 << 20
 
 # The bits of each option, in the order of its structure.
 _BITS = [8 * ctypes.sizeof(kind) for name, kind in _calls.Options._fields_[:-1]]
@@ -47,6 +50,23 @@ class FinishedTable(bytes):
 
     __str__ = __repr__
 
+    def save(self, path: Path) -> None:
+        """Writes the table to a file, which is then complete and synced.
+
+        The bytes go into a file beside it, which is renamed. So the path has the whole table, or
+        what it had before. A file that is there is replaced. Raises `OSError`.
+
+        >>> import os, tempfile
+        >>> writer = Writer()
+        >>> writer.add(b"a", b"1")
+        >>> with tempfile.TemporaryDirectory() as folder:
+        ...     path = os.path.join(folder, "1.sst")
+        ...     writer.finish().save(path)
+        ...     Table.open(path)[b"a"]
+        b'1'
+        """
+        save(path, (self,))
+
 
 class Compacted(List[FinishedTable]):
     """The tables that `compact` wrote, in key order. It is empty if no entry was kept.
@@ -77,8 +97,20 @@ def _file(files: Resource, index: int) -> FinishedTable:
     return file
 
 
+# Yields the bytes of a finished table, in pieces.
+def _pieces(files: Resource, index: int) -> Iterator[bytes]:
+    room, count, offset = ctypes.create_string_buffer(_PIECE), ctypes.c_uint64(), 0
+    while True:
+        files._check(_calls.files_copy(files._ref, index, offset, room, _PIECE, byref(count)))
+        if not count.value:
+            return
+        yield memoryview(room)[:count.value].tobytes()
+        offset += count.value
+
+
 class Writer(Resource):
-    """Writes a table: its entries in order, and then `finish`, which returns its bytes.
+    """Writes a table: its entries in order, and then `finish`, which returns its bytes, or
+    `finish_to`, which writes them to a file.
 
     Keys ascend. The versions of one key follow each other, with descending sequence numbers. The
     whole table is in memory. A writer that is closed before `finish`, as by `with`, writes none.
@@ -207,6 +239,33 @@ class Writer(Resource):
             finally:
                 self._release()
         return files[0] if files else None
+
+    def finish_to(self, path: Path) -> Optional[WrittenFile]:
+        """Writes the table to a file, as `FinishedTable.save` does, without a copy in memory.
+
+        Returns what was written, or `None` if there was no entry: then there is no file. The writer
+        is closed then, also if this fails. Raises `OSError`, and the errors of `finish`.
+
+        >>> import os, tempfile
+        >>> writer = Writer(id=4)
+        >>> writer.add(b"a", b"1")
+        >>> with tempfile.TemporaryDirectory() as folder:
+        ...     written = writer.finish_to(os.path.join(folder, "4.sst"))
+        ...     Table.open(written.path)[b"a"], written.id, f"{written.checksum:016x}"
+        (b'1', 4, '8836759aab92fee1')
+        """
+        found, count = _calls.File(), ctypes.c_uint64()
+        with self._turn:
+            try:
+                self._check(_calls.writer_finish(self._ref))
+                self._check(_calls.files_count(self._ref, byref(count)))
+                if not count.value:
+                    return None
+                self._check(_calls.files_tell(self._ref, 0, byref(found)))
+                return WrittenFile(save(path, _pieces(self, 0)), found.id, found.checksum,
+                                   found.len)
+            finally:
+                self._release()
 
     def _parts(self) -> List[str]:
         return super()._parts() + [f"id={self._id}"]

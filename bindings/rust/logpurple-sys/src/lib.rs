@@ -4,7 +4,7 @@
 //! crate `logpurple` wraps them in safe calls.
 
 #![no_std]
-#![warn(missing_docs)]
+#![deny(missing_docs)]
 #![allow(non_camel_case_types)]
 
 /// The version of the calls that these declarations name.

@@ -33,18 +33,20 @@ impl<'f> Answers<'f> {
         told.resize(keys.len(), sys::sst_entry::default());
         // SAFETY: keys and lengths are read during the call only, there is an entry for each key,
         // and the handle holds nothing.
-        test(unsafe {
-            sys::sst_table_get_many(
-                table.handle.words(),
-                joined.as_ptr(),
-                joined.len(),
-                lens.as_ptr(),
-                lens.len(),
-                seqno,
-                told.as_mut_ptr(),
-                told.len(),
-                handle.words(),
-            )
+        table.handles.with(|first| {
+            test(unsafe {
+                sys::sst_table_get_many(
+                    first.words(),
+                    joined.as_ptr(),
+                    joined.len(),
+                    lens.as_ptr(),
+                    lens.len(),
+                    seqno,
+                    told.as_mut_ptr(),
+                    told.len(),
+                    handle.words(),
+                )
+            })
         })?;
         Ok(Answers { handle, told })
     }

@@ -1,5 +1,6 @@
 //! Entries: versions of keys.
 
+use crate::handle::copy;
 use crate::Error;
 
 /// Sequence number of a version. A read at a sequence number sees the versions below it.
@@ -126,11 +127,4 @@ impl LentValue<'_> {
             value: copy(self.value)?,
         })
     }
-}
-
-fn copy(bytes: &[u8]) -> Result<Vec<u8>, Error> {
-    let mut copied = Vec::new();
-    copied.try_reserve_exact(bytes.len()).map_err(|_| Error::OutOfMemory)?;
-    copied.extend_from_slice(bytes);
-    Ok(copied)
 }

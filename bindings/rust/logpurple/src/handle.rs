@@ -7,7 +7,7 @@ use std::cell::UnsafeCell;
 use std::marker::PhantomData;
 use std::ops::Bound;
 use std::slice;
-use std::sync::Once;
+use std::sync::{Mutex, MutexGuard, Once, PoisonError};
 
 /// A handle of the library, which is closed when it is dropped.
 ///
@@ -55,11 +55,95 @@ impl<'f> Handle<'f> {
     }
 }
 
+/// The handles of one table.
+///
+/// Each read through a reference has a handle for itself, so threads may read one table at the same
+/// time. A handle that is not in use waits here for the next read.
+#[derive(Debug)]
+pub(crate) struct Handles<'f> {
+    all: Mutex<All>,
+    // What the handles read may be borrowed for `'f`. In the lock they are `'static`, so that a
+    // table of a longer lifetime is also one of a shorter.
+    kept: PhantomData<&'f [u8]>,
+}
+
+#[derive(Debug)]
+struct All {
+    // Only short calls use it, and no other thread meanwhile.
+    first: Handle<'static>,
+    // Shares of it that no read is using.
+    spare: Vec<Handle<'static>>,
+}
+
+impl<'f> Handles<'f> {
+    /// Makes the handles of the table that a handle holds.
+    ///
+    /// # Safety
+    ///
+    /// What it reads is valid for `'f`.
+    pub(crate) unsafe fn of(first: Handle<'static>) -> Handles<'f> {
+        Handles { all: Mutex::new(All { first, spare: Vec::new() }), kept: PhantomData }
+    }
+
+    fn lock(&self) -> MutexGuard<'_, All> {
+        // No call panics within the lock.
+        self.all.lock().unwrap_or_else(PoisonError::into_inner)
+    }
+
+    /// Makes a call with a handle. Other threads wait until it returns, so it is a short one.
+    pub(crate) fn briefly<T>(&self, call: impl FnOnce(&Handle<'f>) -> T) -> T {
+        call(&self.lock().first)
+    }
+
+    /// Makes a call with a handle that no other call uses. It is a share, or one is made.
+    pub(crate) fn with<T>(
+        &self,
+        call: impl FnOnce(&Handle<'f>) -> Result<T, Error>,
+    ) -> Result<T, Error> {
+        let spare = self.lock().spare.pop();
+        let handle = match spare {
+            Some(handle) => handle,
+            None => self.share()?,
+        };
+        let result = call(&handle);
+        let spare = &mut self.lock().spare;
+        if spare.try_reserve(1).is_ok() {
+            spare.push(handle);
+        }
+        result
+    }
+
+    /// Makes a further handle of the table.
+    fn share(&self) -> Result<Handle<'static>, Error> {
+        let handle = Handle::closed();
+        // SAFETY: both are references of this call, and the handle holds nothing.
+        test(self.briefly(|first| unsafe { sys::sst_table_share(first.words(), handle.words()) }))?;
+        Ok(handle)
+    }
+
+    /// Makes further handles of the table.
+    pub(crate) fn shared(&self) -> Result<Handles<'f>, Error> {
+        // SAFETY: it reads what these handles do.
+        self.share().map(|handle| unsafe { Handles::of(handle) })
+    }
+
+    /// Returns a handle for who has the table alone.
+    pub(crate) fn own(&mut self) -> &Handle<'f> {
+        &self.all.get_mut().unwrap_or_else(PoisonError::into_inner).first
+    }
+}
+
 impl Drop for Handle<'_> {
     fn drop(&mut self) {
         // SAFETY: the handle is owned, and nothing that it lent is in use.
         unsafe { sys::sst_close(self.words()) }
     }
+}
+
+impl Drop for Handles<'_> {
+    /// Does nothing. The compiler ends no borrow for `'f` before a type that is dropped so, and the
+    /// handles are dropped then.
+    fn drop(&mut self) {}
 }
 
 /// Panics unless the library has the calls that are declared here.
@@ -131,4 +215,19 @@ pub(crate) fn room<T>(len: usize) -> Result<Vec<T>, Error> {
     let mut list = Vec::new();
     list.try_reserve_exact(len).map_err(|_| Error::OutOfMemory)?;
     Ok(list)
+}
+
+/// Copies bytes.
+pub(crate) fn copy(bytes: &[u8]) -> Result<Vec<u8>, Error> {
+    let mut copied = room(bytes.len())?;
+    copied.extend_from_slice(bytes);
+    Ok(copied)
+}
+
+/// Returns the least key above all that begin with a prefix; `None` if there is none.
+pub(crate) fn after(prefix: &[u8]) -> Result<Option<Vec<u8>>, Error> {
+    let len = prefix.iter().rposition(|byte| *byte < u8::MAX).map_or(0, |last| last + 1);
+    let mut key = copy(&prefix[..len])?;
+    let is_raised = key.last_mut().map(|last| *last += 1).is_some();
+    Ok(is_raised.then_some(key))
 }

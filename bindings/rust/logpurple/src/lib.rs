@@ -33,14 +33,16 @@
 //!
 //! Any call that returns a `Result` may fail with `OutOfMemory`.
 
-#![warn(missing_docs)]
+#![deny(missing_docs)]
 #![deny(unsafe_op_in_unsafe_fn)]
 
 mod answers;
 mod compact;
 mod entry;
 mod error;
+mod files;
 mod handle;
+mod memtable;
 mod packing;
 mod range;
 mod runs;
@@ -57,6 +59,8 @@ pub use entry::{
     InternalKey, InternalValue, LentValue, SeqNo, UserKey, UserValue, ValueType, NEWEST,
 };
 pub use error::Error;
+pub use files::{FileError, WrittenFile};
+pub use memtable::RangeWith;
 pub use packing::Packing;
 pub use range::Range;
 pub use runs::Runs;

@@ -48,9 +48,9 @@ impl<'f> Range<'f> {
         let handle = Handle::closed();
         let ((lower_kind, lower), (upper_kind, upper)) = (bound(lower), bound(upper));
         // SAFETY: the keys are read during the call only, and the handle holds nothing.
-        test(unsafe {
+        test(table.handles.briefly(|first| unsafe {
             sys::sst_range_open(
-                table.handle.words(),
+                first.words(),
                 lower_kind,
                 lower.as_ptr(),
                 lower.len(),
@@ -59,7 +59,7 @@ impl<'f> Range<'f> {
                 upper.len(),
                 handle.words(),
             )
-        })?;
+        }))?;
         Ok(Range { steps: Steps::of(handle), front: None })
     }
 

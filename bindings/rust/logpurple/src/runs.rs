@@ -1,13 +1,23 @@
 //! Several tables as one.
 
 use crate::error::test;
-use crate::handle::{get, room, Handle};
+use crate::handle::{after, copy, get, room, Handle};
 use crate::packing::packing_of;
-use crate::{Compacted, Compaction, Error, InternalValue, LentValue, Packing, Range, SeqNo, Table};
+use crate::{
+    Compacted, Compaction, Error, InternalValue, LentValue, Packing, Range, RangeWith, SeqNo, Table,
+};
 use logpurple_sys as sys;
-use std::ops::RangeBounds;
+use std::ops::{Bound, RangeBounds};
 
 /// Several tables as one, the newest first. It owns them.
+///
+/// A read keeps in it what it found, so it is `Send` and not `Sync`: each thread makes its own of
+/// clones of the tables.
+///
+/// ```compile_fail,E0277
+/// fn is_sync<T: Sync>() {}
+/// is_sync::<logpurple::Runs>();
+/// ```
 #[derive(Debug)]
 pub struct Runs<'f> {
     pub(crate) handle: Handle<'f>,
@@ -41,16 +51,51 @@ impl<'f> Runs<'f> {
         Ok(runs)
     }
 
+    /// Makes a list of several runs, the newest first. Each is some tables that do not overlap, and a
+    /// read searches one of them.
+    ///
+    /// If tables of one run overlap, the first of them is read as the newest, and they are searched
+    /// one by one.
+    ///
+    /// # Errors
+    ///
+    /// Those of `push`. The tables are dropped then.
+    ///
+    /// ```
+    /// use logpurple::{Runs, Table, ValueType, Writer, NEWEST};
+    ///
+    /// # fn main() -> Result<(), Box<dyn std::error::Error>> {
+    /// let mut tables = Vec::new();
+    /// for (id, key) in [(3, "a"), (2, "c"), (1, "a")] {
+    ///     let mut writer = Writer::new(id)?;
+    ///     writer.write(key.as_bytes(), id, ValueType::Value, b"")?;
+    ///     tables.push(Table::open(writer.finish()?.unwrap())?);
+    /// }
+    /// let older = tables.split_off(2);
+    /// let runs = Runs::from_runs([tables, older])?;
+    /// assert_eq!(runs.packing()?.runs, [vec![0, 1], vec![2]]);
+    /// assert_eq!(runs.get(b"a", NEWEST)?.unwrap().key.seqno, 3);
+    /// # Ok(())
+    /// # }
+    /// ```
+    pub fn from_runs<T>(runs: impl IntoIterator<Item = T>) -> Result<Runs<'f>, Error>
+    where
+        T: IntoIterator<Item = Table<'f>>,
+    {
+        // Tables that do not overlap go into one run.
+        Runs::from_tables(runs.into_iter().flatten())?.packed()
+    }
+
     /// Adds a table after those that are there. Push the newest table first.
     ///
     /// # Errors
     ///
     /// `OutOfOrder` if the table claims a least key above its greatest, as only damaged bytes do,
     /// and `OutOfMemory`. The table is dropped then, and the others stay.
-    pub fn push(&mut self, table: Table<'f>) -> Result<(), Error> {
+    pub fn push(&mut self, mut table: Table<'f>) -> Result<(), Error> {
         self.tables.try_reserve(1).map_err(|_| Error::OutOfMemory)?;
         // SAFETY: both are references of this call.
-        test(unsafe { sys::sst_runs_add(self.handle.words(), table.handle.words()) })?;
+        test(unsafe { sys::sst_runs_add(self.handle.words(), table.handles.own().words()) })?;
         self.tables.push(table);
         Ok(())
     }
@@ -123,6 +168,66 @@ impl<'f> Runs<'f> {
         R: RangeBounds<K>,
     {
         Range::of_runs(self, bounds.start_bound(), bounds.end_bound(), seqno)
+    }
+
+    /// Returns a range of all tables together and a memtable, within bounds, from both ends.
+    ///
+    /// `memtable` has entries that no table has yet, in the order of a table. They are read as if
+    /// they were a table, and only those within the bounds. If a table has the same version of a
+    /// key, that of the memtable is yielded. The range is as [`Runs::range`] describes it
+    /// otherwise. It yields `OutOfOrder` where it reads two entries that are not in order.
+    ///
+    /// # Errors
+    ///
+    /// `OutOfMemory`.
+    ///
+    /// ```
+    /// use logpurple::{InternalValue, Runs, Table, ValueType, Writer, NEWEST};
+    ///
+    /// # fn main() -> Result<(), Box<dyn std::error::Error>> {
+    /// let mut writer = Writer::new(1)?;
+    /// writer.write(b"apple", 3, ValueType::Value, b"green")?;
+    /// writer.write(b"pear", 4, ValueType::Value, b"yellow")?;
+    /// let runs = Runs::from_tables([Table::open(writer.finish()?.unwrap())?])?;
+    /// let memtable = [
+    ///     InternalValue::from_components(*b"apple", *b"", 5, ValueType::Tombstone),
+    ///     InternalValue::from_components(*b"fig", *b"violet", 6, ValueType::Value),
+    /// ];
+    /// let range = runs.range_with("a".., NEWEST, memtable)?;
+    /// let keys: Vec<_> = range.map(|item| item.unwrap().key).collect();
+    /// assert_eq!(keys.iter().map(|key| key.seqno).collect::<Vec<_>>(), [5, 6, 4]);
+    /// # Ok(())
+    /// # }
+    /// ```
+    pub fn range_with<K, R, M>(
+        &self,
+        bounds: R,
+        seqno: SeqNo,
+        memtable: M,
+    ) -> Result<RangeWith<'f, M::IntoIter>, Error>
+    where
+        K: AsRef<[u8]>,
+        R: RangeBounds<K>,
+        M: IntoIterator<Item = InternalValue>,
+        M::IntoIter: DoubleEndedIterator,
+    {
+        let (lower, upper) = (bounds.start_bound(), bounds.end_bound());
+        let owned = (copied(lower)?, copied(upper)?);
+        let tables = Range::of_runs(self, lower, upper, seqno)?;
+        Ok(RangeWith::of(tables, memtable.into_iter(), owned, seqno))
+    }
+
+    /// Returns a range of the keys of all tables together that begin with a prefix, as
+    /// [`Runs::range`] describes.
+    ///
+    /// # Errors
+    ///
+    /// `OutOfMemory`.
+    pub fn prefix(&self, prefix: impl AsRef<[u8]>, seqno: SeqNo) -> Result<Range<'f>, Error> {
+        let (prefix, after) = (prefix.as_ref(), after(prefix.as_ref())?);
+        let after = after.as_deref();
+        let upper = after.as_ref().map_or(Bound::Unbounded, Bound::Excluded);
+        Range::of_runs(self, Bound::Included(&prefix), upper, seqno)
     }
 
     /// Returns a range of all tables together, without bounds.
@@ -210,4 +315,13 @@ impl<'f> Runs<'f> {
     pub fn compact(&self, compaction: &Compaction) -> Result<Compacted, Error> {
         Compacted::of(&self.handle, compaction)
     }
+}
+
+/// Copies the key of a bound.
+fn copied<K: AsRef<[u8]>>(bound: Bound<&K>) -> Result<Bound<Vec<u8>>, Error> {
+    Ok(match bound {
+        Bound::Unbounded => Bound::Unbounded,
+        Bound::Included(key) => Bound::Included(copy(key.as_ref())?),
+        Bound::Excluded(key) => Bound::Excluded(copy(key.as_ref())?),
+    })
 }

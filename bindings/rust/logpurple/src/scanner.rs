@@ -21,7 +21,9 @@ impl<'f> Scanner<'f> {
     pub(crate) fn of(table: &Table<'f>) -> Result<Scanner<'f>, Error> {
         let handle = Handle::closed();
         // SAFETY: both are references of this call, and the handle holds nothing.
-        test(unsafe { sys::sst_scan_open(table.handle.words(), handle.words()) })?;
+        table
+            .handles
+            .with(|first| test(unsafe { sys::sst_scan_open(first.words(), handle.words()) }))?;
         Ok(Scanner { steps: Steps::of(handle) })
     }
 

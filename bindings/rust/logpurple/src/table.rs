@@ -1,23 +1,21 @@
 //! Tables.
 
 use crate::error::test;
-use crate::handle::{get, Handle};
+use crate::handle::{after, get, Handle, Handles};
 use crate::{
     Answers, Error, InternalValue, LentValue, Range, Scanner, SeqNo, Verification, Verified,
     VerifyError,
 };
 use logpurple_sys as sys;
 use std::alloc::{handle_alloc_error, Layout};
-use std::ops::RangeBounds;
+use std::ops::{Bound, RangeBounds};
 
 /// An open table.
 ///
 /// It has a copy of its bytes, or reads bytes that are borrowed for `'f`. It shares them with its
 /// clones, its ranges and the runs that it was pushed to.
 ///
-/// Threads that use different ones of these need no synchronization, as the header states. A
-/// table's bytes and blocks are never written. Reference counts and the verified-block cache are
-/// updated atomically. So a table is `Send`, and each thread reads through a clone:
+/// Threads may read one table at the same time:
 ///
 /// ```
 /// use logpurple::{Table, ValueType, Writer, NEWEST};
@@ -26,23 +24,22 @@ use std::ops::RangeBounds;
 /// let mut writer = Writer::new(1)?;
 /// writer.write(b"apple", 2, ValueType::Value, b"red")?;
 /// let table = Table::open(writer.finish()?.unwrap())?;
-/// let other = table.clone();
-/// let reader = std::thread::spawn(move || other.get(b"apple", NEWEST));
-/// assert_eq!(table.get(b"apple", NEWEST)?, reader.join().unwrap()?);
+/// std::thread::scope(|scope| {
+///     for _ in 0..2 {
+///         scope.spawn(|| assert_eq!(table.get(b"apple", NEWEST).unwrap().unwrap().value, b"red"));
+///     }
+/// });
 /// # Ok(())
 /// # }
 /// ```
 ///
-/// A read keeps in the table what it found, so two threads cannot read through one table. It is not
-/// `Sync`:
-///
-/// ```compile_fail,E0277
-/// fn is_sync<T: Sync>() {}
-/// is_sync::<logpurple::Table>();
-/// ```
+/// A read of the library keeps in its handle what it found. So each read through `&self` takes a
+/// handle of its own, which the table keeps for the next one: as many as there were reads at once.
+/// Threads wait for each other only while they take and return it. A thread with a clone of its own
+/// never waits. [`get_lent`](Table::get_lent) has the table alone, and takes none.
 #[derive(Debug)]
 pub struct Table<'f> {
-    pub(crate) handle: Handle<'f>,
+    pub(crate) handles: Handles<'f>,
 }
 
 /// Options of opening a table.
@@ -86,6 +83,14 @@ impl OpenOptions {
     ///
     /// ```compile_fail,E0597
     /// fn open() {
+    ///     let table;
+    ///     let file = std::fs::read("table").unwrap();
+    ///     table = logpurple::OpenOptions::default().open_kept(&file).unwrap();
+    /// }
+    /// ```
+    ///
+    /// ```compile_fail,E0597
+    /// fn open() {
     ///     let range;
     ///     {
     ///         let file = std::fs::read("table").unwrap();
@@ -115,7 +120,8 @@ impl OpenOptions {
                 handle.words(),
             )
         })?;
-        Ok(Table { handle })
+        // SAFETY: the caller guarantees it.
+        Ok(Table { handles: unsafe { Handles::of(handle) } })
     }
 }
 
@@ -201,10 +207,12 @@ impl<'f> Table<'f> {
     ///
     /// The first fault of the blocks that it loads, and `OutOfMemory`.
     pub fn get(&self, key: &[u8], seqno: SeqNo) -> Result<Option<InternalValue>, Error> {
-        let told = get(sys::sst_table_get, &self.handle, key, seqno)?;
-        // SAFETY: the lent bytes are copied here, before any other read.
-        let found = unsafe { self.handle.lend(told) }?;
-        found.map(|lent| lent.to_owned()).transpose()
+        self.handles.with(|handle| {
+            let told = get(sys::sst_table_get, handle, key, seqno)?;
+            // SAFETY: the lent bytes are copied here, before any other read.
+            let found = unsafe { handle.lend(told) }?;
+            found.map(|lent| lent.to_owned()).transpose()
+        })
     }
 
     /// Finds what `get` finds, borrowed until the table is used again.
@@ -221,9 +229,10 @@ impl<'f> Table<'f> {
     /// }
     /// ```
     pub fn get_lent(&mut self, key: &[u8], seqno: SeqNo) -> Result<Option<LentValue<'_>>, Error> {
-        let told = get(sys::sst_table_get, &self.handle, key, seqno)?;
+        let handle = self.handles.own();
+        let told = get(sys::sst_table_get, handle, key, seqno)?;
         // SAFETY: the table is borrowed mutably for as long as the bytes.
-        unsafe { self.handle.lend(told) }
+        unsafe { handle.lend(told) }
     }
 
     /// Finds for each of several keys what `get` finds, and copies it, in the order of the keys.
@@ -306,6 +315,32 @@ impl<'f> Table<'f> {
         Range::of_table(self, bounds.start_bound(), bounds.end_bound())
     }
 
+    /// Returns a range of the entries whose keys begin with a prefix, from both ends.
+    ///
+    /// # Errors
+    ///
+    /// `OutOfMemory`.
+    ///
+    /// ```
+    /// # use logpurple::{Table, ValueType, Writer};
+    /// # fn main() -> Result<(), Box<dyn std::error::Error>> {
+    /// # let mut writer = Writer::new(1)?;
+    /// # for key in ["a", "ba", "bb", "c"] {
+    /// #     writer.write(key.as_bytes(), 2, ValueType::Value, b"")?;
+    /// # }
+    /// # let table = Table::open(writer.finish()?.unwrap())?;
+    /// assert_eq!(table.prefix("b")?.next_back().unwrap()?.key.user_key, b"bb");
+    /// assert_eq!(table.prefix("b")?.count(), 2);
+    /// # Ok(())
+    /// # }
+    /// ```
+    pub fn prefix(&self, prefix: impl AsRef<[u8]>) -> Result<Range<'f>, Error> {
+        let (prefix, after) = (prefix.as_ref(), after(prefix.as_ref())?);
+        let after = after.as_deref();
+        let upper = after.as_ref().map_or(Bound::Unbounded, Bound::Excluded);
+        Range::of_table(self, Bound::Included(&prefix), upper)
+    }
+
     /// Returns a range of all entries, from both ends.
     pub fn iter(&self) -> Result<Range<'f>, Error> {
         self.range::<&[u8], _>(..)
@@ -354,7 +389,9 @@ impl<'f> Table<'f> {
     pub fn memory(&self) -> Memory {
         let mut told = sys::sst_memory::default();
         // SAFETY: both are references of this call.
-        let code = unsafe { sys::sst_table_memory(self.handle.words(), &mut told) };
+        let code = self
+            .handles
+            .briefly(|handle| unsafe { sys::sst_table_memory(handle.words(), &mut told) });
         assert_eq!(code, 0, "a table that is open says what it holds");
         Memory {
             file_len: told.file_len,
@@ -391,16 +428,15 @@ impl<'f> Table<'f> {
     ///
     /// `OutOfMemory`.
     pub fn share(&self) -> Result<Table<'f>, Error> {
-        let handle = Handle::closed();
-        // SAFETY: both are references of this call, and the handle holds nothing.
-        test(unsafe { sys::sst_table_share(self.handle.words(), handle.words()) })?;
-        Ok(Table { handle })
+        Ok(Table { handles: self.handles.shared()? })
     }
 
     fn facts(&self) -> sys::sst_facts {
         let mut facts = sys::sst_facts::default();
         // SAFETY: both are references of this call.
-        let code = unsafe { sys::sst_table_facts(self.handle.words(), &mut facts) };
+        let code = self
+            .handles
+            .briefly(|handle| unsafe { sys::sst_table_facts(handle.words(), &mut facts) });
         assert_eq!(code, 0, "a table that is open says of itself what there is");
         facts
     }
@@ -419,8 +455,11 @@ impl<'f> Table<'f> {
     /// allocation failed, which does not mean that the table is invalid.
     pub fn verify(&self) -> Result<Verified, VerifyError> {
         let mut told = sys::sst_verified::default();
-        // SAFETY: both are references of this call.
-        let code = unsafe { sys::sst_table_verify(self.handle.words(), &mut told) };
+        let code = self
+            .handles
+            // SAFETY: both are references of this call.
+            .with(|handle| Ok(unsafe { sys::sst_table_verify(handle.words(), &mut told) }))
+            .map_err(VerifyError::Refused)?;
         Verified::of(code, &told)
     }
 

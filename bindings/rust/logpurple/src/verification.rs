@@ -17,7 +17,9 @@ impl<'f> Verification<'f> {
     pub(crate) fn of(table: &Table<'f>) -> Result<Verification<'f>, Error> {
         let handle = Handle::closed();
         // SAFETY: both are references of this call, and the handle holds nothing.
-        test(unsafe { sys::sst_verification_open(table.handle.words(), handle.words()) })?;
+        test(table.handles.briefly(|first| unsafe {
+            sys::sst_verification_open(first.words(), handle.words())
+        }))?;
         let data_size = table.metadata().file_size;
         Ok(Verification { handle, told: sys::sst_progress { data_size, ..Default::default() } })
     }

@@ -1,9 +1,13 @@
 //! Writing a table.
 
 use crate::error::test;
+use crate::files::save;
 use crate::handle::{require_version, room, Handle};
-use crate::{Error, InternalValue, SeqNo, ValueType};
+use crate::{Error, FileError, InternalValue, SeqNo, ValueType, WrittenFile};
 use logpurple_sys as sys;
+use std::fs::File;
+use std::io::{self, Write};
+use std::path::Path;
 
 /// Options of a writer.
 #[derive(Clone, Copy, Debug, PartialEq, Eq)]
@@ -98,6 +102,20 @@ pub struct FinishedTable {
     pub bytes: Vec<u8>,
 }
 
+impl FinishedTable {
+    /// Writes the table to a file, which is then complete and synced.
+    ///
+    /// The bytes go into a file beside it, which is renamed. So the path has the whole table, or
+    /// what it had before. A file that is there is replaced.
+    ///
+    /// # Errors
+    ///
+    /// Those of the system.
+    pub fn save(&self, path: impl AsRef<Path>) -> io::Result<()> {
+        save(path.as_ref(), |file| file.write_all(&self.bytes))
+    }
+}
+
 impl AsRef<[u8]> for FinishedTable {
     fn as_ref(&self) -> &[u8] {
         &self.bytes
@@ -175,15 +193,83 @@ impl Writer {
         test(unsafe { sys::sst_writer_finish(self.handle.words()) })?;
         Ok(finished_tables(&self.handle)?.pop())
     }
+
+    /// Finishes the table and writes it to a file, as [`FinishedTable::save`] does, without a copy
+    /// in memory. Returns `None` if nothing was written: then there is no file.
+    ///
+    /// # Errors
+    ///
+    /// Those of `finish`, and of the system.
+    ///
+    /// ```
+    /// use logpurple::{Table, ValueType, Writer, NEWEST};
+    ///
+    /// # fn main() -> Result<(), Box<dyn std::error::Error>> {
+    /// let path = std::env::temp_dir().join(format!("{}.sst", std::process::id()));
+    /// let mut writer = Writer::new(1)?;
+    /// writer.write(b"apple", 2, ValueType::Value, b"red")?;
+    /// let written = writer.finish_to(&path)?.expect("an entry was written");
+    /// let file = std::fs::read(&path)?;
+    /// assert_eq!((written.id, written.len), (1, file.len() as u64));
+    /// assert_eq!(Table::open(&file)?.get(b"apple", NEWEST)?.unwrap().value, b"red");
+    /// # std::fs::remove_file(&path)?;
+    /// # Ok(())
+    /// # }
+    /// ```
+    pub fn finish_to(self, path: impl AsRef<Path>) -> Result<Option<WrittenFile>, FileError> {
+        // SAFETY: it is a reference of this call.
+        test(unsafe { sys::sst_writer_finish(self.handle.words()) })?;
+        if count_of(&self.handle)? == 0 {
+            return Ok(None);
+        }
+        let told = told_of(&self.handle, 0)?;
+        save(path.as_ref(), |file| write_pieces(&self.handle, file))?;
+        Ok(Some(WrittenFile { id: told.id, checksum: told.checksum, len: told.len }))
+    }
+}
+
+/// Writes the first finished table of a handle to a file, piece by piece.
+fn write_pieces(files: &Handle<'_>, file: &mut File) -> Result<(), FileError> {
+    let mut room: Vec<u8> = room(PIECE)?;
+    room.resize(PIECE, 0);
+    let (mut offset, mut count) = (0, 0);
+    loop {
+        // SAFETY: the buffer has so many bytes, and all are references of this call.
+        test(unsafe {
+            let (room, len) = (room.as_mut_ptr(), room.len());
+            sys::sst_files_copy(files.words(), 0, offset, room, len, &mut count)
+        })?;
+        if count == 0 {
+            return Ok(());
+        }
+        file.write_all(&room[..count as usize])?;
+        offset += count;
+    }
+}
+
+/// Bytes of a file that are copied at a time.
+const PIECE: usize = 1 << 20;
+
+/// Returns the number of finished tables that a handle holds.
+fn count_of(files: &Handle<'_>) -> Result<u64, Error> {
+    let mut count = 0;
+    // SAFETY: both are references of this call.
+    test(unsafe { sys::sst_files_count(files.words(), &mut count) })?;
+    Ok(count)
+}
+
+/// Returns what a handle reports of a finished table.
+fn told_of(files: &Handle<'_>, place: u64) -> Result<sys::sst_file, Error> {
+    let mut told = sys::sst_file::default();
+    // SAFETY: both are references of this call.
+    test(unsafe { sys::sst_files_tell(files.words(), place, &mut told) })?;
+    Ok(told)
 }
 
 /// Copies all finished tables that a handle holds.
 pub(crate) fn finished_tables(files: &Handle<'_>) -> Result<Vec<FinishedTable>, Error> {
-    let mut count = 0;
-    // SAFETY: both are references of this call.
-    test(unsafe { sys::sst_files_count(files.words(), &mut count) })?;
     let mut tables = Vec::new();
-    for place in 0..count {
+    for place in 0..count_of(files)? {
         tables.try_reserve(1).map_err(|_| Error::OutOfMemory)?;
         tables.push(finished_table(files, place)?);
     }
@@ -191,9 +277,7 @@ pub(crate) fn finished_tables(files: &Handle<'_>) -> Result<Vec<FinishedTable>, 
 }
 
 fn finished_table(files: &Handle<'_>, place: u64) -> Result<FinishedTable, Error> {
-    let mut told = sys::sst_file::default();
-    // SAFETY: both are references of this call.
-    test(unsafe { sys::sst_files_tell(files.words(), place, &mut told) })?;
+    let told = told_of(files, place)?;
     let len = usize::try_from(told.len).map_err(|_| Error::OutOfMemory)?;
     let mut bytes: Vec<u8> = room(len)?;
     let mut count = 0;

@@ -10,10 +10,33 @@ use std::sync::{Arc, Barrier, Mutex};
 use std::thread;
 
 fn is_send<T: Send>() {}
+fn is_sync<T: Sync>() {}
 
 #[test]
 fn all_that_is_held_goes_to_another_thread() {
     is_send::<(Table, Range, Scanner, Runs, Writer, Answers, Verification)>();
+    is_sync::<Table>();
+}
+
+/// Threads that read one table by a reference find what one thread finds.
+#[test]
+fn threads_read_one_table() {
+    let entries = random_entries(7, 300);
+    for table in tables(&entries) {
+        let start = Barrier::new(5);
+        thread::scope(|scope| {
+            for _ in 0..4 {
+                let (table, start, entries) = (&table, &start, &entries);
+                scope.spawn(move || {
+                    start.wait();
+                    read_all(table, entries);
+                    read_all(&table.clone(), entries);
+                });
+            }
+            start.wait();
+            read_all(&table, &entries);
+        });
+    }
 }
 
 fn read_all(table: &Table, entries: &Entries) {
