@@ -647,6 +647,8 @@ class Runs(_Reader):
         >>> list(runs.items()), runs.packing().runs
         ([(b'a', b'2'), (b'c', b'2')], [[0, 1], [2]])
         """
+        if isinstance(runs, Table):
+            raise TypeError("runs are expected, and not one table")
         each = cls()
         with each:
             for run in runs:

@@ -21,6 +21,9 @@ def f(table: Table, runs: Runs) -> None:
     table["a"]
     table.get("a")
     table.range("a")
+    table.range(prefix="a")
+    table.range(memtable=[b"a"])
+    Runs.of_runs([table])
     Writer(Id=1)
     Writer(id="1")
     Writer(1)

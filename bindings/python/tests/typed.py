@@ -7,7 +7,7 @@ import pathlib
 from typing import Dict, Iterator, List, Optional, Tuple, Union
 
 from logpurple import (BytesLike, Compacted, Entries, Entry, Finding, FinishedTable, Keys, Kind,
-                       Runs, Scan, Table, TableError, Verified, Writer, compact)
+                       Runs, Scan, Table, TableError, Verified, Writer, WrittenFile, compact)
 
 
 def written() -> FinishedTable:
@@ -35,11 +35,13 @@ def read(reader: Union[Table, Runs], key: BytesLike) -> None:
     values: List[bytes] = list(reader.values())
     with contextlib.closing(reader.range(b"a", reverse=True, at=3)) as pairs:
         pair: Tuple[bytes, bytes] = next(pairs)
-    with reader.entries(upper=b"c") as entries:
+    more = [Entry(b"ab", 3, Kind.VALUE, b"")]
+    both: Dict[bytes, bytes] = dict(reader.range(prefix=b"a", memtable=more))
+    with reader.entries(upper=b"c", prefix=key) as entries:
         taken: Optional[Entry] = entries.take(reverse=True)
         each: Entries = iter(entries)
     print(newest, value, number, item, is_in, entry, keys, all_of_it, the_same, names, next(back),
-          values, pair, taken, each)
+          values, pair, both, taken, each)
 
 
 def main(path: pathlib.Path, mapped: mmap.mmap) -> None:
@@ -53,7 +55,11 @@ def main(path: pathlib.Path, mapped: mmap.mmap) -> None:
             verified: Verified = table.verify(lambda read, size: None)
             files: Compacted = compact(runs, watermark=5, level=1)
             first: FinishedTable = files[0]
-            print(many, others, next(scan).kind.is_deletion, verified.item_count, first.checksum)
+            first.save(path)
+            written: Optional[WrittenFile] = Writer().finish_to(path)
+            several: Runs = Runs.of_runs([[table], iter([table])])
+            print(many, others, next(scan).kind.is_deletion, verified.item_count, first.checksum,
+                  written, several)
     except TableError as error:
         where: Tuple[Optional[str], Optional[int], int] = error.path, error.offset, error.code
         finding: Optional[Finding] = getattr(error, "finding", None)
