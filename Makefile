@@ -20,8 +20,9 @@ DESTDIR =
 
 all: program libraries
 
+# One run for both, so that their crates are proved side by side.
 program: toolchain
-	@echo "make: proves and builds crates/sst/out/sst; the first time takes over an hour"
+	@examples/prove sst sst_c
 	@examples/sst --version
 
 libraries: toolchain

@@ -383,6 +383,10 @@ uint32_t sst_verification_step(sst_handle *verification, sst_progress *progress,
  * between whose bounds is no key, for example with the lower bound above the upper one, has no
  * entry.
  *
+ * The keys that begin with a prefix are those from the prefix on, included, up to a key, excluded.
+ * That key is the prefix without the bytes 255 at its end, and with its last byte raised by 1. If
+ * no byte is left, there is no upper bound.
+ *
  * Errors: SST_NO_SUCH if a bound's kind does not exist.
  */
 uint32_t sst_range_open(sst_handle *table, uint32_t lower_kind, const uint8_t *lower,
@@ -449,7 +453,8 @@ uint32_t sst_scan_take(sst_handle *scan, sst_entry *entries, size_t entry_room, 
 uint32_t sst_runs_open(sst_handle *runs);
 
 /* Adds a table to a list of runs, as a run of its own after those that are there. Add the newest
- * table first. The list has a share of the table.
+ * table first. The list has a share of the table. `sst_runs_pack` puts tables that do not overlap
+ * into one run.
  *
  * Errors: SST_OUT_OF_ORDER if the table claims a least key above its greatest, as only damaged
  * bytes do. The runs stay as they are then.
