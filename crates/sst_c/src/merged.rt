@@ -40,7 +40,7 @@ fn newest_within(
     Ok(Asked::new(range_runs_at(alloc, runs.as_slice(), range, seqno)?))
 }
 
-// The same for bounds as C passes them.
+// The range of several runs within bounds as C passes them.
 fn merged_within(
     alloc: Global,
     runs: &RunList,

@@ -36,7 +36,7 @@ fn newest_within(
     Ok(RunsScan::new(lend_runs_at(alloc, runs.as_slice(), range, seqno)?))
 }
 
-// The same for bounds as C passes them.
+// The scan of several runs within bounds as C passes them.
 fn scan_within(
     alloc: Global,
     runs: &RunList,
