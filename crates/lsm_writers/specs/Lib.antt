@@ -6,4 +6,5 @@ pub mod Writing
 pub mod Filtering
 pub mod Held
 pub mod Tables
+pub mod Taken
 pub mod Words

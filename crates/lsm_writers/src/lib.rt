@@ -8,7 +8,7 @@ mod table_ids;
 mod writer;
 
 pub use list::{is_writable, write_list};
-pub use multi_writer::{MultiWriter, tables_law};
+pub use multi_writer::{MultiWriter, tables_law, taking_law};
 pub use section::{
     BlockIndexWriter, FilterWriter, FilterWriterImpl, FullFilterWriter, FullIndexWriter,
     IndexWriterImpl, KeyBuffer, PartitionedFilterWriter, PartitionedIndexWriter,

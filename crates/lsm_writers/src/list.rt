@@ -1,10 +1,6 @@
 //! Writing a list as one table.
 ghost use Rattle.std.specs.Prelude.{◌≡◌, ◌↔◌, ◌-◌, ◌^◌, [], nat_lt, IfOk, IsTrue, MatchOption};
-ghost use Rattle.std.specs.List.{list_all};
-ghost use Rattle.sst_entries.specs.Entry.{Entry};
-ghost use Rattle.sst_entries.specs.Error.{Faults};
-ghost use Rattle.sst_blocks.specs.table.Options.{label_of};
-ghost use Rattle.lsm_writers.specs.Writing.{IsTableOf, IsWritable, list_fault};
+ghost use Rattle.lsm_writers.specs.Words as spec;
 
 use crate::{FinishedTable, TableId, Timestamp, Writer};
 use sst_blocks::{Error, InternalValue, SeqNo};
@@ -12,7 +8,7 @@ use sst_entries::are_strict;
 use std::alloc::Allocator;
 
 fn are_numbered<A: Allocator>(items: &[InternalValue<A>]) -> bool
-    ensures { result ≡ list_all (λ (e : Entry). nat_lt e.seqno (2 ^ 64 - 1)) items.now }
+    ensures { result ≡ spec.list_all (λ (e : spec.Entry). nat_lt e.seqno (2 ^ 64 - 1)) items.now }
 {
     items.iter().all(|item| item.key.seqno < SeqNo::MAX)
 }
@@ -22,7 +18,7 @@ fn are_numbered<A: Allocator>(items: &[InternalValue<A>]) -> bool
 /// It can if each entry sorts strictly before the next and each sequence number is below
 /// `u64::MAX`. Entries are sorted by key, then by descending sequence number.
 pub fn is_writable<A: Allocator>(items: &[InternalValue<A>]) -> bool
-    ensures { IsTrue result ↔ IsWritable items.now }
+    ensures { IsTrue result ↔ spec.IsWritable items.now }
 {
     are_strict(items) && are_numbered(items)
 }
@@ -42,12 +38,12 @@ pub fn write_list<A: Allocator + Clone>(
     created_at: Timestamp,
     items: Vec<InternalValue<A>, A>,
 ) -> Result<Option<FinishedTable<A>>, Error>
-    requires { IsWritable items.items }
+    requires { spec.IsWritable items.items }
     ensures table { IfOk result (λ t. MatchOption t (items.items ≡ [])
-        (λ f. IsTableOf (label_of id initial_level created_at) items.items f.id f.checksum.0
-        f.bytes)) }
-    ensures refused { Faults result
-        (list_fault (label_of id initial_level created_at) items.items) }
+        (λ f. spec.IsTableOf (spec.label_of id initial_level created_at) items.items f.id
+        f.checksum.0 f.bytes)) }
+    ensures refused { spec.Faults result
+        (spec.list_fault (spec.label_of id initial_level created_at) items.items) }
 {
     let mut writer = Writer::new(alloc, id, initial_level, created_at)?;
     for item in items {

@@ -1,27 +1,7 @@
 //! The writer of several tables, one after another.
 ghost use Rattle.std.specs.Prelude.{◌≡◌, ◌↔◌, ◌<◌, ◌≤◌, ◌∷◌, ◌++◌, if◌then◌else◌, [], false, true};
-ghost use Rattle.std.specs.Prelude.{IfErr, IfOk, IsTrue, OnErr, OnOk, Some, None};
-ghost use Rattle.sst_entries.specs.Lending.{entry_of_ref};
-ghost use Rattle.sst_entries.specs.declared.error.Error.TheVariants.{OutOfMemory};
-ghost use Rattle.sst_blocks.specs.declared.table.options.FilterKind.TheVariants.{
-  Partitioned as PartitionedFilter,
-};
-ghost use Rattle.sst_blocks.specs.declared.table.options.IndexKind.TheVariants.{
-  Partitioned as PartitionedIndex,
-};
-ghost use Rattle.lsm_writers.specs.Words.{Faults, FaultsFirst, IsStrict, failed_fault};
-ghost use Rattle.lsm_writers.specs.Words.{finish_fault};
-ghost use Rattle.lsm_writers.specs.Words.{IsSmallFilter, IsSmallIndex, filter_with_size};
-ghost use Rattle.lsm_writers.specs.Words.{index_with_size, may_be_written, written};
-ghost use Rattle.lsm_writers.specs.Tables.{AddsTable, AreFinished, AreInKeyOrder, AreTables};
-ghost use Rattle.lsm_writers.specs.Tables.{HasRoomFor, IsFreshRun};
-ghost use Rattle.lsm_writers.specs.Tables.{all_written, drawn, early_refusal, first_label};
-ghost use Rattle.lsm_writers.specs.Tables.{ids_after};
-ghost use Rattle.lsm_writers.specs.Tables.{ids_fault, is_due};
-ghost use Rattle.lsm_writers.specs.Tables.{new_tables, next_writing, rotation_fault, run_fault};
-ghost use Rattle.lsm_writers.specs.Tables.{table_fault, tables_of};
-ghost use Rattle.lsm_writers.specs.Tables.{CutLaw, IsStanding, OneCutLaw, OneKeyLaw, TakesLaw};
-ghost use Rattle.lsm_writers.specs.Tables.{took, took_fault, turn_fault, with_options};
+ghost use Rattle.std.specs.Prelude.{IfErr, IfOk, IsTrue, OnErr, OnOk, Some, None, length, take};
+ghost use Rattle.lsm_writers.specs.Words as spec;
 
 use crate::{FinishedTable, TableIds, Timestamp, Writer};
 use sst_blocks::{
@@ -37,15 +17,16 @@ use std::mem;
 ///
 /// The next table begins at the first entry of a key, once the cut data blocks of the current table
 /// reach the target size. A table can exceed the target by one block and all versions of one key.
-/// After an error the finished tables are lost too.
+/// [`MultiWriter::take_finished`] returns the finished tables one by one, also after an error.
 ///
 /// The `use_` methods set options; they must be called before the first entry is written. Contracts
-/// see the lists of the finished tables, the writer of the current one and the id counter.
+/// see the lists of the finished tables that were not taken, the writer of the current one and the
+/// id counter.
 #[derive(Drop)]
 pub struct MultiWriter<A: Allocator = Global> {
     target_size: u64,
     ids: TableIds,
-    // the tables before the current one
+    // the tables before the current one that were not taken
     finished: Vec<FinishedTable<A>, A>,
     // the current table; its options, level and timestamp are those of all tables
     writer: Writer<A>,
@@ -55,7 +36,7 @@ pub struct MultiWriter<A: Allocator = Global> {
 
 impl<A: Allocator> Model for MultiWriter<A> {
     ghost use Rattle.std.specs.Prelude.{◌≡◌, false};
-    ghost use Rattle.lsm_writers.specs.Tables.{TablesWriting, GoesOn, lists_in};
+    ghost use Rattle.lsm_writers.specs.Tables.{TablesWriting, AreHeld, GoesOn, lists_in};
 
     ghost Value = { TablesWriting };
 
@@ -67,8 +48,10 @@ impl<A: Allocator> Model for MultiWriter<A> {
       failed = w.failed;
     } };
 
-    ghost invariant = { λ w. w.failed ≡ false →
-        GoesOn w.target_size w.ids w.finished.items w.writer };
+    ghost invariant = { λ w.
+        AreHeld w.writer.options w.writer.label w.finished.items
+        × (w.failed ≡ false →
+        GoesOn w.target_size w.ids (lists_in w.finished.items) w.writer) };
 }
 
 impl<A: Allocator + Clone> MultiWriter<A> {
@@ -87,9 +70,10 @@ impl<A: Allocator + Clone> MultiWriter<A> {
         initial_level: u8,
         created_at: Timestamp,
     ) -> Result<MultiWriter<A>, Error>
-        ensures ok { IfOk result (λ w. w ≡ new_tables ids target_size initial_level created_at) }
-        ensures refused { Faults result (ids_fault ids) }
-        ensures first { FaultsFirst result (ids_fault ids) }
+        ensures ok { IfOk result
+            (λ w. w ≡ spec.new_tables ids target_size initial_level created_at) }
+        ensures refused { spec.Faults result (spec.ids_fault ids) }
+        ensures first { spec.FaultsFirst result (spec.ids_fault ids) }
     {
         let Some(id) = ids.next() else {
             return Err(Error::TableIdsSpent);
@@ -106,7 +90,7 @@ impl<A: Allocator + Clone> MultiWriter<A> {
 
     /// Returns whether no entry was written and no call failed.
     pub fn is_empty(&self) -> bool
-        ensures { IsTrue result ↔ IsFreshRun self.now }
+        ensures { IsTrue result ↔ spec.IsFreshRun self.now }
     {
         !self.failed && self.finished.is_empty() && self.writer.is_empty()
     }
@@ -117,7 +101,8 @@ impl<A: Allocator + Clone> MultiWriter<A> {
     /// entry. Entries are sorted by key, then by descending sequence number. After an error the
     /// list is empty, so any key can follow.
     pub fn can_follow(&self, key: &InternalKey<A>) -> bool
-        ensures { result ≡ may_be_written (all_written self.now) key.now.user_key key.now.seqno }
+        ensures { result ≡ spec.may_be_written (spec.all_written self.now) key.now.user_key
+            key.now.seqno }
     {
         if self.failed {
             return key.seqno < SeqNo::MAX;
@@ -127,8 +112,8 @@ impl<A: Allocator + Clone> MultiWriter<A> {
 
     /// Returns whether this entry can be written next; see [`MultiWriter::can_follow`].
     pub fn can_follow_ref(&self, entry: &EntryRef<'_>) -> bool
-        ensures { let e = entry_of_ref entry.now in
-            result ≡ may_be_written (all_written self.now) e.user_key e.seqno }
+        ensures { let e = spec.entry_of_ref entry.now in
+            result ≡ spec.may_be_written (spec.all_written self.now) e.user_key e.seqno }
     {
         if self.failed {
             return entry.seqno < SeqNo::MAX;
@@ -158,22 +143,27 @@ impl<A: Allocator + Clone> MultiWriter<A> {
     ///   [`Writer::finish`] for the current table;
     /// - the errors of [`Writer::write`].
     ///
-    /// After an error the list is lost. Each later call fails with [`Error::WriterFailed`] and
-    /// changes nothing. An id that was drawn stays drawn, even if the call fails later.
+    /// After an error the list is lost, but for the finished tables: these can still be taken. Each
+    /// later call fails with [`Error::WriterFailed`] and changes nothing. An id that was drawn stays
+    /// drawn, even if the call fails later.
     pub fn write(&mut self, item: InternalValue<A>) -> Result<(), Error>
-        requires { IsTrue (may_be_written (all_written self.old) item.user_key item.seqno) }
-        ensures ok { OnOk result (self.new ≡ took self.old item) }
-        ensures listed { OnOk result (all_written self.new ≡ all_written self.old ++ item ∷ []) }
-        ensures refused { Faults result (took_fault self.old item) }
+        requires { IsTrue (spec.may_be_written (spec.all_written self.old) item.user_key
+            item.seqno) }
+        ensures ok { OnOk result (self.new ≡ spec.took self.old item) }
+        ensures listed { OnOk result (spec.all_written self.new ≡ spec.all_written self.old ++ item
+            ∷ []) }
+        ensures refused { spec.Faults result (spec.took_fault self.old item) }
         // These errors take precedence over `OutOfMemory`.
-        ensures first { FaultsFirst result (early_refusal self.old item) }
-        ensures memory { took_fault self.old item ≡ None → IfErr result (λ e. e ≡ OutOfMemory) }
+        ensures first { spec.FaultsFirst result (spec.early_refusal self.old item) }
+        ensures memory { spec.took_fault self.old item ≡ None →
+            IfErr result (λ e. e ≡ spec.OutOfMemory) }
         // With an id left and an entry that fits, an unfailed writer fails only with `OutOfMemory`.
-        ensures taken { HasRoomFor self.old item → IfErr result (λ e. e ≡ OutOfMemory) }
+        ensures taken { spec.HasRoomFor self.old item → IfErr result (λ e. e ≡ spec.OutOfMemory) }
         ensures failed { OnErr result (self.new.failed ≡ true) }
         // Whatever the result, an unfailed writer draws an id exactly if a table is due.
-        ensures ids { self.new.ids ≡ ids_after self.old item }
+        ensures ids { self.new.ids ≡ spec.ids_after self.old item }
         ensures kept { self.old.failed ≡ true → self.new ≡ self.old }
+        ensures left { OnErr result (spec.IsLeft self.old item self.new) }
     {
         let outcome = self.write_ref(&item.as_entry_ref());
         drop(item);
@@ -184,23 +174,27 @@ impl<A: Allocator + Clone> MultiWriter<A> {
     ///
     /// It copies the key and value into a buffer that is reused from block to block.
     pub fn write_ref(&mut self, entry: &EntryRef<'_>) -> Result<(), Error>
-        requires { let e = entry_of_ref entry.now in
-            IsTrue (may_be_written (all_written self.old) e.user_key e.seqno) }
-        ensures ok { OnOk result (self.new ≡ took self.old (entry_of_ref entry.now)) }
+        requires { let e = spec.entry_of_ref entry.now in
+            IsTrue (spec.may_be_written (spec.all_written self.old) e.user_key e.seqno) }
+        ensures ok { OnOk result (self.new ≡ spec.took self.old (spec.entry_of_ref entry.now)) }
         ensures listed { OnOk result
-            (all_written self.new ≡ all_written self.old ++ entry_of_ref entry.now ∷ []) }
-        ensures refused { Faults result (took_fault self.old (entry_of_ref entry.now)) }
+            (spec.all_written self.new ≡ spec.all_written self.old ++ spec.entry_of_ref entry.now
+            ∷ []) }
+        ensures refused { spec.Faults result
+            (spec.took_fault self.old (spec.entry_of_ref entry.now)) }
         // These errors take precedence over `OutOfMemory`.
-        ensures first { FaultsFirst result (early_refusal self.old (entry_of_ref entry.now)) }
-        ensures memory { took_fault self.old (entry_of_ref entry.now) ≡ None →
-            IfErr result (λ e. e ≡ OutOfMemory) }
+        ensures first { spec.FaultsFirst result
+            (spec.early_refusal self.old (spec.entry_of_ref entry.now)) }
+        ensures memory { spec.took_fault self.old (spec.entry_of_ref entry.now) ≡ None →
+            IfErr result (λ e. e ≡ spec.OutOfMemory) }
         // With an id left and an entry that fits, an unfailed writer fails only with `OutOfMemory`.
-        ensures taken { HasRoomFor self.old (entry_of_ref entry.now) →
-            IfErr result (λ e. e ≡ OutOfMemory) }
+        ensures taken { spec.HasRoomFor self.old (spec.entry_of_ref entry.now) →
+            IfErr result (λ e. e ≡ spec.OutOfMemory) }
         ensures failed { OnErr result (self.new.failed ≡ true) }
         // Whatever the result, an unfailed writer draws an id exactly if a table is due.
-        ensures ids { self.new.ids ≡ ids_after self.old (entry_of_ref entry.now) }
+        ensures ids { self.new.ids ≡ spec.ids_after self.old (spec.entry_of_ref entry.now) }
         ensures kept { self.old.failed ≡ true → self.new ≡ self.old }
+        ensures left { OnErr result (spec.IsLeft self.old (spec.entry_of_ref entry.now) self.new) }
     {
         if self.failed {
             return Err(Error::WriterFailed);
@@ -218,7 +212,27 @@ impl<A: Allocator + Clone> MultiWriter<A> {
         Ok(())
     }
 
-    /// Finishes the current table and returns all tables in key order, none if nothing was written.
+    /// Returns the oldest finished table that was not taken, or `None` if there is none.
+    ///
+    /// Tables can be taken between any two calls, also after an error. The tables that were taken,
+    /// then those that [`MultiWriter::finish`] returns, are those that it returns if none is taken.
+    pub fn take_finished(&mut self) -> Option<FinishedTable<A>>
+        ensures table { spec.AreFinished self.old.present.options (spec.first_label self.old)
+            (take 1 self.old.tables) (spec.option_to_list result) }
+        ensures left { self.new ≡ spec.taken 1 self.old }
+        // The same entries can be written next.
+        ensures last { spec.last_of None (spec.all_written self.new)
+            ≡ spec.last_of None (spec.all_written self.old) }
+        ensures ids { length self.old.tables ≤ self.old.present.label.table_id }
+    {
+        if self.finished.is_empty() {
+            return None;
+        }
+        Some(self.finished.remove(0))
+    }
+
+    /// Finishes the current table and returns all tables that were not taken, in key order, none if
+    /// nothing was written.
     ///
     /// The ids of the tables are consecutive from the first id drawn. At a target of 0 they start
     /// at the second id: the first table is finished before it has an entry.
@@ -229,22 +243,23 @@ impl<A: Allocator + Clone> MultiWriter<A> {
     /// the current table, or [`Error::OutOfMemory`]. The finished tables are dropped then.
     pub fn finish(self) -> Result<Vec<FinishedTable<A>, A>, Error>
         ensures tables { IfOk result (λ fs.
-            AreTables self.present.options.data_block_size self.target
-            (all_written self) (tables_of self)) }
+            spec.AreTables self.present.options.data_block_size self.target
+            (spec.all_written self) (spec.tables_of self)) }
         ensures finished { IfOk result (λ fs.
-            AreFinished self.present.options (first_label self) (tables_of self) fs.items) }
-        ensures order { IfOk result (λ fs. AreInKeyOrder (tables_of self)) }
-        ensures strict { IfOk result (λ fs. IsStrict (all_written self)) }
-        ensures none { IfOk result (λ fs. all_written self ≡ [] → fs.items ≡ []) }
-        ensures refused { Faults result (run_fault self) }
-        ensures first { FaultsFirst result (failed_fault self.failed) }
-        ensures memory { run_fault self ≡ None → IfErr result (λ e. e ≡ OutOfMemory) }
+            spec.AreFinished self.present.options (spec.first_label self) (spec.tables_of self)
+            fs.items) }
+        ensures order { IfOk result (λ fs. spec.AreInKeyOrder (spec.tables_of self)) }
+        ensures strict { IfOk result (λ fs. spec.IsStrict (spec.all_written self)) }
+        ensures none { IfOk result (λ fs. spec.all_written self ≡ [] → fs.items ≡ []) }
+        ensures refused { spec.Faults result (spec.run_fault self) }
+        ensures first { spec.FaultsFirst result (spec.failed_fault self.failed) }
+        ensures memory { spec.run_fault self ≡ None → IfErr result (λ e. e ≡ spec.OutOfMemory) }
         // If the sections of the last table fit, an unfailed writer fails only with `OutOfMemory`.
         ensures taken { self.failed ≡ false →
-            table_fault self.present.options (written self.present) ≡ None →
-            IfErr result (λ e. e ≡ OutOfMemory) }
+            spec.table_fault self.present.options (spec.written self.present) ≡ None →
+            IfErr result (λ e. e ≡ spec.OutOfMemory) }
         // If nothing was written, only a failed writer returns an error.
-        ensures idle { OnErr result (all_written self ≡ [] → self.failed ≡ true) }
+        ensures idle { OnErr result (spec.all_written self ≡ [] → self.failed ≡ true) }
     {
         if self.failed {
             drop(self);
@@ -261,9 +276,9 @@ impl<A: Allocator + Clone> MultiWriter<A> {
 
     // Replaces the options of all tables.
     fn with_options(mut self, options: Options) -> MultiWriter<A>
-        requires fresh { IsFreshRun self }
-        requires small { IsSmallFilter options.filter_kind }
-        ensures { result ≡ with_options self options }
+        requires fresh { spec.IsFreshRun self }
+        requires small { spec.IsSmallFilter options.filter_kind }
+        ensures { result ≡ spec.with_options self options }
     {
         self.writer = self.writer.with_options(options);
         self
@@ -275,12 +290,12 @@ impl<A: Allocator + Clone> MultiWriter<A> {
     /// restart interval is at least 1. A table can be opened only if its index block restart
     /// interval is 1.
     pub fn use_options(self, options: Options) -> MultiWriter<A>
-        requires fresh { IsFreshRun self }
+        requires fresh { spec.IsFreshRun self }
         requires some { 0 < options.data_block_restart_interval }
         requires small_blocks { options.data_block_size ≤ 4194304 }
-        requires small_index { IsSmallIndex options.index_kind }
-        requires small_filter { IsSmallFilter options.filter_kind }
-        ensures { result ≡ with_options self options }
+        requires small_index { spec.IsSmallIndex options.index_kind }
+        requires small_filter { spec.IsSmallFilter options.filter_kind }
+        ensures { result ≡ spec.with_options self options }
     {
         self.with_options(options)
     }
@@ -289,10 +304,10 @@ impl<A: Allocator + Clone> MultiWriter<A> {
     ///
     /// It is stored in the meta block and changes nothing else.
     pub fn use_data_block_restart_interval(self, interval: u8) -> MultiWriter<A>
-        requires fresh { IsFreshRun self }
+        requires fresh { spec.IsFreshRun self }
         requires some { 0 < interval }
         ensures { result ≡
-            with_options self
+            spec.with_options self
             (record self.present.options { data_block_restart_interval = interval }) }
     {
         let options = Options {
@@ -307,9 +322,9 @@ impl<A: Allocator + Clone> MultiWriter<A> {
     /// It is stored in the meta block and changes no index block. A table can be opened only if it
     /// is 1.
     pub fn use_index_block_restart_interval(self, interval: u8) -> MultiWriter<A>
-        requires { IsFreshRun self }
+        requires { spec.IsFreshRun self }
         ensures { result ≡
-            with_options self
+            spec.with_options self
             (record self.present.options { index_block_restart_interval = interval }) }
     {
         let options = Options {
@@ -323,9 +338,9 @@ impl<A: Allocator + Clone> MultiWriter<A> {
     ///
     /// It is stored in the meta block and changes nothing else.
     pub fn use_data_block_hash_ratio(self, ratio: u32) -> MultiWriter<A>
-        requires { IsFreshRun self }
+        requires { spec.IsFreshRun self }
         ensures { result ≡
-            with_options self (record self.present.options { data_block_hash_ratio = ratio }) }
+            spec.with_options self (record self.present.options { data_block_hash_ratio = ratio }) }
     {
         let options = Options {
             data_block_hash_ratio: ratio,
@@ -338,10 +353,10 @@ impl<A: Allocator + Clone> MultiWriter<A> {
     ///
     /// A data block is cut once its keys and values reach this total length.
     pub fn use_data_block_size(self, size: u32) -> MultiWriter<A>
-        requires fresh { IsFreshRun self }
+        requires fresh { spec.IsFreshRun self }
         requires small { size ≤ 4194304 }
         ensures { result ≡
-            with_options self (record self.present.options { data_block_size = size }) }
+            spec.with_options self (record self.present.options { data_block_size = size }) }
     {
         let options = Options {
             data_block_size: size,
@@ -354,10 +369,10 @@ impl<A: Allocator + Clone> MultiWriter<A> {
     ///
     /// It replaces a partition size set before.
     pub fn use_partitioned_filter(self) -> MultiWriter<A>
-        requires { IsFreshRun self }
+        requires { spec.IsFreshRun self }
         ensures { result ≡
-            with_options self
-            (record self.present.options { filter_kind = PartitionedFilter 4096 }) }
+            spec.with_options self
+            (record self.present.options { filter_kind = spec.PartitionedFilter 4096 }) }
     {
         let options = Options {
             filter_kind: FilterKind::Partitioned(4_096),
@@ -370,9 +385,10 @@ impl<A: Allocator + Clone> MultiWriter<A> {
     ///
     /// It replaces a partition size set before.
     pub fn use_partitioned_index(self) -> MultiWriter<A>
-        requires { IsFreshRun self }
+        requires { spec.IsFreshRun self }
         ensures { result ≡
-            with_options self (record self.present.options { index_kind = PartitionedIndex 4096 }) }
+            spec.with_options self
+            (record self.present.options { index_kind = spec.PartitionedIndex 4096 }) }
     {
         let options = Options {
             index_kind: IndexKind::Partitioned(4_096),
@@ -386,13 +402,13 @@ impl<A: Allocator + Clone> MultiWriter<A> {
     /// Full indexes and filters are not affected.
     #[tactic(auto, using(crate::proofs::Filtered::sized_small))]
     pub fn use_meta_partition_size(self, size: u32) -> MultiWriter<A>
-        requires fresh { IsFreshRun self }
+        requires fresh { spec.IsFreshRun self }
         requires small { size ≤ 4194304 }
         ensures { result ≡
-            with_options self
+            spec.with_options self
             (record self.present.options {
-              index_kind = index_with_size size self.present.options.index_kind;
-              filter_kind = filter_with_size size self.present.options.filter_kind;
+              index_kind = spec.index_with_size size self.present.options.index_kind;
+              filter_kind = spec.filter_with_size size self.present.options.filter_kind;
             }) }
     {
         let before = self.writer.options();
@@ -408,9 +424,9 @@ impl<A: Allocator + Clone> MultiWriter<A> {
     ///
     /// With 0 bits no filter is written.
     pub fn use_bloom_policy(self, policy: BloomConstructionPolicy) -> MultiWriter<A>
-        requires { IsFreshRun self }
+        requires { spec.IsFreshRun self }
         ensures { result ≡
-            with_options self (record self.present.options { bloom_policy = policy }) }
+            spec.with_options self (record self.present.options { bloom_policy = policy }) }
     {
         let options = Options {
             bloom_policy: policy,
@@ -423,7 +439,7 @@ impl<A: Allocator + Clone> MultiWriter<A> {
     ///
     /// `None` is the only variant, so the call changes nothing.
     pub fn use_data_block_compression(self, compression: CompressionType) -> MultiWriter<A>
-        requires { IsFreshRun self }
+        requires { spec.IsFreshRun self }
         ensures { result ≡ self }
     {
         match compression {
@@ -435,7 +451,7 @@ impl<A: Allocator + Clone> MultiWriter<A> {
     ///
     /// `None` is the only variant, so the call changes nothing.
     pub fn use_index_block_compression(self, compression: CompressionType) -> MultiWriter<A>
-        requires { IsFreshRun self }
+        requires { spec.IsFreshRun self }
         ensures { result ≡ self }
     {
         match compression {
@@ -450,9 +466,10 @@ fn add_table<A: Allocator + Clone>(
     finished: &mut Vec<FinishedTable<A>, A>,
     writer: Writer<A>,
 ) -> Result<(), Error>
-    ensures ok { OnOk result (AddsTable writer finished.old.items finished.new.items) }
-    ensures refused { Faults result (finish_fault writer) }
-    ensures idle { OnErr result (written writer ≡ [] → writer.failed ≡ true) }
+    ensures ok { OnOk result (spec.AddsTable writer finished.old.items finished.new.items) }
+    ensures left { OnErr result (finished.new.items ≡ finished.old.items) }
+    ensures refused { spec.Faults result (spec.finish_fault writer) }
+    ensures idle { OnErr result (spec.written writer ≡ [] → writer.failed ≡ true) }
 {
     if let Some(table) = writer.finish()? {
         finished.push(table)?;
@@ -462,7 +479,7 @@ fn add_table<A: Allocator + Clone>(
 
 /// Returns whether the next table begins with this entry.
 fn is_due<A: Allocator + Clone>(target: u64, writer: &Writer<A>, entry: &EntryRef<'_>) -> bool
-    ensures { result ≡ is_due target writer.now (entry_of_ref entry.now) }
+    ensures { result ≡ spec.is_due target writer.now (spec.entry_of_ref entry.now) }
 {
     // Compare the length first: it costs less than comparing keys.
     writer.metadata().file_pos.0 >= target && writer.starts_key(entry)
@@ -473,23 +490,27 @@ fn is_due<A: Allocator + Clone>(target: u64, writer: &Writer<A>, entry: &EntryRe
 /// # Errors
 ///
 /// [`Error::TableIdsSpent`] if no id is left; else the errors of [`Writer::finish`]. The id stays
-/// drawn.
+/// drawn. The finished tables stay, and so does the table info of the current one.
 fn rotate<A: Allocator + Clone>(
     ids: &mut TableIds,
     finished: &mut Vec<FinishedTable<A>, A>,
     writer: &mut Writer<A>,
 ) -> Result<(), Error>
-    ensures ids { ids.new ≡ drawn ids.old }
-    ensures next { OnOk result (writer.new ≡ next_writing ids.old writer.old) }
-    ensures added { OnOk result (AddsTable writer.old finished.old.items finished.new.items) }
-    ensures refused { Faults result (rotation_fault ids.old writer.old) }
-    ensures first { FaultsFirst result (ids_fault ids.old) }
+    ensures ids { ids.new ≡ spec.drawn ids.old }
+    ensures next { OnOk result (writer.new ≡ spec.next_writing ids.old writer.old) }
+    ensures added { OnOk result (spec.AddsTable writer.old finished.old.items finished.new.items) }
+    ensures left { OnErr result
+        (spec.StayHeld finished.old.items writer.old finished.new.items writer.new) }
+    ensures refused { spec.Faults result (spec.rotation_fault ids.old writer.old) }
+    ensures first { spec.FaultsFirst result (spec.ids_fault ids.old) }
 {
     let Some(id) = ids.next() else {
         return Err(Error::TableIdsSpent);
     };
-    let next = writer.successor(id)?;
-    add_table(finished, mem::replace(writer, next))
+    let next = writer.successor()?;
+    add_table(finished, mem::replace(writer, next))?;
+    writer.set_id(id);
+    Ok(())
 }
 
 /// Begins the next table if one is due. Its errors are those of [`rotate`].
@@ -500,15 +521,20 @@ fn make_ready<A: Allocator + Clone>(
     writer: &mut Writer<A>,
     entry: &EntryRef<'_>,
 ) -> Result<(), Error>
-    ensures ok { OnOk result (IsStanding (is_due target writer.old (entry_of_ref entry.now))
+    ensures ok { OnOk result
+        (spec.IsStanding (spec.is_due target writer.old (spec.entry_of_ref entry.now))
         ids.old finished.old.items writer.old ids.new finished.new.items writer.new) }
-    ensures refused { Faults result
-        (turn_fault target ids.old writer.old (entry_of_ref entry.now)) }
-    ensures first { FaultsFirst result
-        (if is_due target writer.old (entry_of_ref entry.now) then ids_fault ids.old else None) }
-    ensures idle { OnErr result (is_due target writer.old (entry_of_ref entry.now) ≡ true) }
-    ensures ids { let due = is_due target writer.old (entry_of_ref entry.now) in
-        ids.new ≡ (if due then drawn ids.old else ids.old) }
+    ensures left { OnErr result
+        (spec.StayHeld finished.old.items writer.old finished.new.items writer.new) }
+    ensures refused { spec.Faults result
+        (spec.turn_fault target ids.old writer.old (spec.entry_of_ref entry.now)) }
+    ensures first { spec.FaultsFirst result
+        (if spec.is_due target writer.old (spec.entry_of_ref entry.now) then spec.ids_fault ids.old
+        else None) }
+    ensures idle { OnErr result (spec.is_due target writer.old (spec.entry_of_ref entry.now)
+        ≡ true) }
+    ensures ids { let due = spec.is_due target writer.old (spec.entry_of_ref entry.now) in
+        ids.new ≡ (if due then spec.drawn ids.old else ids.old) }
 {
     if is_due(target, writer, entry) {
         rotate(ids, finished, writer)?;
@@ -523,8 +549,20 @@ fn make_ready<A: Allocator + Clone>(
 ///   possible error is [`Error::OutOfMemory`].
 /// - At a target of 0 each table of a strict list has all entries of exactly one key.
 pub fn tables_law()
-    ensures cut { CutLaw }
-    ensures one_cut { OneCutLaw }
-    ensures takes { TakesLaw }
-    ensures one_key { OneKeyLaw }
+    ensures cut { spec.CutLaw }
+    ensures one_cut { spec.OneCutLaw }
+    ensures takes { spec.TakesLaw }
+    ensures one_key { spec.OneKeyLaw }
+{}
+
+/// Laws of [`MultiWriter::take_finished`]. The call does nothing.
+///
+/// - Tables that are taken one after another are the oldest ones.
+/// - The taken tables, then those that [`MultiWriter::finish`] returns, are those that it returns
+///   if none is taken.
+/// - Writing is the same, whatever was taken.
+pub fn taking_law<A: Allocator>()
+    ensures taken { spec.TakenLaw A }
+    ensures finished { spec.FinishedLaw A }
+    ensures written { spec.WrittenLaw A }
 {}

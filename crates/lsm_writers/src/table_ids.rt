@@ -1,6 +1,6 @@
 //! A counter of table ids.
 ghost use Rattle.std.specs.Prelude.{◌≡◌, Some};
-ghost use Rattle.lsm_writers.specs.Tables.{drawn};
+ghost use Rattle.lsm_writers.specs.Words as spec;
 
 use crate::TableId;
 use std::marker::Model;
@@ -34,7 +34,7 @@ impl TableIds {
     /// Draws and returns the next id, or returns `None` once `u64::MAX` was drawn.
     pub fn next(&mut self) -> Option<TableId>
         ensures id { result ≡ self.old }
-        ensures left { self.new ≡ drawn self.old }
+        ensures left { self.new ≡ spec.drawn self.old }
     {
         let id = self.next?;
         self.next = id.checked_add(1);

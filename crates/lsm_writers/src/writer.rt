@@ -2,32 +2,7 @@
 ghost use Rattle.std.specs.Prelude.{◌≡◌, ◌↔◌, ◌<◌, ◌≤◌, ◌+◌, ◌*◌, ◌^◌, ℕ, List, [], ◌∷◌, ◌++◌};
 ghost use Rattle.std.specs.Prelude.{None, Some, false, true, length, IsTrue, IfOk, IfErr, OnOk};
 ghost use Rattle.std.specs.Prelude.{OnErr, MatchResult, MatchOption};
-ghost use Rattle.lsm_writers.specs.Words.{AreTableParts, CanRegister, CountsCut, Entry, EntryFits};
-ghost use Rattle.lsm_writers.specs.Words.{Faults, FaultsFirst, HasNoVersion, HaveParts, IsFinished};
-ghost use Rattle.lsm_writers.specs.Words.{IsFresh, IsSmallFilter, IsSmallIndex, IsStrict, IsTaken};
-ghost use Rattle.lsm_writers.specs.Words.{LabelFits};
-ghost use Rattle.lsm_writers.specs.Words.{Registers, WritesTable, appended, cut_writing};
-ghost use Rattle.lsm_writers.specs.Words.{empty_len, entries_fault, entries_size, entry_head_len};
-ghost use Rattle.lsm_writers.specs.Words.{entry_size, failed_fault};
-ghost use Rattle.lsm_writers.specs.Words.{filter_with_size, finish_fault, finished, fnv1a};
-ghost use Rattle.lsm_writers.specs.Words.{fresh_writing, gained, index_with_size, is_full};
-ghost use Rattle.lsm_writers.specs.Words.{item_fault, joined, label_of, last_of, may_be_written};
-ghost use Rattle.lsm_writers.specs.Words.{metadata_of};
-ghost use Rattle.lsm_writers.specs.Words.{new_writing, registered_key, sections_fault, spilled};
-ghost use Rattle.lsm_writers.specs.Words.{starts_key, tally_of, version_section, write_fault};
-ghost use Rattle.lsm_writers.specs.Words.{written};
-ghost use Rattle.std.specs.List.{AllByRecursion};
-ghost use Rattle.std.specs.Option.{option_map};
-ghost use Rattle.sst_blocks.specs.Encoding.{IsShortEntry};
-ghost use Rattle.sst_entries.specs.Lending.{entry_of_ref};
-ghost use Rattle.sst_entries.specs.declared.error.Error.TheVariants.{OutOfMemory};
-ghost use Rattle.sst_blocks.specs.declared.version.TableVersion.TheVariants.{V4};
-ghost use Rattle.sst_blocks.specs.declared.table.options.FilterKind.TheVariants.{
-  Partitioned as PartitionedFilter,
-};
-ghost use Rattle.sst_blocks.specs.declared.table.options.IndexKind.TheVariants.{
-  Partitioned as PartitionedIndex,
-};
+ghost use Rattle.lsm_writers.specs.Words as spec;
 
 mod block_buffer;
 mod data_blocks;
@@ -109,8 +84,9 @@ impl<A: Allocator + Clone> Writer<A> {
         initial_level: u8,
         created_at: Timestamp,
     ) -> Result<Writer<A>, Error>
-        ensures ok { IfOk result (λ w. w ≡ new_writing (label_of id initial_level created_at)) }
-        ensures err { IfErr result (λ e. e ≡ OutOfMemory) }
+        ensures ok { IfOk result
+            (λ w. w ≡ spec.new_writing (spec.label_of id initial_level created_at)) }
+        ensures err { IfErr result (λ e. e ≡ spec.OutOfMemory) }
     {
         let label = Label {
             table_id: id,
@@ -120,27 +96,30 @@ impl<A: Allocator + Clone> Writer<A> {
         Writer::fresh(alloc, label, Options::default())
     }
 
-    /// Creates a writer of the table `id`, with the level, timestamp and options of this one. Fails
-    /// only with [`Error::OutOfMemory`].
-    pub(crate) fn successor(&self, id: TableId) -> Result<Writer<A>, Error>
-        ensures ok { IfOk result (λ w.
-            w ≡ fresh_writing (record self.now.label { table_id = id }) self.now.options) }
-        ensures err { IfErr result (λ e. e ≡ OutOfMemory) }
+    /// Creates a writer with the table info and options of this one. Fails only with
+    /// [`Error::OutOfMemory`].
+    pub(crate) fn successor(&self) -> Result<Writer<A>, Error>
+        ensures ok { IfOk result (λ w. w ≡ spec.fresh_writing self.now.label self.now.options) }
+        ensures err { IfErr result (λ e. e ≡ spec.OutOfMemory) }
     {
-        let label = Label {
-            table_id: id,
-            initial_level: self.label.initial_level,
-            created_at: self.label.created_at,
-        };
-        Writer::fresh(self.chunk.allocator().clone()?, label, self.options)
+        Writer::fresh(self.chunk.allocator().clone()?, self.label, self.options)
+    }
+
+    /// Sets the id of the table.
+    pub(crate) fn set_id(&mut self, id: TableId)
+        ensures { self.new ≡ record self.old {
+          label = record self.old.label { table_id = id };
+        } }
+    {
+        self.label.table_id = id;
     }
 
     /// Creates a writer without entries. Fails only with [`Error::OutOfMemory`].
     fn fresh(alloc: A, label: Label, options: Options) -> Result<Writer<A>, Error>
-        requires label { LabelFits label }
-        requires small { IsSmallFilter options.filter_kind }
-        ensures ok { IfOk result (λ w. w ≡ fresh_writing label options) }
-        ensures err { IfErr result (λ e. e ≡ OutOfMemory) }
+        requires label { spec.LabelFits label }
+        requires small { spec.IsSmallFilter options.filter_kind }
+        ensures ok { IfOk result (λ w. w ≡ spec.fresh_writing label options) }
+        ensures err { IfErr result (λ e. e ≡ spec.OutOfMemory) }
     {
         let blocks = DataBlocks::new(alloc.clone()?)?;
         Ok(Writer {
@@ -158,14 +137,15 @@ impl<A: Allocator + Clone> Writer<A> {
     /// Returns whether an entry is the first of its key if it is written next.
     pub(crate) fn starts_key(&self, entry: &EntryRef<'_>) -> bool
         ensures { result ≡
-            starts_key (last_of None (written self.now)) (entry_of_ref entry.now) }
+            spec.starts_key (spec.last_of None (spec.written self.now))
+            (spec.entry_of_ref entry.now) }
     {
         starts_key(last_written(&self.chunk, &self.blocks), entry)
     }
 
     /// Returns whether no entry was written and no call failed.
     pub fn is_empty(&self) -> bool
-        ensures { IsTrue result ↔ IsFresh self.now }
+        ensures { IsTrue result ↔ spec.IsFresh self.now }
     {
         !self.failed && self.chunk.is_empty() && self.meta.data_block_count == 0
     }
@@ -175,15 +155,16 @@ impl<A: Allocator + Clone> Writer<A> {
     /// It can if its sequence number is below `u64::MAX` and it sorts strictly after the last
     /// entry. Entries are sorted by key, then by descending sequence number.
     pub fn can_follow(&self, key: &InternalKey<A>) -> bool
-        ensures { result ≡ may_be_written (written self.now) key.now.user_key key.now.seqno }
+        ensures { result ≡ spec.may_be_written (spec.written self.now) key.now.user_key
+            key.now.seqno }
     {
         self.follows(key.user_key.as_slice(), key.seqno)
     }
 
     /// Returns whether this entry can be written next; see [`Writer::can_follow`].
     pub fn can_follow_ref(&self, entry: &EntryRef<'_>) -> bool
-        ensures { let e = entry_of_ref entry.now in
-            result ≡ may_be_written (written self.now) e.user_key e.seqno }
+        ensures { let e = spec.entry_of_ref entry.now in
+            result ≡ spec.may_be_written (spec.written self.now) e.user_key e.seqno }
     {
         self.follows(entry.user_key, entry.seqno)
     }
@@ -191,7 +172,7 @@ impl<A: Allocator + Clone> Writer<A> {
     /// Returns whether an entry with this key and sequence number can be written next.
     #[inline]
     fn follows(&self, key: &[u8], seqno: SeqNo) -> bool
-        ensures { result ≡ may_be_written (written self.now) key.now seqno }
+        ensures { result ≡ spec.may_be_written (spec.written self.now) key.now seqno }
     {
         seqno < SeqNo::MAX
             && match last_written(&self.chunk, &self.blocks) {
@@ -202,14 +183,14 @@ impl<A: Allocator + Clone> Writer<A> {
 
     /// Returns the counts of the entries and blocks written so far.
     pub fn metadata(&self) -> &Metadata<A>
-        ensures { result.now ≡ metadata_of V4 self.now.cut self.now.pending }
+        ensures { result.now ≡ spec.metadata_of spec.V4 self.now.cut self.now.pending }
     {
         &self.meta
     }
 
     /// Returns the total length of the pending keys and values in bytes.
     pub fn chunk_size(&self) -> usize
-        ensures { result ≡ entries_size self.now.pending }
+        ensures { result ≡ spec.entries_size self.now.pending }
     {
         self.chunk_size
     }
@@ -230,11 +211,11 @@ impl<A: Allocator + Clone> Writer<A> {
     ///
     /// After an error each later call fails with [`Error::WriterFailed`].
     pub fn write(&mut self, item: InternalValue<A>) -> Result<(), Error>
-        requires { IsTrue (may_be_written (written self.old) item.user_key item.seqno) }
-        ensures ok { OnOk result (self.new ≡ gained self.old item) }
-        ensures refused { Faults result (write_fault self.old item) }
+        requires { IsTrue (spec.may_be_written (spec.written self.old) item.user_key item.seqno) }
+        ensures ok { OnOk result (self.new ≡ spec.gained self.old item) }
+        ensures refused { spec.Faults result (spec.write_fault self.old item) }
         // Errors of the writer or the entry take precedence over `OutOfMemory`.
-        ensures first { FaultsFirst result (write_fault self.old item) }
+        ensures first { spec.FaultsFirst result (spec.write_fault self.old item) }
         // After an error the entry is dropped; the list and its counts stay.
         ensures failed { OnErr result (self.new ≡ record self.old { failed = true }) }
     {
@@ -247,12 +228,14 @@ impl<A: Allocator + Clone> Writer<A> {
     ///
     /// It copies the key and value into a buffer that is reused from block to block.
     pub fn write_ref(&mut self, entry: &EntryRef<'_>) -> Result<(), Error>
-        requires { let e = entry_of_ref entry.now in
-            IsTrue (may_be_written (written self.old) e.user_key e.seqno) }
-        ensures ok { OnOk result (self.new ≡ gained self.old (entry_of_ref entry.now)) }
-        ensures refused { Faults result (write_fault self.old (entry_of_ref entry.now)) }
+        requires { let e = spec.entry_of_ref entry.now in
+            IsTrue (spec.may_be_written (spec.written self.old) e.user_key e.seqno) }
+        ensures ok { OnOk result (self.new ≡ spec.gained self.old (spec.entry_of_ref entry.now)) }
+        ensures refused { spec.Faults result
+            (spec.write_fault self.old (spec.entry_of_ref entry.now)) }
         // Errors of the writer or the entry take precedence over `OutOfMemory`.
-        ensures first { FaultsFirst result (write_fault self.old (entry_of_ref entry.now)) }
+        ensures first { spec.FaultsFirst result
+            (spec.write_fault self.old (spec.entry_of_ref entry.now)) }
         // After an error the entry is dropped; the list and its counts stay.
         ensures failed { OnErr result (self.new ≡ record self.old { failed = true }) }
     {
@@ -291,9 +274,9 @@ impl<A: Allocator + Clone> Writer<A> {
     /// [`Error::WriterFailed`] if an earlier call failed, or [`Error::OutOfMemory`]. After an error
     /// each later call fails with [`Error::WriterFailed`].
     pub fn spill_block(&mut self) -> Result<(), Error>
-        ensures ok { OnOk result (self.new ≡ spilled self.old) }
-        ensures refused { Faults result (failed_fault self.old.failed) }
-        ensures first { FaultsFirst result (failed_fault self.old.failed) }
+        ensures ok { OnOk result (self.new ≡ spec.spilled self.old) }
+        ensures refused { spec.Faults result (spec.failed_fault self.old.failed) }
+        ensures first { spec.FaultsFirst result (spec.failed_fault self.old.failed) }
         ensures failed { OnErr result (self.new ≡ record self.old { failed = true }) }
         // Without pending entries, only a failed writer returns an error.
         ensures idle { OnErr result (self.old.pending ≡ [] → self.old.failed ≡ true) }
@@ -320,15 +303,15 @@ impl<A: Allocator + Clone> Writer<A> {
     ///   section of the index, then of the filter, reaches 2^32;
     /// - [`Error::OutOfMemory`].
     pub fn finish(mut self) -> Result<Option<FinishedTable<A>>, Error>
-        ensures table { IfOk result (λ t. MatchOption t (written self ≡ [])
-            (λ f. IsFinished self f.id f.checksum.0 f.bytes)) }
-        ensures refused { Faults result (finish_fault self) }
-        ensures first { FaultsFirst result (failed_fault self.failed) }
+        ensures table { IfOk result (λ t. MatchOption t (spec.written self ≡ [])
+            (λ f. spec.IsFinished self f.id f.checksum.0 f.bytes)) }
+        ensures refused { spec.Faults result (spec.finish_fault self) }
+        ensures first { spec.FaultsFirst result (spec.failed_fault self.failed) }
         // If nothing was written, only a failed writer returns an error.
-        ensures idle { OnErr result (written self ≡ [] → self.failed ≡ true) }
+        ensures idle { OnErr result (spec.written self ≡ [] → self.failed ≡ true) }
         // Whatever the result, the list is strict and its entries fit the fields of a table.
-        ensures strict { IsStrict (written self) }
-        ensures fits { AllByRecursion (EntryFits V4) (written self) }
+        ensures strict { spec.IsStrict (spec.written self) }
+        ensures fits { spec.AllByRecursion (spec.EntryFits spec.V4) (spec.written self) }
     {
         let spilled = self.spill_block();
         let item_count = self.meta.item_count;
@@ -349,10 +332,10 @@ impl<A: Allocator + Clone> Writer<A> {
         requires works { self.failed ≡ false }
         requires cut { self.pending ≡ [] }
         ensures id { IfOk result (λ t. t.id ≡ self.label.table_id) }
-        ensures checksum { IfOk result (λ t. t.checksum.0 ≡ fnv1a t.bytes) }
-        ensures table { IfOk result (λ t. WritesTable self t.bytes) }
-        ensures refused { Faults result (sections_fault self) }
-        ensures label { LabelFits self.label }
+        ensures checksum { IfOk result (λ t. t.checksum.0 ≡ spec.fnv1a t.bytes) }
+        ensures table { IfOk result (λ t. spec.WritesTable self t.bytes) }
+        ensures refused { spec.Faults result (spec.sections_fault self) }
+        ensures label { spec.LabelFits self.label }
     {
         let Writer {
             label,
@@ -392,15 +375,15 @@ impl<A: Allocator + Clone> Writer<A> {
     /// Returns the options.
     pub(crate) fn options(&self) -> Options
         ensures is { result ≡ self.now.options }
-        ensures small { IsSmallFilter result.filter_kind }
+        ensures small { spec.IsSmallFilter result.filter_kind }
     {
         self.options
     }
 
     /// Replaces the options.
     pub(crate) fn with_options(mut self, options: Options) -> Writer<A>
-        requires fresh { IsFresh self }
-        requires small { IsSmallFilter options.filter_kind }
+        requires fresh { spec.IsFresh self }
+        requires small { spec.IsSmallFilter options.filter_kind }
         ensures { result ≡ record self { options = options } }
     {
         self.options = options;
@@ -413,11 +396,11 @@ impl<A: Allocator + Clone> Writer<A> {
     /// restart interval is at least 1. A table can be opened only if its index block restart
     /// interval is 1.
     pub fn use_options(self, options: Options) -> Writer<A>
-        requires fresh { IsFresh self }
+        requires fresh { spec.IsFresh self }
         requires some { 0 < options.data_block_restart_interval }
         requires small_blocks { options.data_block_size ≤ 4194304 }
-        requires small_index { IsSmallIndex options.index_kind }
-        requires small_filter { IsSmallFilter options.filter_kind }
+        requires small_index { spec.IsSmallIndex options.index_kind }
+        requires small_filter { spec.IsSmallFilter options.filter_kind }
         ensures { result ≡ record self { options = options } }
     {
         self.with_options(options)
@@ -427,7 +410,7 @@ impl<A: Allocator + Clone> Writer<A> {
     ///
     /// It is stored in the meta block and changes nothing else.
     pub fn use_data_block_restart_interval(mut self, interval: u8) -> Writer<A>
-        requires fresh { IsFresh self }
+        requires fresh { spec.IsFresh self }
         requires some { 0 < interval }
         ensures { result ≡ record self {
           options = record self.options {
@@ -444,7 +427,7 @@ impl<A: Allocator + Clone> Writer<A> {
     /// It is stored in the meta block and changes no index block. A table can be opened only if it
     /// is 1.
     pub fn use_index_block_restart_interval(mut self, interval: u8) -> Writer<A>
-        requires { IsFresh self }
+        requires { spec.IsFresh self }
         ensures { result ≡ record self {
           options = record self.options {
             index_block_restart_interval = interval;
@@ -459,7 +442,7 @@ impl<A: Allocator + Clone> Writer<A> {
     ///
     /// It is stored in the meta block and changes nothing else.
     pub fn use_data_block_hash_ratio(mut self, ratio: u32) -> Writer<A>
-        requires { IsFresh self }
+        requires { spec.IsFresh self }
         ensures { result ≡ record self {
           options = record self.options {
             data_block_hash_ratio = ratio;
@@ -474,7 +457,7 @@ impl<A: Allocator + Clone> Writer<A> {
     ///
     /// A data block is cut once its keys and values reach this total length.
     pub fn use_data_block_size(mut self, size: u32) -> Writer<A>
-        requires fresh { IsFresh self }
+        requires fresh { spec.IsFresh self }
         requires small { size ≤ 4194304 }
         ensures { result ≡ record self {
           options = record self.options {
@@ -490,9 +473,9 @@ impl<A: Allocator + Clone> Writer<A> {
     ///
     /// It replaces a partition size set before.
     pub fn use_partitioned_filter(mut self) -> Writer<A>
-        requires { IsFresh self }
+        requires { spec.IsFresh self }
         ensures { result ≡ record self {
-          options = record self.options { filter_kind = PartitionedFilter 4096 };
+          options = record self.options { filter_kind = spec.PartitionedFilter 4096 };
         } }
     {
         self.options.filter_kind = FilterKind::Partitioned(4_096);
@@ -503,9 +486,9 @@ impl<A: Allocator + Clone> Writer<A> {
     ///
     /// It replaces a partition size set before.
     pub fn use_partitioned_index(mut self) -> Writer<A>
-        requires { IsFresh self }
+        requires { spec.IsFresh self }
         ensures { result ≡ record self {
-          options = record self.options { index_kind = PartitionedIndex 4096 };
+          options = record self.options { index_kind = spec.PartitionedIndex 4096 };
         } }
     {
         self.options.index_kind = IndexKind::Partitioned(4_096);
@@ -516,12 +499,12 @@ impl<A: Allocator + Clone> Writer<A> {
     ///
     /// A full index or filter is not affected.
     pub fn use_meta_partition_size(mut self, size: u32) -> Writer<A>
-        requires fresh { IsFresh self }
+        requires fresh { spec.IsFresh self }
         requires small { size ≤ 4194304 }
         ensures { result ≡ record self {
           options = record self.options {
-            index_kind = index_with_size size self.options.index_kind;
-            filter_kind = filter_with_size size self.options.filter_kind;
+            index_kind = spec.index_with_size size self.options.index_kind;
+            filter_kind = spec.filter_with_size size self.options.filter_kind;
           };
         } }
     {
@@ -534,7 +517,7 @@ impl<A: Allocator + Clone> Writer<A> {
     ///
     /// With 0 bits no filter is written.
     pub fn use_bloom_policy(mut self, policy: BloomConstructionPolicy) -> Writer<A>
-        requires { IsFresh self }
+        requires { spec.IsFresh self }
         ensures { result ≡ record self {
           options = record self.options { bloom_policy = policy };
         } }
@@ -547,7 +530,7 @@ impl<A: Allocator + Clone> Writer<A> {
     ///
     /// `None` is the only variant, so the call changes nothing.
     pub fn use_data_block_compression(self, compression: CompressionType) -> Writer<A>
-        requires { IsFresh self }
+        requires { spec.IsFresh self }
         ensures { result ≡ self }
     {
         match compression {
@@ -559,7 +542,7 @@ impl<A: Allocator + Clone> Writer<A> {
     ///
     /// `None` is the only variant, so the call changes nothing.
     pub fn use_index_block_compression(self, compression: CompressionType) -> Writer<A>
-        requires { IsFresh self }
+        requires { spec.IsFresh self }
         ensures { result ≡ self }
     {
         match compression {
@@ -594,9 +577,10 @@ impl<A: Allocator> fmt::Debug for FinishedTable<A> {
 /// Writes the table version section. Fails only with [`Error::OutOfMemory`] and then writes
 /// nothing.
 fn write_version<A: Allocator + Clone>(file_writer: &mut SectionWriter<A>) -> Result<(), Error>
-    requires { HasNoVersion file_writer.old }
-    ensures ok { OnOk result (file_writer.new ≡ appended file_writer.old (version_section V4)) }
-    ensures err { IfErr result (λ e. e ≡ OutOfMemory) }
+    requires { spec.HasNoVersion file_writer.old }
+    ensures ok { OnOk result
+        (file_writer.new ≡ spec.appended file_writer.old (spec.version_section spec.V4)) }
+    ensures err { IfErr result (λ e. e ≡ spec.OutOfMemory) }
 {
     file_writer.start(SectionName::TableVersion)?;
     file_writer.append(&[4])
@@ -607,10 +591,10 @@ fn last_written<'a, A: Allocator + Clone>(
     chunk: &'a BlockBuffer<A>,
     blocks: &'a DataBlocks<A>,
 ) -> Option<EntryRef<'a>>
-    ensures last { option_map entry_of_ref result ≡
-        last_of (last_of None (joined blocks.now.chunks)) chunk.now }
+    ensures last { spec.option_map spec.entry_of_ref result ≡
+        spec.last_of (spec.last_of None (spec.joined blocks.now.chunks)) chunk.now }
     // Each entry takes `entry_head_len` bytes or more, so a `u64` can count them.
-    ensures few { entry_head_len * length (joined blocks.now.chunks) < 2 ^ 64 }
+    ensures few { spec.entry_head_len * length (spec.joined blocks.now.chunks) < 2 ^ 64 }
 {
     let cut = blocks.last_block();
     let buffer = if chunk.is_empty() { cut } else { chunk };
@@ -628,21 +612,22 @@ fn admit<A: Allocator + Clone>(
     options: &Options,
     entry: &EntryRef<'_>,
 ) -> Result<Tally<A>, Error>
-    requires sized { chunk_size ≡ entries_size chunk.now }
-    requires small { empty_len + entry_head_len * length chunk.now + chunk_size < 2 ^ 32 }
-    requires rising { let e = entry_of_ref entry.now in
-        CanRegister options.now.filter_kind options.now.bloom_policy filter_writer.old
-        (registered_key options.now.bloom_policy
-        (starts_key (option_map entry_of_ref before) e) e.user_key) }
-    ensures tally { let e = entry_of_ref entry.now in
+    requires sized { chunk_size ≡ spec.entries_size chunk.now }
+    requires small { spec.empty_len + spec.entry_head_len * length chunk.now + chunk_size < 2 ^ 32 }
+    requires rising { let e = spec.entry_of_ref entry.now in
+        spec.CanRegister options.now.filter_kind options.now.bloom_policy filter_writer.old
+        (spec.registered_key options.now.bloom_policy
+        (spec.starts_key (spec.option_map spec.entry_of_ref before) e) e.user_key) }
+    ensures tally { let e = spec.entry_of_ref entry.now in
         IfOk result (λ t. t ≡
-        tally_of (option_map entry_of_ref before.entry) e meta.now.first_key) }
-    ensures registered { let e = entry_of_ref entry.now in
-        OnOk result (Registers options.now filter_writer.old filter_writer.new
-        (registered_key options.now.bloom_policy
-        (starts_key (option_map entry_of_ref before.entry) e) e.user_key)) }
-    ensures refused { Faults result (item_fault chunk.now (entry_of_ref entry.now)) }
-    ensures first { FaultsFirst result (item_fault chunk.now (entry_of_ref entry.now)) }
+        spec.tally_of (spec.option_map spec.entry_of_ref before.entry) e meta.now.first_key) }
+    ensures registered { let e = spec.entry_of_ref entry.now in
+        OnOk result (spec.Registers options.now filter_writer.old filter_writer.new
+        (spec.registered_key options.now.bloom_policy
+        (spec.starts_key (spec.option_map spec.entry_of_ref before.entry) e) e.user_key)) }
+    ensures refused { spec.Faults result (spec.item_fault chunk.now (spec.entry_of_ref entry.now)) }
+    ensures first { spec.FaultsFirst result
+        (spec.item_fault chunk.now (spec.entry_of_ref entry.now)) }
 {
     check_entry(chunk, chunk_size, entry)?;
     let tally = meta.tally(chunk.allocator(), before, entry)?;
@@ -666,22 +651,22 @@ fn take_entry<A: Allocator + Clone>(
     options: &Options,
     entry: &EntryRef<'_>,
 ) -> Result<(), Error>
-    requires sized { chunk_size.old ≡ entries_size chunk.old }
+    requires sized { chunk_size.old ≡ spec.entries_size chunk.old }
     requires works { blocks.old.failed ≡ false }
-    requires short { IsShortEntry (entry_of_ref entry.now) }
-    requires strict { IsStrict (joined blocks.old.chunks
-        ++ (chunk.old ++ entry_of_ref entry.now ∷ [])) }
-    requires fit { entries_fault (chunk.old ++ entry_of_ref entry.now ∷ []) ≡ None }
-    requires small { entry_size (entry_of_ref entry.now) + chunk_size.old < 2 ^ 64 }
-    requires counts { CountsCut blocks.old.chunks meta.old }
-    ensures taken { let more = chunk.old ++ entry_of_ref entry.now ∷ [] in
-        OnOk result (IsTaken (is_full options.now.data_block_size more) more blocks.old meta.old
-        chunk.new chunk_size.new blocks.new meta.new) }
+    requires short { spec.IsShortEntry (spec.entry_of_ref entry.now) }
+    requires strict { spec.IsStrict (spec.joined blocks.old.chunks
+        ++ (chunk.old ++ spec.entry_of_ref entry.now ∷ [])) }
+    requires fit { spec.entries_fault (chunk.old ++ spec.entry_of_ref entry.now ∷ []) ≡ None }
+    requires small { spec.entry_size (spec.entry_of_ref entry.now) + chunk_size.old < 2 ^ 64 }
+    requires counts { spec.CountsCut blocks.old.chunks meta.old }
+    ensures taken { let more = chunk.old ++ spec.entry_of_ref entry.now ∷ [] in
+        OnOk result (spec.IsTaken (spec.is_full options.now.data_block_size more) more blocks.old
+        meta.old chunk.new chunk_size.new blocks.new meta.new) }
     ensures left { OnErr result (chunk.new ≡ chunk.old) }
     ensures same_size { OnErr result (chunk_size.new ≡ chunk_size.old) }
     ensures uncut { OnErr result (blocks.new.chunks ≡ blocks.old.chunks) }
     ensures uncounted { OnErr result (meta.new ≡ meta.old) }
-    ensures err { IfErr result (λ e. e ≡ OutOfMemory) }
+    ensures err { IfErr result (λ e. e ≡ spec.OutOfMemory) }
 {
     let size = *chunk_size + entry.user_key.len() + entry.value.len();
     let before = chunk.mark();
@@ -709,13 +694,14 @@ fn write_sections<A: Allocator + Clone>(
     options: &Options,
     meta: &Metadata<A>,
 ) -> Result<(), Error>
-    requires { HaveParts options.now file_writer.old index_writer filter_writer meta.now }
-    ensures table { OnOk result ((cut : List (List Entry)) →
-        AreTableParts options.now cut file_writer.old index_writer filter_writer meta.now →
-        WritesTable (cut_writing label.now options.now cut) (finished file_writer.new)) }
-    ensures refused { (cut : List (List Entry)) →
-        AreTableParts options.now cut file_writer.old index_writer filter_writer meta.now →
-        Faults result (sections_fault (cut_writing label.now options.now cut)) }
+    requires { spec.HaveParts options.now file_writer.old index_writer filter_writer meta.now }
+    ensures table { OnOk result ((cut : List (List spec.Entry)) →
+        spec.AreTableParts options.now cut file_writer.old index_writer filter_writer meta.now →
+        spec.WritesTable (spec.cut_writing label.now options.now cut)
+        (spec.finished file_writer.new)) }
+    ensures refused { (cut : List (List spec.Entry)) →
+        spec.AreTableParts options.now cut file_writer.old index_writer filter_writer meta.now →
+        spec.Faults result (spec.sections_fault (spec.cut_writing label.now options.now cut)) }
 {
     let index_blocks = index_writer.finish(file_writer)?;
     let filter_blocks = finish_filter(filter_writer, options, file_writer)?;
@@ -733,10 +719,10 @@ fn check_entry<A: Allocator>(
     chunk_size: usize,
     entry: &EntryRef<'_>,
 ) -> Result<(), Error>
-    requires sized { chunk_size ≡ entries_size chunk.now }
-    requires small { empty_len + entry_head_len * length chunk.now + chunk_size < 2 ^ 32 }
-    ensures { MatchResult result (λ _. item_fault chunk.now (entry_of_ref entry.now) ≡ None)
-        (λ e. item_fault chunk.now (entry_of_ref entry.now) ≡ Some e) }
+    requires sized { chunk_size ≡ spec.entries_size chunk.now }
+    requires small { spec.empty_len + spec.entry_head_len * length chunk.now + chunk_size < 2 ^ 32 }
+    ensures { MatchResult result (λ _. spec.item_fault chunk.now (spec.entry_of_ref entry.now)
+        ≡ None) (λ e. spec.item_fault chunk.now (spec.entry_of_ref entry.now) ≡ Some e) }
 {
     if entry.user_key.len() > TableVersion::WRITTEN.longest_key() {
         return Err(Error::KeyTooLong);

@@ -1,4 +1,4 @@
--- Compactions, as C sees them.
+-- Compactions as reported to C.
 use Rattle.std.specs.Prelude.{◌≡◌, ◌⊎◌, ℕ, false, List, IfErr, IfOk, IsSomeAnd, None, Option, Some}
 use Rattle.std.specs.Prelude.{Result, Ok, Err, unwrap_or}
 use Rattle.std.specs.Result.{IsErrAnd}
@@ -30,41 +30,40 @@ use Rattle.sst_c.specs.What.{HoldsFiles}
 use Rattle.sst_c.specs.declared.held.Held.{Held}
 use Rattle.sst_c.specs.declared.options.TableOptions.{TableOptions}
 
--- a writer of tables that has written nothing, whose ids run on from that of the options
+-- a writer of tables that has written nothing, with ids counting up from that of the options
 abbrev pub decode_compactor : TableOptions → ℕ → TablesWriting
 decode_compactor o target =
     with_options (new_tables (Some o.id) target o.level o.created_at) (decode_options o)
 
--- what a compaction of these runs by a writer comes to
+-- the result of compacting these runs with a writer
 pub record IsCompactionOf (runs : List (List OpenTable)) (rules : Rules) (w : TablesWriting)
     (came : Result (CompactionOutcome Global) Error) : Type 0 where
-  -- of runs that may be compacted the tables are those of what is kept of all entries together,
-  -- the refusal is the writer's first one, and where the tables fit, it is for want of memory
+  -- compactable runs yield the tables of the entries kept. Except for `OutOfMemory`, an error is the
+  -- writer's first one, and there is none if the tables fit
   pub tables : AreCompactable runs → (lists : List (List (List Entry))) → RunsHoldLists runs lists →
       IfOk came (AreTablesBy w (kept_in rules lists))
   pub refused : AreCompactable runs → (lists : List (List (List Entry))) →
       RunsHoldLists runs lists → Faults came (writes_fault w (kept_in rules lists))
   pub taken : AreCompactable runs → (lists : List (List (List Entry))) → RunsHoldLists runs lists →
       FitsBy w (kept_in rules lists) → IfErr came (λ e. e ≡ OutOfMemory)
-  -- of tables of lists that have entries, whatever their numbers, it ends out of order at the first
-  -- of what is kept that may not follow, and is refused with the first fault of writing these
+  -- for tables of lists with entries, it ends out of order at the first kept entry that may not
+  -- follow. Else it fails with the first fault of writing these entries
   pub merged : (lists : List (List (List Entry))) → RunsHoldLists runs lists →
       AllByRecursion HaveEntries lists → IfOk came (CameInOrder w (kept_in rules lists))
   pub faulted : (lists : List (List (List Entry))) → RunsHoldLists runs lists →
       AllByRecursion HaveEntries lists → IfErr came (λ e. is_memory e ≡ false →
       RefusesOf w (ok_results (kept_in rules lists)) e)
-  -- of any tables whose scans come in order, it is what comes of writing what is kept of the scans
-  -- together, the first fault in its place; or it is the error of the first run whose first data
-  -- block cannot be loaded
+  -- if the tables' scans are in order, it writes the entries kept of their merge, up to the first
+  -- fault. Or it fails with the first run's first data block that cannot be loaded
   pub any : AllByRecursion (λ (rs : List R). Ascends (entries_among rs)) (scans_of runs) →
       CameOf w (lent_outs rules (merge_of (scans_of runs))) came
       ⊎ IsErrAnd came (BeginsWith runs)
-  -- whatever the tables hold, what is made are tables of a list that can be written
+  -- for any tables, the new tables are those of a list that can be written
   pub made : IfOk came (HasMade w)
   pub through : IfOk came GoesThrough
 
--- what is told of what a compaction came to: the tables, which are held from then on, and the first
--- id that is left, 0 where none is; 104 for what is out of order; else the refusal
+-- the call reports the tables, which the handle then holds, and the first unused id, or 0 if none
+-- is left. It reports 104 for entries out of order, else the error code
 unfoldable pub ReportsOutcome : ℕ → Option Held → ℕ → Result (CompactionOutcome Global) Error → Type 0
 ReportsOutcome code held next (Ok (Tables tables left)) = (code ≡ 1) ⊎ ((code ≡ 0)
     × IsSomeAnd held (λ h. (found_by h ≡ None) × HoldsFiles tables.items h.what)
@@ -73,7 +72,7 @@ ReportsOutcome code held next (Ok OutOfOrder) = code ≡ 104
 ReportsOutcome code held next (Ok Stopped) = ⊥
 ReportsOutcome code held next (Err e) = code ≡ number_of e
 
--- something of which this holds is told so
+-- the call reports some result that satisfies this predicate
 abbrev pub IsReportedOf : (Result (CompactionOutcome Global) Error → Type 0) → ℕ → Option Held → ℕ
     → Type 0
 IsReportedOf holds code held next = (came : Result (CompactionOutcome Global) Error) × holds came

@@ -1,7 +1,8 @@
--- What C is told of what a table says of itself.
+-- Table info as reported to C.
 use Rattle.lsm_readers.specs.point.Table.{OpenTable}
 use Rattle.sst_c.specs.declared.facts.TableFacts.{TableFacts}
 
+-- the facts in a table's meta block, and its global sequence number
 abbrev pub table_facts : OpenTable → TableFacts
 table_facts t = record {
   id = t.parts.facts.id;

@@ -1,12 +1,12 @@
--- What C is told of how much memory a table holds.
+-- The memory of a table as reported to C.
 use Rattle.std.specs.Prelude.{◌≡◌, ◌+◌, ◌*◌, ◌/◌, ◌⊎◌, length}
 use Rattle.lsm_readers.specs.point.IndexKinds.{index_len}
 use Rattle.lsm_readers.specs.point.Parts.{filter_len}
 use Rattle.lsm_readers.specs.point.Table.{OpenTable}
 use Rattle.sst_c.specs.declared.memory.TableMemory.{TableMemory}
 
--- the length of the table's file, and of the index and the filter that stay loaded; and the marks
--- of compared blocks: 8 bytes for each 2,048 of the file and 8 more, or none
+-- the lengths of the file and of the pinned index and filter, and the size of the verified-block
+-- cache: 8 bytes for each full 2,048 of the file and 8 more, or 0
 abbrev pub ReportsMemory : OpenTable → TableMemory → Type 0
 ReportsMemory t m = (m.file_len ≡ length t.bytes)
     × (m.pinned_index_size ≡ index_len t.parts.pinned.index t.parts.regions.tli)

@@ -1,4 +1,4 @@
--- One read of what a handle holds, at either end.
+-- One read of the object in a handle, at either end.
 use Rattle.std.specs.Prelude.{◌≡◌, ℕ, Bool, true, false, Option, Some, None, Result}
 use Rattle.std.specs.Global.{Global}
 use Rattle.sst_entries.specs.Entry.{Entry}
@@ -19,19 +19,19 @@ abbrev pub gives_at : {S : Type 0} → (front back : S → Option (Result Entry 
 gives_at {S} front back false = front
 gives_at {S} front back true = back
 
--- it is a range of several runs, of which this holds, whether it still reads or not
+-- the object is a range of several runs that satisfies this predicate, `None` after a read failed
 abbrev pub IsMergedAs : (Option NewestAt → Type 0) → What → Type 0
 IsMergedAs holds (Merged m) = holds m
 IsMergedAs holds _ = ⊥
 
--- one read of what several runs have together: a step, or once it was refused nothing
+-- one read of several runs: a step, or nothing after a read failed
 abbrev pub MergedReads : {S : Type 0} → (S → Option (Result Entry Error) → S → Type 0)
     → Option S → ℕ → Option Entry → Option S → Type 0
 MergedReads {S} gives (Some s) code found left = StepsAs gives s code found left
 MergedReads {S} gives None code found left = (code ≡ 0) × (found ≡ None) × (left ≡ None)
 
--- one read led a scan or a range from w to v with a code and an entry: a step of the scan or the
--- range of a table, or of those of several runs
+-- one read takes a scan or a range from w to v with a code and an entry. It is a step of a table's
+-- scan or range, or of one over several runs
 pub record ReadsOn (front back : NewestAt → Option (Result Entry Error) → NewestAt → Type 0)
     (advances : LentNewestAt → Option (Result Entry Error) → LentNewestAt → Type 0)
     (at_back : Bool) (w : What) (code : ℕ) (found : Option Entry) (v : What) : Type 0 where

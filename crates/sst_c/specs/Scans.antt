@@ -1,4 +1,4 @@
--- A scan of a table, as C sees it.
+-- Scans of a table as C sees them.
 use Rattle.std.specs.Prelude.{◌≡◌, Bool, true, List, Result}
 use Rattle.sst_blocks.specs.Opened.{none_opened, with_load}
 use Rattle.sst_blocks.specs.declared.block_type.BlockType.TheVariants.{Data}
@@ -10,14 +10,14 @@ use Rattle.sst_blocks.specs.Sections.{body_of}
 use Rattle.lsm_readers.specs.Scan.{IsNewScan, Scan, ScansLent, ScansNext}
 use Rattle.lsm_readers.specs.point.Table.{OpenTable}
 
--- a scan of as many data blocks as a table says that it has, which has made no step: the first
--- block was loaded
+-- a scan of as many data blocks as the table claims that has not been stepped; its first block was
+-- loaded
 abbrev pub IsBegunScan : OpenTable → Scan → Type 0
 IsBegunScan t s = IsNewScan (body_of t.bytes) t.parts.facts.data_block_count t.global_seqno s
     × (s.opened ≡ with_load Data none_opened)
 
--- the steps of a scan yield these one after the other, for a reader that stops when out of memory:
--- those that hand out shares, and those that lend
+-- the scan yields these results one after another, for a reader that stops when out of memory. This
+-- holds for its iterator and its lending iterator
 unfoldable pub YieldsScan : List (Result Entry Error) → Scan → Type 0
 YieldsScan rs s = (stops : Error → Bool) → stops OutOfMemory ≡ true →
     YieldsExactly (answer_stops stops) ScansNext nowhere s rs

@@ -1,8 +1,8 @@
--- A sentence for what a call answers.
+-- Sentences that describe the codes.
 use Rattle.std.specs.Prelude.{ℕ, ◌==◌, List, [], ◌∷◌, codes, find}
 use Rattle.std.specs.Option.{option_map_or}
 
--- numbers, and a sentence for each
+-- the codes, with a sentence for each
 abbrev pub sentences : List (ℕ × List ℕ)
 sentences =
     (0, codes "done") ∷
@@ -40,7 +40,7 @@ sentences =
     (107, codes "the table is not sound") ∷
     []
 
--- the sentence of a number
+-- the sentence of a code
 abbrev pub sentence_of : ℕ → List ℕ
 sentence_of code =
     option_map_or (λ s. s.1) (find (λ s. s.0 == code) sentences) (codes "unknown refusal")

@@ -16,68 +16,69 @@ use Rattle.sst_c.specs.Verify.{finding_result, no_finding, verified_result}
 use Rattle.sst_c.specs.declared.verifier.ProgressReport.{ProgressReport}
 use Rattle.sst_c.specs.declared.verify.VerifyReport.{VerifyReport}
 
--- what a step answers: that more is to be read, what a sound table has, or a refusal
+-- the result of a step: a block was read, the counts of a valid table, or an error
 abbrev pub StepAnswer : Type 0
 StepAnswer = Result (Option Verified) VerifyError
 
--- what a step of a verification comes to, which leads it from v to w
+-- a step takes a verification from v to w with this result
 pub record IsStepOf (v : Verifying) (answer : StepAnswer) (w : Verifying) : Type 0 where
   pub table : w.table ≡ v.table
-  -- as long as a block is left it reads a further one, the next, and this one alone:
+  -- while a block is left, it reads the next one and no other
   pub goes : IfOk answer (λ a. IfNone a (steps_of v ≡ 1 + steps_of w))
   pub reads : IfOk answer (λ a. IfNone a
       (ReadsNext (body_of v.table.bytes) v.table.parts v.ahead v.left w.ahead w.left))
   pub sizes : IfOk answer (λ a. IfNone a
       (v.left.counts.size ≡ next_size v.ahead + w.left.counts.size))
-  -- where none is left it answers what verifying at once does, memory aside,
+  -- if none is left, it returns the result of a whole verification. An error is that of the whole
+  -- verification, or `OutOfMemory`
   pub ends : IfOk answer (λ a. IfSome a (λ _. steps_of v ≡ 0))
   pub returned : IfOk answer (λ a. IfSome a (λ u.
       table_found (body_of v.table.bytes) v.table.parts ≡ Ok u))
   pub refused : IfErr answer (λ e. Misses e (table_found (body_of v.table.bytes) v.table.parts))
-  -- and what is found is wrong in the next block, or at the end,
+  -- a fault is in the next block, or at the end
   pub next : IfErr answer (λ e. Misses e
       (next_found (body_of v.table.bytes) v.table.parts v.ahead v.left))
-  -- and told whatever memory there is where it takes none to be found;
+  -- a fault that is found without allocating takes precedence over `OutOfMemory`
   pub early : FindsFirst answer (step_early (body_of v.table.bytes) v.table.parts v.ahead v.left)
   pub calm : StepsCalmly (body_of v.table.bytes) v.ahead v.left →
       IfErr answer (λ e. is_found e ≡ true)
-  -- where it answers or is refused nothing changes
+  -- at the end and after an error the verification is unchanged
   pub answered : IfOk answer (λ a. IfSome a (λ _. w ≡ v))
   pub unchanged : IfErr answer (λ _. w ≡ v)
-  -- what is found is wrong there, and all that is read before it is sound
+  -- the block has this fault, and all blocks read before it are valid
   pub first : IfErr answer (λ e. (f : Finding) → e ≡ Found f →
       IsFirstFinding (body_of v.table.bytes) v.table.parts f)
-  -- what is verified stores a list, which has as many entries and data blocks;
+  -- a verified table stores a list, with these numbers of entries and data blocks
   pub sound : IfOk answer (λ a. IfSome a (λ u. (es : List Entry) × (t : StoresList v.table.bytes es)
       × (u.item_count ≡ length es) × (u.data_block_count ≡ length t.handles)))
-  -- what stores a list is verified, memory aside
+  -- on a table that stores a list, a step fails only with `OutOfMemory`
   pub complete : (es : List Entry) → StoresList v.table.bytes es →
       IfErr answer (λ e. e ≡ OutOfMemory)
 
--- the code of an answer
+-- the code of the result of a step
 abbrev pub step_code : StepAnswer → ℕ
 step_code (Ok a) = 0
 step_code (Err OutOfMemory) = 1
 step_code (Err (Found f)) = 107
 
--- whether it is the end, by 1 and 0
+-- 1 at the end, else 0
 abbrev pub step_end : StepAnswer → ℕ
 step_end (Ok None) = 0
 step_end (Ok (Some u)) = 1
 step_end (Err e) = 0
 
--- what is there, or what is wrong
+-- the report of the result of a step
 abbrev pub step_result : StepAnswer → VerifyReport
 step_result (Ok None) = no_finding
 step_result (Ok (Some u)) = verified_result u
 step_result (Err OutOfMemory) = no_finding
 step_result (Err (Found f)) = finding_result f
 
--- nothing is told of how far it is
+-- a report of zero progress
 abbrev pub no_progress : ProgressReport
 no_progress = record { bytes_read = 0; data_size = 0; at_end = 0 }
 
--- how far a verification is
+-- the progress of a verification
 abbrev pub progress_result : Verifying → ℕ → ProgressReport
 progress_result v end = record {
   bytes_read = bytes_read v;
@@ -85,7 +86,7 @@ progress_result v end = record {
   at_end = end;
 }
 
--- a step led from v to w, and what it answered is told
+-- a step takes a verification from v to w, and its result and progress are reported
 abbrev pub ReportsStep : Verifying → ℕ → ProgressReport → VerifyReport → Verifying → Type 0
 ReportsStep v code progress returned w = (answer : StepAnswer) × IsStepOf v answer w
     × (code ≡ step_code answer) × (returned ≡ step_result answer)

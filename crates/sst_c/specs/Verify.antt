@@ -1,4 +1,4 @@
--- What C is told of a verification.
+-- Verification results as reported to C.
 use Rattle.std.specs.Prelude.{◌≡◌, ℕ, ◌+◌, ◌⊎◌, List, length, Option, Some, Result, Ok, Err}
 use Rattle.sst_entries.specs.Error.{number_of}
 use Rattle.sst_blocks.specs.Sections.{slot_index}
@@ -14,6 +14,7 @@ use Rattle.lsm_readers.specs.declared.verify.VerifyError.{VerifyError}
 use Rattle.lsm_readers.specs.declared.verify.VerifyError.TheVariants.{Found, OutOfMemory}
 use Rattle.sst_c.specs.declared.verify.VerifyReport.{VerifyReport}
 
+-- a report of zeros
 abbrev pub no_finding : VerifyReport
 no_finding = record {
   item_count = 0;
@@ -25,6 +26,7 @@ no_finding = record {
   unused = 0;
 }
 
+-- the number of a fault
 abbrev pub fault_number : Fault → ℕ
 fault_number (Unloaded e) = 1
 fault_number Hollow = 2
@@ -39,12 +41,13 @@ fault_number (Unborne item) = 10
 fault_number Unnamed = 11
 fault_number OtherChecksum = 12
 
--- of a block that does not load the refusal
+-- the error code of a block that cannot be loaded, else 0
 abbrev pub detail_of : Fault → ℕ
 detail_of (Unloaded e) = number_of e
 detail_of (Unfiltered e) = number_of e
 detail_of _ = 0
 
+-- the report of a fault
 abbrev pub finding_result : Finding → VerifyReport
 finding_result f = record {
   item_count = 0;
@@ -56,6 +59,7 @@ finding_result f = record {
   unused = 0;
 }
 
+-- the report of a valid table
 abbrev pub verified_result : Verified → VerifyReport
 verified_result v = record {
   item_count = v.item_count;
@@ -67,38 +71,37 @@ verified_result v = record {
   unused = 0;
 }
 
--- the code of what a verification came to
+-- the code of a verification's result
 abbrev pub verify_code : Result Verified VerifyError → ℕ
 verify_code (Ok v) = 0
 verify_code (Err OutOfMemory) = 1
 verify_code (Err (Found f)) = 107
 
--- what there is, or what is found; of want of memory nothing
+-- the report of a verification's result; zeros if out of memory
 abbrev pub verify_result : Result Verified VerifyError → VerifyReport
 verify_result (Ok v) = verified_result v
 verify_result (Err OutOfMemory) = no_finding
 verify_result (Err (Found f)) = finding_result f
 
--- want of memory aside, whose number is 1, what is found is told with 107, else what there is; of
--- want of memory nothing
+-- the call returns 107 and reports the fault, or returns 0 and reports the counts. If out of
+-- memory, it returns 1 and reports zeros
 unfoldable pub VerifyAnswers : ℕ → VerifyReport → Result Verified Finding → Type 0
 VerifyAnswers code returned (Ok v) =
     ((code ≡ 0) × (returned ≡ verified_result v)) ⊎ ((code ≡ 1) × (returned ≡ no_finding))
 VerifyAnswers code returned (Err f) =
     ((code ≡ 107) × (returned ≡ finding_result f)) ⊎ ((code ≡ 1) × (returned ≡ no_finding))
 
--- what takes no memory to be found is told, whatever memory there is
+-- a fault that is found without allocating is reported, also when out of memory
 abbrev pub ReportsFinding : ℕ → VerifyReport → Option Finding → Type 0
 ReportsFinding code returned early =
     (f : Finding) → early ≡ Some f → (code ≡ 107) × (returned ≡ finding_result f)
 
--- what is told is wrong there, and all that is read before it is sound
+-- the reported fault is the first one of the table
 abbrev pub ReportsWrong : (Finding → Type 0) → ℕ → VerifyReport → Type 0
 ReportsWrong is_first code returned =
     code ≡ 107 → (f : Finding) × (returned ≡ finding_result f) × is_first f
 
--- the bytes of a table that is verified store a list, and how many entries and data blocks it has
--- is told
+-- a verified table stores a list, and the report has its numbers of entries and data blocks
 abbrev pub ReportsCounts : List ℕ → VerifyReport → Type 0
 ReportsCounts bytes returned = (es : List Entry) × (t : StoresList bytes es)
     × (returned.item_count ≡ length es) × (returned.data_block_count ≡ length t.handles)

@@ -1,4 +1,4 @@
--- What is behind a handle.
+-- The objects in a handle.
 use Rattle.std.specs.Prelude.{◌≡◌, ℕ, ◌==◌, Bool, true, false, List, [], Option, None, Some}
 use Rattle.std.specs.Prelude.{Result, Ok, IsSomeAnd, if◌then◌else◌}
 use Rattle.std.specs.Global.{Global}
@@ -30,72 +30,74 @@ use Rattle.sst_c.specs.Newest.{LentNewestAt, NewestAt}
 use Rattle.sst_c.specs.Steps.{StepsAs}
 use Rattle.sst_c.specs.Reported.{found_by}
 
--- what a handle holds that was begun: nothing was found yet
+-- the contents of a handle with a new object: nothing was found yet
 abbrev pub begun : What → Held
 begun what = record { found = Kept None; what = what }
 
--- it is a table of which this holds
+-- the object is a table that satisfies this predicate
 abbrev pub IsTableWhere : (OpenTable → Type 0) → What → Type 0
 IsTableWhere holds (Table t) = holds t
 IsTableWhere holds _ = ⊥
 
--- it is a range of which this holds
+-- the object is a range of a table that satisfies this predicate
 abbrev pub IsRangeWhere : (Range Global → Type 0) → What → Type 0
 IsRangeWhere holds (RangeOf s) = holds s
 IsRangeWhere holds _ = ⊥
 
+-- the object is a table
 abbrev pub is_table : What → Bool
 is_table (Table t) = true
 is_table _ = false
 
--- it is a range of several runs that was not refused yet, of which this holds
+-- the object is a range of several runs without an error so far that satisfies this predicate
 abbrev pub IsMergedWhere : (NewestAt → Type 0) → What → Type 0
 IsMergedWhere holds (MergedOf (Some s)) = holds s
 IsMergedWhere holds _ = ⊥
 
--- a step of a range of several runs led to it, with a code and an entry: to the range behind the
--- step, or to one that was given up where it was refused
+-- a step of a range of several runs, with a code and an entry, leads to this object. It is the
+-- stepped range, or none after an error
 abbrev pub MergedStepsBy : (NewestAt → Option (Result Entry Error) → NewestAt → Type 0)
     → NewestAt → ℕ → Option Entry → What → Type 0
 MergedStepsBy gives s code found (MergedOf left) = StepsAs gives s code found left
 MergedStepsBy gives s code found _ = ⊥
 
--- it is a range of a table, or of several runs
+-- the object is a range of a table or of several runs
 abbrev pub is_range : What → Bool
 is_range (RangeOf s) = true
 is_range (MergedOf s) = true
 is_range _ = false
 
--- it is a scan of which this holds
+-- the object is a scan of a table that satisfies this predicate
 abbrev pub IsScanWhere : (Scan → Type 0) → What → Type 0
 IsScanWhere holds (ScanOf s) = holds s
 IsScanWhere holds _ = ⊥
 
--- it is a scan of several runs of which this holds, whether it still reads or not
+-- the object is a scan of several runs that satisfies this predicate, `None` after a read failed
 abbrev pub IsRunsScanAs : (Option LentNewestAt → Type 0) → What → Type 0
 IsRunsScanAs holds (RunsScanOf m) = holds m
 IsRunsScanAs holds _ = ⊥
 
--- it is one that was not refused yet, of which this holds
+-- the object is a scan of several runs without an error so far that satisfies this predicate
 abbrev pub IsRunsScanWhere : (LentNewestAt → Type 0) → What → Type 0
 IsRunsScanWhere holds = IsRunsScanAs (λ m. IsSomeAnd m holds)
 
--- it is a scan of a table, or of several runs
+-- the object is a scan of a table or of several runs
 abbrev pub is_scan : What → Bool
 is_scan (ScanOf s) = true
 is_scan (RunsScanOf m) = true
 is_scan _ = false
 
--- what was found of each of some keys, where it is that
+-- the results of reading many keys, if the object is that
 abbrev pub many_in : What → Option (List (Option Entry))
 many_in (AnswersOf found) = Some found.items
 many_in _ = None
 
+-- the object is finished tables or a writer
 abbrev pub are_files : What → Bool
 are_files (FilesOf fs) = true
 are_files _ = false
 
--- the writer of a table that is not finished, where there is one
+-- the writer of the unfinished table, if there is one
 abbrev pub writer_in : What → Option Writing
 writer_in (FilesOf fs) = fs.writer
 writer_in _ = None
@@ -105,11 +107,12 @@ abbrev pub files_held : What → List (FinishedTable Global)
 files_held (FilesOf fs) = fs.tables.items
 files_held _ = []
 
--- it has these finished tables, and no writer
+-- the object has these finished tables, and no writer
 abbrev pub HoldsFiles : List (FinishedTable Global) → What → Type 0
 HoldsFiles tables (FilesOf fs) = (fs.writer ≡ None) × (fs.tables.items ≡ tables)
 HoldsFiles tables _ = ⊥
 
+-- the object is a list of runs
 abbrev pub are_runs : What → Bool
 are_runs (Runs rs) = true
 are_runs _ = false
@@ -119,46 +122,49 @@ abbrev pub runs_held : What → List (List OpenTable)
 runs_held (Runs rs) = rs
 runs_held _ = []
 
--- it is a verification of which this holds
+-- the object is a verification that satisfies this predicate
 abbrev pub IsVerificationWhere : (Verifying → Type 0) → What → Type 0
 IsVerificationWhere holds (VerificationOf v) = holds v
 IsVerificationWhere holds _ = ⊥
 
+-- the object is a verification
 abbrev pub is_verification : What → Bool
 is_verification (VerificationOf v) = true
 is_verification _ = false
 
--- it is a packing of which this holds
+-- the object is a packing that satisfies this predicate
 abbrev pub IsPackingWhere : (Packed OpenTable Global → Type 0) → What → Type 0
 IsPackingWhere holds (PackingOf p) = holds p
 IsPackingWhere holds _ = ⊥
 
+-- the object is a packing
 abbrev pub is_packing : What → Bool
 is_packing (PackingOf p) = true
 is_packing _ = false
 
--- the packed runs, and the places of the tables of the chain
+-- the packed runs
 abbrev pub packed_runs : What → List (List (Placed OpenTable))
 packed_runs (PackingOf p) = p.runs.items
 packed_runs _ = []
 
+-- the chain of the packing, as indexes of tables
 abbrev pub packed_chain : What → List (ℕ × ℕ)
 packed_chain (PackingOf p) = p.chain.items
 packed_chain _ = []
 
--- a table that was opened from these bytes, with this global number and these pins, of which
--- nothing was read yet
+-- a table opened from these bytes with this global sequence number and these pins, without any read
+-- yet
 abbrev pub IsOpenedAs : List ℕ → ℕ → Bool → Bool → Held → Type 0
 IsOpenedAs bytes g pin_filter pin_index h =
     (found_by h ≡ None) × IsTableWhere (λ t. (t.bytes ≡ bytes) × (t.global_seqno ≡ g)
     × (recovered_result bytes g pin_filter pin_index ≡ Ok t.parts)) h.what
 
--- a bound of a kind: 0 for none, 1 with the key, 2 without it
+-- a bound as C passes it: kind 0 for none, 1 to include the key, 2 to exclude it
 abbrev pub decode_bound : ℕ → List ℕ → Bound (List ℕ)
 decode_bound kind key =
     if kind == 0 then Unbounded else (if kind == 1 then Included key else Excluded key)
 
--- both ends of a range deal the entries of a list within the bounds, their numbers lifted
+-- both ends of a range yield the list's entries within the bounds, global sequence number applied
 unfoldable pub YieldsTable : Bound (List ℕ) → Bound (List ℕ) → List Entry → ℕ → Range Global → Type 0
 YieldsTable low high es g s =
     YieldsWithin (RangeGives front_of front_next) (RangeGives back_of back_next) low high es g s

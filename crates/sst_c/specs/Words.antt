@@ -1,4 +1,4 @@
--- The words of the clauses, those of the crates below among them, from one place.
+-- Definitions that the contracts cite, from this crate and those below it.
 pub use Rattle.core.specs.List.{AllByRecursion, sum}
 pub use Rattle.core.specs.Option.{option_and_then, option_map}
 pub use Rattle.core.specs.Ptr.{as_ptr}

@@ -1,4 +1,4 @@
--- Writing a table, as C sees it.
+-- Writing a table as C sees it.
 use Rattle.std.specs.Prelude.{◌≡◌, ◌≢◌, ℕ, ◌==◌, ◌-◌, ◌⊎◌, true, false, List, [], ◌∷◌, ◌++◌}
 use Rattle.std.specs.Prelude.{Option, None, Some, if◌then◌else◌}
 use Rattle.std.specs.Global.{Global}
@@ -13,33 +13,33 @@ use Rattle.lsm_writers.specs.Writing.{IsFinished, Writing, finish_fault, gained,
 use Rattle.lsm_writers.specs.Writing.{written}
 use Rattle.sst_c.specs.Codes.{ReportsFirst, fault_code}
 
--- a kind of entry that C names by one more than its tag
+-- the value type of a kind as C passes it: one more than its tag
 abbrev pub decode_kind : ℕ → Option ValueType
 decode_kind kind = if kind == 0 then None else kind_of (kind - 1)
 
--- want of memory aside, whose number is 1, the code is the first fault's, or 0
+-- the code of the first fault, or 0. It is 1 if out of memory
 unfoldable pub FaultReported : ℕ → Option Error → Type 0
 FaultReported code fault = (code ≡ 1) ⊎ (code ≡ fault_code fault)
 
--- a fault is what is answered, whatever memory there is; where there is none, 0 or want of memory
+-- a fault is returned also when out of memory. Without one, the code is 0, or 1 if out of memory
 unfoldable pub FaultAnswered : ℕ → Option Error → Type 0
 FaultAnswered code None = (code ≡ 0) ⊎ (code ≡ 1)
 FaultAnswered code (Some e) = code ≡ number_of e
 
--- a writer took an entry, or has refused it and failed
+-- a writer takes an entry, or returns an error and stays failed
 unfoldable pub TookEntry : Writing → Entry → ℕ → Writing → Type 0
 TookEntry w e code v =
     FaultAnswered code (write_fault w e) × (code ≡ 0 → v ≡ gained w e)
     × (code ≢ 0 → v ≡ record w { failed = true })
 
--- finishing answers the first fault, or 0. Want of memory may stand in the place of these, but not
--- of that of a writer which had failed, nor of 0 where nothing was written
+-- finishing returns the first fault, or 0, or 1 if out of memory. A failed writer returns its
+-- failure, and an empty one 0, also when out of memory
 unfoldable pub FinishReported : ℕ → Writing → Type 0
 FinishReported code w =
     FaultReported code (finish_fault w) × ReportsFirst code (failed_fault w.failed)
     × (written w ≡ [] → w.failed ≡ false → code ≡ 0)
 
--- the one finished table of what was written stands behind others, or none where nothing was
+-- the finished table of the entries written is added at the end, or none if nothing was written
 unfoldable pub AddsFileOf : Writing → List (FinishedTable Global) → List (FinishedTable Global)
     → Type 0
 AddsFileOf w old new = ((written w ≡ []) × (new ≡ old)) ⊎ ((f : FinishedTable Global)

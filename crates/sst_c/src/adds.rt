@@ -10,7 +10,7 @@ use crate::writers::add_kind;
 use lsm_writers::Writer;
 use std::alloc::Global;
 
-// Whether the keys and values of entries have so many bytes together.
+// Returns whether the keys and values of the entries have `count` bytes in total.
 fn have_bytes(entries: &[EntryReport], count: u64) -> bool
     ensures { result ≡ (spec.sum (map spec.size_of entries.now) == count) }
 {
@@ -24,7 +24,6 @@ fn have_bytes(entries: &[EntryReport], count: u64) -> bool
     left == 0
 }
 
-// Writes an entry of this kind and number.
 fn add_told(writer: &mut Writer, returned: &EntryReport, key: &[u8], value: &[u8]) -> u32
     ensures { spec.Adds writer.old (spec.row returned.now key.now value.now) result writer.new }
 {
@@ -53,7 +52,7 @@ fn add_each(writer: &mut Writer, entries: &[EntryReport], bytes: &[u8], count: &
     0
 }
 
-// Writes entries, if their lengths are those of the bytes.
+// Writes entries, if their lengths add up to the length of `bytes`.
 fn add_fitting(writer: &mut Writer, entries: &[EntryReport], bytes: &[u8], count: &mut u64) -> u32
     ensures lengths { spec.sum (map spec.size_of entries.now) ≢ length bytes.now →
         (result ≡ 105) × (writer.new ≡ writer.old) × (count.new ≡ count.old) }
@@ -88,13 +87,20 @@ fn add_many(held: &mut Held, entries: &[EntryReport], bytes: &[u8], count: &mut 
     }
 }
 
-/// Writes entries one after another as `sst_writer_add` does, up to the first that fails, and
-/// writes to `count` how many were written. `entries` has the kind, the number and the lengths of
-/// each; their keys and values are one after another in `bytes`: key, value, key, value, and so on.
+/// Writes entries one after another as `sst_writer_add` does, up to the first that fails.
 ///
-/// Fails with 100 if the handle is closed, with 102 if it holds no writer, and with 105 if the
-/// lengths do not add up to how many bytes there are: nothing is written then. Else it fails as
-/// `sst_writer_add` does for the first entry that fails: those before it are written and counted.
+/// `entries` has the kind, sequence number and lengths of each entry. `bytes` has their keys and
+/// values back to back: key, value, key, value. `count` gets the number of entries written.
+///
+/// # Errors
+///
+/// - 100: the handle is closed.
+/// - 102: the handle holds no writer.
+/// - 105: the lengths do not add up to the length of `bytes`.
+/// - The error of `sst_writer_add` for the first entry that fails. The entries before it are
+///   written and counted.
+///
+/// With 100, 102 and 105 nothing is written and `count` is 0.
 #[unsafe(no_mangle)]
 pub extern "C" fn sst_writer_add_many(
     alloc: Global,
@@ -123,7 +129,7 @@ pub extern "C" fn sst_writer_add_many(
         (spec.AddsMany w (spec.rows_in entries.now bytes.now) count.new result)) }
     ensures tables { (h : spec.HeldValue) → writer.old.boxed.value ≡ Some h →
         IsSomeAnd writer.new.boxed.value (λ k. spec.files_held k.what ≡ spec.files_held h.what) }
-    // What a read found stays.
+    // The entry found by the last read is unchanged.
     ensures found { (h : spec.HeldValue) → writer.old.boxed.value ≡ Some h →
         IsSomeAnd writer.new.boxed.value (λ k. spec.found_by k ≡ spec.found_by h) }
 {

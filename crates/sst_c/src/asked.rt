@@ -1,4 +1,4 @@
-//! What several runs have together, which may be asked at both ends, however often.
+//! The newest versions in several runs, read from both ends.
 ghost use Rattle.std.specs.Prelude.{◌≡◌, false, true};
 ghost use Rattle.sst_c.specs.Words as spec;
 
@@ -8,8 +8,9 @@ use sst_blocks::IterItem;
 use std::alloc::Global;
 use std::marker::Model;
 
-/// The newest versions below a number of what several runs have together, which may be asked at
-/// both ends, however often. A contract sees these.
+/// The newest versions visible at a snapshot of several runs, read from both ends.
+///
+/// It can be stepped any number of times, also after the end. Contracts see the stream.
 #[derive(Drop)]
 pub struct Asked {
     newest: NewestOfRunsAt<Global>,
@@ -30,7 +31,7 @@ impl Model for Asked {
 }
 
 impl Asked {
-    /// Versions that may be asked so.
+    /// Wraps a stream that can be stepped any number of times.
     pub(crate) fn new(newest: NewestOfRunsAt<Global>) -> Asked
         requires { spec.CanYield ⟦<NewestOfRunsAt<Global> as Iterator>⟧.next_gives
             ⟦<NewestOfRunsAt<Global> as DoubleEndedIterator>⟧.next_back_gives
@@ -41,7 +42,7 @@ impl Asked {
         Asked { newest }
     }
 
-    /// What comes next, at the back where `back` says so, else at the front.
+    /// Returns the next entry, from the back if `back` is set, else from the front.
     pub(crate) fn step(&mut self, back: bool) -> Option<IterItem<Global>>
         ensures front { back ≡ false →
             ⟦<NewestOfRunsAt<Global> as Iterator>⟧.next_gives self.old result self.new }
@@ -53,8 +54,8 @@ impl Asked {
     }
 }
 
-// A step of newest versions. It is generic in what they are of: a call of a whole concrete stream
-// costs a proof much.
+// A step of a stream of newest versions. It is generic in its source: a proof about a call on the
+// concrete stream costs much.
 #[tactic(auto, using(crate::proofs::Asking::asking))]
 fn step_of<S: DoubleEndedIterator<Item = IterItem<Global>>>(
     newest: &mut NewestOf<S, Global>,

@@ -1,4 +1,4 @@
-//! The box behind a pointer to bytes, or nothing.
+//! A box as an untyped pointer, or none.
 ghost use Rattle.std.specs.Prelude.{◌≡◌, IsSome, Option, Some, None};
 ghost use Rattle.sst_c.specs.Words as spec;
 
@@ -8,13 +8,15 @@ use std::alloc::{Allocator, Global};
 use std::marker::Model;
 use std::ptr::null_mut;
 
-/// A box behind a pointer, or nothing. The pointer does not say what it points to, since a call
-/// from C may hand in no reference to what has an enumeration or a large number in it.
+/// A box as a pointer, or none.
+///
+/// The pointer is untyped: a call from C cannot take a reference to a type with an enum or a large
+/// integer in it.
 #[repr(C)]
 pub struct Boxed {
     at: *mut u8,
     alloc: Global,
-    /// What is in the box, where there is one.
+    /// The value in the box, if there is one.
     pub ghost value: { Option spec.HeldValue },
 }
 
@@ -57,14 +59,14 @@ fn nowhere() -> *mut u8 {
     null_mut()
 }
 
-/// Nothing.
+/// Returns no box.
 pub(crate) fn no_box(alloc: Global) -> Boxed
     ensures { result.value ≡ None }
 {
     bare(nowhere(), alloc)
 }
 
-/// Lets nothing go.
+/// Consumes a `Boxed` without a box.
 pub(crate) fn discard(boxed: Boxed)
     requires { boxed.value ≡ None }
 {

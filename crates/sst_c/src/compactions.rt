@@ -14,8 +14,8 @@ use lsm_writers::{FinishedTable, MultiWriter, TableIds, Timestamp};
 use sst_blocks::Error;
 use std::alloc::Global;
 
-// A writer of tables of so many bytes of data blocks each, whose ids run on from that of the
-// options.
+// A writer of tables of `target_size` bytes of data blocks each. Table ids count up from that of
+// the options.
 fn compactor_of(
     alloc: Global,
     options: &TableOptions,
@@ -32,7 +32,6 @@ fn compactor_of(
     Ok(writer.use_options(writer_options(options)))
 }
 
-// What a compaction comes to that a writer writes.
 fn compacted_by(
     alloc: Global,
     runs: &RunList,
@@ -45,7 +44,6 @@ fn compacted_by(
     compact_any_runs(alloc, runs.as_slice(), rules, writer)
 }
 
-// What a compaction comes to that is written with these options.
 fn compacted(
     alloc: Global,
     runs: &RunList,
@@ -61,7 +59,7 @@ fn compacted(
     compacted_by(alloc, runs, rules, writer)
 }
 
-// Keeps finished tables, and tells the id that is left.
+// Puts finished tables into the handle, and writes the first unused id.
 fn tell_tables(
     alloc: Global,
     tables: Vec<FinishedTable>,
@@ -90,7 +88,7 @@ fn tell_tables(
     code
 }
 
-// Keeps what a compaction came to, and tells it.
+// Puts the tables of a compaction into the handle, and returns its code.
 #[tactic(auto, using(crate::proofs::Compacting::reported_outcomes))]
 fn tell_outcome(
     alloc: Global,
@@ -109,13 +107,13 @@ fn tell_outcome(
             tell_tables(alloc, tables, left, files, next_id)
         }
         Ok(CompactionOutcome::OutOfOrder) => OUT_OF_ORDER,
-        // No observer stops it.
+        // Unreachable: there is no observer that could stop it.
         Ok(CompactionOutcome::Stopped) => OUT_OF_ORDER,
         Err(error) => u32::from(error.number()),
     }
 }
 
-// Compacts a list of runs into a handle that holds nothing.
+// Compacts a list of runs into a closed handle.
 fn compact_into(
     alloc: Global,
     runs: &RunList,
@@ -166,16 +164,27 @@ fn compact_held(
     compact_into(alloc, runs, options, rules, target_size, files, next_id)
 }
 
-/// Compacts the tables of a list of runs into new ones, all finished, in a handle that holds
-/// nothing: what is kept of all their entries together, no reader standing below `watermark`, is
-/// written with these options, in tables that begin at the next key once the data blocks of the one
-/// before have `target_size` bytes. Their ids run on from that of the options, and `next_id` is
-/// told the first that is left, 0 where none is. The list stays.
+/// Compacts the tables of a list of runs into new finished tables.
 ///
-/// Refused 101 where the files' handle holds something, 100 where the list's is closed, 102 where
-/// it holds no runs, 105 where an option is out of its range, 104 where an entry comes that does
-/// not follow the one before it or whose number is the largest, and as `compact_any_runs`; nothing
-/// is kept then, and `next_id` stays.
+/// `files` must be closed; it then holds the new tables, written with `options`. A new table starts
+/// at the next key once the current one has `target_size` bytes of data blocks. Table ids count up
+/// from that of the options. `next_id` gets the first unused id, or 0 if none is left.
+///
+/// No reader may read at a sequence number below `watermark`. With `evict_tombstones`, a tombstone
+/// is dropped if no older version of its key is kept. With `zero_seqnos`, sequence numbers below
+/// the watermark become 0. The list of runs is not changed.
+///
+/// # Errors
+///
+/// - 101: `files` is open.
+/// - 100: `runs` is closed.
+/// - 102: `runs` holds no list of runs.
+/// - 105: an option is out of range.
+/// - 104: a kept entry is not in order after the one before it, or has the sequence number
+///   `u64::MAX`.
+/// - An error code of `compact_any_runs`.
+///
+/// On error, `files` and `next_id` are unchanged.
 #[unsafe(no_mangle)]
 pub extern "C" fn sst_compact(
     alloc: Global,
@@ -196,7 +205,7 @@ pub extern "C" fn sst_compact(
     ensures unusable { (h : spec.HeldValue) → files.old.boxed.value ≡ None →
         runs.old.boxed.value ≡ Some h → spec.are_runs h.what ≡ true →
         spec.are_usable options.now ≡ false → result ≡ 105 }
-    // Else it is told what the library's compaction of any tables comes to.
+    // Else the call reports the result of the library's compaction of any tables.
     ensures returned { (h : spec.HeldValue) → files.old.boxed.value ≡ None →
         runs.old.boxed.value ≡ Some h →
         spec.are_runs h.what ≡ true → spec.are_usable options.now ≡ true →

@@ -1,24 +1,24 @@
-//! What C is told of an entry.
+//! Entries as reported to C.
 ghost use Rattle.std.specs.Prelude.{◌≡◌};
 ghost use Rattle.sst_c.specs.Words as spec;
 
 use sst_blocks::{EntryRef, InternalValue};
 
-/// What C is told of an entry: its kind and number, and how long its key and its value are.
+/// An entry as reported to C: its kind, sequence number and lengths.
 #[repr(C)]
 #[derive(Clone, Copy)]
 pub struct EntryReport {
-    /// 0 where there is no entry; else one more than the tag of its kind.
+    /// The kind: one more than the tag of the value type, or 0 if there is no entry.
     pub kind: u64,
-    /// The entry's number.
+    /// The sequence number.
     pub seqno: u64,
-    /// How many bytes the key has.
+    /// Length of the key in bytes.
     pub key_len: u64,
-    /// How many bytes the value has.
+    /// Length of the value in bytes.
     pub value_len: u64,
 }
 
-/// What is told of an entry, or that there is none.
+/// Returns the report of an entry, or zeros if there is none.
 pub(crate) fn tell(found: Option<EntryRef<'_>>) -> EntryReport
     ensures { result ≡ spec.entry_facts (spec.option_map spec.entry_of_ref found.entry) }
 {
@@ -38,7 +38,7 @@ pub(crate) fn tell(found: Option<EntryRef<'_>>) -> EntryReport
     }
 }
 
-/// An entry, borrowed, where there is one.
+/// Borrows the entry, if there is one.
 pub(crate) fn entry_of(found: &Option<InternalValue>) -> Option<EntryRef<'_>>
     ensures { spec.option_map spec.entry_of_ref result ≡ found.now }
 {

@@ -1,4 +1,4 @@
-//! What a table says of itself.
+//! Table info: the facts in a table's meta block.
 ghost use Rattle.std.specs.Prelude.{◌≡◌, ◌≢◌, false, None, Some};
 ghost use Rattle.sst_c.specs.Words as spec;
 
@@ -8,31 +8,31 @@ use crate::held::{Held, What};
 use lsm_readers::Table;
 use std::alloc::Global;
 
-/// What a table says of itself.
+/// Table info: the facts in a table's meta block.
 #[repr(C)]
 #[derive(Clone, Copy)]
 pub struct TableFacts {
-    /// The table's id.
+    /// The id of the table.
     pub id: u64,
-    /// The version of its format, 3 or 4.
+    /// The version of the file format, 3 or 4.
     pub version: u64,
-    /// The number that is added to every stored number.
+    /// The global sequence number, which is added to every stored sequence number.
     pub global_seqno: u64,
-    /// The lowest stored number.
+    /// The lowest stored sequence number.
     pub lowest_seqno: u64,
-    /// The highest stored number.
+    /// The highest stored sequence number.
     pub highest_seqno: u64,
-    /// How many entries there are.
+    /// Number of entries.
     pub item_count: u64,
-    /// How many of them are tombstones of either kind.
+    /// Number of tombstones, weak tombstones included.
     pub tombstone_count: u64,
-    /// How many of them are weak tombstones.
+    /// Number of weak tombstones.
     pub weak_tombstone_count: u64,
-    /// How many data blocks there are.
+    /// Number of data blocks.
     pub data_block_count: u64,
-    /// How many index blocks there are.
+    /// Number of index blocks.
     pub index_block_count: u64,
-    /// How many bytes the data blocks have.
+    /// Size of the data blocks in bytes.
     pub data_size: u64,
 }
 
@@ -70,8 +70,14 @@ fn tell_facts(held: &Held, facts: &mut TableFacts) -> u32
     }
 }
 
-/// Tells what a table says of itself. Refused 100 where the handle is closed and 102 where it holds
-/// no table; what `facts` says stays then.
+/// Writes the table info of a table to `facts`.
+///
+/// # Errors
+///
+/// - 100: the handle is closed.
+/// - 102: the handle holds no table.
+///
+/// On error, `facts` is unchanged.
 #[unsafe(no_mangle)]
 pub extern "C" fn sst_table_facts(alloc: Global, table: &mut Handle, facts: &mut TableFacts) -> u32
     ensures kept { table.new.boxed.value ≡ table.old.boxed.value }

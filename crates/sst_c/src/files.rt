@@ -1,4 +1,4 @@
-//! Finished tables: what they are called, and their bytes.
+//! Finished tables: their ids, checksums, lengths and bytes.
 ghost use Rattle.std.specs.Prelude.{◌≡◌, ◌≢◌, ◌<◌, ◌≤◌, None, Some, drop, false, length, take};
 ghost use Rattle.std.specs.Prelude.{true};
 ghost use Rattle.sst_c.specs.Words as spec;
@@ -10,19 +10,18 @@ use crate::held::{Held, What};
 use lsm_writers::FinishedTable;
 use std::alloc::Global;
 
-/// What a finished table is called, and how long it is.
+/// The id, checksum and length of a finished table.
 #[repr(C)]
 #[derive(Clone, Copy)]
 pub struct FileReport {
-    /// The table's id.
+    /// The id of the table.
     pub id: u64,
-    /// The checksum of all its bytes, their FNV-1a sum.
+    /// The FNV-1a checksum of all its bytes.
     pub checksum: u64,
-    /// How many bytes there are.
+    /// Length of the file in bytes.
     pub len: u64,
 }
 
-// What is told of a finished table.
 #[tactic(auto, unfolding(crate::specs::Files::file_facts))]
 fn describe(file: &FinishedTable) -> FileReport
     ensures { result ≡ spec.file_facts file.now }
@@ -56,9 +55,15 @@ fn tell_file(held: &Held, index: u64, returned: &mut FileReport) -> u32
     }
 }
 
-/// Tells what a finished table is called and how long it is: the one at a place, from 0 on. Refused
-/// 100 where the handle is closed, 102 where it holds neither finished tables nor a writer, and 105
-/// where there is none at that place; what `told` says stays then.
+/// Writes the id, checksum and length of the finished table at `index`, from 0, to `returned`.
+///
+/// # Errors
+///
+/// - 100: the handle is closed.
+/// - 102: the handle holds neither finished tables nor a writer.
+/// - 105: there is no finished table at `index`.
+///
+/// On error, `returned` is unchanged.
 #[unsafe(no_mangle)]
 pub extern "C" fn sst_files_tell(
     alloc: Global,
@@ -87,7 +92,7 @@ pub extern "C" fn sst_files_tell(
     code
 }
 
-// Copies the bytes from an offset on, as many as there is room for.
+// Copies the bytes from an offset on, as many as fit.
 fn copy_part(bytes: &[u8], offset: u64, room: &mut [u8], count: &mut u64) -> u32
     ensures past { length bytes.now < offset → result ≡ 105 }
     ensures copied { offset ≤ length bytes.now →
@@ -125,10 +130,17 @@ fn copy_file(held: &Held, index: u64, offset: u64, room: &mut [u8], count: &mut 
     }
 }
 
-/// Copies a finished table's bytes from an offset on, as many as there is room for, and tells how
-/// many: 0 at the end. Refused 100 where the handle is closed, 102 where it holds neither finished
-/// tables nor a writer, and 105 where there is none at that place or the offset is past its end;
-/// nothing is copied then.
+/// Copies the bytes of the finished table at `index` from `offset` on, as many as fit into `room`.
+///
+/// `count` gets the number of bytes copied. It is 0 at the end of the table.
+///
+/// # Errors
+///
+/// - 100: the handle is closed.
+/// - 102: the handle holds neither finished tables nor a writer.
+/// - 105: there is no finished table at `index`, or `offset` is past its end.
+///
+/// On error, `room` and `count` are unchanged.
 #[unsafe(no_mangle)]
 pub extern "C" fn sst_files_copy(
     alloc: Global,
@@ -178,8 +190,16 @@ fn count_files(held: &Held, count: &mut u64) -> u32
     }
 }
 
-/// Tells how many finished tables there are, of a writer 0. Refused 100 where the handle is closed
-/// and 102 where it holds neither; what `count` says stays then.
+/// Writes the number of finished tables to `count`.
+///
+/// It is 0 while the table is being written.
+///
+/// # Errors
+///
+/// - 100: the handle is closed.
+/// - 102: the handle holds neither finished tables nor a writer.
+///
+/// On error, `count` is unchanged.
 #[unsafe(no_mangle)]
 pub extern "C" fn sst_files_count(alloc: Global, files: &mut Handle, count: &mut u64) -> u32
     ensures kept { files.new.boxed.value ≡ files.old.boxed.value }

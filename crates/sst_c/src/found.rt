@@ -1,4 +1,4 @@
-//! What the last read found, copied or lent.
+//! The entry found by the last read, copied or borrowed.
 ghost use Rattle.std.specs.Prelude.{◌≡◌, ◌≢◌, ◌≤◌, length, IsSome, None, Some};
 ghost use Rattle.sst_c.specs.Words as spec;
 
@@ -9,7 +9,7 @@ use crate::held::Held;
 use sst_blocks::EntryRef;
 use std::alloc::Global;
 
-/// Copies bytes to the front of a room that has room for them.
+/// Copies bytes to the front of a room that is large enough.
 pub(crate) fn copy_out(bytes: &[u8], room: &mut [u8])
     requires { length bytes.now ≤ length room.old }
     ensures { room.new ≡ spec.laid_over bytes.now room.old }
@@ -17,7 +17,7 @@ pub(crate) fn copy_out(bytes: &[u8], room: &mut [u8])
     room[..bytes.len()].copy_from_slice(bytes);
 }
 
-/// Copies the key and the value of an entry, or nothing where one of them has no room.
+/// Copies the key and the value of an entry, or neither if one of them does not fit.
 pub(crate) fn copy_item(item: &EntryRef<'_>, key: &mut [u8], value: &mut [u8]) -> u32
     ensures code { result ≡ spec.copy_code (Some (spec.entry_of_ref item.now)) key.old value.old }
     ensures key { result ≡ 0 →
@@ -47,9 +47,17 @@ fn copy_found(held: &Held, key: &mut [u8], value: &mut [u8]) -> u32
     }
 }
 
-/// Copies the key and the value of what the last read by a handle found to the fronts of two rooms.
-/// Refused 100 where the handle is closed, 106 where nothing was found, and 103 where a room is too
-/// small: nothing is copied then, and nothing is lost.
+/// Copies the entry that the last read through the handle found.
+///
+/// The key is copied to the front of `key`, the value to the front of `value`.
+///
+/// # Errors
+///
+/// - 100: the handle is closed.
+/// - 106: the last read found nothing.
+/// - 103: `key` or `value` is too small.
+///
+/// On error nothing is copied. The entry can still be copied afterwards.
 #[unsafe(no_mangle)]
 pub extern "C" fn sst_found_copy(
     alloc: Global,
@@ -74,16 +82,16 @@ pub extern "C" fn sst_found_copy(
     code
 }
 
-/// Where the key and the value lie of what was found.
+/// The addresses and lengths of the key and the value of an entry.
 #[repr(C)]
 pub struct Lent {
-    /// The key.
+    /// The address of the key.
     pub key: *const u8,
-    /// How many bytes the key has.
+    /// Length of the key in bytes.
     pub key_len: u64,
-    /// The value.
+    /// The address of the value.
     pub value: *const u8,
-    /// How many bytes the value has.
+    /// Length of the value in bytes.
     pub value_len: u64,
 }
 
@@ -112,9 +120,17 @@ fn lend_found(held: &Held, lent: &mut Lent) -> u32
     }
 }
 
-/// Lends the key and the value of what the last read by a handle found: they lie there until the
-/// next read by the handle, or its close. Refused 100 where the handle is closed and 106 where
-/// nothing was found; what `lent` says stays then.
+/// Borrows the entry that the last read through the handle found.
+///
+/// `lent` gets the addresses and lengths of its key and value. They are valid until the next read
+/// through the handle, or until it is closed.
+///
+/// # Errors
+///
+/// - 100: the handle is closed.
+/// - 106: the last read found nothing.
+///
+/// On error, `lent` is unchanged.
 #[unsafe(no_mangle)]
 pub extern "C" fn sst_found_lend(alloc: Global, handle: &mut Handle, lent: &mut Lent) -> u32
     ensures kept { handle.new.boxed.value ≡ handle.old.boxed.value }

@@ -1,4 +1,4 @@
-//! Handles: what C holds.
+//! Handles, which C callers hold.
 ghost use Rattle.std.specs.Prelude.{◌≡◌, ◌≢◌, ◌⊎◌, is_some, nat_lt, IsSomeAnd, MatchOption, Option};
 ghost use Rattle.std.specs.Prelude.{Some, None};
 ghost use Rattle.sst_c.specs.Words as spec;
@@ -9,8 +9,10 @@ use crate::held::{Held, What, box_of};
 use std::alloc::Global;
 use std::mem;
 
-/// What C holds: two words that begin as zeros, and a box behind them once a call has filled it. C
-/// may move it, and never uses a copy of it beside it.
+/// A handle that a C caller holds: two words, which are zero while it is closed.
+///
+/// C initializes both words with zero. An open handle owns a box. C may move the handle, but must
+/// not use a copy beside it.
 #[repr(C)]
 pub struct Handle {
     is_open: u64,
@@ -18,11 +20,11 @@ pub struct Handle {
     ghost ok: { is_some boxed.value ≡ nat_lt 0 is_open },
 }
 
-// What is behind a handle may go to another thread with it: each of its parts may.
+// A handle's contents may move to another thread: each of their parts is `Send`.
 fn crosses<T: Send>(_held: &T) {}
 
 impl Handle {
-    /// Puts a box into a handle that holds nothing.
+    /// Puts a box into a closed handle.
     pub(crate) fn put(&mut self, held: Box<Held>)
         requires { self.old.boxed.value ≡ None }
         ensures { self.new.boxed.value ≡ Some held.value }
@@ -32,8 +34,9 @@ impl Handle {
         self.is_open = 1;
     }
 
-    /// Puts what was begun into a handle that holds nothing, and answers 0, or 1 for want of
-    /// memory.
+    /// Puts a new object into a closed handle.
+    ///
+    /// Returns 0, or 1 if out of memory.
     pub(crate) fn begin(&mut self, alloc: Global, what: What) -> u32
         requires { self.old.boxed.value ≡ None }
         ensures memory { (result ≡ 0) ⊎ (result ≡ 1) }
@@ -50,7 +53,7 @@ impl Handle {
         }
     }
 
-    /// Takes out what is held, and leaves nothing.
+    /// Takes the contents out and leaves the handle closed.
     pub(crate) fn take(&mut self, alloc: Global) -> Option<Box<Held>>
         ensures taken { MatchOption result (self.old.boxed.value ≡ None)
             (λ held. self.old.boxed.value ≡ Some held.value) }
@@ -63,7 +66,7 @@ impl Handle {
         Some(release(mem::replace(&mut self.boxed, no_box(alloc))).into_box())
     }
 
-    /// Whether something is held.
+    /// Returns whether the handle is open.
     pub(crate) fn is_open(&self) -> bool
         ensures { result ≡ is_some self.now.boxed.value }
     {
@@ -71,8 +74,10 @@ impl Handle {
     }
 }
 
-/// Closes a handle: lets go what it holds. A handle that holds nothing stays as it is, so it may be
-/// closed twice. What was opened from what it holds has shares of its own, so any order will do.
+/// Closes a handle and drops its contents.
+///
+/// Closing a closed handle does nothing. Objects opened from the contents hold references of their
+/// own, so handles can be closed in any order.
 #[unsafe(no_mangle)]
 pub extern "C" fn sst_close(alloc: Global, handle: &mut Handle)
     ensures { handle.new.boxed.value ≡ None }

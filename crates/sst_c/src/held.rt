@@ -1,4 +1,4 @@
-//! What a handle holds.
+//! The contents of a handle.
 ghost use Rattle.std.specs.Prelude.{◌≡◌, ◌++◌, IfErr, IfOk, List, None};
 ghost use Rattle.sst_c.specs.Words as spec;
 
@@ -15,44 +15,44 @@ use lsm_writers::{FinishedTable, Writer};
 use sst_blocks::{EntryPlace, EntryRef, Error, InternalValue, Lending};
 use std::alloc::Global;
 
-/// What a handle holds, and what the last read by it found.
+/// The contents of a handle: an object, and the entry that the last read through it found.
 #[derive(Drop)]
 pub struct Held {
-    /// What the last read found.
+    /// The entry found by the last read.
     pub found: FoundEntry,
-    /// What is held.
+    /// The object.
     pub what: What,
 }
 
-/// What the last read found.
+/// The entry found by the last read.
 #[derive(Drop)]
 pub enum FoundEntry {
-    /// An entry with a share of the table's memory, or none.
+    /// An entry with a reference to the table's memory, or none.
     Kept(Option<InternalValue>),
     /// The entry that the held scan or range borrows from the table's memory, or none.
     Lent,
-    /// The entry that starts there in the bytes of the held table.
+    /// The entry at this position in the bytes of the held table.
     InTable(EntryPlace),
-    /// The same of the tables of the held runs.
+    /// The entry at this position in the tables of the held runs.
     InRuns(RunPlace),
 }
 
 impl FoundEntry {
-    /// Nothing is found.
+    /// Resets it to no entry.
     pub(crate) fn clear(&mut self)
         ensures { self.new ≡ spec.Kept None }
     {
         *self = FoundEntry::Kept(None);
     }
 
-    /// The entry that the scan or the range borrows is found.
+    /// Sets it to the entry that the scan or range borrows.
     pub(crate) fn set_lent(&mut self)
         ensures { self.new ≡ spec.IsLent }
     {
         *self = FoundEntry::Lent;
     }
 
-    // Whether it is no position in runs at which there is no entry.
+    // Returns `false` for a position in the runs that has no entry.
     fn is_settled(&self, runs: &RunList) -> bool
         ensures { result ≡ spec.is_settled self.now runs.now }
     {
@@ -62,8 +62,9 @@ impl FoundEntry {
         }
     }
 
-    /// Forgets a position in runs at which there is no entry, so that nothing is found there once
-    /// runs are added.
+    /// Clears a position in the runs that has no entry.
+    ///
+    /// Adding runs could otherwise put an entry at that position.
     #[tactic(auto, using(crate::proofs::Placing::settled))]
     pub(crate) fn settle(&mut self, runs: &RunList)
         ensures { (more : List (List spec.OpenTable)) →
@@ -76,42 +77,41 @@ impl FoundEntry {
     }
 }
 
-/// What is held.
+/// The object in a handle.
 #[derive(Drop)]
 pub enum What {
     /// An opened table.
     Table(Table),
-    /// A range of a table, which is read from both ends.
+    /// A range of a table, read from both ends.
     Range(Iter),
-    /// A scan of a table, which is read from the front.
+    /// A scan of a table, read from the front.
     Scan(Scanner),
-    /// What runs of tables have together within bounds, read from both ends; nothing once a read
-    /// was refused.
+    /// A range over several runs, read from both ends; `None` after a read failed.
     Merged(Option<Asked>),
-    /// The same, borrowed from the front.
+    /// A scan of several runs, which borrows from the front; `None` after a read failed.
     RunsScan(Option<RunsScan>),
-    /// Tables that are written: those that are finished, and the one that is not.
+    /// The finished tables, and the writer of an unfinished one.
     Files(Files),
-    /// Runs of tables, the newest first.
+    /// A list of runs, the newest first.
     Runs(RunList),
-    /// What was found of each of some keys.
+    /// The results of point reads, one for each key.
     Answers(Vec<Option<InternalValue>>),
-    /// A verification of a table, which is made by steps.
+    /// A verification of a table by steps.
     Verification(Verifier),
-    /// How tables are packed in runs.
+    /// A packing of tables in runs.
     Packing(Packed<Table>),
 }
 
-/// Tables that are written.
+/// The finished tables, and the writer of an unfinished one.
 #[derive(Drop)]
 pub struct Files {
-    /// The writer of the table that is not finished.
+    /// The writer of the unfinished table, if there is one.
     pub writer: Option<Writer>,
     /// The finished tables.
     pub tables: Vec<FinishedTable>,
 }
 
-/// The box of what was begun.
+/// Boxes a new object, with no entry found.
 pub(crate) fn box_of(alloc: Global, what: What) -> Result<Box<Held>, Error>
     ensures ok { IfOk result (λ held. held.value ≡ spec.begun what) }
     ensures err { IfErr result (λ e. e ≡ spec.OutOfMemory) }
@@ -120,7 +120,6 @@ pub(crate) fn box_of(alloc: Global, what: What) -> Result<Box<Held>, Error>
     Ok(Box::new(alloc, Held { found, what })?)
 }
 
-// The entry that a scan or a range borrows.
 fn lent(what: &What) -> Option<EntryRef<'_>>
     ensures { spec.option_map spec.entry_of_ref result ≡ spec.lent_in what.now }
 {
@@ -132,7 +131,6 @@ fn lent(what: &What) -> Option<EntryRef<'_>>
     }
 }
 
-// The entry at a position in the bytes of a table.
 fn in_table<'a>(what: &'a What, place: &EntryPlace) -> Option<EntryRef<'a>>
     ensures { spec.option_map spec.entry_of_ref result ≡ spec.in_table place.now what.now }
 {
@@ -142,7 +140,6 @@ fn in_table<'a>(what: &'a What, place: &EntryPlace) -> Option<EntryRef<'a>>
     }
 }
 
-// The same of the tables of runs.
 fn in_runs<'a>(what: &'a What, place: &RunPlace) -> Option<EntryRef<'a>>
     ensures { spec.option_map spec.entry_of_ref result ≡ spec.in_runs place.now what.now }
 {
@@ -153,7 +150,7 @@ fn in_runs<'a>(what: &'a What, place: &RunPlace) -> Option<EntryRef<'a>>
 }
 
 impl Held {
-    /// The entry that the last read found, borrowed.
+    /// Borrows the entry that the last read found.
     pub(crate) fn found_entry(&self) -> Option<EntryRef<'_>>
         ensures { spec.option_map spec.entry_of_ref result ≡ spec.found_by self.now }
     {

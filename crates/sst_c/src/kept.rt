@@ -8,10 +8,17 @@ use crate::tables::open_from;
 use sst_blocks::Slice;
 use std::alloc::Global;
 
-/// Opens a table over bytes that stay where and as they are, of which none is copied, into a handle
-/// that holds nothing. What is opened from it (ranges, scans, shares, runs, answers, verifications)
-/// reads these bytes too. Refused 101 where the handle holds something, and as `Table::recover`;
-/// the handle stays as it is then.
+/// Opens a table over the caller's bytes without copying them.
+///
+/// `table` must be closed. `file` must stay at its address and unchanged as long as anything reads
+/// it. Ranges, scans, shares, runs, answers and verifications of the table read it too.
+///
+/// # Errors
+///
+/// - 101: `table` is open.
+/// - An error code of `Table::recover`.
+///
+/// On error, `table` is unchanged.
 #[unsafe(no_mangle)]
 pub extern "C" fn sst_table_open_kept(
     alloc: Global,
@@ -26,10 +33,10 @@ pub extern "C" fn sst_table_open_kept(
         (spec.IsOpenedAs file.now global_seqno pin_filter pin_index) }
     ensures returned { table.old.boxed.value ≡ None →
         spec.ReportsCode result (spec.recovered_result file.now global_seqno pin_filter pin_index) }
-    // What is found before memory is taken is the refusal, whatever memory there is.
+    // A fault that is found before anything is allocated takes precedence over `OutOfMemory`.
     ensures early { table.old.boxed.value ≡ None →
         spec.ReportsFirst result (spec.early_fault file.now) }
-    // Bytes that store a list are opened where the highest number fits.
+    // Bytes that store a list are opened if the highest sequence number fits.
     ensures list { table.old.boxed.value ≡ None → (es : List spec.Entry) →
         spec.StoresList file.now es → spec.ReportsCode result (spec.fits_result es global_seqno) }
     ensures left { result ≢ 0 → table.new.boxed.value ≡ table.old.boxed.value }

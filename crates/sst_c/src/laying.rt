@@ -1,4 +1,4 @@
-//! Keys and values copied one after another into one room.
+//! Copying keys and values back to back into one room.
 ghost use Rattle.std.specs.Prelude.{◌≡◌, ◌+◌, ◌≤◌, ◌++◌, true, false, length, take, drop, nat_lt, not};
 ghost use Rattle.sst_c.specs.Words as spec;
 
@@ -6,7 +6,6 @@ use crate::entries::entry_of;
 use crate::found::copy_out;
 use sst_blocks::{EntryRef, InternalValue};
 
-// Copies the key and the value of an entry to the front of a room that has room for both.
 fn lay(entry: &EntryRef<'_>, room: &mut [u8])
     requires { length (spec.bytes_of (spec.entry_of_ref entry.now)) ≤ length room.old }
     ensures { room.new ≡ spec.laid_over (spec.bytes_of (spec.entry_of_ref entry.now)) room.old }
@@ -15,7 +14,7 @@ fn lay(entry: &EntryRef<'_>, room: &mut [u8])
     copy_out(entry.value, &mut room[entry.user_key.len()..]);
 }
 
-/// Copies an entry after the first `at` bytes of a room, and moves `at` after it, if it fits.
+/// Copies an entry to offset `at` of a room, and moves `at` to its end, if it fits.
 pub(crate) fn lay_next(entry: &EntryRef<'_>, room: &mut [u8], at: &mut usize) -> bool
     requires { at.old ≤ length room.old }
     ensures fits { let len = length (spec.bytes_of (spec.entry_of_ref entry.now)) in
@@ -37,7 +36,7 @@ pub(crate) fn lay_next(entry: &EntryRef<'_>, room: &mut [u8], at: &mut usize) ->
     true
 }
 
-/// Copies what was found, if something was, as [`lay_next`] does.
+/// Copies the found entry, if there is one, as [`lay_next`] does.
 pub(crate) fn lay_found(found: &Option<InternalValue>, room: &mut [u8], at: &mut usize) -> bool
     requires { at.old ≤ length room.old }
     ensures fits { let len = length (spec.bytes_found found.now) in

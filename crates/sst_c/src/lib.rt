@@ -1,9 +1,11 @@
-//! Sorted tables for callers in C, and in what calls C: the calls of `include/sst.h`.
+//! The C interface to sorted tables: the calls of `include/sst.h`.
 //!
-//! What a caller holds is a [`Handle`], two words of its own memory that begin as zeros. Each call
-//! takes out what is in it, works on that by the calls of the library, and puts it back; its
-//! contract says what those say. A call answers 0 or the number of what refused it: 1 to 24 are the
-//! library's refusals, those from 100 on the calls' own.
+//! A caller holds a [`Handle`], which is zeros while closed. Each call takes the contents out,
+//! works on them with the calls of the library, and puts them back. Its contract states the result
+//! in terms of theirs.
+//!
+//! A call returns 0 or an error code: 1 to 24 are the library's, codes from 100 on are those of
+//! this interface.
 #![tactic(auto)]
 
 mod address;

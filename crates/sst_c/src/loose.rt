@@ -1,15 +1,15 @@
-//! A box as its pointer.
+//! A box as a raw pointer.
 ghost use Rattle.std.specs.Prelude.{◌≡◌};
 ghost use Rattle.std_alloc.specs.Box.Ownership.{box_owns};
 
 use std::alloc::Allocator;
 use std::marker::Model;
 
-/// A box taken apart.
+/// A box taken apart into a pointer and an allocator.
 pub struct Loose<T, A: Allocator> {
-    /// Where the value lies.
+    /// The address of the value.
     pub at: *mut T,
-    /// What frees it.
+    /// The allocator that frees it.
     pub alloc: A,
     /// The value.
     pub ghost value: { T },
@@ -28,7 +28,7 @@ impl<T: Drop, A: Allocator> Loose<T, A> {
         Loose { at, alloc }
     }
 
-    /// Puts it together.
+    /// Puts the box together again.
     pub fn into_box(self) -> Box<T, A>
         ensures { result.value ≡ self.value }
     {

@@ -1,4 +1,4 @@
-//! How much memory a table holds.
+//! The memory of a table.
 ghost use Rattle.std.specs.Prelude.{◌≡◌, ◌≢◌, false, None, Some};
 ghost use Rattle.sst_c.specs.Words as spec;
 
@@ -8,20 +8,23 @@ use crate::held::{Held, What};
 use lsm_readers::Table;
 use std::alloc::Global;
 
-/// How much memory a table holds, in bytes.
+/// The memory of a table, in bytes.
 #[repr(C)]
 #[derive(Clone, Copy)]
 pub struct TableMemory {
-    /// How many bytes its file has.
+    /// Length of the file.
     pub file_len: u64,
-    /// How many of them the index has that stays loaded, the whole or the top level; 0 where none
-    /// does.
+    /// Size of the pinned index, whole or top level; 0 if none is pinned.
+    ///
+    /// It is part of the file's bytes.
     pub pinned_index_size: u64,
-    /// How many of them the filter has that stays loaded; 0 where none does, and of a filter in
-    /// partitions.
+    /// Size of the pinned filter; 0 if none is pinned or the filter is partitioned.
+    ///
+    /// It is part of the file's bytes.
     pub pinned_filter_size: u64,
-    /// How many bytes it takes to remember which blocks were compared; 0 where there was no memory
-    /// for them.
+    /// Size of the verified-block cache; 0 if it could not be allocated.
+    ///
+    /// The cache records which blocks had their checksums compared.
     pub marks_size: u64,
 }
 
@@ -51,8 +54,14 @@ fn tell_memory(held: &Held, memory: &mut TableMemory) -> u32
     }
 }
 
-/// Tells how much memory a table holds, all of its handles together. Refused 100 where the handle
-/// is closed and 102 where it holds no table; what `memory` says stays then.
+/// Writes the memory of a table, all its handles together, to `memory`.
+///
+/// # Errors
+///
+/// - 100: the handle is closed.
+/// - 102: the handle holds no table.
+///
+/// On error, `memory` is unchanged.
 #[unsafe(no_mangle)]
 pub extern "C" fn sst_table_memory(
     alloc: Global,
@@ -63,7 +72,6 @@ pub extern "C" fn sst_table_memory(
     ensures shut { table.old.boxed.value ≡ None → result ≡ 100 }
     ensures other { (h : spec.HeldValue) → table.old.boxed.value ≡ Some h →
         spec.is_table h.what ≡ false → result ≡ 102 }
-    // It is what the library tells of the table.
     ensures returned { (h : spec.HeldValue) (t : spec.OpenTable) → table.old.boxed.value ≡ Some h →
         h.what ≡ spec.TableOf t → (result ≡ 0) × spec.ReportsMemory t memory.new }
     ensures left { result ≢ 0 → memory.new ≡ memory.old }

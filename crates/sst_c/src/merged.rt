@@ -15,7 +15,7 @@ use sst_blocks::{Error, InternalValue, SeqNo, Slice};
 use std::alloc::Global;
 use std::ops::Bound;
 
-// The newest versions below a number of what runs have together within two bounds.
+// The newest versions visible at `seqno` within two bounds.
 fn newest_within(
     alloc: Global,
     runs: &RunList,
@@ -40,7 +40,7 @@ fn newest_within(
     Ok(Asked::new(range_runs_at(alloc, runs.as_slice(), range, seqno)?))
 }
 
-// The newest entries of several runs within bounds of these kinds.
+// The range of several runs within bounds as C passes them.
 fn merged_within(
     alloc: Global,
     runs: &RunList,
@@ -73,7 +73,7 @@ fn merged_within(
     newest_within(alloc, runs, range, seqno)
 }
 
-// Puts a range of runs into a handle that holds nothing.
+// Puts a range of runs into a closed handle.
 fn begin_merged(
     alloc: Global,
     held: &Held,
@@ -124,14 +124,23 @@ fn begin_merged(
     }
 }
 
-/// Begins to read what the tables of a list of runs have together within two bounds, into a handle
-/// that holds nothing: of each key the newest version that is numbered below `seqno`. A bound is of
-/// kind 0 where there is none, 1 with its key and 2 without it. Nothing is loaded yet. The range
-/// has shares of the tables, which may be closed before it, as the list may.
+/// Opens a range over a list of runs, read from both ends.
 ///
-/// Refused 101 where the range's handle holds something, 100 where the list's is closed, 102 where
-/// it holds no runs, 105 where a bound has another kind, and for want of memory; the handles stay
-/// as they are then.
+/// It yields the newest version of each key within the bounds that is visible at `seqno`: versions
+/// with a smaller sequence number. A bound has kind 0 for none, 1 to include its key, 2 to exclude
+/// it. `range` must be closed. No block is loaded yet.
+///
+/// The range holds references to the tables. The tables and the list may be closed before it.
+///
+/// # Errors
+///
+/// - 101: `range` is open.
+/// - 100: `runs` is closed.
+/// - 102: `runs` holds no list of runs.
+/// - 105: a bound has another kind.
+/// - 1: out of memory.
+///
+/// On error, both handles are unchanged.
 #[unsafe(no_mangle)]
 pub extern "C" fn sst_runs_range_open(
     alloc: Global,
@@ -156,8 +165,9 @@ pub extern "C" fn sst_runs_range_open(
         runs.old.boxed.value ≡ Some h → spec.are_runs h.what ≡ true →
         nat_lt 2 lower_kind || nat_lt 2 upper_kind ≡ false → (result ≡ 0) ⊎ (result ≡ 1) }
     ensures new { result ≡ 0 → IsSomeAnd range.new.boxed.value (λ r. spec.found_by r ≡ None) }
-    // Whatever the bytes, it is over the readers of those tables whose ranges reach past the
-    // bounds, each below the number: an error of one stands in its place;
+    // For any bytes, it merges readers of the runs. Each covers the tables of its run whose ranges
+    // overlap the bounds, and seqnos below `seqno`. An error of a reader is yielded at its
+    // position.
     ensures steps { (h : spec.HeldValue) → runs.old.boxed.value ≡ Some h → result ≡ 0 →
         let low = spec.decode_bound lower_kind lower.now in
         let high = spec.decode_bound upper_kind upper.now in
@@ -167,8 +177,8 @@ pub extern "C" fn sst_runs_range_open(
         ⟦<NewestOfRunsAt<Global> as Iterator>⟧.next_gives
         ⟦<NewestOfRunsAt<Global> as DoubleEndedIterator>⟧.next_back_gives
         low high seqno (spec.runs_held h.what)) r.what) }
-    // of tables of lists it deals, to whatever ends, what is newest of all entries together, their
-    // numbers lifted, that lie within the bounds and are numbered below `seqno`.
+    // For tables of lists, it yields, from both ends, the newest versions within the bounds and
+    // below `seqno`. It applies the global sequence numbers first.
     ensures list { let gives = ⟦<NewestOfRunsAt<Global> as Iterator>⟧.next_gives in
         let back_gives = ⟦<NewestOfRunsAt<Global> as DoubleEndedIterator>⟧.next_back_gives in
         let low = spec.decode_bound lower_kind lower.now in
@@ -194,14 +204,14 @@ pub extern "C" fn sst_runs_range_open(
     code
 }
 
-/// Drops what is kept.
+/// Drops the value.
 pub(crate) fn give_up<T: Drop>(kept: &mut Option<T>)
     ensures { kept.new ≡ None }
 {
     *kept = None;
 }
 
-/// A step of what runs have together, where a read was not refused before.
+/// Steps a range of several runs, unless a read failed before.
 pub(crate) fn step_merged(
     merged: &mut Option<Asked>,
     back: bool,

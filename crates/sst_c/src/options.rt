@@ -1,40 +1,45 @@
-//! What a table is written with.
+//! The options of a table writer.
 ghost use Rattle.std.specs.Prelude.{◌≡◌, ◌<◌, ◌≤◌, None, Some};
 ghost use Rattle.sst_c.specs.Words as spec;
 
 use lsm_writers::{BloomConstructionPolicy, FilterKind, IndexKind, Options};
 
-/// What a table is written with.
+/// The options of a table writer.
 #[repr(C)]
 #[derive(Clone, Copy)]
 pub struct TableOptions {
-    /// The table's id.
+    /// The id of the table.
     pub id: u64,
-    /// When it is written, in nanoseconds since 1970.
+    /// The timestamp of creation, in nanoseconds since 1970.
     pub created_at: u64,
-    /// The level at which it stands, at most 255.
+    /// The level of the table, at most 255.
     pub level: u32,
-    /// How many bytes of keys and values a data block has when it is cut, at most 4 MiB.
+    /// Size at which a data block is cut, in bytes of keys and values; at most 4 MiB.
     pub data_block_size: u32,
-    /// Restart interval of data blocks, 1 to 255. It is stored in the meta block and changes nothing
-    /// else.
+    /// Restart interval of data blocks, 1 to 255.
+    ///
+    /// It is stored in the meta block and changes nothing else.
     pub data_block_restart_interval: u32,
-    /// Hash ratio of data blocks. It is stored in the meta block and changes nothing else.
+    /// Hash ratio of data blocks.
+    ///
+    /// It is stored in the meta block and changes nothing else.
     pub data_block_hash_ratio: u32,
-    /// How many bytes a partition of the index has when it is cut, at most 4 MiB; 0 for one block.
+    /// Size in bytes at which an index partition is cut, at most 4 MiB; 0 for an unpartitioned
+    /// index.
     pub index_partition_size: u32,
-    /// How many bytes a partition of the filter has when it is cut, at most 4 MiB; 0 for one block.
+    /// Size in bytes at which a filter partition is cut, at most 4 MiB; 0 for an unpartitioned
+    /// filter.
     pub filter_partition_size: u32,
-    /// How many bits the filter has for a key, in tenths of a bit; 0 for no filter.
+    /// Bits per key of the filter, in tenths of a bit; 0 for no filter.
     pub filter_bits_per_key: u32,
-    /// Nothing.
+    /// Unused.
     pub unused: u32,
 }
 
-// The largest block or partition.
+// The largest size of a block or partition in bytes.
 const LARGEST: u32 = 4_194_304;
 
-/// Tells what a table is written with where nothing else is asked for.
+/// Writes the default options to `options`.
 #[unsafe(no_mangle)]
 pub extern "C" fn sst_options_default(options: &mut TableOptions)
     ensures { options.new ≡ spec.decode_default }
@@ -53,7 +58,7 @@ pub extern "C" fn sst_options_default(options: &mut TableOptions)
     };
 }
 
-/// Whether each of the options is in its range.
+/// Returns whether each option is in its range.
 pub(crate) fn are_usable(options: &TableOptions) -> bool
     ensures { result ≡ spec.are_usable options.now }
 {
@@ -89,7 +94,7 @@ fn filter_kind(size: u32) -> FilterKind
     }
 }
 
-/// The options of a writer.
+/// Returns the options of the library's writer.
 pub(crate) fn writer_options(options: &TableOptions) -> Options
     requires index { options.now.index_partition_size ≤ 4194304 }
     requires filter { options.now.filter_partition_size ≤ 4194304 }

@@ -1,4 +1,4 @@
-//! Tables that are packed in runs.
+//! Packing the tables of a list of runs.
 ghost use Rattle.std.specs.Prelude.{◌≡◌, ◌++◌, IfErr, IfOk, OnOk, map};
 ghost use Rattle.sst_c.specs.Words as spec;
 
@@ -9,7 +9,6 @@ use sst_blocks::Error;
 use std::alloc::Global;
 use std::sync::Arc;
 
-// Puts shares of the tables of a run behind others.
 fn share_run(tables: &mut Vec<Table>, run: &Run<Table>) -> Result<(), Error>
     ensures ok { OnOk result (tables.new.items ≡ tables.old.items ++ run.now) }
     ensures err { IfErr result (λ e. e ≡ spec.OutOfMemory) }
@@ -20,7 +19,7 @@ fn share_run(tables: &mut Vec<Table>, run: &Run<Table>) -> Result<(), Error>
     Ok(())
 }
 
-// Shares of the tables of all runs, one behind another.
+// References to the tables of all runs, run after run.
 fn share_all(alloc: Global, runs: &[Arc<Run<Table>>]) -> Result<Vec<Table>, Error>
     ensures ok { IfOk result
         (λ tables. tables.items ≡ spec.tables_in (map spec.arc_value runs.now)) }
@@ -33,8 +32,9 @@ fn share_all(alloc: Global, runs: &[Arc<Run<Table>>]) -> Result<Vec<Table>, Erro
     Ok(tables)
 }
 
-/// The tables of a list of runs, packed. A table's place is that among all of them, one run behind
-/// another.
+/// Packs the tables of a list of runs.
+///
+/// A table is identified by its index among all of them, run after run.
 pub(crate) fn packing_of(alloc: Global, runs: &RunList) -> Result<Packed<Table>, Error>
     ensures ok { IfOk result (spec.IsPackedOf spec.range_of (spec.tables_in runs.now)) }
     ensures err { IfErr result (λ e. e ≡ spec.OutOfMemory) }

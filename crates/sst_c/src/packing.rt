@@ -1,4 +1,4 @@
-//! Packing the tables of a list of runs in as few runs as there can be.
+//! Packing the tables of a list of runs into the fewest runs.
 ghost use Rattle.std.specs.Prelude.{◌≡◌, ◌≢◌, ◌⊎◌, false, IsSomeAnd, List, None, Some};
 ghost use Rattle.std.specs.Prelude.{ℕ, is_some, length, slice_get, true};
 ghost use Rattle.sst_c.specs.Words as spec;
@@ -9,7 +9,7 @@ use crate::held::{Held, What};
 use crate::packed::packing_of;
 use std::alloc::Global;
 
-// Puts runs, packed, into a handle that holds nothing.
+// Puts the packed runs into a closed handle.
 fn pack(alloc: Global, held: &Held, packed: &mut Handle) -> u32
     requires { packed.old.boxed.value ≡ None }
     ensures other { spec.are_runs held.now.what ≡ false → result ≡ 102 }
@@ -30,11 +30,20 @@ fn pack(alloc: Global, held: &Held, packed: &mut Handle) -> u32
     }
 }
 
-/// Packs the tables of a list of runs in as few runs as there can be, so that each key keeps the
-/// order of its tables: a list of these runs, in a handle that holds nothing. It has shares of the
-/// tables, and where these store lists it finds what the list finds. The list stays. Refused 101
-/// where the packed runs' handle holds something, 100 where the list's is closed, 102 where it
-/// holds no runs, and for want of memory; both stay as they are then.
+/// Packs the tables of a list of runs into the fewest runs.
+///
+/// The order of each key's tables is kept. `packed` must be closed; it then holds a list of the
+/// packed runs, with references to the tables. If the tables store lists, reads of both lists of
+/// runs find the same entries. `runs` is not changed.
+///
+/// # Errors
+///
+/// - 101: `packed` is open.
+/// - 100: `runs` is closed.
+/// - 102: `runs` holds no list of runs.
+/// - 1: out of memory.
+///
+/// On error, both handles are unchanged.
 #[unsafe(no_mangle)]
 pub extern "C" fn sst_runs_pack(alloc: Global, runs: &mut Handle, packed: &mut Handle) -> u32
     ensures kept { runs.new.boxed.value ≡ runs.old.boxed.value }
@@ -48,7 +57,7 @@ pub extern "C" fn sst_runs_pack(alloc: Global, runs: &mut Handle, packed: &mut H
     ensures new { result ≡ 0 → IsSomeAnd packed.new.boxed.value (λ k. spec.found_by k ≡ None) }
     ensures kind { result ≡ 0 →
         IsSomeAnd packed.new.boxed.value (λ k. spec.are_runs k.what ≡ true) }
-    // They are the runs of the list, packed; where the tables are of lists they hold the same.
+    // They are the packed runs of the list. If the tables store lists, they hold the same entries.
     ensures packed { (h : spec.HeldValue) → runs.old.boxed.value ≡ Some h → result ≡ 0 →
         IsSomeAnd packed.new.boxed.value (λ k.
         spec.ArePackedOf (spec.runs_held h.what) (spec.runs_held k.what)) }
@@ -64,7 +73,7 @@ pub extern "C" fn sst_runs_pack(alloc: Global, runs: &mut Handle, packed: &mut H
     code
 }
 
-// Puts how the tables of runs are packed into a handle that holds nothing.
+// Puts the packing of the tables of runs into a closed handle.
 fn show_packing(alloc: Global, held: &Held, packing: &mut Handle) -> u32
     requires { packing.old.boxed.value ≡ None }
     ensures other { spec.are_runs held.now.what ≡ false → result ≡ 102 }
@@ -84,11 +93,20 @@ fn show_packing(alloc: Global, held: &Held, packing: &mut Handle) -> u32
     }
 }
 
-/// Finds in which runs the tables of a list of runs go where these are to be as few as there can
-/// be, and why there are no fewer, and keeps it in a handle that holds nothing. A table is told by
-/// its place among those of the list, one run behind another, from 0 on. Refused 101 where the
-/// packing's handle holds something, 100 where the list's is closed, 102 where it holds no runs,
-/// and for want of memory; both stay as they are then.
+/// Computes a packing of the tables of a list of runs into the fewest runs.
+///
+/// `packing` must be closed. It then holds the packed runs, and a chain of overlapping tables that
+/// shows that no fewer suffice. A table is identified by its index in the list, run after run, from
+/// 0.
+///
+/// # Errors
+///
+/// - 101: `packing` is open.
+/// - 100: `runs` is closed.
+/// - 102: `runs` holds no list of runs.
+/// - 1: out of memory.
+///
+/// On error, both handles are unchanged.
 #[unsafe(no_mangle)]
 pub extern "C" fn sst_packing_open(alloc: Global, runs: &mut Handle, packing: &mut Handle) -> u32
     ensures kept { runs.new.boxed.value ≡ runs.old.boxed.value }
@@ -100,8 +118,8 @@ pub extern "C" fn sst_packing_open(alloc: Global, runs: &mut Handle, packing: &m
     ensures memory { (h : spec.HeldValue) → packing.old.boxed.value ≡ None →
         runs.old.boxed.value ≡ Some h → spec.are_runs h.what ≡ true → (result ≡ 0) ⊎ (result ≡ 1) }
     ensures new { result ≡ 0 → IsSomeAnd packing.new.boxed.value (λ k. spec.found_by k ≡ None) }
-    // The tables are those of the list, each key keeps the order of its tables, no fewer runs can
-    // do, and the chain is as long.
+    // The tables are those of the list, and the order of each key's tables is kept. No fewer runs
+    // suffice, and the chain has as many tables as there are runs.
     ensures packed { (h : spec.HeldValue) → runs.old.boxed.value ≡ Some h → result ≡ 0 →
         IsSomeAnd packing.new.boxed.value (λ k.
         spec.IsPackingWhere (spec.IsPackedOf spec.range_of (spec.tables_in (spec.runs_held h.what)))
@@ -133,8 +151,14 @@ fn count(held: &Held, runs: &mut u64) -> u32
     }
 }
 
-/// Tells in how many runs the tables go. Refused 100 where the handle is closed and 102 where it
-/// holds no packing; what `runs` says stays then.
+/// Writes the number of packed runs to `runs`.
+///
+/// # Errors
+///
+/// - 100: the handle is closed.
+/// - 102: the handle holds no packing.
+///
+/// On error, `runs` is unchanged.
 #[unsafe(no_mangle)]
 pub extern "C" fn sst_packing_count(alloc: Global, packing: &mut Handle, runs: &mut u64) -> u32
     ensures kept { packing.new.boxed.value ≡ packing.old.boxed.value }
@@ -175,9 +199,15 @@ fn count_run(held: &Held, run: u64, tables: &mut u64) -> u32
     }
 }
 
-/// Tells how many tables a run has: the one at a place, from 0 on. Refused 100 where the handle is
-/// closed, 102 where it holds no packing, and 105 where there is no run at that place; what
-/// `tables` says stays then.
+/// Writes the number of tables of the packed run at index `run`, from 0, to `tables`.
+///
+/// # Errors
+///
+/// - 100: the handle is closed.
+/// - 102: the handle holds no packing.
+/// - 105: there is no run at this index.
+///
+/// On error, `tables` is unchanged.
 #[unsafe(no_mangle)]
 pub extern "C" fn sst_packing_run(
     alloc: Global,
@@ -233,9 +263,17 @@ fn tell_table(held: &Held, run: u64, place: u64, table: &mut u64) -> u32
     }
 }
 
-/// Tells which table stands in a run at a place, both from 0 on: its place among those of the list.
-/// Refused 100 where the handle is closed, 102 where it holds no packing, and 105 where there is no
-/// such run or no table at that place of it; what `table` says stays then.
+/// Writes the index in the list of the table at `place` in a packed run to `table`.
+///
+/// `run` and `place` count from 0.
+///
+/// # Errors
+///
+/// - 100: the handle is closed.
+/// - 102: the handle holds no packing.
+/// - 105: there is no such run, or it has no table at `place`.
+///
+/// On error, `table` is unchanged.
 #[unsafe(no_mangle)]
 pub extern "C" fn sst_packing_table(
     alloc: Global,
@@ -288,10 +326,18 @@ fn tell_link(held: &Held, place: u64, table: &mut u64) -> u32
     }
 }
 
-/// Tells which table stands in the chain at a place, from 0 on: its place among those of the list.
-/// Each overlaps the next one, which is an older one, and there are as many as runs. Refused 100
-/// where the handle is closed, 102 where it holds no packing, and 105 where the chain has no table
-/// at that place; what `table` says stays then.
+/// Writes the index in the list of the table at `place` in the chain, from 0, to `table`.
+///
+/// The chain has as many tables as there are packed runs. Each overlaps the next one, which is
+/// older.
+///
+/// # Errors
+///
+/// - 100: the handle is closed.
+/// - 102: the handle holds no packing.
+/// - 105: the chain has no table at `place`.
+///
+/// On error, `table` is unchanged.
 #[unsafe(no_mangle)]
 pub extern "C" fn sst_packing_chain(
     alloc: Global,

@@ -1,4 +1,4 @@
-//! Ranges, read from both ends; beginning those of a table.
+//! Ranges, read from both ends, and opening a range of a table.
 ghost use Rattle.std.specs.Prelude.{◌≡◌, ◌≢◌, ◌<◌, ◌⊎◌, ◌||◌, false, IfErr, IfOk, IsSomeAnd, List};
 ghost use Rattle.std.specs.Prelude.{None, Option, Result, Some, is_some, nat_lt, true};
 ghost use Rattle.sst_c.specs.Words as spec;
@@ -17,7 +17,7 @@ use sst_blocks::{Error, InternalValue, IterItem, Lending, Slice};
 use std::alloc::Global;
 use std::ops::Bound;
 
-// A bound of a kind: 0 for none, 1 with the key, 2 without it.
+// A bound as C passes it: kind 0 for none, 1 to include the key, 2 to exclude it.
 pub(crate) fn bound(alloc: Global, kind: u32, key: &[u8]) -> Result<Bound<Slice>, Error>
     requires { kind < 3 }
     ensures ok { IfOk result (λ b. b ≡ spec.decode_bound kind key.now) }
@@ -30,7 +30,6 @@ pub(crate) fn bound(alloc: Global, kind: u32, key: &[u8]) -> Result<Bound<Slice>
     }
 }
 
-// The two bounds of these kinds.
 pub(crate) fn bounds(
     alloc: Global,
     lower_kind: u32,
@@ -49,7 +48,7 @@ pub(crate) fn bounds(
     Ok((low, high))
 }
 
-// A range of a table within bounds of these kinds.
+// A range of a table, for bounds as C passes them.
 #[tactic(auto, unfolding(crate::specs::What::YieldsTable))]
 fn range_within(
     alloc: Global,
@@ -74,7 +73,7 @@ fn range_within(
     table.range(lower, upper)
 }
 
-// Puts a range of a table into a handle that holds nothing.
+// Puts a range of a table into a closed handle.
 fn begin_within(
     alloc: Global,
     table: &Table,
@@ -144,11 +143,20 @@ fn begin(
     begin_within(alloc, table, lower_kind, lower, upper_kind, upper, range)
 }
 
-/// Begins to read a range of a table, into a handle that holds nothing. A bound is of kind 0 where
-/// there is none, 1 with its key and 2 without it. Nothing is loaded yet. The range owns a share of
-/// the table, which may be closed before it. Refused 101 where the range's handle holds something,
-/// 100 where the table's is closed, 102 where it holds no table, 105 where a bound has another
-/// kind, and for want of memory; the handles stay as they are then.
+/// Opens a range of a table, read from both ends.
+///
+/// A bound has kind 0 for none, 1 to include its key, 2 to exclude it. `range` must be closed. No
+/// block is loaded yet. The range holds a reference to the table, which may be closed before it.
+///
+/// # Errors
+///
+/// - 101: `range` is open.
+/// - 100: `table` is closed.
+/// - 102: `table` holds no table.
+/// - 105: a bound has another kind.
+/// - 1: out of memory.
+///
+/// On error, both handles are unchanged.
 #[unsafe(no_mangle)]
 pub extern "C" fn sst_range_open(
     alloc: Global,
@@ -172,14 +180,15 @@ pub extern "C" fn sst_range_open(
         table.old.boxed.value ≡ Some h → h.what ≡ spec.TableOf t →
         nat_lt 2 lower_kind || nat_lt 2 upper_kind ≡ false → (result ≡ 0) ⊎ (result ≡ 1) }
     ensures new { result ≡ 0 → IsSomeAnd range.new.boxed.value (λ r. spec.found_by r ≡ None) }
-    // It reads the table within the bounds, and has made no step;
+    // It reads the table within the bounds, and has not been stepped.
     ensures range { (h : spec.HeldValue) (t : spec.OpenTable) → table.old.boxed.value ≡ Some h →
         h.what ≡ spec.TableOf t → result ≡ 0 →
         let low = spec.decode_bound lower_kind lower.now in
         let high = spec.decode_bound upper_kind upper.now in
         IsSomeAnd range.new.boxed.value
         (λ r. spec.IsRangeWhere (spec.IsRangeOf t low high) r.what) }
-    // on bytes that store a list it deals the list's entries within them, their numbers lifted.
+    // On bytes that store a list, it yields the list's entries within the bounds, global sequence
+    // number applied.
     ensures list { (h : spec.HeldValue) (t : spec.OpenTable) (es : List spec.Entry) →
         table.old.boxed.value ≡ Some h → h.what ≡ spec.TableOf t → result ≡ 0 →
         spec.StoresList t.bytes es →
@@ -198,7 +207,6 @@ pub extern "C" fn sst_range_open(
     code
 }
 
-// What a step answers, as what a read answers.
 pub(crate) fn outcome_of(answer: Option<IterItem<Global>>) -> Result<Option<InternalValue>, Error>
     ensures { result ≡ spec.outcome_of answer }
 {
@@ -209,7 +217,7 @@ pub(crate) fn outcome_of(answer: Option<IterItem<Global>>) -> Result<Option<Inte
     }
 }
 
-// A step of a range of a table from the front, after which the range borrows the entry.
+// Steps a range of a table from the front. The range then borrows the entry.
 #[tactic(auto, using(crate::proofs::Ranging::range_steps))]
 fn step_front(iter: &mut Iter) -> u32
     ensures steps { let gives = ⟦<Iter<Global> as Iterator>⟧.next_gives in
@@ -222,7 +230,7 @@ fn step_front(iter: &mut Iter) -> u32
     }
 }
 
-// A step of a range of a table from the back, after which the range borrows the entry.
+// Steps a range of a table from the back. The range then borrows the entry.
 #[tactic(auto, using(crate::proofs::Ranging::range_steps_back))]
 fn step_back(iter: &mut Iter) -> u32
     ensures steps { let gives = ⟦<Iter<Global> as DoubleEndedIterator>⟧.next_back_gives in
@@ -235,7 +243,7 @@ fn step_back(iter: &mut Iter) -> u32
     }
 }
 
-// A step of a range of a table, after which the range borrows the entry.
+// Steps a range of a table. The range then borrows the entry.
 fn step_of(iter: &mut Iter, back: bool, found: &mut FoundEntry) -> u32
     ensures front { back ≡ false → let gives = ⟦<Iter<Global> as Iterator>⟧.next_gives in
         spec.StepsBy gives iter.old result (spec.found_at found.new (spec.RangeOf iter.new))
@@ -254,7 +262,7 @@ fn step_of(iter: &mut Iter, back: bool, found: &mut FoundEntry) -> u32
     }
 }
 
-/// A step of a range, if it is one.
+/// Steps the held object, if it is a range.
 pub(crate) fn step(held: &mut Held, back: bool) -> u32
     ensures other { spec.is_range held.old.what ≡ false →
         (result ≡ 102) × (spec.found_by held.new ≡ None) × (held.new.what ≡ held.old.what) }
@@ -285,10 +293,20 @@ pub(crate) fn step(held: &mut Held, back: bool) -> u32
     }
 }
 
-/// Takes the next entry of a range, from the back where `back` says so, else from the front, keeps
-/// it, and tells its kind, number and lengths; zeros at the end. Refused 100 where the handle is
-/// closed, 102 where it holds no range, and as a step of a table's range, or of `range_runs_at`,
-/// after which nothing comes from either end; nothing is kept then, and zeros are told.
+/// Reads the next entry of a range, from the back if `back` is set, else from the front.
+///
+/// The handle has then found this entry, and `entry` gets its kind, sequence number and lengths. At
+/// the end, it has found nothing, and `entry` is zero.
+///
+/// # Errors
+///
+/// - 100: the handle is closed.
+/// - 102: the handle holds no range.
+/// - The error of the step of a table's range.
+/// - The error of the step of a range over several runs, as `range_runs_at`. Both ends are
+///   exhausted then.
+///
+/// On error nothing is found, and `entry` is zero.
 #[unsafe(no_mangle)]
 pub extern "C" fn sst_range_next(
     alloc: Global,
@@ -302,7 +320,7 @@ pub extern "C" fn sst_range_next(
         spec.is_range h.what ≡ false → (result ≡ 102) × IsSomeAnd range.new.boxed.value (λ k.
         (spec.found_by k ≡ None) × (k.what ≡ h.what)) }
     ensures entry { entry.new ≡ spec.entry_facts (spec.found_in range.new.boxed.value) }
-    // It is one step of the range, from that end.
+    // It is one step of the range from that end.
     ensures front { (h : spec.HeldValue) (s : spec.RangeValue spec.Heap) →
         range.old.boxed.value ≡ Some h →
         h.what ≡ spec.RangeOf s → back ≡ false →
@@ -313,7 +331,7 @@ pub extern "C" fn sst_range_next(
         let gives = ⟦<Iter<Global> as DoubleEndedIterator>⟧.next_back_gives in
         IsSomeAnd range.new.boxed.value (λ k.
         spec.IsRangeWhere (spec.StepsBy gives s result (spec.found_by k)) k.what) }
-    // So it is of a range of several runs, which is given up where it is refused;
+    // It is one step of a range of several runs, which is dropped if the step fails.
     ensures merged_front { (h : spec.HeldValue) (s : spec.NewestAt) →
         range.old.boxed.value ≡ Some h → h.what ≡ spec.MergedOf (Some s) → back ≡ false →
         let gives = ⟦<NewestOfRunsAt<Global> as Iterator>⟧.next_gives in
@@ -324,7 +342,7 @@ pub extern "C" fn sst_range_next(
         let gives = ⟦<NewestOfRunsAt<Global> as DoubleEndedIterator>⟧.next_back_gives in
         IsSomeAnd range.new.boxed.value
         (λ k. spec.MergedStepsBy gives s result (spec.found_by k) k.what) }
-    // from then on it is at its end.
+    // After that, the range is at its end.
     ensures over { (h : spec.HeldValue) → range.old.boxed.value ≡ Some h →
         h.what ≡ spec.MergedOf None → (result ≡ 0) × IsSomeAnd range.new.boxed.value (λ k.
         (spec.found_by k ≡ None) × (k.what ≡ spec.MergedOf None)) }
@@ -339,7 +357,7 @@ pub extern "C" fn sst_range_next(
     code
 }
 
-// Reads a range on in bulk.
+// Reads a range in bulk.
 fn take(
     held: &mut Held,
     back: bool,
@@ -371,15 +389,29 @@ fn take(
     take_held(held, back, entries, bytes, count)
 }
 
-/// Reads the next entries of a range as `sst_range_next` does from that end, one after another, and
-/// copies the key and the value of each, one after another, to the front of `bytes`. Writes the
-/// kind, the number and the lengths of each to `entries`, and how many there are to `count`. It
-/// stops once all places of `entries` are filled, at the end, at an error, and at an entry for
-/// which `bytes` has too little room left: the handle has found that one, and `found` has its kind,
-/// number and lengths. Else the handle has found nothing, and `found` has zeros.
+/// Reads the next entries of a range in bulk.
 ///
-/// Fails with 100 if the handle is closed, with 102 if it holds no range, and with the error at
-/// which it stopped: the entries before it are copied and counted.
+/// Each is read as by `sst_range_next` from that end. Their keys and values are copied back to back
+/// to the front of `bytes`. `entries` gets the kind, sequence number and lengths of each, and
+/// `count` their number.
+///
+/// It stops:
+///
+/// - if `entries` is full;
+/// - at the end of the range;
+/// - at an error;
+/// - at an entry that does not fit into the rest of `bytes`. The handle has then found this entry,
+///   and `found` gets its kind, sequence number and lengths.
+///
+/// In the first three cases the handle has found nothing, and `found` is zero.
+///
+/// # Errors
+///
+/// - 100: the handle is closed.
+/// - 102: the handle holds no range.
+/// - The error at which it stopped. The entries before it are copied and counted.
+///
+/// With 100 and 102 nothing is copied, and `count` is 0.
 #[unsafe(no_mangle)]
 pub extern "C" fn sst_range_take(
     alloc: Global,
@@ -395,15 +427,14 @@ pub extern "C" fn sst_range_take(
     ensures other { (h : spec.HeldValue) → range.old.boxed.value ≡ Some h →
         spec.is_range h.what ≡ false → (result ≡ 102) × IsSomeAnd range.new.boxed.value (λ k.
         (spec.found_by k ≡ None) × (k.what ≡ h.what)) }
-    // Of a closed handle, or another kind, nothing is copied.
+    // If the handle is closed or holds another kind, nothing is copied.
     ensures closed { range.old.boxed.value ≡ None → (count.new ≡ 0)
         × (entries.new ≡ entries.old) × (bytes.new ≡ bytes.old) }
     ensures none { (h : spec.HeldValue) → range.old.boxed.value ≡ Some h →
         spec.is_range h.what ≡ false →
         (count.new ≡ 0) × (entries.new ≡ entries.old) × (bytes.new ≡ bytes.old) }
     ensures found { found.new ≡ spec.entry_facts (spec.found_in range.new.boxed.value) }
-    // It is as many steps of the range from that end as it takes, each as one of `sst_range_next`:
-    // of a range of a table,
+    // It makes as many steps of a table's range as needed, each as `sst_range_next` does.
     ensures reads { (h : spec.HeldValue) (s : spec.RangeValue spec.Heap) →
         range.old.boxed.value ≡ Some h →
         h.what ≡ spec.RangeOf s → let front = ⟦<Iter<Global> as Iterator>⟧.next_gives in
@@ -411,7 +442,7 @@ pub extern "C" fn sst_range_take(
         IsSomeAnd range.new.boxed.value (λ k. spec.IsRangeWhere
         (spec.ReadsMany (spec.StepsBy (spec.gives_at front last back)) s entries.old entries.new
         bytes.old bytes.new count.new result (spec.found_by k)) k.what) }
-    // and of several runs.
+    // It does the same with a range of several runs.
     ensures merged { (h : spec.HeldValue) (m : Option spec.NewestAt) →
         range.old.boxed.value ≡ Some h →
         h.what ≡ spec.MergedOf m → let front = ⟦<NewestOfRunsAt<Global> as Iterator>⟧.next_gives in

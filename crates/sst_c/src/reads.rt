@@ -1,4 +1,4 @@
-//! Bulk reads of what a handle holds.
+//! Bulk reads of the object in a handle.
 ghost use Rattle.std.specs.Prelude.{◌≡◌, true};
 ghost use Rattle.sst_c.specs.Words as spec;
 
@@ -11,14 +11,14 @@ use sst_blocks::{EntryRef, Lending};
 use std::alloc::Global;
 
 impl Held {
-    /// Whether it is a scan.
+    /// Returns whether it is a scan.
     pub(crate) fn is_scan(&self) -> bool
         ensures { result ≡ spec.is_scan self.now.what }
     {
         matches!(&self.what, What::Scan(_) | What::RunsScan(_))
     }
 
-    /// Whether it is a range.
+    /// Returns whether it is a range.
     pub(crate) fn is_range(&self) -> bool
         ensures { result ≡ spec.is_range self.now.what }
     {
@@ -49,7 +49,9 @@ impl Reads for Held {
     }
 }
 
-/// Reads a scan or a range on in bulk. If all places are filled, the handle has found nothing.
+/// Reads a scan or a range in bulk.
+///
+/// If `entries` is full afterwards, the handle has found nothing.
 pub(crate) fn take_held(
     held: &mut Held,
     back: bool,

@@ -1,4 +1,4 @@
-//! Lists of runs, each in order.
+//! Lists of runs.
 ghost use Rattle.std.specs.Prelude.{◌≡◌, ◌≢◌, ◌∷◌, ◌⊎◌, ◌++◌, [], IfErr, IfOk, map, true};
 ghost use Rattle.sst_c.specs.Words as spec;
 
@@ -11,8 +11,9 @@ use std::alloc::Global;
 use std::marker::Model;
 use std::sync::Arc;
 
-/// Runs, each in order: its tables' ranges are well-formed, ascend and do not overlap. A contract
-/// sees the tables of each run.
+/// A list of runs, each in order: its tables' ranges are well-formed, ascend and do not overlap.
+///
+/// Contracts see the tables of each run.
 #[derive(Drop)]
 pub struct RunList {
     runs: Vec<Arc<Run<Table>>>,
@@ -32,7 +33,7 @@ impl Model for RunList {
     ghost invariant = { λ l. AreInOrder range_of (map arc_value l.runs.items) };
 }
 
-// A run of one table, which it shares.
+// A run of one table, with a reference to it.
 fn run_of(alloc: Global, table: &Table) -> Result<Arc<Run<Table>>, Error>
     ensures run { IfOk result (λ run. spec.arc_value run ≡ table.now ∷ []) }
     ensures err { IfErr result (λ e. e ≡ spec.OutOfMemory) }
@@ -45,7 +46,6 @@ fn run_of(alloc: Global, table: &Table) -> Result<Arc<Run<Table>>, Error>
     }
 }
 
-// Runs that can be shared.
 fn share_runs(alloc: Global, runs: Vec<Run<Table>>) -> Result<Vec<Arc<Run<Table>>>, Error>
     ensures ok { IfOk result (λ shared. map spec.arc_value shared.items ≡ runs.items) }
     ensures err { IfErr result (λ e. e ≡ spec.OutOfMemory) }
@@ -57,7 +57,7 @@ fn share_runs(alloc: Global, runs: Vec<Run<Table>>) -> Result<Vec<Arc<Run<Table>
     Ok(shared)
 }
 
-// The tables of some runs in order, in as few runs as there can be.
+// Packs the tables of runs that are in order into the fewest runs.
 fn pack(alloc: Global, runs: &[Arc<Run<Table>>]) -> Result<Vec<Arc<Run<Table>>>, Error>
     ensures packed { IfOk result
         (λ packed. spec.AreInOrder spec.range_of (map spec.arc_value runs.now) →
@@ -69,7 +69,7 @@ fn pack(alloc: Global, runs: &[Arc<Run<Table>>]) -> Result<Vec<Arc<Run<Table>>>,
 }
 
 impl RunList {
-    /// No run.
+    /// Creates an empty list.
     pub(crate) fn new(alloc: Global) -> RunList
         ensures { result ≡ [] }
     {
@@ -78,7 +78,7 @@ impl RunList {
         }
     }
 
-    /// The runs.
+    /// Returns the runs.
     pub(crate) fn as_slice(&self) -> &[Arc<Run<Table>>]
         ensures runs { map spec.arc_value result.now ≡ self.now }
         ensures order { spec.AreInOrder spec.range_of self.now }
@@ -86,7 +86,7 @@ impl RunList {
         self.runs.as_slice()
     }
 
-    /// The entry at a position in the tables of the runs.
+    /// Borrows the entry at a position in the tables of the runs.
     pub(crate) fn entry_at(&self, place: &RunPlace) -> Option<EntryRef<'_>>
         ensures { spec.option_map spec.entry_of_ref result ≡ spec.placed_in_runs self.now
             place.now }
@@ -94,7 +94,9 @@ impl RunList {
         entry_in_runs(self.runs.as_slice(), place)
     }
 
-    /// Puts a run of one table behind the others, and answers 0, or 1 for want of memory.
+    /// Adds a run of one table at the end.
+    ///
+    /// Returns 0, or 1 if out of memory.
     #[tactic(auto, using(crate::proofs::Behind::map_behind, crate::proofs::RunOrder::order_behind))]
     pub(crate) fn push(&mut self, alloc: Global, table: &Table) -> u32
         requires { spec.is_well_formed (spec.range_of table.now) ≡ true }
@@ -114,7 +116,7 @@ impl RunList {
         }
     }
 
-    /// Shares of the tables of the list, in as few runs as there can be.
+    /// Packs the tables into the fewest runs, with references to them.
     pub(crate) fn packed(&self, alloc: Global) -> Result<RunList, Error>
         ensures packed { IfOk result (spec.ArePackedOf self.now) }
         ensures err { IfErr result (λ e. e ≡ spec.OutOfMemory) }

@@ -1,4 +1,4 @@
-//! Several tables as one: a list of runs, the newest first.
+//! Several tables read as one: a list of runs, the newest first.
 ghost use Rattle.std.specs.Prelude.{◌≡◌, ◌≢◌, ◌∷◌, ◌⊎◌, ◌++◌, [], false, IsSomeAnd};
 ghost use Rattle.std.specs.Prelude.{List, None, Ok, Some, is_some, true};
 ghost use Rattle.sst_c.specs.Words as spec;
@@ -14,8 +14,16 @@ use lsm_sorted::Ranged;
 use sst_blocks::{Error, SeqNo};
 use std::alloc::Global;
 
-/// Begins a list of runs, into a handle that holds nothing. Refused 101 where the handle holds
-/// something, and for want of memory; it stays as it is then.
+/// Opens an empty list of runs.
+///
+/// `runs` must be closed.
+///
+/// # Errors
+///
+/// - 101: `runs` is open.
+/// - 1: out of memory.
+///
+/// On error, `runs` is unchanged.
 #[unsafe(no_mangle)]
 pub extern "C" fn sst_runs_open(alloc: Global, runs: &mut Handle) -> u32
     ensures open { is_some runs.old.boxed.value ≡ true → result ≡ 101 }
@@ -31,7 +39,7 @@ pub extern "C" fn sst_runs_open(alloc: Global, runs: &mut Handle) -> u32
     runs.begin(alloc, What::Runs(RunList::new(alloc)))
 }
 
-// Puts a table behind the runs of a list, where its least key is not above its greatest.
+// Adds a run of the table at the end, if its key range is well-formed.
 fn add_table_to(alloc: Global, runs: &mut RunList, table: &Table) -> u32
     ensures turned { spec.is_well_formed (spec.range_of table.now) ≡ false → result ≡ 104 }
     ensures memory { spec.is_well_formed (spec.range_of table.now) ≡ true →
@@ -46,7 +54,7 @@ fn add_table_to(alloc: Global, runs: &mut RunList, table: &Table) -> u32
     runs.push(alloc, table)
 }
 
-// Adds a table to runs that are held.
+// Adds a table to the held runs.
 fn add_table(alloc: Global, held: &mut Held, table: &Table) -> u32
     ensures other { spec.are_runs held.old.what ≡ false →
         (result ≡ 102) × (held.new.what ≡ held.old.what) }
@@ -125,10 +133,18 @@ fn add_to(alloc: Global, runs: &mut Handle, table: &Held) -> u32
     code
 }
 
-/// Adds a table to a list of runs, behind those that are there, so as an older one. The list has a
-/// share of the table, which may be closed before it. Refused 100 where a handle is closed, 102
-/// where one holds something of another kind, 104 where the table says of itself that its least key
-/// is above its greatest, and for want of memory; the list stays as it is then.
+/// Adds a table to the end of a list of runs, as the oldest run.
+///
+/// The list holds a reference to the table, which may be closed before it.
+///
+/// # Errors
+///
+/// - 100: a handle is closed.
+/// - 102: `runs` holds no list of runs, or `table` no table.
+/// - 104: the table claims a least key above its greatest.
+/// - 1: out of memory.
+///
+/// On error, the list is unchanged.
 #[unsafe(no_mangle)]
 pub extern "C" fn sst_runs_add(alloc: Global, runs: &mut Handle, table: &mut Handle) -> u32
     ensures kept { table.new.boxed.value ≡ table.old.boxed.value }
@@ -148,7 +164,7 @@ pub extern "C" fn sst_runs_add(alloc: Global, runs: &mut Handle, table: &mut Han
     ensures memory { (h t : spec.HeldValue) (of : spec.OpenTable) → runs.old.boxed.value ≡ Some h →
         table.old.boxed.value ≡ Some t → t.what ≡ spec.TableOf of → spec.are_runs h.what ≡ true →
         spec.is_well_formed (spec.range_of of) ≡ true → (result ≡ 0) ⊎ (result ≡ 1) }
-    // It stays a list of runs, and what its last read found stays.
+    // It stays a list of runs. The entry found by its last read is unchanged.
     ensures kind { (h : spec.HeldValue) → runs.old.boxed.value ≡ Some h →
         IsSomeAnd runs.new.boxed.value (λ k. spec.are_runs k.what ≡ spec.are_runs h.what) }
     ensures found { (h : spec.HeldValue) → runs.old.boxed.value ≡ Some h →
@@ -168,7 +184,7 @@ pub extern "C" fn sst_runs_add(alloc: Global, runs: &mut Handle, table: &mut Han
     code
 }
 
-// Keeps the position of what a read found, nothing if it failed. Returns 0 or the error code.
+// Keeps the position that a read found, or none if it failed. Returns 0 or the error code.
 fn keep_place(found: &mut FoundEntry, outcome: Result<Option<RunPlace>, Error>) -> u32
     ensures code { result ≡ spec.result_code outcome }
     ensures found { found.new ≡ spec.kept_in_runs outcome }
@@ -189,7 +205,7 @@ fn keep_place(found: &mut FoundEntry, outcome: Result<Option<RunPlace>, Error>) 
     }
 }
 
-// Reads a key of a list of runs, and keeps the position of the entry that it finds.
+// Reads a key in a list of runs, and keeps the position of the entry that it finds.
 #[tactic(auto, using(crate::proofs::Answering::reads))]
 fn get_in(runs: &RunList, key: &[u8], seqno: SeqNo, found: &mut FoundEntry) -> u32
     ensures returned { let entry = spec.found_at found.new (spec.RunsOf runs.now) in
@@ -230,10 +246,19 @@ fn get(held: &mut Held, key: &[u8], seqno: SeqNo) -> u32
     }
 }
 
-/// Finds the newest version of a key that is numbered below `seqno` in all tables of a list of runs
-/// together, keeps it, and tells its kind, number and lengths. Refused 100 where the handle is
-/// closed, 102 where it holds no runs, and as `get_runs`; then, and where there is none, nothing is
-/// kept, and zeros are told.
+/// Finds the newest version of a key visible at `seqno` in a list of runs.
+///
+/// A read at `seqno` sees versions with a smaller sequence number, in all tables together. The
+/// handle has then found this entry, and `entry` gets its kind, sequence number and lengths. If
+/// there is none, it has found nothing, and `entry` is zero.
+///
+/// # Errors
+///
+/// - 100: the handle is closed.
+/// - 102: the handle holds no list of runs.
+/// - An error code of `get_runs`.
+///
+/// On error nothing is found, and `entry` is zero.
 #[unsafe(no_mangle)]
 pub extern "C" fn sst_runs_get(
     alloc: Global,
@@ -250,19 +275,21 @@ pub extern "C" fn sst_runs_get(
         spec.are_runs h.what ≡ false →
         (result ≡ 102) × (spec.found_in runs.new.boxed.value ≡ None) }
     ensures entry { entry.new ≡ spec.entry_facts (spec.found_in runs.new.boxed.value) }
-    // It is what the tables tell, whatever the bytes,
+    // For any bytes, it is the result of the tables.
     ensures returned { (h : spec.HeldValue) → runs.old.boxed.value ≡ Some h →
         spec.are_runs h.what ≡ true → let found = spec.found_in runs.new.boxed.value in
         spec.AnswersRead result found (spec.runs_result key.now seqno None (spec.runs_held h.what)) }
-    // a fault of the first block that is loaded which takes no memory to be found first,
+    // If a fault of the first loaded block is found without allocating, it takes precedence over
+    // `OutOfMemory`.
     ensures early { (h : spec.HeldValue) → runs.old.boxed.value ≡ Some h →
         spec.are_runs h.what ≡ true →
         spec.ReportsFirst result (spec.runs_read key.now seqno None (spec.runs_held h.what)).early }
-    // and where no block is loaded nothing is refused;
+    // If no block is loaded, it does not fail.
     ensures calm { (h : spec.HeldValue) → runs.old.boxed.value ≡ Some h →
         spec.are_runs h.what ≡ true →
         (spec.runs_read key.now seqno None (spec.runs_held h.what)).loads ≡ [] → result ≡ 0 }
-    // of tables of lists it is the first match in all entries together, their numbers lifted.
+    // For tables of lists, it is the first match in all entries together, global sequence numbers
+    // applied.
     ensures list { (h : spec.HeldValue) (lists : List (List (List spec.Entry))) →
         runs.old.boxed.value ≡ Some h → spec.are_runs h.what ≡ true →
         spec.RunsHoldLists (spec.runs_held h.what) lists →

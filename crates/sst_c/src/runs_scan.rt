@@ -8,8 +8,9 @@ use sst_blocks::{EntryRef, Error, Lending};
 use std::alloc::Global;
 use std::marker::Model;
 
-/// The newest versions below a number of what several runs have together, borrowed from their
-/// tables one after another, however often it is advanced. A contract sees these.
+/// The newest versions visible at a snapshot of several runs, borrowed from the tables one by one.
+///
+/// It can be advanced any number of times, also after the end. Contracts see the stream.
 #[derive(Drop)]
 pub struct RunsScan {
     newest: LentNewestOfRunsAt<Global>,
@@ -29,7 +30,7 @@ impl Model for RunsScan {
 }
 
 impl RunsScan {
-    /// Versions that may be advanced so.
+    /// Wraps a stream that can be advanced any number of times.
     pub(crate) fn new(newest: LentNewestOfRunsAt<Global>) -> RunsScan
         requires { spec.CanYield ⟦<LentNewestOfRunsAt<Global> as Lending>⟧.advances spec.nowhere
             ⟦<LentNewestOfRunsAt<Global> as Lending>⟧.can_advance
@@ -39,7 +40,7 @@ impl RunsScan {
         RunsScan { newest }
     }
 
-    // Goes on to the next entry.
+    // Advances to the next entry.
     fn advance(&mut self) -> Result<bool, Error>
         ensures goes { let advances = ⟦<LentNewestOfRunsAt<Global> as Lending>⟧.advances in
             advances self.old (spec.came result (spec.newest_lent self.new)) self.new }
@@ -48,7 +49,6 @@ impl RunsScan {
         advance(&mut self.newest)
     }
 
-    // The entry that is borrowed.
     fn entry(&self) -> Option<EntryRef<'_>>
         ensures { spec.option_map spec.entry_of_ref result ≡ spec.newest_lent self.now }
     {
@@ -56,8 +56,8 @@ impl RunsScan {
     }
 }
 
-// A step of a source that lends. It is generic in the source: a call of a whole concrete stream
-// costs a proof much.
+// A step of a lending iterator. It is generic in the source: a proof about a call on the concrete
+// stream costs much.
 #[tactic(auto, using(crate::proofs::Asking::asking))]
 fn advance<L: Lending>(source: &mut L) -> Result<bool, Error>
     requires { spec.CanYield L.advances spec.nowhere L.can_advance L.can_advance source.old }
@@ -68,7 +68,7 @@ fn advance<L: Lending>(source: &mut L) -> Result<bool, Error>
     source.advance()
 }
 
-/// The entry that a scan of several runs borrows, where a read was not refused before.
+/// Returns the entry that a scan of several runs borrows, unless a read failed before.
 pub(crate) fn lent_by(scan: &Option<RunsScan>) -> Option<EntryRef<'_>>
     ensures { spec.option_map spec.entry_of_ref result ≡ spec.option_and_then spec.newest_lent
         scan.now }
@@ -79,7 +79,9 @@ pub(crate) fn lent_by(scan: &Option<RunsScan>) -> Option<EntryRef<'_>>
     }
 }
 
-/// A step of a scan of several runs, where a read was not refused before.
+/// Steps a scan of several runs, unless a read failed before.
+///
+/// Returns 0 or an error code.
 pub(crate) fn step_runs(scan: &mut Option<RunsScan>) -> u32
     ensures over { scan.old ≡ None → (result ≡ 0) × (scan.new ≡ None) }
     ensures steps { (s : spec.LentNewestAt) → scan.old ≡ Some s →

@@ -1,4 +1,4 @@
-//! Beginning scans of several runs.
+//! Opening scans of several runs.
 ghost use Rattle.std.specs.Prelude.{◌≡◌, ◌≢◌, ◌<◌, ◌⊎◌, ◌||◌, false, IfErr, IfOk, IsSomeAnd, List};
 ghost use Rattle.std.specs.Prelude.{None, Some, is_some, map, nat_lt, true};
 ghost use Rattle.sst_c.specs.Words as spec;
@@ -14,7 +14,7 @@ use sst_blocks::{Error, Lending, SeqNo, Slice};
 use std::alloc::Global;
 use std::ops::Bound;
 
-// The newest versions below a number of what runs have together within two bounds, borrowed.
+// The newest versions visible at `seqno` within two bounds, borrowed.
 fn newest_within(
     alloc: Global,
     runs: &RunList,
@@ -36,7 +36,7 @@ fn newest_within(
     Ok(RunsScan::new(lend_runs_at(alloc, runs.as_slice(), range, seqno)?))
 }
 
-// A scan of several runs within bounds of these kinds.
+// The scan of several runs within bounds as C passes them.
 fn scan_within(
     alloc: Global,
     runs: &RunList,
@@ -68,7 +68,7 @@ fn scan_within(
     newest_within(alloc, runs, range, seqno)
 }
 
-// Puts a scan of runs into a handle that holds nothing.
+// Puts a scan of runs into a closed handle.
 fn begin_scan(
     alloc: Global,
     held: &Held,
@@ -117,14 +117,23 @@ fn begin_scan(
     }
 }
 
-/// Begins to read, from the front, what `sst_runs_range_open` reads with the same arguments, into a
-/// handle that holds nothing: of each key within two bounds the newest version that is numbered
-/// below `seqno`. `sst_scan_next` borrows each entry from its table's memory. Nothing is loaded
-/// yet. The scan has shares of the tables, which may be closed before it, as the list may.
+/// Opens a scan of a list of runs, read from the front.
 ///
-/// Fails with 101 if the scan's handle holds something, with 100 if the list's is closed, with 102
-/// if it holds no runs, with 105 if a bound has another kind, and with 1 if out of memory; the
-/// handles stay as they are then.
+/// It reads the same entries as `sst_runs_range_open` with the same arguments: the newest version
+/// of each key within the bounds that is visible at `seqno`. `sst_scan_next` borrows each entry
+/// from its table's memory. `scan` must be closed. No block is loaded yet.
+///
+/// The scan holds references to the tables. The tables and the list may be closed before it.
+///
+/// # Errors
+///
+/// - 101: `scan` is open.
+/// - 100: `runs` is closed.
+/// - 102: `runs` holds no list of runs.
+/// - 105: a bound has another kind.
+/// - 1: out of memory.
+///
+/// On error, both handles are unchanged.
 #[unsafe(no_mangle)]
 pub extern "C" fn sst_runs_scan_open(
     alloc: Global,
@@ -149,9 +158,9 @@ pub extern "C" fn sst_runs_scan_open(
         runs.old.boxed.value ≡ Some h → spec.are_runs h.what ≡ true →
         nat_lt 2 lower_kind || nat_lt 2 upper_kind ≡ false → (result ≡ 0) ⊎ (result ≡ 1) }
     ensures new { result ≡ 0 → IsSomeAnd scan.new.boxed.value (λ k. spec.found_by k ≡ None) }
-    // Whatever the bytes: if what each run's tables yield within the bounds ascends up to its first
-    // error, it yields what is newest of these results below `seqno`, merged up to the first error,
-    // which comes in its place;
+    // For any bytes: suppose each run's results within the bounds ascend up to its first error. The
+    // scan then yields the newest versions below `seqno` of their merge, up to the first error, at
+    // its position.
     ensures places { let advances = ⟦<LentNewestOfRunsAt<Global> as Lending>⟧.advances in
         let low = spec.decode_bound lower_kind lower.now in
         let high = spec.decode_bound upper_kind upper.now in
@@ -161,8 +170,8 @@ pub extern "C" fn sst_runs_scan_open(
         let found = spec.newest_results (spec.merge_of (map (spec.below_results seqno) returned)) in
         IsSomeAnd scan.new.boxed.value (λ k.
         spec.IsRunsScanWhere (spec.LendsResults advances found) k.what) }
-    // of tables of lists it yields what is newest of all entries together, their numbers lifted,
-    // that are within the bounds and numbered below `seqno`.
+    // For tables of lists, it yields the newest versions of all entries within the bounds and below
+    // `seqno`. It applies the global sequence numbers first.
     ensures list { let advances = ⟦<LentNewestOfRunsAt<Global> as Lending>⟧.advances in
         let low = spec.decode_bound lower_kind lower.now in
         let high = spec.decode_bound upper_kind upper.now in

@@ -1,4 +1,4 @@
-//! Scans: all entries of a table, block after block; and the steps of scans of several runs.
+//! Scans of a table, block after block, and the steps of scans of several runs.
 ghost use Rattle.std.specs.Prelude.{◌≡◌, ◌≢◌, ◌<◌, ◌⊎◌, false, IfErr, IfOk, IsSomeAnd, List};
 ghost use Rattle.std.specs.Prelude.{None, Option, Some, is_some, length, true};
 ghost use Rattle.sst_c.specs.Words as spec;
@@ -14,7 +14,6 @@ use lsm_runs::LentNewestOfRunsAt;
 use sst_blocks::{Error, Lending};
 use std::alloc::Global;
 
-// A scan of a table.
 fn scan_of(table: &Table) -> Result<Scanner, Error>
     ensures begun { IfOk result (spec.IsBegunScan table.now) }
     ensures yields { IfOk result (spec.YieldsScan (spec.table_scan table.now)) }
@@ -28,7 +27,7 @@ fn scan_of(table: &Table) -> Result<Scanner, Error>
     table.scan()
 }
 
-// Puts a scan of a table into a handle that holds nothing.
+// Puts a scan of a table into a closed handle.
 #[tactic(auto, using(crate::proofs::Answering::tell))]
 fn begin_scan(alloc: Global, table: &Table, scan: &mut Handle) -> u32
     requires { scan.old.boxed.value ≡ None }
@@ -78,12 +77,20 @@ fn begin(alloc: Global, held: &Held, scan: &mut Handle) -> u32
     begin_scan(alloc, table, scan)
 }
 
-/// Begins to read all entries of a table in order, into a handle that holds nothing: its data
-/// blocks as they lie in the file, each once, as many as it says that it has, and no index. The
-/// first block is read at once. The scan has a share of the table, which may be closed before it.
-/// Refused 101 where the scan's handle holds something, 100 where the table's is closed, 102 where
-/// it holds no table, and as `Table::scan`, with the first fault of loading the first block; both
-/// stay as they are then.
+/// Opens a scan of all entries of a table, in order.
+///
+/// It reads each data block once, in file order, without the index. It reads as many as the table
+/// claims. The call loads the first one. `scan` must be closed. The scan holds a reference to the
+/// table, which may be closed before it.
+///
+/// # Errors
+///
+/// - 101: `scan` is open.
+/// - 100: `table` is closed.
+/// - 102: `table` holds no table.
+/// - An error code of `Table::scan`: the first fault of loading the first block.
+///
+/// On error, both handles are unchanged.
 #[unsafe(no_mangle)]
 pub extern "C" fn sst_scan_open(alloc: Global, table: &mut Handle, scan: &mut Handle) -> u32
     ensures kept { table.new.boxed.value ≡ table.old.boxed.value }
@@ -92,28 +99,29 @@ pub extern "C" fn sst_scan_open(alloc: Global, table: &mut Handle, scan: &mut Ha
     ensures shut { scan.old.boxed.value ≡ None → table.old.boxed.value ≡ None → result ≡ 100 }
     ensures other { (h : spec.HeldValue) → scan.old.boxed.value ≡ None →
         table.old.boxed.value ≡ Some h → spec.is_table h.what ≡ false → result ≡ 102 }
-    // Want of memory aside, it is refused with the fault of the first block, and else begun;
+    // Except for `OutOfMemory`, it fails only with the fault of the first block.
     ensures returned { (h : spec.HeldValue) (t : spec.OpenTable) → scan.old.boxed.value ≡ None →
         table.old.boxed.value ≡ Some h → h.what ≡ spec.TableOf t →
         spec.FaultReported result (spec.scan_fault t) }
-    // what the block's header says, its checksum and its count come before any want of memory;
+    // A fault of the block's header, checksum or count takes precedence over `OutOfMemory`.
     ensures early { (h : spec.HeldValue) (t : spec.OpenTable) → scan.old.boxed.value ≡ None →
         table.old.boxed.value ≡ Some h → h.what ≡ spec.TableOf t →
         spec.ReportsFirst result (spec.early_scan_fault t) }
-    // of bytes that store a list with an entry nothing else refuses it.
+    // On bytes that store a list with an entry, it fails only with `OutOfMemory`.
     ensures fine { (h : spec.HeldValue) (t : spec.OpenTable) (es : List spec.Entry) →
         scan.old.boxed.value ≡ None → table.old.boxed.value ≡ Some h → h.what ≡ spec.TableOf t →
         spec.StoresList t.bytes es → 0 < length es → (result ≡ 0) ⊎ (result ≡ 1) }
     ensures new { result ≡ 0 → IsSomeAnd scan.new.boxed.value (λ k. spec.found_by k ≡ None) }
-    // It is of all blocks of the table, and has made no step: whatever the bytes, its steps give
-    // what the blocks have, up to the first fault,
+    // It covers all blocks of the table, and has not been stepped. For any bytes, its steps yield
+    // the entries of the blocks, up to the first fault.
     ensures begun { (h : spec.HeldValue) (t : spec.OpenTable) → table.old.boxed.value ≡ Some h →
         h.what ≡ spec.TableOf t → result ≡ 0 → IsSomeAnd scan.new.boxed.value (λ k.
         spec.IsScanWhere (spec.IsBegunScan t) k.what) }
     ensures yields { (h : spec.HeldValue) (t : spec.OpenTable) → table.old.boxed.value ≡ Some h →
         h.what ≡ spec.TableOf t → result ≡ 0 → IsSomeAnd scan.new.boxed.value (λ k.
         spec.IsScanWhere (spec.YieldsScan (spec.table_scan t)) k.what) }
-    // and of bytes that store a list its entries in order, each once, their numbers lifted.
+    // On bytes that store a list, it yields each entry once, in order, global sequence number
+    // applied.
     ensures list { (h : spec.HeldValue) (t : spec.OpenTable) (es : List spec.Entry) →
         table.old.boxed.value ≡ Some h → h.what ≡ spec.TableOf t → result ≡ 0 →
         spec.StoresList t.bytes es → IsSomeAnd scan.new.boxed.value (λ k.
@@ -130,7 +138,7 @@ pub extern "C" fn sst_scan_open(alloc: Global, table: &mut Handle, scan: &mut Ha
     code
 }
 
-// A step of a scanner, which lends the entry that comes.
+// Steps a scanner, which then borrows the entry.
 #[tactic(auto, using(crate::proofs::Scanning::steps))]
 fn step_scan(scanner: &mut Scanner) -> u32
     ensures steps { spec.StepsBy spec.ScansLent scanner.old result scanner.new.lent scanner.new }
@@ -142,7 +150,7 @@ fn step_scan(scanner: &mut Scanner) -> u32
     }
 }
 
-/// A step of a scan, if it is one.
+/// Steps the held object, if it is a scan.
 pub(crate) fn step(held: &mut Held) -> u32
     ensures other { spec.is_scan held.old.what ≡ false →
         (result ≡ 102) × (spec.found_by held.new ≡ None) × (held.new.what ≡ held.old.what) }
@@ -176,10 +184,19 @@ pub(crate) fn step(held: &mut Held) -> u32
     }
 }
 
-/// Goes on to the next entry of a scan, which the scan lends from the table's memory, with no share
-/// of its own, and writes its kind, number and lengths; zeros at the end. Fails with 100 if the
-/// handle is closed, with 102 if it holds no scan, and as `Scanner::advance`, or of several runs as
-/// a step of `lend_runs_at`; the scan is at its end then, nothing is found, and zeros are written.
+/// Advances a scan to the next entry.
+///
+/// The scan borrows the entry from the table's memory. `entry` gets its kind, sequence number and
+/// lengths. At the end, the handle has found nothing, and `entry` is zero.
+///
+/// # Errors
+///
+/// - 100: the handle is closed.
+/// - 102: the handle holds no scan.
+/// - The error of `Scanner::advance`, or, for several runs, of a step of `lend_runs_at`. The scan
+///   is at its end then.
+///
+/// On error nothing is found, and `entry` is zero.
 #[unsafe(no_mangle)]
 pub extern "C" fn sst_scan_next(alloc: Global, scan: &mut Handle, entry: &mut EntryReport) -> u32
     ensures shut { scan.old.boxed.value ≡ None →
@@ -188,25 +205,26 @@ pub extern "C" fn sst_scan_next(alloc: Global, scan: &mut Handle, entry: &mut En
         spec.is_scan h.what ≡ false → (result ≡ 102) × IsSomeAnd scan.new.boxed.value (λ k.
         (spec.found_by k ≡ None) × (k.what ≡ h.what)) }
     ensures entry { entry.new ≡ spec.entry_facts (spec.found_in scan.new.boxed.value) }
-    // It is one step of the scanner in its lending form.
+    // It is one step of the scanner as a lending iterator.
     ensures steps { (h : spec.HeldValue) (s : spec.Scan) → scan.old.boxed.value ≡ Some h →
         h.what ≡ spec.ScanOf s → IsSomeAnd scan.new.boxed.value (λ k.
         spec.IsScanWhere (spec.StepsBy spec.ScansLent s result (spec.found_by k)) k.what) }
-    // Where it finds nothing, at the end or refused, nothing is left to read,
+    // If it finds nothing, at the end or at an error, nothing is left to read.
     ensures ends { (h : spec.HeldValue) (s : spec.Scan) → scan.old.boxed.value ≡ Some h →
         h.what ≡ spec.ScanOf s → spec.found_in scan.new.boxed.value ≡ None →
         IsSomeAnd scan.new.boxed.value (λ k. spec.IsScanWhere spec.IsEndedScan k.what) }
-    // and where nothing is left it finds nothing, and is not refused.
+    // If nothing is left, it finds nothing and returns 0.
     ensures over { (h : spec.HeldValue) (s : spec.Scan) → scan.old.boxed.value ≡ Some h →
         h.what ≡ spec.ScanOf s → spec.IsEndedScan s →
         (result ≡ 0) × (spec.found_in scan.new.boxed.value ≡ None) }
-    // Of several runs it is one step of what `lend_runs_at` returns, which is dropped if it fails;
+    // For several runs, it is one step of the stream that `lend_runs_at` returns. The stream is
+    // dropped if the step fails.
     ensures runs { (h : spec.HeldValue) (s : spec.LentNewestAt) → scan.old.boxed.value ≡ Some h →
         h.what ≡ spec.RunsScanOf (Some s) →
         let advances = ⟦<LentNewestOfRunsAt<Global> as Lending>⟧.advances in
         IsSomeAnd scan.new.boxed.value (λ k.
         spec.IsRunsScanAs (spec.StepsAs advances s result (spec.found_by k)) k.what) }
-    // from then on the scan is at its end.
+    // After that, the scan is at its end.
     ensures over_runs { (h : spec.HeldValue) → scan.old.boxed.value ≡ Some h →
         h.what ≡ spec.RunsScanOf None → (result ≡ 0) × IsSomeAnd scan.new.boxed.value (λ k.
         (spec.found_by k ≡ None) × (k.what ≡ spec.RunsScanOf None)) }
@@ -221,7 +239,7 @@ pub extern "C" fn sst_scan_next(alloc: Global, scan: &mut Handle, entry: &mut En
     code
 }
 
-// Reads a scan on in bulk.
+// Reads a scan in bulk.
 fn take(held: &mut Held, entries: &mut [EntryReport], bytes: &mut [u8], count: &mut u64) -> u32
     ensures other { spec.is_scan held.old.what ≡ false →
         (result ≡ 102) × (spec.found_by held.new ≡ None) × (held.new.what ≡ held.old.what) }
@@ -244,15 +262,29 @@ fn take(held: &mut Held, entries: &mut [EntryReport], bytes: &mut [u8], count: &
     take_held(held, false, entries, bytes, count)
 }
 
-/// Reads the next entries of a scan as `sst_scan_next` does, one after another, and copies the key
-/// and the value of each, one after another, to the front of `bytes`. Writes the kind, the number
-/// and the lengths of each to `entries`, and how many there are to `count`. It stops once all
-/// places of `entries` are filled, at the end, at an error, and at an entry for which `bytes` has
-/// too little room left: the handle has found that one, and `found` has its kind, number and
-/// lengths. Else the handle has found nothing, and `found` has zeros.
+/// Reads the next entries of a scan in bulk.
 ///
-/// Fails with 100 if the handle is closed, with 102 if it holds no scan, and with the error at which
-/// it stopped: the entries before it are copied and counted.
+/// Each is read as by `sst_scan_next`. Their keys and values are copied back to back to the front
+/// of `bytes`. `entries` gets the kind, sequence number and lengths of each, and `count` their
+/// number.
+///
+/// It stops:
+///
+/// - if `entries` is full;
+/// - at the end of the scan;
+/// - at an error;
+/// - at an entry that does not fit into the rest of `bytes`. The handle has then found this entry,
+///   and `found` gets its kind, sequence number and lengths.
+///
+/// In the first three cases the handle has found nothing, and `found` is zero.
+///
+/// # Errors
+///
+/// - 100: the handle is closed.
+/// - 102: the handle holds no scan.
+/// - The error at which it stopped. The entries before it are copied and counted.
+///
+/// With 100 and 102 nothing is copied, and `count` is 0.
 #[unsafe(no_mangle)]
 pub extern "C" fn sst_scan_take(
     alloc: Global,
@@ -267,24 +299,24 @@ pub extern "C" fn sst_scan_take(
     ensures other { (h : spec.HeldValue) → scan.old.boxed.value ≡ Some h →
         spec.is_scan h.what ≡ false → (result ≡ 102) × IsSomeAnd scan.new.boxed.value (λ k.
         (spec.found_by k ≡ None) × (k.what ≡ h.what)) }
-    // Of a closed handle, or another kind, nothing is copied.
+    // If the handle is closed or holds another kind, nothing is copied.
     ensures closed { scan.old.boxed.value ≡ None → (count.new ≡ 0)
         × (entries.new ≡ entries.old) × (bytes.new ≡ bytes.old) }
     ensures none { (h : spec.HeldValue) → scan.old.boxed.value ≡ Some h →
         spec.is_scan h.what ≡ false →
         (count.new ≡ 0) × (entries.new ≡ entries.old) × (bytes.new ≡ bytes.old) }
     ensures found { found.new ≡ spec.entry_facts (spec.found_in scan.new.boxed.value) }
-    // It is as many steps of the scanner as it takes, each as one of `sst_scan_next`.
+    // It makes as many steps of the scanner as needed, each as `sst_scan_next` does.
     ensures reads { (h : spec.HeldValue) (s : spec.Scan) → scan.old.boxed.value ≡ Some h →
         h.what ≡ spec.ScanOf s → IsSomeAnd scan.new.boxed.value (λ k. spec.IsScanWhere
         (spec.ReadsMany (spec.StepsBy spec.ScansLent) s entries.old entries.new bytes.old bytes.new
         count.new result (spec.found_by k)) k.what) }
-    // If places are left and nothing is found, at the end or at an error, nothing is left to read.
+    // If `entries` is not full and nothing is found, nothing is left to read.
     ensures ends { (h : spec.HeldValue) (s : spec.Scan) → scan.old.boxed.value ≡ Some h →
         h.what ≡ spec.ScanOf s → spec.found_in scan.new.boxed.value ≡ None →
         count.new < length entries.old →
         IsSomeAnd scan.new.boxed.value (λ k. spec.IsScanWhere spec.IsEndedScan k.what) }
-    // Of several runs it is as many of their steps.
+    // It does the same with a scan of several runs.
     ensures runs { (h : spec.HeldValue) (m : Option spec.LentNewestAt) →
         scan.old.boxed.value ≡ Some h →
         h.what ≡ spec.RunsScanOf m →

@@ -1,10 +1,9 @@
-//! A sentence for what a call answers.
+//! Sentences that describe the error codes.
 ghost use Rattle.std.specs.Prelude.{◌≡◌, length, take};
 ghost use Rattle.sst_c.specs.Words as spec;
 
 use crate::found::copy_out;
 
-// The sentence of a number.
 fn sentence(code: u32) -> &'static [u8]
     ensures { result.now ≡ spec.sentence_of code }
 {
@@ -46,8 +45,9 @@ fn sentence(code: u32) -> &'static [u8]
     }
 }
 
-/// Copies a sentence for what a call answers, as many bytes as there is room for, and answers how
-/// many it has. What is behind it in the room stays.
+/// Copies a sentence that describes an error code, as many bytes as fit into `room`.
+///
+/// Returns the length of the sentence in bytes. The rest of `room` is unchanged.
 #[unsafe(no_mangle)]
 pub extern "C" fn sst_strerror_copy(code: u32, room: &mut [u8]) -> u64
     ensures count { result ≡ length (spec.sentence_of code) }

@@ -25,10 +25,18 @@ fn share(alloc: Global, held: &Held, other: &mut Handle) -> u32
     other.begin(alloc, What::Table(share))
 }
 
-/// Makes a further handle of the table that a handle holds, in one that holds nothing. Neither
-/// knows what the other has found. Refused 101 where the other handle holds something, 100 where
-/// the table's is closed, 102 where it holds no table, and for want of memory; both stay as they
-/// are then.
+/// Opens a further handle of a table.
+///
+/// `other` must be closed. The entry found through one handle is independent of the other.
+///
+/// # Errors
+///
+/// - 101: `other` is open.
+/// - 100: `table` is closed.
+/// - 102: `table` holds no table.
+/// - 1: out of memory.
+///
+/// On error, both handles are unchanged.
 #[unsafe(no_mangle)]
 pub extern "C" fn sst_table_share(alloc: Global, table: &mut Handle, other: &mut Handle) -> u32
     ensures kept { table.new.boxed.value ≡ table.old.boxed.value }

@@ -1,4 +1,4 @@
-//! Tables: opening and point reads.
+//! Opening tables, and point reads.
 ghost use Rattle.std.specs.Prelude.{◌≡◌, ◌≢◌, [], false, IsSomeAnd, List};
 ghost use Rattle.std.specs.Prelude.{None, Ok, Result, Some, is_some, true};
 ghost use Rattle.sst_c.specs.Words as spec;
@@ -11,7 +11,7 @@ use lsm_readers::Table;
 use sst_blocks::{Checksum, EntryPlace, Error, InternalValue, SeqNo, Slice};
 use std::alloc::Global;
 
-/// Opens a table from its bytes, into a handle that holds nothing.
+/// Opens a table from its bytes into a closed handle.
 #[tactic(auto, using(crate::proofs::Answering::states, crate::proofs::Answering::reports_begun))]
 pub(crate) fn open_from(
     alloc: Global,
@@ -46,8 +46,16 @@ pub(crate) fn open_from(
     }
 }
 
-/// Opens a table from a copy of its bytes, into a handle that holds nothing. Refused 101 where the
-/// handle holds something, and as `Table::recover`; the handle stays as it is then.
+/// Opens a table from a copy of its bytes.
+///
+/// `table` must be closed.
+///
+/// # Errors
+///
+/// - 101: `table` is open.
+/// - An error code of `Table::recover`.
+///
+/// On error, `table` is unchanged.
 #[unsafe(no_mangle)]
 pub extern "C" fn sst_table_open(
     alloc: Global,
@@ -62,7 +70,7 @@ pub extern "C" fn sst_table_open(
         (spec.IsOpenedAs file.now global_seqno pin_filter pin_index) }
     ensures returned { table.old.boxed.value ≡ None →
         spec.ReportsCode result (spec.recovered_result file.now global_seqno pin_filter pin_index) }
-    // Bytes that store a list are opened where the highest number fits.
+    // Bytes that store a list are opened if the highest sequence number fits.
     ensures list { table.old.boxed.value ≡ None → (es : List spec.Entry) →
         spec.StoresList file.now es → spec.ReportsCode result (spec.fits_result es global_seqno) }
     ensures left { result ≢ 0 → table.new.boxed.value ≡ table.old.boxed.value }
@@ -76,7 +84,7 @@ pub extern "C" fn sst_table_open(
     open_from(alloc, bytes, global_seqno, pin_filter, pin_index, table)
 }
 
-/// Keeps what a read found, nothing where it was refused, and answers 0 or the refusal's number.
+/// Keeps the entry that a read found, or none if it failed. Returns 0 or the error code.
 #[inline]
 pub(crate) fn keep(found: &mut FoundEntry, outcome: Result<Option<InternalValue>, Error>) -> u32
     ensures code { result ≡ spec.result_code outcome }
@@ -95,7 +103,7 @@ pub(crate) fn keep(found: &mut FoundEntry, outcome: Result<Option<InternalValue>
     }
 }
 
-// Keeps the position of what a read found, nothing if it failed. Returns 0 or the error code.
+// Keeps the position that a read found, or none if it failed. Returns 0 or the error code.
 fn keep_place(found: &mut FoundEntry, outcome: Result<Option<EntryPlace>, Error>) -> u32
     ensures code { result ≡ spec.result_code outcome }
     ensures found { found.new ≡ spec.kept_in_table outcome }
@@ -156,9 +164,19 @@ fn get(held: &mut Held, key: &[u8], seqno: SeqNo) -> u32
     }
 }
 
-/// Finds the newest version of a key that is numbered below `seqno`, keeps it, and tells its kind,
-/// number and lengths. Refused 100 where the handle is closed, 102 where it holds no table, and as
-/// `Table::get`; then, and where there is none, nothing is kept, and zeros are told.
+/// Finds the newest version of a key visible at `seqno` in a table.
+///
+/// A read at `seqno` sees versions with a smaller sequence number. The handle has then found this
+/// entry, and `entry` gets its kind, sequence number and lengths. If there is none, it has found
+/// nothing, and `entry` is zero.
+///
+/// # Errors
+///
+/// - 100: the handle is closed.
+/// - 102: the handle holds no table.
+/// - An error code of `Table::get`.
+///
+/// On error nothing is found, and `entry` is zero.
 #[unsafe(no_mangle)]
 pub extern "C" fn sst_table_get(
     alloc: Global,
@@ -175,17 +193,19 @@ pub extern "C" fn sst_table_get(
         spec.is_table h.what ≡ false →
         (result ≡ 102) × (spec.found_in table.new.boxed.value ≡ None) }
     ensures entry { entry.new ≡ spec.entry_facts (spec.found_in table.new.boxed.value) }
-    // Whatever the bytes, it is what the table tells,
+    // For any bytes, it is the result of the table.
     ensures returned { (h : spec.HeldValue) (t : spec.OpenTable) → table.old.boxed.value ≡ Some h →
         h.what ≡ spec.TableOf t → let found = spec.found_in table.new.boxed.value in
         spec.AnswersRead result found (spec.table_answer t key.now seqno).returned }
-    // a fault of the first block that is loaded which takes no memory to be found first,
+    // If a fault of the first loaded block is found without allocating, it takes precedence over
+    // `OutOfMemory`.
     ensures early { (h : spec.HeldValue) (t : spec.OpenTable) → table.old.boxed.value ≡ Some h →
         h.what ≡ spec.TableOf t → spec.ReportsFirst result (spec.table_answer t key.now seqno).early }
-    // and where no block is loaded nothing is refused;
+    // If no block is loaded, it does not fail.
     ensures calm { (h : spec.HeldValue) (t : spec.OpenTable) → table.old.boxed.value ≡ Some h →
         h.what ≡ spec.TableOf t → (spec.table_answer t key.now seqno).loads ≡ [] → result ≡ 0 }
-    // on bytes that store a list it is the first match in the list, its numbers lifted.
+    // On bytes that store a list, it is the first match in the list, global sequence number
+    // applied.
     ensures list { (h : spec.HeldValue) (t : spec.OpenTable) (es : List spec.Entry) →
         table.old.boxed.value ≡ Some h → h.what ≡ spec.TableOf t → spec.StoresList t.bytes es →
         let found = spec.found_in table.new.boxed.value in

@@ -1,4 +1,4 @@
-//! Reads in bulk: entries that are read one after another, and copied one after another.
+//! Bulk reads: entries read one after another and copied back to back.
 ghost use Rattle.std.specs.Prelude.{◌≡◌, ℕ, None, Some};
 ghost use Rattle.sst_c.specs.Words as spec;
 
@@ -6,32 +6,35 @@ use crate::entries::{EntryReport, tell};
 use crate::laying::lay_next;
 use sst_blocks::EntryRef;
 
-/// A source that is read entry by entry, from its back where `back` says so.
+/// A source of entries, read one by one from the front, or from the back if `back` is set.
 pub(crate) trait Reads {
     ghost use Rattle.std.specs.Prelude.{◌≡◌, ℕ, Bool, Option, is_some, true};
     ghost use Rattle.std.specs.Option.{option_map};
     ghost use Rattle.sst_entries.specs.Entry.{Entry};
     ghost use Rattle.sst_entries.specs.Lending.{entry_of_ref};
 
-    // One read: from what the source was, the code, the entry that was found, and what it then is.
+    // One read: the source before it, the code, the entry found, and the source after it.
     ghost reads: { Bool → Self → ℕ → Option Entry → Self → Type 0 };
 
     // The entry that the last read found.
     ghost found: { Self → Option Entry };
 
-    /// Reads the next entry, and returns 0 or an error code.
+    /// Reads the next entry.
+    ///
+    /// Returns 0 or an error code.
     fn read(&mut self, back: bool) -> u32
         ensures reads { reads back self.old result (found self.new) self.new }
         ensures fine { is_some (found self.new) ≡ true → result ≡ 0 };
 
-    /// The entry that the last read found, borrowed.
+    /// Borrows the entry that the last read found.
     fn entry(&self) -> Option<EntryRef<'_>>
         ensures { option_map entry_of_ref result ≡ found self.now };
 }
 
-/// Reads entries one after another, and copies their keys and values one after another, as long as
-/// there are places and each entry fits. Returns the code of the read at which it stopped, `None`
-/// if all places are filled.
+/// Reads entries one after another, and copies their keys and values back to back.
+///
+/// It stops if `entries` is full, a read finds no entry, or an entry does not fit. Returns the code
+/// of the read at which it stopped, or `None` if `entries` is full.
 pub(crate) fn take_from<R: Reads>(
     source: &mut R,
     back: bool,

@@ -11,7 +11,7 @@ use crate::verify::{VerifyReport, nothing};
 use lsm_readers::Table;
 use std::alloc::Global;
 
-// Puts a verification of a table into a handle that holds nothing.
+// Puts a verification of a table into a closed handle.
 fn begin(alloc: Global, held: &Held, verification: &mut Handle) -> u32
     requires { verification.old.boxed.value ≡ None }
     ensures kind { spec.is_table held.now.what ≡ false → result ≡ 102 }
@@ -32,10 +32,19 @@ fn begin(alloc: Global, held: &Held, verification: &mut Handle) -> u32
     }
 }
 
-/// Begins to verify a table by steps, into a handle that holds nothing. Nothing is read yet. The
-/// verification has a share of the table, which may be closed before it. Refused 101 where the
-/// verification's handle holds something, 100 where the table's is closed, 102 where it holds no
-/// table, and for want of memory; both stay as they are then.
+/// Opens a verification of a table by steps.
+///
+/// `verification` must be closed. Nothing is read yet. The verification holds a reference to the
+/// table, which may be closed before it.
+///
+/// # Errors
+///
+/// - 101: `verification` is open.
+/// - 100: `table` is closed.
+/// - 102: `table` holds no table.
+/// - 1: out of memory.
+///
+/// On error, both handles are unchanged.
 #[unsafe(no_mangle)]
 pub extern "C" fn sst_verification_open(
     alloc: Global,
@@ -53,7 +62,7 @@ pub extern "C" fn sst_verification_open(
         table.old.boxed.value ≡ Some h → spec.is_table h.what ≡ true → (result ≡ 0) ⊎ (result ≡ 1) }
     ensures new { result ≡ 0 →
         IsSomeAnd verification.new.boxed.value (λ k. spec.found_by k ≡ None) }
-    // It is of the table, of which nothing is read yet.
+    // It verifies the table, and has read nothing yet.
     ensures begun { (h : spec.HeldValue) (t : spec.OpenTable) → table.old.boxed.value ≡ Some h →
         h.what ≡ spec.TableOf t → result ≡ 0 → IsSomeAnd verification.new.boxed.value (λ k.
         k.what ≡ spec.VerificationOf (spec.verifying t)) }
@@ -69,7 +78,7 @@ pub extern "C" fn sst_verification_open(
     code
 }
 
-// Makes a step of what is held.
+// Steps the held object, if it is a verification.
 fn step(held: &mut Held, progress: &mut ProgressReport, returned: &mut VerifyReport) -> u32
     requires progress { progress.old ≡ spec.no_progress }
     requires returned { returned.old ≡ spec.no_finding }
@@ -86,11 +95,20 @@ fn step(held: &mut Held, progress: &mut ProgressReport, returned: &mut VerifyRep
     }
 }
 
-/// Makes a step of a verification: reads one further block, and tells how many bytes of data blocks
-/// were read. Where none is left it tells that this is the end, and what `sst_table_verify` does.
-/// Refused 107 where something is wrong, and `told` says what comes first, 100 where the handle is
-/// closed, 102 where it holds no verification, and for want of memory, which says nothing of the
-/// table. Where it is refused or at the end nothing changes: the step can be made again.
+/// Makes a step of a verification: reads the next block.
+///
+/// `progress` gets the number of bytes of data blocks read. If no block is left, it also reports
+/// the end, and `returned` gets the result of `sst_table_verify`.
+///
+/// # Errors
+///
+/// - 107: the table has a fault. `returned` gets the first one and its position.
+/// - 100: the handle is closed.
+/// - 102: the handle holds no verification.
+/// - 1: out of memory. Nothing is known about the table then.
+///
+/// With 100 and 102, `progress` and `returned` are zero. At the end and on error, the verification
+/// is unchanged, so the step can be repeated.
 #[unsafe(no_mangle)]
 pub extern "C" fn sst_verification_step(
     alloc: Global,
@@ -105,12 +123,12 @@ pub extern "C" fn sst_verification_step(
         spec.is_verification h.what ≡ false → (result ≡ 102) × (progress.new ≡ spec.no_progress) ×
         (returned.new ≡ spec.no_finding) × IsSomeAnd verification.new.boxed.value
         (λ k. k.what ≡ h.what) }
-    // It is one step of the library's verification, told as it is.
+    // It is one step of the library's verification.
     ensures steps { (h : spec.HeldValue) (v : spec.Verifying) →
         verification.old.boxed.value ≡ Some h →
         h.what ≡ spec.VerificationOf v → IsSomeAnd verification.new.boxed.value (λ k.
         spec.IsVerificationWhere (spec.ReportsStep v result progress.new returned.new) k.what) }
-    // What a read found stays.
+    // The entry found by the last read is unchanged.
     ensures found { (h : spec.HeldValue) → verification.old.boxed.value ≡ Some h →
         IsSomeAnd verification.new.boxed.value (λ k. spec.found_by k ≡ spec.found_by h) }
 {

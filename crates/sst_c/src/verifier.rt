@@ -1,4 +1,4 @@
-//! A verification that is made by steps, and what C is told of one.
+//! A verification by steps, and its progress as reported to C.
 ghost use Rattle.std.specs.Prelude.{◌≡◌, IfErr, IfOk};
 ghost use Rattle.sst_c.specs.Words as spec;
 
@@ -8,20 +8,21 @@ use lsm_readers::{Table, Verification, Verified, VerifyError};
 use sst_blocks::Error;
 use std::marker::Model;
 
-/// How far a verification is.
+/// The progress of a verification.
 #[repr(C)]
 #[derive(Clone, Copy)]
 pub struct ProgressReport {
-    /// How many bytes of data blocks were read.
+    /// Number of bytes of data blocks read.
     pub bytes_read: u64,
-    /// How many the table says that there are.
+    /// Size of the data blocks in bytes that the table claims.
     pub data_size: u64,
-    /// 1 where all was read and is sound, else 0.
+    /// 1 if the whole table was read and is valid, else 0.
     pub at_end: u64,
 }
 
-/// A verification, and how many bytes of data blocks its table says that there are. A contract sees
-/// the verification.
+/// A verification, and the size of the data blocks that its table claims.
+///
+/// Contracts see the verification.
 #[derive(Drop)]
 pub struct Verifier {
     verification: Verification,
@@ -39,7 +40,7 @@ impl Model for Verifier {
     ghost invariant = { λ v. v.data_size ≡ v.verification.table.parts.facts.file_size };
 }
 
-/// What is told of no verification.
+/// Returns zero progress.
 pub(crate) fn no_progress() -> ProgressReport
     ensures { result ≡ spec.no_progress }
 {
@@ -50,7 +51,7 @@ pub(crate) fn no_progress() -> ProgressReport
     }
 }
 
-// Whether a step was the last: 1 where it was, else 0.
+// Returns 1 if the step was the last, else 0.
 fn end_of(answer: &Result<Option<Verified>, VerifyError>) -> u64
     ensures { result ≡ spec.step_end answer.now }
 {
@@ -60,7 +61,7 @@ fn end_of(answer: &Result<Option<Verified>, VerifyError>) -> u64
     }
 }
 
-// Tells what a step answered.
+// Writes the report of a step, and returns its code.
 fn tell_answer(answer: &Result<Option<Verified>, VerifyError>, returned: &mut VerifyReport) -> u32
     requires { returned.old ≡ spec.no_finding }
     ensures code { result ≡ spec.step_code answer.now }
@@ -81,7 +82,7 @@ fn tell_answer(answer: &Result<Option<Verified>, VerifyError>, returned: &mut Ve
 }
 
 impl Verifier {
-    /// A verification of a table, of which nothing is read yet.
+    /// Opens a verification of a table, which has read nothing yet.
     pub(crate) fn of(table: &Table) -> Result<Verifier, Error>
         ensures ok { IfOk result (λ v. v ≡ spec.verifying table.now) }
         ensures err { IfErr result (λ e. e ≡ spec.OutOfMemory) }
@@ -92,7 +93,6 @@ impl Verifier {
         })
     }
 
-    // How far it is, and whether it is at its end.
     fn progress(&self, at_end: u64) -> ProgressReport
         ensures { result ≡ spec.progress_result self.now at_end }
     {
@@ -103,7 +103,7 @@ impl Verifier {
         }
     }
 
-    /// Makes a step, and tells what it answered.
+    /// Makes a step, writes its reports, and returns its code.
     pub(crate) fn step(&mut self, progress: &mut ProgressReport, returned: &mut VerifyReport) -> u32
         requires { returned.old ≡ spec.no_finding }
         ensures { spec.ReportsStep self.old result progress.new returned.new self.new }

@@ -8,32 +8,43 @@ use crate::held::{Held, What};
 use lsm_readers::{Fault, Finding, Table, Verified, VerifyError};
 use std::alloc::Global;
 
-/// What a verification found: what the table has where it is sound, else what is wrong, and where.
+/// The result of a verification: the counts of a valid table, or the first fault and its position.
 #[repr(C)]
 #[derive(Clone, Copy)]
 pub struct VerifyReport {
-    /// How many entries there are.
+    /// Number of entries.
     pub item_count: u64,
-    /// How many data blocks there are.
+    /// Number of data blocks.
     pub data_block_count: u64,
-    /// Where the block begins at which a fault was found.
+    /// Offset of the block with the fault.
     pub offset: u64,
-    /// The section of the fault: 1 data blocks, 2 partitions of the index, 3 index, 4 filter, 5 top
-    /// level of the filter, 6 version, 7 meta block; 0 where there is none.
+    /// The section of the fault, or 0 if there is none.
+    ///
+    /// 1 data blocks, 2 index partitions, 3 index, 4 filter, 5 top level of the filter, 6 version,
+    /// 7 meta block.
     pub section: u32,
-    /// What is wrong: 1 a block does not load, 2 it is empty, 3 it does not begin where the one
-    /// before it ended, 4 an entry has the largest number, 5 an entry does not follow, 6 the filter
-    /// denies a key, 7 a block of the filter does not load, 8 a handle names another key, 9 another
-    /// number, 10 the entries do not bear out an item of the meta block, 11 no handle names a data
-    /// block, 12 the file has another checksum.
+    /// The fault, or 0 if there is none.
+    ///
+    /// - 1: a block cannot be loaded.
+    /// - 2: a block has no entry, or no handle.
+    /// - 3: a block does not start at the end of the one before it.
+    /// - 4: an entry has the sequence number `u64::MAX`.
+    /// - 5: an entry is not in order after the one before it.
+    /// - 6: filter false negative.
+    /// - 7: a filter block cannot be loaded.
+    /// - 8: a block does not end with the key in its handle.
+    /// - 9: a block does not end with the sequence number in its handle.
+    /// - 10: an item of the meta block does not match the entries.
+    /// - 11: a data block has no handle.
+    /// - 12: the file has another checksum.
     pub fault: u32,
-    /// Of faults 1 and 7 the number of the load's refusal.
+    /// The error code of the load for faults 1 and 7, else 0.
     pub detail: u32,
-    /// Nothing.
+    /// Unused.
     pub unused: u32,
 }
 
-/// What is told where nothing is found.
+/// Returns a report of zeros.
 pub(crate) fn nothing() -> VerifyReport
     ensures { result ≡ spec.no_finding }
 {
@@ -77,7 +88,7 @@ fn detail_of(fault: &Fault) -> u32
     }
 }
 
-/// What is told of what is wrong.
+/// Returns the report of a fault.
 pub(crate) fn tell_finding(finding: &Finding) -> VerifyReport
     ensures { result ≡ spec.finding_result finding.now }
 {
@@ -92,7 +103,7 @@ pub(crate) fn tell_finding(finding: &Finding) -> VerifyReport
     }
 }
 
-/// What is told of a sound table.
+/// Returns the report of a valid table.
 pub(crate) fn tell_verified(verified: Verified) -> VerifyReport
     ensures { result ≡ spec.verified_result verified }
 {
@@ -121,7 +132,7 @@ fn verify(table: &Table, returned: &mut VerifyReport) -> u32
     tell(&table.verify(), returned)
 }
 
-// Tells what a verification came to.
+// Writes the report of a verification, and returns its code.
 fn tell(came: &Result<Verified, VerifyError>, returned: &mut VerifyReport) -> u32
     requires { returned.old ≡ spec.no_finding }
     ensures code { result ≡ spec.verify_code came.now }
@@ -161,10 +172,18 @@ fn verify_held(held: &Held, returned: &mut VerifyReport) -> u32
     }
 }
 
-/// Reads a whole table once, and says whether its bytes store a list, whoever wrote them. Refused
-/// 107 where something is wrong, and `told` says what comes first, 100 where the handle is closed,
-/// 102 where it holds no table, and for want of memory, which says nothing of the table; zeros are
-/// told then.
+/// Reads a whole table once, and checks that its bytes store a list, whoever wrote them.
+///
+/// `returned` gets the number of entries and of data blocks.
+///
+/// # Errors
+///
+/// - 107: the table has a fault. `returned` gets the first one and its position.
+/// - 100: the handle is closed.
+/// - 102: the handle holds no table.
+/// - 1: out of memory. Nothing is known about the table then.
+///
+/// With 100, 102 and 1, `returned` is zero.
 #[unsafe(no_mangle)]
 pub extern "C" fn sst_table_verify(
     alloc: Global,
@@ -175,23 +194,23 @@ pub extern "C" fn sst_table_verify(
     ensures shut { table.old.boxed.value ≡ None → (result ≡ 100) × (returned.new ≡ spec.no_finding) }
     ensures other { (h : spec.HeldValue) → table.old.boxed.value ≡ Some h →
         spec.is_table h.what ≡ false → (result ≡ 102) × (returned.new ≡ spec.no_finding) }
-    // What is wrong first is found, memory aside.
+    // Except for `OutOfMemory`, it reports the first fault.
     ensures returned { (h : spec.HeldValue) (t : spec.OpenTable) → table.old.boxed.value ≡ Some h →
         h.what ≡ spec.TableOf t →
         spec.VerifyAnswers result returned.new (spec.table_found (spec.body_of t.bytes) t.parts) }
-    // A fault of the first block that is loaded which takes no memory to be found is told, whatever
-    // memory there is,
+    // If a fault of the first loaded block is found without allocating, it takes precedence over
+    // `OutOfMemory`.
     ensures early { (h : spec.HeldValue) (t : spec.OpenTable) → table.old.boxed.value ≡ Some h →
         h.what ≡ spec.TableOf t →
         spec.ReportsFinding result returned.new (spec.table_early (spec.body_of t.bytes) t.parts) }
-    // and what is told is wrong there, and all that is read before it is sound.
+    // The reported block has this fault, and all blocks read before it are valid.
     ensures first { (h : spec.HeldValue) (t : spec.OpenTable) → table.old.boxed.value ≡ Some h →
         h.what ≡ spec.TableOf t →
         spec.ReportsWrong (spec.IsFirstFinding (spec.body_of t.bytes) t.parts) result returned.new }
-    // A table that is verified stores a list, which has as many entries and data blocks;
+    // A verified table stores a list, and the report has its number of entries and data blocks.
     ensures sound { (h : spec.HeldValue) (t : spec.OpenTable) → table.old.boxed.value ≡ Some h →
         h.what ≡ spec.TableOf t → result ≡ 0 → spec.ReportsCounts t.bytes returned.new }
-    // in one that stores a list nothing wrong is found.
+    // It finds no fault in a table that stores a list.
     ensures complete { (h : spec.HeldValue) (t : spec.OpenTable) (es : List spec.Entry) →
         table.old.boxed.value ≡ Some h → h.what ≡ spec.TableOf t → spec.StoresList t.bytes es →
         result ≢ 107 }

@@ -21,7 +21,7 @@ fn new_writer(alloc: Global, options: &TableOptions) -> Result<Writer, Error>
     Ok(writer.use_options(writer_options(options)))
 }
 
-// Puts a writer with these options into a handle that holds nothing.
+// Puts a writer with these options into a closed handle.
 fn begin(alloc: Global, options: &TableOptions, writer: &mut Handle) -> u32
     requires empty { writer.old.boxed.value ≡ None }
     requires usable { spec.are_usable options.now ≡ true }
@@ -43,9 +43,17 @@ fn begin(alloc: Global, options: &TableOptions, writer: &mut Handle) -> u32
     }
 }
 
-/// Begins to write a table, into a handle that holds nothing. Refused 101 where the handle holds
-/// something, 105 where an option is out of its range, and for want of memory; the handle stays as
-/// it is then.
+/// Opens a writer of a table.
+///
+/// `writer` must be closed.
+///
+/// # Errors
+///
+/// - 101: `writer` is open.
+/// - 105: an option is out of range.
+/// - 1: out of memory.
+///
+/// On error, `writer` is unchanged.
 #[unsafe(no_mangle)]
 pub extern "C" fn sst_writer_open(alloc: Global, options: &TableOptions, writer: &mut Handle) -> u32
     ensures open { is_some writer.old.boxed.value ≡ true → result ≡ 101 }
@@ -67,7 +75,7 @@ pub extern "C" fn sst_writer_open(alloc: Global, options: &TableOptions, writer:
     begin(alloc, options, writer)
 }
 
-// The kind that C names.
+// Returns the value type of a kind as C passes it.
 fn kind_of(kind: u64) -> Option<ValueType>
     ensures { result ≡ spec.decode_kind kind }
 {
@@ -80,7 +88,7 @@ fn kind_of(kind: u64) -> Option<ValueType>
     }
 }
 
-// Writes an entry that may follow.
+// Writes an entry that is in order.
 #[tactic(auto, using(crate::proofs::Answering::tell), unfolding(crate::specs::Writing::TookEntry))]
 fn write(writer: &mut Writer, key: &[u8], seqno: SeqNo, kind: ValueType, value: &[u8]) -> u32
     requires { IsTrue (spec.may_be_written (spec.written writer.old) key.now seqno) }
@@ -99,7 +107,7 @@ fn write(writer: &mut Writer, key: &[u8], seqno: SeqNo, kind: ValueType, value: 
     }
 }
 
-// Writes an entry, if it may follow.
+// Writes an entry, if it is in order.
 fn write_next(writer: &mut Writer, key: &[u8], seqno: SeqNo, kind: ValueType, value: &[u8]) -> u32
     ensures order { spec.may_be_written (spec.written writer.old) key.now seqno ≡ false →
         (result ≡ 104) × (writer.new ≡ writer.old) }
@@ -118,7 +126,7 @@ fn write_next(writer: &mut Writer, key: &[u8], seqno: SeqNo, kind: ValueType, va
     write(writer, key, seqno, kind, value)
 }
 
-/// Writes an entry of a kind that C names, if it may follow.
+/// Writes an entry, if its kind exists and it is in order.
 pub(crate) fn add_kind(
     writer: &mut Writer,
     key: &[u8],
@@ -165,11 +173,21 @@ fn add(held: &mut Held, key: &[u8], seqno: SeqNo, kind: u64, value: &[u8]) -> u3
     }
 }
 
-/// Writes an entry: its key, number, kind and value. The key and the value are copied. Refused 100
-/// where the handle is closed, 102 where it holds no writer, 105 where there is no such kind, 104
-/// where the entry does not come strictly after the last one by key up and number down, or its
-/// number is the largest; the writer stays as it is then. Else refused as `Writer::write`: what was
-/// written stays, and each later entry that may follow is refused.
+/// Writes an entry: its key, sequence number, kind and value.
+///
+/// The key and the value are copied. The kind is 1 for a value, 2 for a tombstone, 3 for a weak
+/// tombstone, 5 for an indirection. Entries ascend by key; versions of one key descend by sequence
+/// number.
+///
+/// # Errors
+///
+/// - 100: the handle is closed.
+/// - 102: the handle holds no writer.
+/// - 105: there is no such kind.
+/// - 104: the entry is not in order after the last one, or its sequence number is `u64::MAX`.
+/// - An error code of `Writer::write`. Each later entry that is in order fails too.
+///
+/// With the first four codes the writer is unchanged.
 #[unsafe(no_mangle)]
 pub extern "C" fn sst_writer_add(
     alloc: Global,
@@ -191,8 +209,8 @@ pub extern "C" fn sst_writer_add(
         spec.writer_in h.what ≡ Some w → is_some (spec.decode_kind kind) ≡ true →
         spec.may_be_written (spec.written w) key.now seqno ≡ false →
         (result ≡ 104) × IsSomeAnd writer.new.boxed.value (λ k. k.what ≡ h.what) }
-    // An entry that may follow is taken, or refused with the first fault: the writer has failed.
-    // Where there is a fault, no want of memory is told.
+    // The writer takes an entry in order, or fails with the first fault and stays failed. A fault
+    // takes precedence over `OutOfMemory`.
     ensures took { (h : spec.HeldValue) (w : spec.WritingValue) (k : spec.Kind) →
         writer.old.boxed.value ≡ Some h →
         spec.writer_in h.what ≡ Some w → spec.decode_kind kind ≡ Some k →
@@ -202,7 +220,7 @@ pub extern "C" fn sst_writer_add(
         IsSomeAnd (spec.writer_in k.what) (spec.TookEntry w e result)) }
     ensures tables { (h : spec.HeldValue) → writer.old.boxed.value ≡ Some h →
         IsSomeAnd writer.new.boxed.value (λ k. spec.files_held k.what ≡ spec.files_held h.what) }
-    // What a read found stays.
+    // The entry found by the last read is unchanged.
     ensures found { (h : spec.HeldValue) → writer.old.boxed.value ≡ Some h →
         IsSomeAnd writer.new.boxed.value (λ k. spec.found_by k ≡ spec.found_by h) }
 {
@@ -214,7 +232,7 @@ pub extern "C" fn sst_writer_add(
     code
 }
 
-// Finishes a writer, and puts its table behind others, where something was written.
+// Finishes a writer, and adds its table at the end, if anything was written.
 #[tactic(auto, using(crate::proofs::Answering::tell), unfolding(crate::specs::Writing::AddsFileOf))]
 fn finish_behind(tables: &mut Vec<FinishedTable>, writer: Writer) -> u32
     ensures returned { spec.FinishReported result writer }
@@ -234,7 +252,6 @@ fn finish_behind(tables: &mut Vec<FinishedTable>, writer: Writer) -> u32
     }
 }
 
-// Finishes what is written.
 fn finish_files(files: &mut Files) -> u32
     ensures none { files.old.writer ≡ None → (result ≡ 102) × (files.new ≡ files.old) }
     ensures returned { (w : spec.WritingValue) → files.old.writer ≡ Some w →
@@ -272,9 +289,15 @@ fn finish(held: &mut Held) -> u32
     }
 }
 
-/// Finishes the table that is written: the handle holds it then, or none where nothing was written.
-/// Refused 100 where the handle is closed, 102 where it holds no writer, and as `Writer::finish`:
-/// what was written is given up then.
+/// Finishes the table that is being written.
+///
+/// The handle then holds the finished table, or none if nothing was written.
+///
+/// # Errors
+///
+/// - 100: the handle is closed.
+/// - 102: the handle holds no writer.
+/// - An error code of `Writer::finish`. The entries written are dropped then.
 #[unsafe(no_mangle)]
 pub extern "C" fn sst_writer_finish(alloc: Global, writer: &mut Handle) -> u32
     ensures shut { writer.old.boxed.value ≡ None →
@@ -282,7 +305,7 @@ pub extern "C" fn sst_writer_finish(alloc: Global, writer: &mut Handle) -> u32
     ensures other { (h : spec.HeldValue) → writer.old.boxed.value ≡ Some h →
         spec.writer_in h.what ≡ None →
         (result ≡ 102) × IsSomeAnd writer.new.boxed.value (λ k. k.what ≡ h.what) }
-    // Of a writer that had failed, and where nothing was written, no want of memory is told.
+    // `OutOfMemory` replaces neither the error of a failed writer nor the success of an empty one.
     ensures returned { (h : spec.HeldValue) (w : spec.WritingValue) → writer.old.boxed.value ≡ Some h →
         spec.writer_in h.what ≡ Some w → spec.FinishReported result w }
     ensures given { (h : spec.HeldValue) (w : spec.WritingValue) → writer.old.boxed.value ≡ Some h →
@@ -290,7 +313,7 @@ pub extern "C" fn sst_writer_finish(alloc: Global, writer: &mut Handle) -> u32
         IsSomeAnd writer.new.boxed.value (λ k. spec.writer_in k.what ≡ None) }
     ensures kind { (h : spec.HeldValue) → writer.old.boxed.value ≡ Some h →
         IsSomeAnd writer.new.boxed.value (λ k. spec.are_files k.what ≡ spec.are_files h.what) }
-    // The table is that of all that was written.
+    // The table has all entries written.
     ensures finished { (h : spec.HeldValue) (w : spec.WritingValue) →
         writer.old.boxed.value ≡ Some h →
         spec.writer_in h.what ≡ Some w → result ≡ 0 → IsSomeAnd writer.new.boxed.value (λ k.
@@ -299,7 +322,7 @@ pub extern "C" fn sst_writer_finish(alloc: Global, writer: &mut Handle) -> u32
         writer.old.boxed.value ≡ Some h →
         spec.writer_in h.what ≡ Some w → result ≢ 0 → IsSomeAnd writer.new.boxed.value (λ k.
         spec.files_held k.what ≡ spec.files_held h.what) }
-    // What a read found stays.
+    // The entry found by the last read is unchanged.
     ensures found { (h : spec.HeldValue) → writer.old.boxed.value ≡ Some h →
         IsSomeAnd writer.new.boxed.value (λ k. spec.found_by k ≡ spec.found_by h) }
 {

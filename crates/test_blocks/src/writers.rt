@@ -22,7 +22,7 @@ fn one_entry(alloc: Global) -> Result<FinishedTable, Error> {
     )
 }
 
-// The same table with the options of a new writer.
+// A table of one entry with the options of a new writer.
 fn one_entry_by_default(alloc: Global) -> Result<FinishedTable, Error> {
     fill(
         Writer::new(alloc, 1, 0, Timestamp::from(0))?,

@@ -141,7 +141,8 @@ fn written_forgetting_index<A: Allocator + Copy>(alloc: A) -> Result<Slice<A>, E
     written_by(writer, alloc, ROWS)
 }
 
-// The same with the default filter, and the filter partitioned instead of the index.
+// The bytes of a table of [`ROWS`], each in its own block, with a partitioned filter of the default
+// policy. The partition size is forgotten.
 fn written_forgetting_filter<A: Allocator + Copy>(alloc: A) -> Result<Slice<A>, Error> {
     let writer = Writer::new(alloc, 1, 0, Timestamp::from(0))?
         .use_data_block_size(0)
@@ -172,16 +173,16 @@ pub(crate) enum Of {
     FilterParts,
     /// A table of [`ROWS`], each in its own block, without a filter.
     Rows(Parted),
-    /// The same, with a filter of a partition for each key.
+    /// A table of [`ROWS`] with a filter of a partition for each key.
     Keys,
-    /// The same, with an index and a filter of one partition each. A smaller partition size was set
-    /// before they were partitioned.
+    /// A table of [`ROWS`] with an index and a filter of one partition each. A smaller partition
+    /// size was set before they were partitioned.
     Forgetting,
-    /// The same, without a filter and with such an index.
+    /// A table of [`ROWS`] without a filter, with an index of one partition.
     ForgettingIndex,
-    /// The same, with a full index and such a filter.
+    /// A table of [`ROWS`] with a full index and a filter of one partition.
     ForgettingFilter,
-    /// The same rows, all in one block, without a filter.
+    /// A table of [`ROWS`] in one block, without a filter.
     Block,
     /// A table of `a` with a sequence number and the value `x`.
     Numbered(SeqNo),

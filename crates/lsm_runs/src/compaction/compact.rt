@@ -72,7 +72,7 @@ pub(crate) fn scanners_of<A: Allocator + Clone>(
 /// the sources: proofs with a concrete stream cost much.
 pub(crate) type Compacted<L, F, C, A> = LendingCompaction<LendingMerger<L, A>, F, C, A>;
 
-// The same without a filter and a callback.
+// A compaction without a filter and a callback.
 type Kept<L, A> = Compacted<L, NoFilter, NoCallback, A>;
 
 // The entries that are kept of some sources, in order. Generic, so that a proof does not unfold a

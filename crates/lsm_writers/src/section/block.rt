@@ -1,15 +1,7 @@
 //! Writing blocks of handles.
 ghost use Rattle.std.specs.Prelude.{◌≡◌, ◌+◌, ◌<◌, ◌^◌, ◌++◌, ◌∷◌, [], length, take, All};
 ghost use Rattle.std.specs.Prelude.{IfOk, IfErr, OnOk, OnErr};
-ghost use Rattle.lsm_writers.specs.section.IndexWords.{AreStrictHandles, Faults, SectionFits};
-ghost use Rattle.lsm_writers.specs.section.IndexWords.{appended};
-ghost use Rattle.lsm_writers.specs.section.IndexWords.{handles_block, handles_fault};
-ghost use Rattle.lsm_writers.specs.section.IndexWords.{handles_payload};
-ghost use Rattle.lsm_writers.specs.section.IndexWords.{header_len, index_block_bound_of};
-ghost use Rattle.lsm_writers.specs.section.IndexWords.{slot_index};
-ghost use Rattle.sst_entries.specs.declared.error.Error.TheVariants.{OutOfMemory};
-ghost use Rattle.sst_blocks.specs.declared.section.SectionName.TheVariants.{Tli};
-ghost use Rattle.sst_blocks.specs.declared.version.TableVersion.TheVariants.{V4};
+ghost use Rattle.lsm_writers.specs.Words as spec;
 
 use sst_blocks::{
     Block, BlockHandle, BlockType, CompressionType, Error, IndexBlock, KeyedBlockHandle,
@@ -26,16 +18,17 @@ pub(crate) fn write_block<A: Allocator + Clone>(
     buffer: &mut Vec<u8, A>,
     compression: CompressionType,
 ) -> Result<BlockHandle, Error>
-    requires { AreStrictHandles handles.now }
-    ensures ok { let bytes = writer.old.bytes ++ handles_block V4 handles.now in
+    requires { spec.AreStrictHandles handles.now }
+    ensures ok { let bytes = writer.old.bytes ++ spec.handles_block spec.V4 handles.now in
         OnOk result (writer.new ≡ record writer.old { bytes = bytes }) }
-    ensures place { let size = header_len + length (handles_payload V4 handles.now) in
+    ensures place { let size = spec.header_len + length
+        (spec.handles_payload spec.V4 handles.now) in
         IfOk result (λ h. h ≡ record { offset = length writer.old.bytes; size = size }) }
-    ensures bound { let size = length (handles_block V4 handles.now) in
-        OnOk result (size ≡ index_block_bound_of handles.now) }
-    ensures short { OnOk result (length (handles_block V4 handles.now) < 2 ^ 32) }
+    ensures bound { let size = length (spec.handles_block spec.V4 handles.now) in
+        OnOk result (size ≡ spec.index_block_bound_of handles.now) }
+    ensures short { OnOk result (length (spec.handles_block spec.V4 handles.now) < 2 ^ 32) }
     ensures unchanged { OnErr result (writer.new ≡ writer.old) }
-    ensures refused { Faults result (handles_fault handles.now) }
+    ensures refused { spec.Faults result (spec.handles_fault handles.now) }
 {
     buffer.clear();
     IndexBlock::encode_into(buffer, handles)?;
@@ -50,13 +43,14 @@ pub(crate) fn write_top_level<A: Allocator + Clone>(
     buffer: &mut Vec<u8, A>,
     compression: CompressionType,
 ) -> Result<(), Error>
-    requires unwritten { All (λ s. slot_index s.0 ≡ 2 → ⊥) writer.old.started }
-    requires strict { AreStrictHandles handles.now }
+    requires unwritten { All (λ s. spec.slot_index s.0 ≡ 2 → ⊥) writer.old.started }
+    requires strict { spec.AreStrictHandles handles.now }
     ensures ok { OnOk result (writer.new ≡
-        appended writer.old ((Tli, handles_block V4 handles.now) ∷ [])) }
-    ensures short { OnOk result (SectionFits (Tli, handles_block V4 handles.now)) }
+        spec.appended writer.old ((spec.Tli, spec.handles_block spec.V4 handles.now) ∷ [])) }
+    ensures short { OnOk result
+        (spec.SectionFits (spec.Tli, spec.handles_block spec.V4 handles.now)) }
     ensures before { take (length writer.old.bytes) writer.new.bytes ≡ writer.old.bytes }
-    ensures refused { Faults result (handles_fault handles.now) }
+    ensures refused { spec.Faults result (spec.handles_fault handles.now) }
 {
     writer.start(SectionName::Tli)?;
     write_block(writer, handles, buffer, compression)?;
@@ -69,11 +63,11 @@ pub(crate) fn write_empty_top_level<A: Allocator + Clone>(
     writer: &mut SectionWriter<A>,
     compression: CompressionType,
 ) -> Result<(), Error>
-    requires { All (λ s. slot_index s.0 ≡ 2 → ⊥) writer.old.started }
+    requires { All (λ s. spec.slot_index s.0 ≡ 2 → ⊥) writer.old.started }
     ensures ok { OnOk result (writer.new ≡
-        appended writer.old ((Tli, handles_block V4 []) ∷ [])) }
+        spec.appended writer.old ((spec.Tli, spec.handles_block spec.V4 []) ∷ [])) }
     ensures bytes { OnErr result (writer.new.bytes ≡ writer.old.bytes) }
-    ensures err { IfErr result (λ e. e ≡ OutOfMemory) }
+    ensures err { IfErr result (λ e. e ≡ spec.OutOfMemory) }
 {
     writer.start(SectionName::Tli)?;
     Block::write_into(writer, &[0, 0, 0, 0], BlockType::Index, compression)?;

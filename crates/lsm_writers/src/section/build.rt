@@ -1,7 +1,6 @@
 //! Building a filter from the hashes of its keys.
 ghost use Rattle.std.specs.Prelude.{◌≡◌, ℕ, List, length, map, IfOk};
-ghost use Rattle.lsm_writers.specs.section.FilterWords.{Faults, FaultsFirst, IsFilterFor};
-ghost use Rattle.lsm_writers.specs.section.FilterWords.{fault_for, hash_of, tenths_of};
+ghost use Rattle.lsm_writers.specs.Words as spec;
 
 use sst_blocks::{BloomConstructionPolicy, Builder, Error, filter_bound};
 use std::alloc::Allocator;
@@ -13,11 +12,11 @@ pub(crate) fn build_from_buffer<A: Allocator + Clone>(
     hashes: &Vec<u64, A>,
 ) -> Result<Builder<A>, Error>
     ensures filter { IfOk result (λ f. (keys : List (List ℕ)) →
-        hashes.now.items ≡ map hash_of keys → IsFilterFor policy.now keys f) }
+        hashes.now.items ≡ map spec.hash_of keys → spec.IsFilterFor policy.now keys f) }
     ensures refused { let n = length hashes.now.items in
-        Faults result (fault_for (tenths_of policy.now) n) }
+        spec.Faults result (spec.fault_for (spec.tenths_of policy.now) n) }
     ensures first { let n = length hashes.now.items in
-        FaultsFirst result (fault_for (tenths_of policy.now) n) }
+        spec.FaultsFirst result (spec.fault_for (spec.tenths_of policy.now) n) }
 {
     if filter_bound(policy, hashes.len()) > u64::from(u32::MAX) {
         return Err(Error::BlockTooLarge);
@@ -33,8 +32,9 @@ fn build_filter<A: Allocator>(
     hashes: &[u64],
 ) -> Result<Builder<A>, Error>
     ensures filter { IfOk result (λ f. (keys : List (List ℕ)) →
-        hashes.now ≡ map hash_of keys → IsFilterFor policy.now keys f) }
-    ensures refused { Faults result (fault_for (tenths_of policy.now) (length hashes.now)) }
+        hashes.now ≡ map spec.hash_of keys → spec.IsFilterFor policy.now keys f) }
+    ensures refused { spec.Faults result
+        (spec.fault_for (spec.tenths_of policy.now) (length hashes.now)) }
 {
     let mut filter = policy.init(alloc, hashes.len())?;
     for hash in hashes {

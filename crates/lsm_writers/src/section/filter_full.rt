@@ -1,9 +1,6 @@
 //! The writer of a full filter.
 ghost use Rattle.std.specs.Prelude.{◌≡◌, ℕ, List, [], false, length, map, take, IfOk};
-ghost use Rattle.lsm_writers.specs.section.FilterWords.{Faults, FaultsFirst, HasNoFilter};
-ghost use Rattle.lsm_writers.specs.section.FilterWords.{HoldsHashes, WritesParts};
-ghost use Rattle.lsm_writers.specs.section.FilterWords.{fault_for, hash_of, given_by, no_keys};
-ghost use Rattle.lsm_writers.specs.section.FilterWords.{tenths_of};
+ghost use Rattle.lsm_writers.specs.Words as spec;
 ghost use Rattle.sst_blocks.specs.declared.table.options.FilterKind.TheVariants.{Full};
 
 use crate::section::build::build_from_buffer;
@@ -42,7 +39,7 @@ impl<A: Allocator> FullFilterWriter<A> {
     /// Creates a writer without keys.
     pub fn new(alloc: A, policy: BloomConstructionPolicy) -> FullFilterWriter<A>
         ensures value { result ≡ record { policy = policy; hashes = []; failed = false } }
-        ensures holds { HoldsHashes result no_keys }
+        ensures holds { spec.HoldsHashes result spec.no_keys }
     {
         FullFilterWriter {
             bloom_policy: policy,
@@ -110,15 +107,17 @@ fn write_filter<A: Allocator + Clone>(
     policy: &BloomConstructionPolicy,
     hashes: &Vec<u64, A>,
 ) -> Result<usize, Error>
-    requires unwritten { HasNoFilter writer.old }
+    requires unwritten { spec.HasNoFilter writer.old }
     requires some { hashes.now.items ≡ [] → ⊥ }
-    ensures ok { IfOk result (λ n. (keys : List (List ℕ)) → hashes.now.items ≡ map hash_of keys →
-        WritesParts Full policy.now (given_by Full policy.now keys) writer.old writer.new n) }
+    ensures ok { IfOk result (λ n. (keys : List (List ℕ)) →
+        hashes.now.items ≡ map spec.hash_of keys →
+        spec.WritesParts Full policy.now (spec.given_by Full policy.now keys) writer.old writer.new
+        n) }
     ensures before { take (length writer.old.bytes) writer.new.bytes ≡ writer.old.bytes }
     ensures refused { let n = length hashes.now.items in
-        Faults result (fault_for (tenths_of policy.now) n) }
+        spec.Faults result (spec.fault_for (spec.tenths_of policy.now) n) }
     ensures first { let n = length hashes.now.items in
-        FaultsFirst result (fault_for (tenths_of policy.now) n) }
+        spec.FaultsFirst result (spec.fault_for (spec.tenths_of policy.now) n) }
 {
     let filter = build_from_buffer(policy, hashes)?;
     let payload = filter.build();

@@ -1,25 +1,8 @@
 //! The writer of a partitioned filter.
 ghost use Rattle.std.specs.Prelude.{◌≡◌, ◌+◌, ◌++◌, ◌∷◌, ℕ, List, [], None, true, false, nat_le};
 ghost use Rattle.std.specs.Prelude.{length, map, take, All, IfOk, IfErr, OnOk, OnErr};
-ghost use Rattle.lsm_writers.specs.section.FilterWords.{AreRising, AreStrictHandles, Cuts, Faults};
-ghost use Rattle.lsm_writers.specs.section.FilterWords.{FaultsFirst, GivenKeys, HasNoFilter};
-ghost use Rattle.lsm_writers.specs.section.FilterWords.{HoldsAll};
-ghost use Rattle.lsm_writers.specs.section.FilterWords.{HoldsParts, SectionFits, appended};
-ghost use Rattle.lsm_writers.specs.section.FilterWords.{end_keys};
-ghost use Rattle.lsm_writers.specs.section.FilterWords.{fault_for, filter_block, filters_of};
-ghost use Rattle.lsm_writers.specs.section.FilterWords.{handles_block, handles_fault, header_len};
-ghost use Rattle.lsm_writers.specs.section.FilterWords.{Refuses, key_parts_bound, keys_fault};
-ghost use Rattle.lsm_writers.specs.section.FilterWords.{no_keys, part_sections};
-ghost use Rattle.lsm_writers.specs.section.FilterWords.{payload_of, rest_keys};
-ghost use Rattle.lsm_writers.specs.section.FilterWords.{register_fault, size_fault, size_for};
-ghost use Rattle.lsm_writers.specs.section.FilterWords.{slot_index};
-ghost use Rattle.lsm_writers.specs.section.FilterWords.{tenths_of};
-ghost use Rattle.lsm_writers.specs.section.FilterWords.{top_fault, tops_block, tops_of, with_key};
-ghost use Rattle.std.specs.List.{flat_map};
+ghost use Rattle.lsm_writers.specs.Words as spec;
 ghost use Rattle.sst_blocks.specs.declared.table.options.FilterKind.TheVariants.{Partitioned};
-ghost use Rattle.sst_entries.specs.declared.error.Error.TheVariants.{OutOfMemory};
-ghost use Rattle.sst_blocks.specs.declared.section.SectionName.TheVariants.{FilterTli};
-ghost use Rattle.sst_blocks.specs.declared.version.TableVersion.TheVariants.{V4};
 
 use crate::section::build::build_from_buffer;
 use crate::section::filter_writer::FilterWriter;
@@ -103,8 +86,8 @@ impl<A: Allocator + Clone> PartitionedFilterWriter<A> {
           last = None;
           failed = false;
         }) }
-        ensures holds { IfOk result (λ w. HoldsParts w no_keys) }
-        ensures err { IfErr result (λ e. e ≡ OutOfMemory) }
+        ensures holds { IfOk result (λ w. spec.HoldsParts w spec.no_keys) }
+        ensures err { IfErr result (λ e. e ≡ spec.OutOfMemory) }
     {
         Ok(PartitionedFilterWriter {
             bloom_policy: policy,
@@ -121,7 +104,8 @@ impl<A: Allocator + Clone> PartitionedFilterWriter<A> {
     // Returns whether the filter of the pending keys reaches the partition size.
     fn is_full(&self) -> bool
         ensures { result ≡
-            nat_le self.now.size (size_for (tenths_of self.now.policy) (length self.now.hashes)) }
+            nat_le self.now.size
+            (spec.size_for (spec.tenths_of self.now.policy) (length self.now.hashes)) }
     {
         let approx_filter_size = self
             .bloom_policy
@@ -131,13 +115,13 @@ impl<A: Allocator + Clone> PartitionedFilterWriter<A> {
 
     // Cuts the pending keys as a partition; `end_key` is the last of them.
     fn spill_filter_partition(&mut self, end_key: KeyBuffer<A>) -> Result<(), Error>
-        requires { AreRising (end_keys self.old.parts ++ end_key ∷ []) }
-        ensures ok { OnOk result (Cuts end_key self.old self.new) }
+        requires { spec.AreRising (spec.end_keys self.old.parts ++ end_key ∷ []) }
+        ensures ok { OnOk result (spec.Cuts end_key self.old self.new) }
         ensures policy { self.new.policy ≡ self.old.policy }
         ensures size { self.new.size ≡ self.old.size }
         ensures failed { self.new.failed ≡ self.old.failed }
         ensures refused { let n = length self.old.hashes in
-            Faults result (fault_for (tenths_of self.old.policy) n) }
+            spec.Faults result (spec.fault_for (spec.tenths_of self.old.policy) n) }
     {
         let n = self.bloom_hash_buffer.len();
         let filter = build_from_buffer(&self.bloom_policy, &self.bloom_hash_buffer)?;
@@ -152,16 +136,16 @@ impl<A: Allocator + Clone> PartitionedFilterWriter<A> {
 
     // Adds a pending key, and cuts the pending keys once their filter reaches the partition size.
     fn push_key(&mut self, key: &[u8]) -> Result<(), Error>
-        requires { AreRising (end_keys self.old.parts ++ key.now ∷ []) }
-        ensures ok { OnOk result ((given : GivenKeys) → HoldsParts self.old given →
+        requires { spec.AreRising (spec.end_keys self.old.parts ++ key.now ∷ []) }
+        ensures ok { OnOk result ((given : spec.GivenKeys) → spec.HoldsParts self.old given →
             let kind = Partitioned self.old.size in
-            HoldsParts self.new (with_key kind self.old.policy given key.now)) }
+            spec.HoldsParts self.new (spec.with_key kind self.old.policy given key.now)) }
         ensures policy { self.new.policy ≡ self.old.policy }
         ensures size { self.new.size ≡ self.old.size }
         ensures failed { self.new.failed ≡ self.old.failed }
-        ensures refused { (given : GivenKeys) → HoldsParts self.old given →
+        ensures refused { (given : spec.GivenKeys) → spec.HoldsParts self.old given →
             let kind = Partitioned self.old.size in
-            Faults result (register_fault kind self.old.policy given.pending key.now) }
+            spec.Faults result (spec.register_fault kind self.old.policy given.pending key.now) }
     {
         let hash = Builder::<A>::get_hash(key);
         self.bloom_hash_buffer.push(hash)?;
@@ -177,8 +161,8 @@ impl<A: Allocator + Clone> PartitionedFilterWriter<A> {
 
     // Returns a bound on the size in bytes of the block of the pending keys: 0 without keys.
     fn pending_bound(&self) -> u64
-        ensures { (given : GivenKeys) → HoldsParts self.now given →
-            result ≡ key_parts_bound (rest_keys self.now.policy given.pending) }
+        ensures { (given : spec.GivenKeys) → spec.HoldsParts self.now given →
+            result ≡ spec.key_parts_bound (spec.rest_keys self.now.policy given.pending) }
     {
         match self.bloom_hash_buffer.len() {
             0 => 0,
@@ -188,8 +172,9 @@ impl<A: Allocator + Clone> PartitionedFilterWriter<A> {
 
     // Checks the size bounds of the pending keys' filter and of the section of all partitions.
     fn check_sizes(&self) -> Result<(), Error>
-        ensures { (given : GivenKeys) → HoldsParts self.now given →
-            Refuses result (size_fault (Partitioned self.now.size) self.now.policy given) }
+        ensures { (given : spec.GivenKeys) → spec.HoldsParts self.now given →
+            spec.Refuses result (spec.size_fault (Partitioned self.now.size) self.now.policy
+            given) }
     {
         let pending = self.pending_bound();
         if pending > u64::from(u32::MAX) {
@@ -203,12 +188,12 @@ impl<A: Allocator + Clone> PartitionedFilterWriter<A> {
 
     // Cuts the pending keys if there are any.
     fn spill_rest(&mut self) -> Result<(), Error>
-        ensures ok { OnOk result ((given : GivenKeys) →
-            HoldsParts self.old given → HoldsAll self.new given) }
+        ensures ok { OnOk result ((given : spec.GivenKeys) →
+            spec.HoldsParts self.old given → spec.HoldsAll self.new given) }
         ensures policy { self.new.policy ≡ self.old.policy }
         ensures size { self.new.size ≡ self.old.size }
-        ensures refused { (given : GivenKeys) → HoldsParts self.old given →
-            Faults result (keys_fault self.old.policy given.pending) }
+        ensures refused { (given : spec.GivenKeys) → spec.HoldsParts self.old given →
+            spec.Faults result (spec.keys_fault self.old.policy given.pending) }
         // Without pending keys it succeeds.
         ensures idle { OnErr result (self.old.last ≡ None → ⊥) }
     {
@@ -283,15 +268,16 @@ fn write_sections<A: Allocator + Clone>(
     partitions: Vec<FilterPartition<A>, A>,
     compression: CompressionType,
 ) -> Result<usize, Error>
-    requires unwritten { HasNoFilter writer.old }
-    requires rising { AreRising (end_keys partitions.items) }
+    requires unwritten { spec.HasNoFilter writer.old }
+    requires rising { spec.AreRising (spec.end_keys partitions.items) }
     ensures ok { OnOk result (writer.new ≡
-        appended writer.old (part_sections (length writer.old.bytes) partitions.items)) }
+        spec.appended writer.old (spec.part_sections (length writer.old.bytes) partitions.items)) }
     ensures short { OnOk result (
-        SectionFits (FilterTli, tops_block (length writer.old.bytes) partitions.items)) }
+        spec.SectionFits
+        (spec.FilterTli, spec.tops_block (length writer.old.bytes) partitions.items)) }
     ensures count { IfOk result (λ n. n ≡ length partitions.items) }
     ensures before { take (length writer.old.bytes) writer.new.bytes ≡ writer.old.bytes }
-    ensures refused { Faults result (top_fault (end_keys partitions.items)) }
+    ensures refused { spec.Faults result (spec.top_fault (spec.end_keys partitions.items)) }
 {
     writer.start(SectionName::Filter)?;
     let handles = write_partitions(writer, partitions)?;
@@ -306,12 +292,13 @@ fn write_partitions<A: Allocator + Clone>(
     partitions: Vec<FilterPartition<A>, A>,
 ) -> Result<Vec<KeyedBlockHandle<A>, A>, Error>
     ensures ok { OnOk result (writer.new.bytes ≡
-        writer.old.bytes ++ flat_map (filter_block V4) (filters_of partitions.items)) }
+        writer.old.bytes ++ spec.flat_map (spec.filter_block spec.V4)
+        (spec.filters_of partitions.items)) }
     ensures handles { let at = length writer.old.bytes in
-        IfOk result (λ hs. hs.items ≡ tops_of at partitions.items) }
+        IfOk result (λ hs. hs.items ≡ spec.tops_of at partitions.items) }
     ensures started { writer.new.started ≡ writer.old.started }
     ensures before { take (length writer.old.bytes) writer.new.bytes ≡ writer.old.bytes }
-    ensures err { IfErr result (λ e. e ≡ OutOfMemory) }
+    ensures err { IfErr result (λ e. e ≡ spec.OutOfMemory) }
 {
     let mut handles = Vec::new(partitions.allocator().clone()?);
     for partition in partitions {
@@ -327,14 +314,14 @@ fn write_partition<A: Allocator + Clone>(
     writer: &mut SectionWriter<A>,
     partition: FilterPartition<A>,
 ) -> Result<KeyedBlockHandle<A>, Error>
-    ensures ok { let bytes = writer.old.bytes ++ filter_block V4 partition.filter in
+    ensures ok { let bytes = writer.old.bytes ++ spec.filter_block spec.V4 partition.filter in
         OnOk result (writer.new ≡ record writer.old { bytes = bytes }) }
-    ensures handle { let size = header_len + length (payload_of partition.filter) in
+    ensures handle { let size = spec.header_len + length (spec.payload_of partition.filter) in
         let at = length writer.old.bytes in
         IfOk result (λ h. h ≡
         record { end_key = partition.end_key; seqno = 0; offset = at; size = size }) }
     ensures unchanged { OnErr result (writer.new ≡ writer.old) }
-    ensures err { IfErr result (λ e. e ≡ OutOfMemory) }
+    ensures err { IfErr result (λ e. e ≡ spec.OutOfMemory) }
 {
     let end_key = partition.end_key.into_key()?;
     let payload = partition.filter.build();
@@ -349,13 +336,15 @@ fn write_top_level<A: Allocator + Clone>(
     handles: &Vec<KeyedBlockHandle<A>, A>,
     compression: CompressionType,
 ) -> Result<(), Error>
-    requires unwritten { All (λ s. slot_index s.0 ≡ 4 → ⊥) writer.old.started }
-    requires strict { AreStrictHandles handles.now.items }
+    requires unwritten { All (λ s. spec.slot_index s.0 ≡ 4 → ⊥) writer.old.started }
+    requires strict { spec.AreStrictHandles handles.now.items }
     ensures ok { OnOk result (writer.new ≡
-        appended writer.old ((FilterTli, handles_block V4 handles.now.items) ∷ [])) }
-    ensures short { OnOk result (SectionFits (FilterTli, handles_block V4 handles.now.items)) }
+        spec.appended writer.old ((spec.FilterTli, spec.handles_block spec.V4 handles.now.items)
+        ∷ [])) }
+    ensures short { OnOk result
+        (spec.SectionFits (spec.FilterTli, spec.handles_block spec.V4 handles.now.items)) }
     ensures before { take (length writer.old.bytes) writer.new.bytes ≡ writer.old.bytes }
-    ensures refused { Faults result (handles_fault handles.now.items) }
+    ensures refused { spec.Faults result (spec.handles_fault handles.now.items) }
 {
     let mut payload = Vec::new(handles.allocator().clone()?);
     IndexBlock::encode_into(&mut payload, handles)?;

@@ -1,16 +1,6 @@
 //! The trait of filter writers, and laws of the filters that they write.
 ghost use Rattle.std.specs.Prelude.{◌≡◌, ◌<◌, ◌≤◌, ◌^◌, ◌++◌, ◌∷◌, ℕ, List, [], None, true};
-ghost use Rattle.lsm_writers.specs.section.FilterWords.{AreRising, GivenKeys, IsAdmitted};
-ghost use Rattle.lsm_writers.specs.section.FilterWords.{WritesFilter, WritesParts};
-ghost use Rattle.lsm_writers.specs.section.FilterWords.{all_keys, filter_fault, given_by};
-ghost use Rattle.lsm_writers.specs.section.FilterWords.{given_fault};
-ghost use Rattle.lsm_writers.specs.section.FilterWords.{no_keys, partition_size, register_fault};
-ghost use Rattle.lsm_writers.specs.section.FilterWords.{tenths_of, was_given, with_key};
-ghost use Rattle.sst_blocks.specs.declared.table.options.FilterKind.{FilterKind};
-ghost use Rattle.sst_blocks.specs.Sections.{Written};
-ghost use Rattle.sst_blocks.specs.declared.filter.policy.BloomConstructionPolicy.{
-  BloomConstructionPolicy,
-};
+ghost use Rattle.lsm_writers.specs.Words as spec;
 
 use sst_blocks::{BloomConstructionPolicy, CompressionType, Error, SectionWriter, UserKey};
 use std::alloc::Allocator;
@@ -166,9 +156,10 @@ pub trait FilterWriter<A: Allocator> {
 /// The partition size is at most 4,194,304 bytes. The options must stay unchanged from the first
 /// key on. The call does nothing.
 pub fn small_partitions_fit()
-    ensures { (kind : FilterKind) (policy : BloomConstructionPolicy) (keys : List (List ℕ))
-        (key : List ℕ) → tenths_of policy < 2 ^ 32 → partition_size kind ≤ 4194304 →
-        register_fault kind policy (given_by kind policy keys).pending key ≡ None }
+    ensures { (kind : spec.FilterKind) (policy : spec.BloomConstructionPolicy)
+        (keys : List (List ℕ))
+        (key : List ℕ) → spec.tenths_of policy < 2 ^ 32 → spec.partition_size kind ≤ 4194304 →
+        spec.register_fault kind policy (spec.given_by kind policy keys).pending key ≡ None }
 {}
 
 /// States the keys and filters of a writer whose kind and policy are set before the first key.
@@ -186,18 +177,20 @@ pub fn small_partitions_fit()
 ///
 /// The call does nothing.
 pub fn options_set_before_keys()
-    ensures none { (kind : FilterKind) (policy : BloomConstructionPolicy) →
-        given_by kind policy [] ≡ no_keys }
-    ensures more { (kind : FilterKind) (policy : BloomConstructionPolicy) (keys : List (List ℕ))
-        (key : List ℕ) →
-        with_key kind policy (given_by kind policy keys) key
-        ≡ given_by kind policy (keys ++ key ∷ []) }
-    ensures writes { (kind : FilterKind) (policy : BloomConstructionPolicy) (keys : List (List ℕ))
-        (before after : Written) (count : ℕ) →
-        WritesParts kind policy (given_by kind policy keys) before after count →
-        WritesFilter kind policy keys before after count }
-    ensures fault { (kind : FilterKind) (policy : BloomConstructionPolicy) (keys : List (List ℕ)) →
-        given_fault kind policy (given_by kind policy keys) ≡ filter_fault kind policy keys }
+    ensures none { (kind : spec.FilterKind) (policy : spec.BloomConstructionPolicy) →
+        spec.given_by kind policy [] ≡ spec.no_keys }
+    ensures more { (kind : spec.FilterKind) (policy : spec.BloomConstructionPolicy)
+        (keys : List (List ℕ)) (key : List ℕ) →
+        spec.with_key kind policy (spec.given_by kind policy keys) key
+        ≡ spec.given_by kind policy (keys ++ key ∷ []) }
+    ensures writes { (kind : spec.FilterKind) (policy : spec.BloomConstructionPolicy)
+        (keys : List (List ℕ)) (before after : spec.Written) (count : ℕ) →
+        spec.WritesParts kind policy (spec.given_by kind policy keys) before after count →
+        spec.WritesFilter kind policy keys before after count }
+    ensures fault { (kind : spec.FilterKind) (policy : spec.BloomConstructionPolicy)
+        (keys : List (List ℕ)) →
+        spec.given_fault kind policy (spec.given_by kind policy keys)
+        ≡ spec.filter_fault kind policy keys }
 {}
 
 /// States that the filter written by [`FilterWriter::finish`] admits each registered key.
@@ -210,11 +203,12 @@ pub fn options_set_before_keys()
 ///
 /// A second clause: registering a key appends it to the registered keys. The call does nothing.
 pub fn registered_keys_are_admitted()
-    ensures admitted { (kind : FilterKind) (policy : BloomConstructionPolicy) (given : GivenKeys)
-        (before after : Written) (count : ℕ) (behind key : List ℕ) →
-        WritesParts kind policy given before after count → AreRising (all_keys given) →
-        was_given given key ≡ true → IsAdmitted kind before after behind key }
-    ensures gained { (kind : FilterKind) (policy : BloomConstructionPolicy) (given : GivenKeys)
-        (key : List ℕ) →
-        all_keys (with_key kind policy given key) ≡ all_keys given ++ key ∷ [] }
+    ensures admitted { (kind : spec.FilterKind) (policy : spec.BloomConstructionPolicy)
+        (given : spec.GivenKeys) (before after : spec.Written) (count : ℕ) (behind key : List ℕ) →
+        spec.WritesParts kind policy given before after count →
+        spec.AreRising (spec.all_keys given) →
+        spec.was_given given key ≡ true → spec.IsAdmitted kind before after behind key }
+    ensures gained { (kind : spec.FilterKind) (policy : spec.BloomConstructionPolicy)
+        (given : spec.GivenKeys) (key : List ℕ) →
+        spec.all_keys (spec.with_key kind policy given key) ≡ spec.all_keys given ++ key ∷ [] }
 {}

@@ -1,7 +1,6 @@
 //! The handles of an index writer of either kind.
 ghost use Rattle.std.specs.Prelude.{◌≡◌, ◌++◌, ◌∷◌, [], true, false, OnOk, OnErr};
-ghost use Rattle.lsm_writers.specs.section.IndexWords.{Faults, FaultsFirst, failed_fault};
-ghost use Rattle.lsm_writers.specs.section.IndexWords.{handle_with};
+ghost use Rattle.lsm_writers.specs.Words as spec;
 
 use crate::section::kept::KeptHandles;
 use sst_blocks::{BlockHandle, Error, SeqNo};
@@ -37,12 +36,12 @@ impl<A: Allocator + Clone> HeldHandles<A> {
         block: BlockHandle,
     ) -> Result<(), Error>
         ensures ok { OnOk result (
-            self.new.handles ≡ self.old.handles ++ handle_with end_key.now seqno block ∷ []) }
+            self.new.handles ≡ self.old.handles ++ spec.handle_with end_key.now seqno block ∷ []) }
         ensures works { OnOk result (self.new.failed ≡ false) }
         ensures unchanged { OnErr result (self.new.handles ≡ self.old.handles) }
         ensures failed { OnErr result (self.new.failed ≡ true) }
-        ensures refused { Faults result (failed_fault self.old.failed) }
-        ensures first { FaultsFirst result (failed_fault self.old.failed) }
+        ensures refused { spec.Faults result (spec.failed_fault self.old.failed) }
+        ensures first { spec.FaultsFirst result (spec.failed_fault self.old.failed) }
     {
         if self.failed {
             return Err(Error::WriterFailed); // nothing is registered

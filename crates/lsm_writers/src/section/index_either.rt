@@ -1,7 +1,6 @@
 //! The index writer of a kind chosen at run time.
 ghost use Rattle.std.specs.Prelude.{◌≡◌};
-ghost use Rattle.lsm_writers.specs.section.IndexEither.{registered_by};
-ghost use Rattle.lsm_writers.specs.section.IndexWords.{AreStrictHandles};
+ghost use Rattle.lsm_writers.specs.Words as spec;
 
 use crate::section::held::HeldHandles;
 use crate::section::index_full::FullIndexWriter;
@@ -26,8 +25,8 @@ impl<A: Allocator> IndexWriterImpl<A> {
         compression: CompressionType,
         held: HeldHandles<A>,
     ) -> IndexWriterImpl<A>
-        requires { AreStrictHandles held.handles }
-        ensures { registered_by result ≡
+        requires { spec.AreStrictHandles held.handles }
+        ensures { spec.registered_by result ≡
             record { handles = held.handles; kind = kind; failed = held.failed } }
     {
         match kind {

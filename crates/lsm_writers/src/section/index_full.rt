@@ -1,13 +1,7 @@
 //! The writer of a full index.
 ghost use Rattle.std.specs.Prelude.{◌≡◌, ◌∷◌, [], false, length, take, IfOk, OnOk};
-ghost use Rattle.lsm_writers.specs.section.IndexWords.{AreStrictHandles, Faults, HasNoIndex};
-ghost use Rattle.lsm_writers.specs.section.IndexWords.{SectionFits};
-ghost use Rattle.lsm_writers.specs.section.IndexWords.{appended};
-ghost use Rattle.lsm_writers.specs.section.IndexWords.{handles_block, handles_fault};
-ghost use Rattle.lsm_writers.specs.section.IndexEither.{registered_by};
+ghost use Rattle.lsm_writers.specs.Words as spec;
 ghost use Rattle.sst_blocks.specs.declared.table.options.IndexKind.TheVariants.{Full};
-ghost use Rattle.sst_blocks.specs.declared.section.SectionName.TheVariants.{Tli};
-ghost use Rattle.sst_blocks.specs.declared.version.TableVersion.TheVariants.{V4};
 
 use crate::section::block::{write_empty_top_level, write_top_level};
 use crate::section::held::HeldHandles;
@@ -53,7 +47,7 @@ impl<A: Allocator> FullIndexWriter<A> {
 
     /// Creates a writer of these handles.
     pub(crate) fn of(compression: CompressionType, held: HeldHandles<A>) -> FullIndexWriter<A>
-        requires { AreStrictHandles held.handles }
+        requires { spec.AreStrictHandles held.handles }
         ensures { result ≡
             record { handles = held.handles; kind = Full; failed = held.failed } }
     {
@@ -64,7 +58,7 @@ impl<A: Allocator> FullIndexWriter<A> {
     ///
     /// A caller can thus choose the kind after all handles are registered.
     pub fn into_kind(self, kind: IndexKind) -> IndexWriterImpl<A>
-        ensures { registered_by result ≡ record self { kind = kind } }
+        ensures { spec.registered_by result ≡ record self { kind = kind } }
     {
         IndexWriterImpl::of(kind, self.compression, self.held)
     }
@@ -114,14 +108,14 @@ fn write_section<A: Allocator + Clone>(
     kept: KeptHandles<A>,
     compression: CompressionType,
 ) -> Result<usize, Error>
-    requires unwritten { HasNoIndex writer.old }
-    requires strict { AreStrictHandles kept }
+    requires unwritten { spec.HasNoIndex writer.old }
+    requires strict { spec.AreStrictHandles kept }
     ensures ok { OnOk result (writer.new ≡
-        appended writer.old ((Tli, handles_block V4 kept) ∷ [])) }
+        spec.appended writer.old ((spec.Tli, spec.handles_block spec.V4 kept) ∷ [])) }
     ensures count { IfOk result (λ n. n ≡ 1) }
-    ensures fits { OnOk result (SectionFits (Tli, handles_block V4 kept)) }
+    ensures fits { OnOk result (spec.SectionFits (spec.Tli, spec.handles_block spec.V4 kept)) }
     ensures before { take (length writer.old.bytes) writer.new.bytes ≡ writer.old.bytes }
-    ensures refused { Faults result (handles_fault kept) }
+    ensures refused { spec.Faults result (spec.handles_fault kept) }
 {
     let handles = kept.into_handles()?;
     let mut buffer = Vec::new(handles.allocator().clone()?);

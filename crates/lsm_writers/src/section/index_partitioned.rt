@@ -2,18 +2,8 @@
 ghost use Rattle.std.specs.Prelude.{◌≡◌, ◌+◌, ◌-◌, ◌<◌, ◌≤◌, ◌^◌, ◌++◌, ◌∷◌, [], false, length};
 ghost use Rattle.std.specs.Prelude.{take};
 ghost use Rattle.std.specs.Prelude.{IfOk, IfErr, OnOk, OnErr};
-ghost use Rattle.std.specs.List.{AllByRecursion, flat_map};
-ghost use Rattle.lsm_writers.specs.section.IndexWords.{AreStrictHandles, Faults, HasNoIndex};
-ghost use Rattle.lsm_writers.specs.section.IndexWords.{SectionFits};
-ghost use Rattle.lsm_writers.specs.section.IndexWords.{appended};
-ghost use Rattle.lsm_writers.specs.section.IndexWords.{capped, handle_size, handles_block};
-ghost use Rattle.lsm_writers.specs.section.IndexWords.{index_block_bound_of};
-ghost use Rattle.lsm_writers.specs.section.IndexWords.{index_tops, is_full_index, kind_fault};
-ghost use Rattle.lsm_writers.specs.section.IndexWords.{part_fault};
-ghost use Rattle.lsm_writers.specs.section.IndexWords.{partitioned_index, parts_by, parts_fault};
+ghost use Rattle.lsm_writers.specs.Words as spec;
 ghost use Rattle.sst_blocks.specs.declared.table.options.IndexKind.TheVariants.{Partitioned};
-ghost use Rattle.sst_entries.specs.declared.error.Error.TheVariants.{OutOfMemory};
-ghost use Rattle.sst_blocks.specs.declared.version.TableVersion.TheVariants.{V4};
 
 use crate::section::block::{write_block, write_empty_top_level, write_top_level};
 use crate::section::held::HeldHandles;
@@ -70,7 +60,7 @@ impl<A: Allocator> PartitionedIndexWriter<A> {
         partition_size: u32,
         held: HeldHandles<A>,
     ) -> PartitionedIndexWriter<A>
-        requires { AreStrictHandles held.handles }
+        requires { spec.AreStrictHandles held.handles }
         ensures { result ≡ record {
           handles = held.handles;
           kind = Partitioned partition_size;
@@ -134,11 +124,11 @@ fn write_no_partitions<A: Allocator + Clone>(
     writer: &mut SectionWriter<A>,
     compression: CompressionType,
 ) -> Result<(), Error>
-    requires { HasNoIndex writer.old }
+    requires { spec.HasNoIndex writer.old }
     ensures ok { let at = length writer.old.bytes in
-        OnOk result (writer.new ≡ appended writer.old (partitioned_index V4 at [])) }
+        OnOk result (writer.new ≡ spec.appended writer.old (spec.partitioned_index spec.V4 at [])) }
     ensures bytes { OnErr result (writer.new.bytes ≡ writer.old.bytes) }
-    ensures err { IfErr result (λ e. e ≡ OutOfMemory) }
+    ensures err { IfErr result (λ e. e ≡ spec.OutOfMemory) }
 {
     writer.start(SectionName::Index)?;
     write_empty_top_level(writer, compression)
@@ -152,18 +142,20 @@ fn write_sections<A: Allocator + Clone>(
     partition_size: u32,
     compression: CompressionType,
 ) -> Result<usize, Error>
-    requires unwritten { HasNoIndex writer.old }
-    requires strict { AreStrictHandles kept }
-    ensures ok { let parts = parts_by (is_full_index partition_size) kept in
+    requires unwritten { spec.HasNoIndex writer.old }
+    requires strict { spec.AreStrictHandles kept }
+    ensures ok { let parts = spec.parts_by (spec.is_full_index partition_size) kept in
         let at = length writer.old.bytes in
-        OnOk result (writer.new ≡ appended writer.old (partitioned_index V4 at parts)) }
-    ensures count { let parts = parts_by (is_full_index partition_size) kept in
+        OnOk result (writer.new
+        ≡ spec.appended writer.old (spec.partitioned_index spec.V4 at parts)) }
+    ensures count { let parts = spec.parts_by (spec.is_full_index partition_size) kept in
         IfOk result (λ n. n ≡ length parts) }
-    ensures fits { let parts = parts_by (is_full_index partition_size) kept in
+    ensures fits { let parts = spec.parts_by (spec.is_full_index partition_size) kept in
         let at = length writer.old.bytes in
-        OnOk result (AllByRecursion SectionFits (partitioned_index V4 at parts)) }
+        OnOk result (spec.AllByRecursion spec.SectionFits
+        (spec.partitioned_index spec.V4 at parts)) }
     ensures before { take (length writer.old.bytes) writer.new.bytes ≡ writer.old.bytes }
-    ensures refused { Faults result (kind_fault (Partitioned partition_size) kept) }
+    ensures refused { spec.Faults result (spec.kind_fault (Partitioned partition_size) kept) }
 {
     let handles = kept.into_handles()?;
     writer.start(SectionName::Index)?;
@@ -192,18 +184,18 @@ fn write_partitions<A: Allocator + Clone>(
     buffer: &mut Vec<u8, A>,
     compression: CompressionType,
 ) -> Result<(), Error>
-    requires strict { AreStrictHandles handles.now }
+    requires strict { spec.AreStrictHandles handles.now }
     requires empty { tops.old.items ≡ [] }
-    ensures ok { let parts = parts_by (is_full_index partition_size) handles.now in
-        let bytes = writer.old.bytes ++ flat_map (handles_block V4) parts in
+    ensures ok { let parts = spec.parts_by (spec.is_full_index partition_size) handles.now in
+        let bytes = writer.old.bytes ++ spec.flat_map (spec.handles_block spec.V4) parts in
         OnOk result (writer.new ≡ record writer.old { bytes = bytes }) }
-    ensures tops { let parts = parts_by (is_full_index partition_size) handles.now in
-        OnOk result (tops.new.items ≡ index_tops V4 (length writer.old.bytes) parts) }
-    ensures short { let parts = parts_by (is_full_index partition_size) handles.now in
-        OnOk result (length (flat_map (handles_block V4) parts) < 2 ^ 32) }
+    ensures tops { let parts = spec.parts_by (spec.is_full_index partition_size) handles.now in
+        OnOk result (tops.new.items ≡ spec.index_tops spec.V4 (length writer.old.bytes) parts) }
+    ensures short { let parts = spec.parts_by (spec.is_full_index partition_size) handles.now in
+        OnOk result (length (spec.flat_map (spec.handles_block spec.V4) parts) < 2 ^ 32) }
     ensures before { take (length writer.old.bytes) writer.new.bytes ≡ writer.old.bytes }
-    ensures refused { let parts = parts_by (is_full_index partition_size) handles.now in
-        Faults result (parts_fault 0 parts) }
+    ensures refused { let parts = spec.parts_by (spec.is_full_index partition_size) handles.now in
+        spec.Faults result (spec.parts_fault 0 parts) }
 {
     let base = writer.position();
     let mut start = 0;
@@ -226,7 +218,7 @@ fn write_partitions<A: Allocator + Clone>(
 
 /// Returns the size of a partition of `size` bytes with one more handle. The sum saturates.
 fn with_handle<A: Allocator>(size: u64, handle: &KeyedBlockHandle<A>) -> u64
-    ensures { result ≡ capped (size + handle_size handle.now) }
+    ensures { result ≡ spec.capped (size + spec.handle_size handle.now) }
 {
     let size = size.saturating_add(handle.end_key().len() as u64);
     size.saturating_add(HANDLE_SIZE)
@@ -244,17 +236,18 @@ fn write_partition<A: Allocator + Clone>(
     compression: CompressionType,
 ) -> Result<(), Error>
     requires some { 0 < length part.now }
-    requires strict { AreStrictHandles part.now }
+    requires strict { spec.AreStrictHandles part.now }
     requires behind { base ≤ length writer.old.bytes }
-    ensures ok { let bytes = writer.old.bytes ++ handles_block V4 part.now in
+    ensures ok { let bytes = writer.old.bytes ++ spec.handles_block spec.V4 part.now in
         OnOk result (writer.new ≡ record writer.old { bytes = bytes }) }
-    ensures top { let top = index_tops V4 (length writer.old.bytes) (part.now ∷ []) in
+    ensures top { let top = spec.index_tops spec.V4 (length writer.old.bytes) (part.now ∷ []) in
         OnOk result (tops.new.items ≡ tops.old.items ++ top) }
-    ensures bound { let size = length (handles_block V4 part.now) in
-        OnOk result (size ≡ index_block_bound_of part.now) }
+    ensures bound { let size = length (spec.handles_block spec.V4 part.now) in
+        OnOk result (size ≡ spec.index_block_bound_of part.now) }
     ensures short { OnOk result (length writer.new.bytes - base < 2 ^ 32) }
     ensures before { take (length writer.old.bytes) writer.new.bytes ≡ writer.old.bytes }
-    ensures refused { Faults result (part_fault (length writer.old.bytes - base) part.now) }
+    ensures refused { spec.Faults result
+        (spec.part_fault (length writer.old.bytes - base) part.now) }
 {
     let block = write_block(writer, part, buffer, compression)?;
     if writer.position() - base > u64::from(u32::MAX) {

@@ -1,8 +1,7 @@
 //! Storage of handles until all of them are written.
 ghost use Rattle.std.specs.Prelude.{◌≡◌, ◌↔◌, ◌++◌, ◌∷◌, [], length, unwrap_or, IsTrue};
 ghost use Rattle.std.specs.Prelude.{IfOk, IfErr, OnOk, OnErr};
-ghost use Rattle.sst_entries.specs.declared.error.Error.TheVariants.{OutOfMemory};
-ghost use Rattle.lsm_writers.specs.section.Kept.{AreAmong, handle_with, handles_among};
+ghost use Rattle.lsm_writers.specs.Words as spec;
 
 use crate::section::key_buffer::KeyBuffer;
 use sst_blocks::{BlockHandle, Error, KeyedBlockHandle, SeqNo, Slice};
@@ -68,9 +67,10 @@ impl<A: Allocator + Clone> KeptHandles<A> {
         seqno: SeqNo,
         block: BlockHandle,
     ) -> Result<(), Error>
-        ensures ok { OnOk result (self.new ≡ self.old ++ handle_with end_key.now seqno block ∷ []) }
+        ensures ok { OnOk result (self.new ≡ self.old ++ spec.handle_with end_key.now seqno block
+            ∷ []) }
         ensures left { OnErr result (self.new ≡ self.old) }
-        ensures err { IfErr result (λ e. e ≡ OutOfMemory) }
+        ensures err { IfErr result (λ e. e ≡ spec.OutOfMemory) }
     {
         let (start, end) = put_key(&mut self.keys, self.places.allocator(), end_key)?;
         self.places.push(HandlePlace {
@@ -86,7 +86,7 @@ impl<A: Allocator + Clone> KeptHandles<A> {
     /// [`Error::OutOfMemory`].
     pub(crate) fn into_handles(self) -> Result<Vec<KeyedBlockHandle<A>, A>, Error>
         ensures ok { IfOk result (λ hs. hs.items ≡ self) }
-        ensures err { IfErr result (λ e. e ≡ OutOfMemory) }
+        ensures err { IfErr result (λ e. e ≡ spec.OutOfMemory) }
     {
         let KeptHandles { keys, places } = self;
         let alloc = places.allocator().clone()?;
@@ -109,7 +109,7 @@ fn put_key<A: Allocator + Clone>(
     ensures start { IfOk result (λ place. place.0 ≡ length (unwrap_or keys.old [])) }
     ensures end { IfOk result (λ place. place.1 ≡ length (unwrap_or keys.new [])) }
     ensures left { OnErr result (keys.new ≡ keys.old) }
-    ensures err { IfErr result (λ e. e ≡ OutOfMemory) }
+    ensures err { IfErr result (λ e. e ≡ spec.OutOfMemory) }
 {
     if let Some(keys) = keys {
         let start = keys.len();
@@ -129,9 +129,9 @@ fn shared_handles<A: Allocator>(
     keys: &Slice<A>,
     places: &[HandlePlace],
 ) -> Result<Vec<KeyedBlockHandle<A>, A>, Error>
-    requires { AreAmong keys.now places.now }
-    ensures ok { IfOk result (λ hs. hs.items ≡ handles_among keys.now places.now) }
-    ensures err { IfErr result (λ e. e ≡ OutOfMemory) }
+    requires { spec.AreAmong keys.now places.now }
+    ensures ok { IfOk result (λ hs. hs.items ≡ spec.handles_among keys.now places.now) }
+    ensures err { IfErr result (λ e. e ≡ spec.OutOfMemory) }
 {
     let mut handles = Vec::with_capacity(alloc, places.len())?;
     for place in places {

@@ -1,6 +1,6 @@
 //! A buffer of keys whose memory is reused.
 ghost use Rattle.std.specs.Prelude.{◌≡◌, ◌++◌, Some, length, IfOk, IfErr, OnOk, OnErr};
-ghost use Rattle.sst_entries.specs.declared.error.Error.TheVariants.{OutOfMemory};
+ghost use Rattle.lsm_writers.specs.Words as spec;
 
 use sst_blocks::{Error, UserKey};
 use std::alloc::{Allocator, Global};
@@ -31,7 +31,7 @@ impl<A: Allocator> KeyBuffer<A> {
     /// Only [`Error::OutOfMemory`].
     pub fn from(alloc: A, key: &[u8]) -> Result<KeyBuffer<A>, Error>
         ensures ok { IfOk result (λ b. b ≡ key.now) }
-        ensures err { IfErr result (λ e. e ≡ OutOfMemory) }
+        ensures err { IfErr result (λ e. e ≡ spec.OutOfMemory) }
     {
         let mut bytes = Vec::new(alloc);
         bytes.extend_from_slice(key)?;
@@ -62,7 +62,7 @@ impl<A: Allocator> KeyBuffer<A> {
     pub fn set(&mut self, key: &[u8]) -> Result<(), Error>
         ensures ok { OnOk result (self.new ≡ key.now) }
         ensures left { OnErr result (self.new ≡ self.old) }
-        ensures err { IfErr result (λ e. e ≡ OutOfMemory) }
+        ensures err { IfErr result (λ e. e ≡ spec.OutOfMemory) }
     {
         let held = self.bytes.len();
         if key.len() > held {
@@ -81,7 +81,7 @@ impl<A: Allocator> KeyBuffer<A> {
     pub fn append(&mut self, bytes: &[u8]) -> Result<(), Error>
         ensures ok { OnOk result (self.new ≡ self.old ++ bytes.now) }
         ensures left { OnErr result (self.new ≡ self.old) }
-        ensures err { IfErr result (λ e. e ≡ OutOfMemory) }
+        ensures err { IfErr result (λ e. e ≡ spec.OutOfMemory) }
     {
         self.bytes.extend_from_slice(bytes)?;
         Ok(())

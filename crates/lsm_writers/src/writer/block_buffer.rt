@@ -2,18 +2,7 @@
 ghost use Rattle.std.specs.Prelude.{◌≡◌, ◌↔◌, ◌+◌, ◌++◌, ◌<◌, ◌≤◌, [], ◌∷◌, None, drop, length};
 ghost use Rattle.std.specs.Prelude.{take, vec_len};
 ghost use Rattle.std.specs.Prelude.{IfErr, IfOk, IsTrue, OnErr, OnOk};
-ghost use Rattle.std.specs.Option.{option_map};
-ghost use Rattle.sst_blocks.specs.Encoding.{IsShortEntry};
-ghost use Rattle.sst_blocks.specs.Payload.{IsSpellable, spelled};
-ghost use Rattle.sst_entries.specs.Kind.{tag_of};
-ghost use Rattle.sst_entries.specs.Lending.{entry_of_ref};
-ghost use Rattle.sst_entries.specs.declared.error.Error.TheVariants.{OutOfMemory};
-ghost use Rattle.sst_blocks.specs.Number.{le4, le8};
-ghost use Rattle.sst_blocks.specs.declared.version.TableVersion.TheVariants.{V4};
-ghost use Rattle.sst_blocks.specs.table.Index.{block_size};
-ghost use Rattle.lsm_writers.specs.Buffered.{IsMark, MarksFront};
-ghost use Rattle.lsm_writers.specs.Words.{IsReadable, IsStrict, data_block, entries_fault};
-ghost use Rattle.lsm_writers.specs.Words.{last_of, payload};
+ghost use Rattle.lsm_writers.specs.Words as spec;
 
 use sst_blocks::number::put_u32;
 use sst_blocks::{
@@ -70,7 +59,7 @@ impl<A: Allocator> BlockBuffer<A> {
     /// Creates an empty buffer. Fails only with [`Error::OutOfMemory`].
     pub(crate) fn new(alloc: A) -> Result<BlockBuffer<A>, Error>
         ensures ok { IfOk result (λ b. b ≡ []) }
-        ensures err { IfErr result (λ e. e ≡ OutOfMemory) }
+        ensures err { IfErr result (λ e. e ≡ spec.OutOfMemory) }
     {
         let mut payload = Vec::new(alloc);
         put_u32(&mut payload, 0)?;
@@ -106,7 +95,7 @@ impl<A: Allocator> BlockBuffer<A> {
 
     /// Returns the payload length, in bytes, of a block of these entries.
     pub(crate) fn payload_len(&self) -> usize
-        ensures { result ≡ length (payload V4 self.now) }
+        ensures { result ≡ length (spec.payload spec.V4 self.now) }
     {
         self.payload.len()
     }
@@ -114,7 +103,7 @@ impl<A: Allocator> BlockBuffer<A> {
     /// Returns the last entry.
     #[inline]
     pub(crate) fn last(&self) -> Option<EntryRef<'_>>
-        ensures { option_map entry_of_ref result ≡ last_of None self.now }
+        ensures { spec.option_map spec.entry_of_ref result ≡ spec.last_of None self.now }
     {
         let place = self.filled.last?;
         let entries = &self.payload[COUNT_LEN..];
@@ -128,10 +117,10 @@ impl<A: Allocator> BlockBuffer<A> {
 
     /// Appends an entry. Fails only with [`Error::OutOfMemory`]; nothing changes then.
     pub(crate) fn push(&mut self, entry: &EntryRef<'_>) -> Result<(), Error>
-        requires { IsShortEntry (entry_of_ref entry.now) }
-        ensures pushed { OnOk result (self.new ≡ self.old ++ entry_of_ref entry.now ∷ []) }
+        requires { spec.IsShortEntry (spec.entry_of_ref entry.now) }
+        ensures pushed { OnOk result (self.new ≡ self.old ++ spec.entry_of_ref entry.now ∷ []) }
         ensures left { OnErr result (self.new ≡ self.old) }
-        ensures err { IfErr result (λ e. e ≡ OutOfMemory) }
+        ensures err { IfErr result (λ e. e ≡ spec.OutOfMemory) }
     {
         let end = self.filled.end;
         if let Err(error) = put_entry(&mut self.payload, entry) {
@@ -155,14 +144,14 @@ impl<A: Allocator> BlockBuffer<A> {
     /// Returns a checkpoint for [`BlockBuffer::rewind`].
     #[inline]
     pub(crate) fn mark(&self) -> Mark
-        ensures { IsMark result self.now }
+        ensures { spec.IsMark result self.now }
     {
         self.filled
     }
 
     /// Drops the entries after a checkpoint.
     pub(crate) fn rewind(&mut self, mark: Mark)
-        requires { MarksFront mark self.old }
+        requires { spec.MarksFront mark self.old }
         ensures { self.new ≡ take mark.len self.old }
     {
         self.payload.truncate(mark.end);
@@ -194,18 +183,18 @@ impl<A: Allocator + Clone> BlockBuffer<A> {
         &mut self,
         file_writer: &mut SectionWriter<A>,
     ) -> Result<BlockHandle, Error>
-        requires strict { IsStrict self.old }
+        requires strict { spec.IsStrict self.old }
         requires some { 0 < length self.old }
-        requires fit { entries_fault self.old ≡ None }
+        requires fit { spec.entries_fault self.old ≡ None }
         ensures ok { OnOk result (file_writer.new ≡ record file_writer.old {
-          bytes = file_writer.old.bytes ++ data_block V4 self.old;
+          bytes = file_writer.old.bytes ++ spec.data_block spec.V4 self.old;
         }) }
         ensures handle { let at = length file_writer.old.bytes in
-            IfOk result (λ h. h ≡ record { offset = at; size = block_size V4 self.old }) }
-        ensures readable { IsReadable V4 self.old }
+            IfOk result (λ h. h ≡ record { offset = at; size = spec.block_size spec.V4 self.old }) }
+        ensures readable { spec.IsReadable spec.V4 self.old }
         ensures same { self.new ≡ self.old }
         ensures unchanged { OnErr result (file_writer.new ≡ file_writer.old) }
-        ensures err { IfErr result (λ e. e ≡ OutOfMemory) }
+        ensures err { IfErr result (λ e. e ≡ spec.OutOfMemory) }
     {
         let count = self.filled.len as u32;
         put_count(&mut self.payload, count);
@@ -221,7 +210,7 @@ impl<A: Allocator + Clone> BlockBuffer<A> {
 /// Writes a count into the room before the entries.
 fn put_count<A: Allocator>(payload: &mut Vec<u8, A>, count: u32)
     requires { 4 ≤ length payload.old.items }
-    ensures { payload.new.items ≡ le4 count ++ drop 4 payload.old.items }
+    ensures { payload.new.items ≡ spec.le4 count ++ drop 4 payload.old.items }
 {
     let [first, second, third, fourth] = count.to_le_bytes();
     payload[0] = first;
@@ -233,7 +222,8 @@ fn put_count<A: Allocator>(payload: &mut Vec<u8, A>, count: u32)
 /// Returns the bytes before an entry's key: kind, sequence number, length of key and of value.
 #[tactic(auto, unfolding(sst_blocks::specs::Number::le4, sst_blocks::specs::Number::le8))]
 fn entry_head(value_type: ValueType, seqno: SeqNo, key_len: u32, value_len: u32) -> [u8; 17]
-    ensures { result ≡ (tag_of value_type ∷ []) ++ le8 seqno ++ le4 key_len ++ le4 value_len }
+    ensures { result ≡ (spec.tag_of value_type ∷ []) ++ spec.le8 seqno ++ spec.le4 key_len
+        ++ spec.le4 value_len }
 {
     let tag = value_type.tag();
     let [n1, n2, n3, n4, n5, n6, n7, n8] = seqno.to_le_bytes();
@@ -248,12 +238,12 @@ fn entry_head(value_type: ValueType, seqno: SeqNo, key_len: u32, value_len: u32)
 /// at its front.
 #[tactic(auto, unfolding(sst_blocks::specs::Payload::spelled))]
 fn put_entry<A: Allocator>(buf: &mut Vec<u8, A>, entry: &EntryRef<'_>) -> Result<(), Error>
-    requires { IsShortEntry (entry_of_ref entry.now) }
+    requires { spec.IsShortEntry (spec.entry_of_ref entry.now) }
     ensures ok { OnOk result (buf.new.items ≡
-        buf.old.items ++ spelled V4 (entry_of_ref entry.now)) }
-    ensures fits { OnOk result (IsSpellable V4 (entry_of_ref entry.now)) }
+        buf.old.items ++ spec.spelled spec.V4 (spec.entry_of_ref entry.now)) }
+    ensures fits { OnOk result (spec.IsSpellable spec.V4 (spec.entry_of_ref entry.now)) }
     ensures front { take (vec_len buf.old) buf.new.items ≡ buf.old.items }
-    ensures err { IfErr result (λ e. e ≡ OutOfMemory) }
+    ensures err { IfErr result (λ e. e ≡ spec.OutOfMemory) }
 {
     let key_len = entry.user_key.len() as u32;
     let value_len = entry.value.len() as u32;

@@ -1,20 +1,7 @@
 //! The data blocks of a table, and the index of them.
 ghost use Rattle.std.specs.Prelude.{◌≡◌, ◌+◌, ◌*◌, ◌++◌, ◌^◌, ◌<◌, List, [], ◌∷◌, Option, None};
 ghost use Rattle.std.specs.Prelude.{Some, true, false, length, IfOk, IfErr, OnOk, OnErr};
-ghost use Rattle.sst_blocks.specs.Handles.{AreStrictHandles};
-ghost use Rattle.lsm_writers.specs.section.Kept.{handle_with};
-ghost use Rattle.lsm_writers.specs.Words.{AreCutBy, BlockFits, CanCut, CountsCut, Entry};
-ghost use Rattle.lsm_writers.specs.Words.{Cut, IsStrict, data_section};
-ghost use Rattle.lsm_writers.specs.Words.{entries_fault, entry_head_len, handles};
-ghost use Rattle.lsm_writers.specs.Words.{joined, laid, last_of};
-ghost use Rattle.lsm_writers.specs.Words.{rest_chunk, with_cut};
-ghost use Rattle.std.specs.Option.{option_map};
-ghost use Rattle.sst_entries.specs.Lending.{entry_of_ref};
-ghost use Rattle.sst_blocks.specs.table.Index.{last_entry};
-ghost use Rattle.sst_entries.specs.declared.error.Error.TheVariants.{OutOfMemory};
-ghost use Rattle.sst_blocks.specs.declared.section.SectionName.TheVariants.{Data};
-ghost use Rattle.sst_blocks.specs.declared.version.TableVersion.TheVariants.{V4};
-ghost use Rattle.std.specs.List.{AllByRecursion};
+ghost use Rattle.lsm_writers.specs.Words as spec;
 
 use crate::writer::block_buffer::BlockBuffer;
 use crate::writer::meta::Metadata;
@@ -63,7 +50,7 @@ impl<A: Allocator + Clone> DataBlocks<A> {
     /// Starts a data section without blocks. Fails only with [`Error::OutOfMemory`].
     pub(crate) fn new(alloc: A) -> Result<DataBlocks<A>, Error>
         ensures ok { IfOk result (λ b. b ≡ record { chunks = []; failed = false }) }
-        ensures err { IfErr result (λ e. e ≡ OutOfMemory) }
+        ensures err { IfErr result (λ e. e ≡ spec.OutOfMemory) }
     {
         let last_block = BlockBuffer::new(alloc.clone()?)?;
         let index_writer = FullIndexWriter::new(alloc.clone()?);
@@ -80,9 +67,10 @@ impl<A: Allocator + Clone> DataBlocks<A> {
     /// Returns the entries of the last block; its last entry is the last of all blocks.
     #[inline]
     pub(crate) fn last_block(&self) -> &BlockBuffer<A>
-        ensures last { last_of None result.now ≡ last_of None (joined self.now.chunks) }
+        ensures last { spec.last_of None result.now
+            ≡ spec.last_of None (spec.joined self.now.chunks) }
         // Each entry takes `entry_head_len` bytes or more, so a `u64` can count them.
-        ensures few { entry_head_len * length (joined self.now.chunks) < 2 ^ 64 }
+        ensures few { spec.entry_head_len * length (spec.joined self.now.chunks) < 2 ^ 64 }
     {
         &self.last_block
     }
@@ -96,19 +84,19 @@ impl<A: Allocator + Clone> DataBlocks<A> {
         meta: &mut Metadata<A>,
     ) -> Result<(), Error>
         requires works { self.old.failed ≡ false }
-        requires strict { IsStrict (joined self.old.chunks ++ chunk.old) }
-        requires fit { entries_fault chunk.old ≡ None }
-        requires counts { CountsCut self.old.chunks meta.old }
-        ensures ok { OnOk result (self.new.chunks ≡ self.old.chunks ++ rest_chunk chunk.old) }
+        requires strict { spec.IsStrict (spec.joined self.old.chunks ++ chunk.old) }
+        requires fit { spec.entries_fault chunk.old ≡ None }
+        requires counts { spec.CountsCut self.old.chunks meta.old }
+        ensures ok { OnOk result (self.new.chunks ≡ self.old.chunks ++ spec.rest_chunk chunk.old) }
         ensures works { OnOk result (self.new.failed ≡ false) }
         ensures taken { OnOk result (chunk.new ≡ []) }
-        ensures counted { OnOk result (meta.new ≡ with_cut self.new.chunks meta.old) }
+        ensures counted { OnOk result (meta.new ≡ spec.with_cut self.new.chunks meta.old) }
         ensures unchanged { OnErr result (self.new.chunks ≡ self.old.chunks) }
         ensures left { OnErr result (chunk.new ≡ chunk.old) }
         ensures uncounted { OnErr result (meta.new ≡ meta.old) }
         // An empty chunk never causes an error.
         ensures some { OnErr result (chunk.old ≡ [] → ⊥) }
-        ensures err { IfErr result (λ e. e ≡ OutOfMemory) }
+        ensures err { IfErr result (λ e. e ≡ spec.OutOfMemory) }
     {
         let Some(last) = chunk.last() else {
             return Ok(());
@@ -125,10 +113,11 @@ impl<A: Allocator + Clone> DataBlocks<A> {
     /// Returns the data section, the index of all its blocks, and memory to reuse.
     pub(crate) fn into_parts(self) -> (SectionWriter<A>, FullIndexWriter<A>, Vec<u8, A>)
         requires { self.failed ≡ false }
-        ensures data { result.0 ≡ laid ((Data, data_section V4 self.chunks) ∷ []) }
-        ensures index { result.1.handles ≡ handles V4 self.chunks }
+        ensures data { result.0
+            ≡ spec.laid ((spec.Data, spec.data_section spec.V4 self.chunks) ∷ []) }
+        ensures index { result.1.handles ≡ spec.handles spec.V4 self.chunks }
         ensures works { result.1.failed ≡ false }
-        ensures blocks { AllByRecursion (BlockFits V4) self.chunks }
+        ensures blocks { spec.AllByRecursion (spec.BlockFits spec.V4) self.chunks }
     {
         let DataBlocks {
             file_writer,
@@ -148,20 +137,20 @@ fn add_block<A: Allocator + Clone>(
     entries: &mut BlockBuffer<A>,
 ) -> Result<(), Error>
     requires some { 0 < length entries.old }
-    requires fit { entries_fault entries.old ≡ None }
-    requires cut { CanCut file_writer.old index_writer.old.handles index_writer.old.failed
+    requires fit { spec.entries_fault entries.old ≡ None }
+    requires cut { spec.CanCut file_writer.old index_writer.old.handles index_writer.old.failed
         entries.old }
-    ensures added { OnOk result ((chunks : List (List Entry)) → (before : Option Entry) →
-        AreCutBy chunks file_writer.old index_writer.old before →
-        IsStrict (joined chunks ++ entries.old) →
-        AreCutBy (chunks ++ entries.old ∷ []) file_writer.new index_writer.new
-        (Some (last_entry entries.old))) }
+    ensures added { OnOk result ((chunks : List (List spec.Entry)) → (before : Option spec.Entry) →
+        spec.AreCutBy chunks file_writer.old index_writer.old before →
+        spec.IsStrict (spec.joined chunks ++ entries.old) →
+        spec.AreCutBy (chunks ++ entries.old ∷ []) file_writer.new index_writer.new
+        (Some (spec.last_entry entries.old))) }
     ensures works { OnOk result (index_writer.new.failed ≡ false) }
     ensures same { entries.new ≡ entries.old }
-    ensures left { OnErr result ((chunks : List (List Entry)) → (before : Option Entry) →
-        AreCutBy chunks file_writer.old index_writer.old before →
-        AreCutBy chunks file_writer.new index_writer.new before) }
-    ensures err { IfErr result (λ e. e ≡ OutOfMemory) }
+    ensures left { OnErr result ((chunks : List (List spec.Entry)) → (before : Option spec.Entry) →
+        spec.AreCutBy chunks file_writer.old index_writer.old before →
+        spec.AreCutBy chunks file_writer.new index_writer.new before) }
+    ensures err { IfErr result (λ e. e ≡ spec.OutOfMemory) }
 {
     let block = entries.write_into(file_writer)?;
     register_block(index_writer, entries, block)
@@ -175,16 +164,16 @@ fn register_block<A: Allocator + Clone>(
 ) -> Result<(), Error>
     requires some { 0 < length entries.now }
     requires works { index_writer.old.failed ≡ false }
-    requires strict { let last = last_entry entries.now in
-        AreStrictHandles (index_writer.old.handles
-        ++ handle_with last.user_key last.seqno block ∷ []) }
-    ensures ok { let last = last_entry entries.now in
+    requires strict { let last = spec.last_entry entries.now in
+        spec.AreStrictHandles (index_writer.old.handles
+        ++ spec.handle_with last.user_key last.seqno block ∷ []) }
+    ensures ok { let last = spec.last_entry entries.now in
         OnOk result (index_writer.new.handles ≡ index_writer.old.handles
-        ++ handle_with last.user_key last.seqno block ∷ []) }
+        ++ spec.handle_with last.user_key last.seqno block ∷ []) }
     ensures works { OnOk result (index_writer.new.failed ≡ false) }
     ensures unchanged { OnErr result (index_writer.new.handles ≡ index_writer.old.handles) }
     ensures failed { OnErr result (index_writer.new.failed ≡ true) }
-    ensures err { IfErr result (λ e. e ≡ OutOfMemory) }
+    ensures err { IfErr result (λ e. e ≡ spec.OutOfMemory) }
 {
     match entries.last() {
         Some(last) => index_writer.register_ref(last.user_key, last.seqno, block),

@@ -1,10 +1,7 @@
 //! Registration of a table's keys with its filter.
 ghost use Rattle.std.specs.Prelude.{◌≡◌, ◌<◌, ◌^◌, ◌&&◌, ℕ, List, [], nat_lt, OnOk, IfOk};
 ghost use Rattle.std.specs.Prelude.{IfErr};
-ghost use Rattle.lsm_writers.specs.Words.{CanRegister, Faults, HasKeys, HasNoFilter, MayHaveKeys};
-ghost use Rattle.lsm_writers.specs.Words.{Registers, WritesFilter};
-ghost use Rattle.lsm_writers.specs.Words.{filter_fault, registered_key, tenths_of};
-ghost use Rattle.sst_entries.specs.declared.error.Error.TheVariants.{OutOfMemory};
+ghost use Rattle.lsm_writers.specs.Words as spec;
 
 use crate::{
     FilterWriter, FilterWriterImpl, FullFilterWriter, PartitionedFilterWriter, small_partitions_fit,
@@ -18,8 +15,9 @@ fn filter_writer_of<A: Allocator + Clone>(
     alloc: A,
     options: &Options,
 ) -> Result<FilterWriterImpl<A>, Error>
-    ensures ok { IfOk result (λ w. HasKeys options.now.filter_kind options.now.bloom_policy w []) }
-    ensures err { IfErr result (λ e. e ≡ OutOfMemory) }
+    ensures ok { IfOk result (λ w. spec.HasKeys options.now.filter_kind options.now.bloom_policy w
+        []) }
+    ensures err { IfErr result (λ e. e ≡ spec.OutOfMemory) }
 {
     let policy = options.bloom_policy;
     Ok(match options.filter_kind {
@@ -33,8 +31,8 @@ fn filter_writer_of<A: Allocator + Clone>(
 /// Returns whether the key of an entry is registered. The entry must be the first of its key, and
 /// the policy active.
 fn is_registered(policy: BloomConstructionPolicy, starts_key: bool) -> bool
-    ensures is { result ≡ (nat_lt 0 (tenths_of policy) && starts_key) }
-    ensures few { tenths_of policy < 2 ^ 32 }
+    ensures is { result ≡ (nat_lt 0 (spec.tenths_of policy) && starts_key) }
+    ensures few { spec.tenths_of policy < 2 ^ 32 }
 {
     policy.is_active() && starts_key
 }
@@ -48,11 +46,11 @@ pub(crate) fn register_key<A: Allocator + Clone>(
     starts_key: bool,
     key: &[u8],
 ) -> Result<(), Error>
-    requires { CanRegister options.now.filter_kind options.now.bloom_policy filter_writer.old
-        (registered_key options.now.bloom_policy starts_key key.now) }
-    ensures ok { OnOk result (Registers options.now filter_writer.old filter_writer.new
-        (registered_key options.now.bloom_policy starts_key key.now)) }
-    ensures err { IfErr result (λ e. e ≡ OutOfMemory) }
+    requires { spec.CanRegister options.now.filter_kind options.now.bloom_policy filter_writer.old
+        (spec.registered_key options.now.bloom_policy starts_key key.now) }
+    ensures ok { OnOk result (spec.Registers options.now filter_writer.old filter_writer.new
+        (spec.registered_key options.now.bloom_policy starts_key key.now)) }
+    ensures err { IfErr result (λ e. e ≡ spec.OutOfMemory) }
 {
     if !is_registered(options.bloom_policy, starts_key) {
         return Ok(());
@@ -77,13 +75,13 @@ pub(crate) fn finish_filter<A: Allocator + Clone>(
     options: &Options,
     file_writer: &mut SectionWriter<A>,
 ) -> Result<usize, Error>
-    requires { HasNoFilter file_writer.old }
+    requires { spec.HasNoFilter file_writer.old }
     ensures ok { let kind = options.now.filter_kind in let policy = options.now.bloom_policy in
-        IfOk result (λ n. (keys : List (List ℕ)) → MayHaveKeys kind policy filter_writer keys →
-        WritesFilter kind policy keys file_writer.old file_writer.new n) }
+        IfOk result (λ n. (keys : List (List ℕ)) → spec.MayHaveKeys kind policy filter_writer keys →
+        spec.WritesFilter kind policy keys file_writer.old file_writer.new n) }
     ensures refused { let kind = options.now.filter_kind in let policy = options.now.bloom_policy in
-        (keys : List (List ℕ)) → MayHaveKeys kind policy filter_writer keys →
-        Faults result (filter_fault kind policy keys) }
+        (keys : List (List ℕ)) → spec.MayHaveKeys kind policy filter_writer keys →
+        spec.Faults result (spec.filter_fault kind policy keys) }
 {
     match filter_writer {
         Some(writer) => writer.finish(file_writer),

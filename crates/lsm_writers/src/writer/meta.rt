@@ -1,11 +1,6 @@
 //! Counts of the entries and blocks that a writer has written.
 ghost use Rattle.std.specs.Prelude.{◌≡◌, ◌+◌, ◌<◌, ◌^◌, Some, IfErr};
-ghost use Rattle.std.specs.Option.{option_map};
-ghost use Rattle.sst_entries.specs.Lending.{entry_of_ref};
-ghost use Rattle.sst_entries.specs.declared.error.Error.TheVariants.{OutOfMemory};
-ghost use Rattle.sst_blocks.specs.table.Facts.{is_weak, is_value_kind, starts_key, is_reclaimable};
-ghost use Rattle.sst_entries.specs.Key.{same_key};
-ghost use Rattle.sst_entries.specs.Kind.{is_weak_kind};
+ghost use Rattle.lsm_writers.specs.Words as spec;
 
 use crate::KeyBuffer;
 use sst_blocks::{BlockOffset, Error, SeqNo, UserKey, ValueType};
@@ -73,7 +68,8 @@ impl<A: Allocator> Default for Metadata<A> {
 
 /// Returns whether an entry is the first of its key, if `before` is the entry directly before it.
 pub(crate) fn starts_key(before: Option<EntryRef<'_>>, entry: &EntryRef<'_>) -> bool
-    ensures { result ≡ starts_key (option_map entry_of_ref before.entry) (entry_of_ref entry.now) }
+    ensures { result ≡ spec.starts_key (spec.option_map spec.entry_of_ref before.entry)
+        (spec.entry_of_ref entry.now) }
 {
     match before {
         None => true,
@@ -85,15 +81,15 @@ pub(crate) fn starts_key(before: Option<EntryRef<'_>>, entry: &EntryRef<'_>) -> 
 /// mostly differ there.
 #[inline]
 fn is_same_key(key: &[u8], other: &[u8]) -> bool
-    ensures { result ≡ same_key key.now other.now }
+    ensures { result ≡ spec.same_key key.now other.now }
 {
     key.last() == other.last() && key == other
 }
 
 /// Returns whether an entry is a value directly after a weak tombstone of its key.
 fn is_reclaimable(before: Option<EntryRef<'_>>, entry: &EntryRef<'_>) -> bool
-    ensures { let e = entry_of_ref entry.now in
-        result ≡ is_reclaimable (option_map entry_of_ref before.entry) e }
+    ensures { let e = spec.entry_of_ref entry.now in
+        result ≡ spec.is_reclaimable (spec.option_map spec.entry_of_ref before.entry) e }
 {
     match before {
         None => false,
@@ -106,13 +102,13 @@ fn is_reclaimable(before: Option<EntryRef<'_>>, entry: &EntryRef<'_>) -> bool
 }
 
 fn is_weak(kind: ValueType) -> bool
-    ensures { result ≡ is_weak_kind kind }
+    ensures { result ≡ spec.is_weak_kind kind }
 {
     matches!(kind, ValueType::WeakTombstone)
 }
 
 fn is_value(kind: ValueType) -> bool
-    ensures { result ≡ is_value_kind kind }
+    ensures { result ≡ spec.is_value_kind kind }
 {
     matches!(kind, ValueType::Value)
 }

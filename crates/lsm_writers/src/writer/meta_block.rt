@@ -1,17 +1,7 @@
 //! The meta block of a table: its counts, keys and options.
 ghost use Rattle.std.specs.Prelude.{◌≡◌, [], ◌∷◌, ◌++◌, None, map, unwrap_or, IfOk};
 ghost use Rattle.std.specs.Prelude.{IfErr, OnOk};
-ghost use Rattle.sst_entries.specs.declared.error.Error.TheVariants.{OutOfMemory};
-ghost use Rattle.sst_blocks.specs.Number.{le4, le8, le16};
-ghost use Rattle.sst_blocks.specs.declared.version.TableVersion.TheVariants.{V4};
-ghost use Rattle.lsm_writers.specs.Counts.{counted_facts, counted_items, HasShortKeys};
-ghost use Rattle.sst_blocks.specs.table.File.{meta_section, HasNoMeta};
-ghost use Rattle.sst_blocks.specs.table.Layout.{appended};
-ghost use Rattle.sst_blocks.specs.Encoding.{entries_fault};
-ghost use Rattle.sst_entries.specs.Strict.{IsStrict};
-ghost use Rattle.sst_blocks.specs.table.MetaBlock.{meta_entry, block_items, level_items, key_items};
-ghost use Rattle.sst_blocks.specs.table.MetaBlock.{option_items, count_items, crate_version};
-ghost use Rattle.sst_blocks.specs.table.MetaBlock.{version_number};
+ghost use Rattle.lsm_writers.specs.Words as spec;
 
 use crate::writer::meta::Metadata;
 use sst_blocks::{
@@ -36,12 +26,12 @@ pub(crate) fn write_meta<A: Allocator + Clone>(
     counts: BlockCounts,
     meta: &Metadata<A>,
 ) -> Result<(), Error>
-    requires fresh { HasNoMeta file_writer.old }
-    requires short { HasShortKeys meta.now }
-    ensures ok { OnOk result (file_writer.new ≡ appended file_writer.old
-        (meta_section V4 (counted_items label.now options.now
+    requires fresh { spec.HasNoMeta file_writer.old }
+    requires short { spec.HasShortKeys meta.now }
+    ensures ok { OnOk result (file_writer.new ≡ spec.appended file_writer.old
+        (spec.meta_section spec.V4 (spec.counted_items label.now options.now
         (record { index = counts.index; filter = counts.filter }) meta.now))) }
-    ensures err { IfErr result (λ e. e ≡ OutOfMemory) }
+    ensures err { IfErr result (λ e. e ≡ spec.OutOfMemory) }
 {
     let items = meta_items(buffer.allocator(), label, options, counts, meta)?;
     write_items(file_writer, buffer, &items)
@@ -53,12 +43,12 @@ fn write_items<A: Allocator + Clone>(
     buffer: &mut Vec<u8, A>,
     items: &[InternalValue<A>],
 ) -> Result<(), Error>
-    requires fresh { HasNoMeta file_writer.old }
-    requires strict { IsStrict items.now }
-    requires fit { entries_fault items.now ≡ None }
+    requires fresh { spec.HasNoMeta file_writer.old }
+    requires strict { spec.IsStrict items.now }
+    requires fit { spec.entries_fault items.now ≡ None }
     ensures ok { OnOk result (file_writer.new ≡
-        appended file_writer.old (meta_section V4 items.now)) }
-    ensures err { IfErr result (λ e. e ≡ OutOfMemory) }
+        spec.appended file_writer.old (spec.meta_section spec.V4 items.now)) }
+    ensures err { IfErr result (λ e. e ≡ spec.OutOfMemory) }
 {
     file_writer.start(SectionName::Meta)?;
     buffer.clear();
@@ -78,9 +68,9 @@ fn meta_items<A: Allocator + Clone>(
     meta: &Metadata<A>,
 ) -> Result<Vec<InternalValue<A>, A>, Error>
     ensures ok { IfOk result
-        (λ items. items.items ≡ counted_items label.now options.now
+        (λ items. items.items ≡ spec.counted_items label.now options.now
         (record { index = counts.index; filter = counts.filter }) meta.now) }
-    ensures err { IfErr result (λ e. e ≡ OutOfMemory) }
+    ensures err { IfErr result (λ e. e ≡ spec.OutOfMemory) }
 {
     let mut items = Vec::new(alloc.clone()?);
     put_block_items(&mut items, label, options, counts, meta)?;
@@ -99,9 +89,10 @@ fn put_block_items<A: Allocator + Clone>(
     meta: &Metadata<A>,
 ) -> Result<(), Error>
     ensures ok { OnOk result (items.new.items ≡ items.old.items ++
-        block_items label.now options.now (record { index = counts.index; filter = counts.filter })
+        spec.block_items label.now options.now
+        (record { index = counts.index; filter = counts.filter })
         meta.now.data_block_count meta.now.file_pos.0) }
-    ensures err { IfErr result (λ e. e ≡ OutOfMemory) }
+    ensures err { IfErr result (λ e. e ≡ spec.OutOfMemory) }
 {
     put_all(
         items,
@@ -133,8 +124,9 @@ fn put_level_and_key_items<A: Allocator + Clone>(
     meta: &Metadata<A>,
 ) -> Result<(), Error>
     ensures ok { OnOk result (items.new.items ≡ items.old.items ++
-        level_items label.now (counted_facts meta.now) ++ key_items (counted_facts meta.now)) }
-    ensures err { IfErr result (λ e. e ≡ OutOfMemory) }
+        spec.level_items label.now (spec.counted_facts meta.now) ++ spec.key_items
+        (spec.counted_facts meta.now)) }
+    ensures err { IfErr result (λ e. e ≡ spec.OutOfMemory) }
 {
     put_all(
         items,
@@ -157,8 +149,8 @@ fn put_option_items<A: Allocator + Clone>(
     meta: &Metadata<A>,
 ) -> Result<(), Error>
     ensures ok { OnOk result (items.new.items ≡ items.old.items ++
-        option_items V4 label.now options.now (counted_facts meta.now)) }
-    ensures err { IfErr result (λ e. e ≡ OutOfMemory) }
+        spec.option_items spec.V4 label.now options.now (spec.counted_facts meta.now)) }
+    ensures err { IfErr result (λ e. e ≡ spec.OutOfMemory) }
 {
     put_all(
         items,
@@ -188,8 +180,8 @@ fn put_count_items<A: Allocator + Clone>(
     meta: &Metadata<A>,
 ) -> Result<(), Error>
     ensures ok { OnOk result (items.new.items ≡ items.old.items ++
-        count_items (counted_facts meta.now) meta.now.uncompressed_size) }
-    ensures err { IfErr result (λ e. e ≡ OutOfMemory) }
+        spec.count_items (spec.counted_facts meta.now) meta.now.uncompressed_size) }
+    ensures err { IfErr result (λ e. e ≡ spec.OutOfMemory) }
 {
     put_all(
         items,
@@ -217,8 +209,8 @@ fn put_all<A: Allocator + Clone>(
     named: &[(ItemName, &[u8])],
 ) -> Result<(), Error>
     ensures ok { OnOk result (items.new.items ≡ items.old.items ++
-        map (λ x. meta_entry x.0 x.1.now) named.now) }
-    ensures err { IfErr result (λ e. e ≡ OutOfMemory) }
+        map (λ x. spec.meta_entry x.0 x.1.now) named.now) }
+    ensures err { IfErr result (λ e. e ≡ spec.OutOfMemory) }
 {
     for (name, value) in named {
         put(items, *name, value)?;
@@ -229,35 +221,35 @@ fn put_all<A: Allocator + Clone>(
 /// Returns the little-endian bytes of a number.
 #[tactic(auto, unfolding(sst_blocks::specs::Number::le4))]
 fn bytes4(number: u32) -> [u8; 4]
-    ensures { result ≡ le4 number }
+    ensures { result ≡ spec.le4 number }
 {
     number.to_le_bytes()
 }
 
 #[tactic(auto, unfolding(sst_blocks::specs::Number::le8))]
 fn bytes8(number: u64) -> [u8; 8]
-    ensures { result ≡ le8 number }
+    ensures { result ≡ spec.le8 number }
 {
     number.to_le_bytes()
 }
 
 #[tactic(auto, unfolding(sst_blocks::specs::Number::le16))]
 fn bytes16(number: u128) -> [u8; 16]
-    ensures { result ≡ le16 number }
+    ensures { result ≡ spec.le16 number }
 {
     number.to_le_bytes()
 }
 
 /// Returns the version of the upstream crate whose format is written.
 fn crate_version() -> &'static [u8]
-    ensures { result.now ≡ crate_version }
+    ensures { result.now ≡ spec.crate_version }
 {
     b"3.1.10"
 }
 
 /// Returns the number of the table version.
 fn table_version() -> &'static [u8]
-    ensures { result.now ≡ version_number V4 ∷ [] }
+    ensures { result.now ≡ spec.version_number spec.V4 ∷ [] }
 {
     &[4]
 }
@@ -288,8 +280,9 @@ fn put<A: Allocator + Clone>(
     name: ItemName,
     value: &[u8],
 ) -> Result<(), Error>
-    ensures ok { OnOk result (items.new.items ≡ items.old.items ++ meta_entry name value.now ∷ []) }
-    ensures err { IfErr result (λ e. e ≡ OutOfMemory) }
+    ensures ok { OnOk result (items.new.items ≡ items.old.items ++ spec.meta_entry name value.now
+        ∷ []) }
+    ensures err { IfErr result (λ e. e ≡ spec.OutOfMemory) }
 {
     let name = copied(items.allocator(), name.key())?;
     let value = copied(items.allocator(), value)?;
@@ -300,7 +293,7 @@ fn put<A: Allocator + Clone>(
 /// Copies bytes. Fails only with [`Error::OutOfMemory`].
 fn copied<A: Allocator + Clone>(alloc: &A, bytes: &[u8]) -> Result<Slice<A>, Error>
     ensures ok { IfOk result (λ s. s ≡ bytes.now) }
-    ensures err { IfErr result (λ e. e ≡ OutOfMemory) }
+    ensures err { IfErr result (λ e. e ≡ spec.OutOfMemory) }
 {
     Slice::from(alloc.clone()?, bytes)
 }
