@@ -38,11 +38,14 @@ static void write_entries(sst_handle *writer, int n) {
     }
     for (int version = 2; version > 0; version--) {
       value_of(i, version, value);
-      CHECK(sst_writer_add(writer, bytes(key), strlen(key), version, SST_VALUE, bytes(value),
-                           strlen(value)) == 0);
+      CHECK(sst_writer_add(writer, bytes(key), strlen(key), (uint64_t)version, SST_VALUE,
+                           bytes(value), strlen(value)) == 0);
     }
   }
 }
+
+/* How many entries these are. */
+static uint64_t count_of(int n) { return (uint64_t)(2 * n + (n + 6) / 7); }
 
 /* Copies the bytes of a finished table, at most `piece` bytes a call. */
 static uint8_t *file_of(sst_handle *files, size_t piece, size_t *len) {

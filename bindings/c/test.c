@@ -466,7 +466,7 @@ static void test_packing(const sst_options *options) {
   CHECK(sst_packing_chain(&packing, 0, &told) == SST_NO_SUCH && told == 7);
   CHECK(sst_packing_open(&runs, &packing) == SST_OPEN);
   sst_close(&packing);
-  for (int i = 0; i < 5; i++) {
+  for (unsigned i = 0; i < 5; i++) {
     open_letters(options, letters[i], 7 - i, &table);
     CHECK(sst_runs_add(&runs, &table) == 0);
     CHECK(sst_packing_open(&table, &packing) == SST_OTHER_KIND);
@@ -827,7 +827,7 @@ static void test_damage(const uint8_t *file, size_t len, uint64_t items) {
 static void test_facts(sst_handle *table, const sst_options *options, int n) {
   sst_facts facts;
   sst_verified verified;
-  uint64_t items = 2 * n + (n + 6) / 7;
+  uint64_t items = count_of(n);
   CHECK(sst_table_facts(table, &facts) == 0);
   CHECK(facts.id == options->id && facts.version == 4 && facts.item_count == items);
   CHECK(facts.tombstone_count == (uint64_t)(n + 6) / 7 && facts.weak_tombstone_count == 0);
@@ -864,8 +864,8 @@ static void test_table(const sst_options *options, int n, size_t piece, bool pin
   test_rooms(&table);
   test_bounds(&table);
   test_scan(file, len, pin);
-  if (options->index_partition_size > 0) test_scan_alone(file, len, 2 * n + (n + 6) / 7);
-  test_verification(file, len, 2 * n + (n + 6) / 7);
+  if (options->index_partition_size > 0) test_scan_alone(file, len, count_of(n));
+  test_verification(file, len, count_of(n));
   if (n < 10) {
     test_misuse(options, file, len);
     test_one_handle_twice(options, file, len);
@@ -879,7 +879,7 @@ static void test_table(const sst_options *options, int n, size_t piece, bool pin
     test_packing(options);
     test_runs(options, file, len);
     test_out_of_order(options, file, len);
-    test_damage(file, len, 2 * n + (n + 6) / 7);
+    test_damage(file, len, count_of(n));
   }
   free(file); /* the table has a copy of its own */
   test_range(&table, n);
