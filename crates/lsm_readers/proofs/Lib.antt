@@ -9,6 +9,7 @@ pub mod AskedReads
 pub mod ReadViews
 pub mod ManyReads
 pub mod BatchReads
+pub mod PlaceReads
 pub mod ChunkReads
 pub mod PartReads
 pub mod FilterReads

@@ -90,7 +90,8 @@ pub use Rattle.lsm_readers.specs.declared.verify.Counts.{Counts as CountsLeft}
 pub use Rattle.lsm_readers.specs.declared.verify.Finding.{Finding}
 pub use Rattle.lsm_readers.specs.declared.verify.Verified.{Verified as Verification}
 pub use Rattle.lsm_readers.specs.declared.verify.VerifyError.TheVariants.{Found}
-pub use Rattle.lsm_readers.specs.point.Batch.{AreFound, IsLookup, query_result}
+pub use Rattle.lsm_readers.specs.point.Batch.{AreFound, ArePlaced, IsLookup, entries_placed}
+pub use Rattle.lsm_readers.specs.point.Batch.{query_result}
 pub use Rattle.lsm_readers.specs.point.Keeping.{IsLoaded, KeepsOf}
 pub use Rattle.lsm_readers.specs.point.Many.{answers_to, many_results}
 unfoldable pub use Rattle.lsm_readers.specs.point.Meta.{byte_result, compressions_result}

@@ -208,7 +208,7 @@ fn lifted_place(found: Option<EntryPlace>, global_seqno: SeqNo) -> Option<EntryP
 }
 
 // The position of the newest visible version in the data block of a handle.
-fn place_at<A: Allocator + Clone>(
+pub(crate) fn place_at<A: Allocator + Clone>(
     source: &BlockSource<A>,
     handle: &BlockHandle,
     global_seqno: SeqNo,

@@ -20,7 +20,7 @@ use crate::{
 };
 use lsm_iters::{BlockIndexImpl, beside};
 use lsm_sorted::{KeyRange, Ranged};
-pub use queries::get_many;
+pub use queries::{get_many, get_many_places};
 use sst_blocks::{
     BlockHandle, BlockSource, BlockType, Builder, Checksum, Counted, Error, FilterBlock,
     IndexBlock, InternalValue, Lending, Opened, SeqNo, Slice, TableId, TreeId,

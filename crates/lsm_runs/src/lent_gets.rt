@@ -293,8 +293,8 @@ pub fn get_runs_ref_counted<'a, A: Allocator + Clone>(
 
 /// Returns the newest version of a key visible at `seqno` in several runs, borrowed from its table.
 ///
-/// It returns what [`crate::get_runs`] returns, without taking a reference count. It reads at most
-/// one table a run, the one whose range has the key.
+/// It returns what [`crate::get_runs`] returns, without taking a reference count. A tombstone is
+/// returned as an entry. It reads at most one table a run, the one whose range has the key.
 ///
 /// # Errors
 ///

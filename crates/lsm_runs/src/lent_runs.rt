@@ -42,7 +42,7 @@ fn lent_stream<L: Lending + Drop, A: Allocator + Clone>(
 /// bounds, of several runs, ascending.
 ///
 /// It lends the entries from their blocks: those that [`crate::range_runs_at`] yields from the
-/// front. No table is opened yet.
+/// front. A tombstone is yielded as an entry. No table is opened yet.
 ///
 /// # Errors
 ///

@@ -148,8 +148,9 @@ pub(crate) fn newest_stream<I: DoubleEndedIterator<Item = IterItem<A>>, A: Alloc
 
 /// Returns the newest version of each key within both bounds, of several runs, from both ends.
 ///
-/// No table is opened yet. When a table cannot be opened or read, that error takes the place of all
-/// entries that no step has taken yet, those of other runs too.
+/// A tombstone is yielded as an entry. No table is opened yet. When a table cannot be opened or
+/// read, that error takes the place of all entries that no step has taken yet, those of other runs
+/// too.
 ///
 /// # Errors
 ///
@@ -194,9 +195,9 @@ pub fn range_runs<A: Allocator + Clone>(
 /// Returns the newest version visible at `seqno` of each key within both bounds, of several runs,
 /// from both ends.
 ///
-/// These are the versions that [`get_runs`] reads at `seqno`. No table is opened yet. When a table
-/// cannot be opened or read, that error takes the place of all entries that no step has taken yet,
-/// those of other runs too.
+/// These are the versions that [`get_runs`] reads at `seqno`. A tombstone is yielded as an entry.
+/// No table is opened yet. When a table cannot be opened or read, that error takes the place of all
+/// entries that no step has taken yet, those of other runs too.
 ///
 /// # Errors
 ///
@@ -372,7 +373,9 @@ pub fn get_runs_counted<A: Allocator + Clone>(
 
 /// Returns the newest version of a key visible at `seqno` in several runs.
 ///
-/// It reads at most one table a run, the one whose range has the key.
+/// A tombstone is returned as an entry; see [`InternalValue::is_tombstone`]. It reads at most one
+/// table a run, the one whose range has the key. For tables of lists, any order of the runs yields
+/// the same entry, unless a key has one seqno twice.
 ///
 /// # Errors
 ///

@@ -36,10 +36,13 @@ fn all_sources<R: Drop, S: Drop, A: Allocator>(
 /// Returns the newest version visible at `seqno` of each key within both bounds, of several runs
 /// and further sources, from both ends.
 ///
-/// Each source yields its entries within the bounds, in order, as a memtable does. If a source and
-/// a run have an entry of the same key, seqno and kind, the source's entry comes first. No table is
-/// opened yet. When a table cannot be opened or read, that error takes the place of all entries
-/// that no step has taken yet, those of other runs too.
+/// Each source must yield only its entries within the bounds, in order: the call does not cut
+/// sources. [`source_of`](sst_blocks::source_of) makes one of a vector. A tombstone is yielded as
+/// an entry. If a source and a run have an entry of the same key, seqno and kind, the source's
+/// entry comes first.
+///
+/// No table is opened yet. When a table cannot be opened or read, that error takes the place of all
+/// entries that no step has taken yet, those of other runs too.
 ///
 /// # Errors
 ///

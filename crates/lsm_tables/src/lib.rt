@@ -1,13 +1,14 @@
-//! Sorted tables for log-structured stores: written, read from both ends, merged, compacted and
-//! packed. All that a store needs of this library, by one crate. What each call does and promises
-//! stands where it is defined.
+//! Sorted tables for log-structured stores: writing, reading from both ends, merging, compacting
+//! and packing.
 //!
-//! - [`block`]: entries, keys, errors, and what was loaded
-//! - [`table`]: tables, written and read
-//! - [`run`]: tables beside one another, read as one, and packed
-//! - [`merge`]: sorted sources as one, and the newest version of each key
-//! - [`compaction`]: runs into fewer tables
-//! - [`laws`]: calls that do nothing, whose contracts are the statements
+//! This crate re-exports all calls of the library that a store needs.
+//!
+//! - [`block`]: entries, keys, errors, and counts of loaded blocks
+//! - [`table`]: writing and reading of tables
+//! - [`run`]: reading of several runs, and packing
+//! - [`merge`]: merging of sorted sources, and the newest version of each key
+//! - [`compaction`]: compaction of several runs into new tables
+//! - [`laws`]: theorems, as calls that do nothing
 #![tactic(auto)]
 
 pub mod block;

@@ -1,5 +1,5 @@
-//! Sorted sources as one, the newest version of each key, and the entries below a number; by value
-//! and lent.
+//! Merging of sorted sources, the newest version of each key, and the entries below a sequence
+//! number; by value and borrowed.
 
 pub use lsm_sorted::{
     Below, LendingMerger, LendingNewest, Merger, MvccStream, NewestOf, each_below, newest_of,

@@ -1,5 +1,5 @@
-//! Runs: tables beside one another in the order of their keys. Several runs are read as one, and
-//! packed into fewest.
+//! Runs: disjoint tables in the order of their keys. Several runs are read as one, and packed into
+//! the fewest.
 
 pub use lsm_runs::{
     LentNewestOf, LentNewestOfRunsAt, NewestOfRuns, NewestOfRunsAt, NewestOfSourcesAt, RunPlace,

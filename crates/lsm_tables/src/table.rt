@@ -1,4 +1,7 @@
-//! Tables: written, opened, read from both ends, scanned and verified; their block indexes.
+//! Tables: writing, opening, reading from both ends, scanning and verifying; their block indexes.
+//!
+//! [`Bound`] is what an iterator over a table keeps of a bound. Signatures with `Bound<UserKey<A>>`
+//! or `Bound<&[u8]>` mean `std::ops::Bound`.
 
 pub use crate::written::write_and_open;
 pub use lsm_iters::{
@@ -14,4 +17,6 @@ pub use lsm_writers::{
     BloomConstructionPolicy, FilterKind, FinishedTable, IndexKind, Metadata, MultiWriter, Options,
     TableIds, Writer, is_writable, write_list,
 };
-pub use sst_blocks::{GlobalTableId, TableId, Timestamp, TreeId};
+pub use sst_blocks::{
+    CompressionType, GlobalTableId, ItemName, SectionName, TableId, Timestamp, TreeId,
+};

@@ -1,4 +1,4 @@
-//! A list that is written as a table and opened.
+//! Writing a list as a table and opening it.
 ghost use Rattle.std.specs.Prelude.{◌≡◌, [], IfOk, IfSome, MatchOption};
 ghost use Rattle.lsm_tables.specs.Words as spec;
 
@@ -7,11 +7,15 @@ use lsm_writers::{TableId, Timestamp, write_list};
 use sst_blocks::{Error, InternalValue, SeqNo};
 use std::alloc::Allocator;
 
-/// Writes a list as one table of the first level, as [`write_list`], and opens it; `None` where the
-/// list has no entry.
+/// Writes a list as one table of level 0, as [`write_list`], and opens it; `None` if the list has
+/// no entry.
 ///
-/// Refused with the first fault of writing, [`Error::GlobalSeqNoTooLarge`] where the highest number
-/// plus `global_seqno` passes `u64`, and [`Error::OutOfMemory`].
+/// It drops the list, also if it fails.
+///
+/// # Errors
+///
+/// The first fault of writing; [`Error::GlobalSeqNoTooLarge`] if the highest sequence number plus
+/// `global_seqno` exceeds `u64::MAX`; [`Error::OutOfMemory`].
 pub fn write_and_open<A: Allocator + Clone>(
     alloc: A,
     id: TableId,
@@ -22,10 +26,10 @@ pub fn write_and_open<A: Allocator + Clone>(
     requires { spec.IsWritable items.items }
     ensures table { IfOk result (λ t. MatchOption t (items.items ≡ [])
         (λ table. spec.IsOpened (spec.label_of id 0 created_at) items.items global_seqno table)) }
-    // Its bytes store the list, so that what is promised of reads holds of it,
+    // Its bytes store the list, so that the promises about reads hold of it.
     ensures stored { IfOk result
         (λ t. IfSome t (λ table. spec.StoresList table.bytes items.items)) }
-    // with the global number.
+    // It has the global sequence number.
     ensures global { IfOk result (λ t. IfSome t (λ table. table.global_seqno ≡ global_seqno)) }
     ensures refused { spec.Faults result
         (spec.opening_fault (spec.label_of id 0 created_at) items.items global_seqno) }
@@ -35,7 +39,7 @@ pub fn write_and_open<A: Allocator + Clone>(
         Some(table) => {
             let (bytes, checksum) = (table.bytes, table.checksum);
             let opened = Table::recover(alloc, bytes, checksum, global_seqno, 0, true, true)?;
-            // What was written of the list stores it.
+            // The bytes that were written of the list store it.
             opened.tells_its_list();
             Ok(Some(opened))
         }

@@ -1,6 +1,10 @@
 -- Point reads of some queries, over any bytes, in any order.
-use Rattle.std.specs.Prelude.{◌≡◌, ℕ, ◌-◌, ◌<◌, Bool, true, false, List, length, slice_index_or}
-use Rattle.std.specs.Prelude.{Option, None, Result, Ok}
+use Rattle.std.specs.Prelude.{◌≡◌, ℕ, ◌-◌, ◌<◌, Bool, true, false, List, length, map}
+use Rattle.std.specs.Prelude.{slice_index_or, IfSome, Option, None, Result, Ok}
+use Rattle.std.specs.List.{All}
+use Rattle.std.specs.Option.{option_map}
+use Rattle.sst_blocks.specs.declared.entry_place.EntryPlace.{EntryPlace}
+use Rattle.sst_blocks.specs.EntryPlace.{IsPlacedIn, entry_placed}
 use Rattle.sst_entries.specs.declared.error.Error.{Error}
 use Rattle.sst_entries.specs.Entry.{Entry}
 use Rattle.lsm_readers.specs.declared.batch.Lookup.{Lookup}
@@ -26,3 +30,13 @@ pub record AreFound {X Y : Type 0} (f : X → Result (Option Y) Error) (queries 
   pub done_len : length done ≡ length queries
   pub returned : (k : ℕ) (q : X) → slice_index_or done k false ≡ true →
       q ≡ slice_index_or queries k q → f q ≡ Ok (slice_index_or found k None)
+
+-- The entries at some positions in a table's bytes.
+abbrev pub entries_placed : List ℕ → List (Option EntryPlace) → List (Option Entry)
+entries_placed bytes places = map (option_map (entry_placed bytes)) places
+
+-- The same of positions: the entries there are the results, and are within the bytes.
+pub record ArePlaced {X : Type 0} (bytes : List ℕ) (f : X → Result (Option Entry) Error)
+    (queries : List X) (places : List (Option EntryPlace)) (done : List Bool) : Type 0 where
+  pub found : AreFound f queries (entries_placed bytes places) done
+  pub within : All (λ place. IfSome place (IsPlacedIn bytes)) places

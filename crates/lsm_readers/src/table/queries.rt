@@ -1,9 +1,9 @@
 //! Point reads of many keys in one table.
-ghost use Rattle.std.specs.Prelude.{◌≡◌, IsOk, List, Ok, [], map};
+ghost use Rattle.std.specs.Prelude.{◌≡◌, IfOk, IfSome, IsOk, List, Ok, [], map};
 ghost use Rattle.lsm_readers.specs.Words as spec;
 
-use crate::{Inner, Query, Table, many_in};
-use sst_blocks::{Error, InternalValue};
+use crate::{Inner, Query, Table, many_in, many_places_in};
+use sst_blocks::{EntryPlace, Error, InternalValue};
 use std::alloc::Allocator;
 
 fn answers<A: Allocator + Clone>(
@@ -48,4 +48,51 @@ pub fn get_many<A: Allocator + Clone>(
     ensures calm { queries.now ≡ [] → ((alloc : A) → A.is_infallible alloc) → IsOk result }
 {
     answers(table, queries)
+}
+
+fn places<A: Allocator + Clone>(
+    table: &Table<A>,
+    queries: &[Query<A>],
+) -> Result<Vec<Option<EntryPlace>, A>, Error>
+    ensures returned { spec.Gives (λ found. spec.entries_placed table.now.bytes found.items) result
+        (spec.many_results table.now queries.now) }
+    ensures placed { IfOk result (λ found.
+        spec.All (λ place. IfSome place (spec.IsPlacedIn table.now.bytes)) found.items) }
+    ensures open { spec.IsOpen table.now }
+    ensures calm { queries.now ≡ [] → ((alloc : A) → A.is_infallible alloc) → IsOk result }
+{
+    let inner: &Inner<A> = &table.inner;
+    many_places_in(&table.source, inner, queries)
+}
+
+/// Returns the position of the newest visible version of each query's key, in the order of the
+/// queries.
+///
+/// Each is the position of the entry that [`get_many`] returns, without taking a reference count:
+/// [`Table::entry_at`] borrows the entry from the table. The result borrows nothing. Queries may be
+/// in any order and may repeat. They are looked up in key order. The checksums of their data blocks
+/// are compared several in one loop.
+///
+/// # Errors
+///
+/// Those of [`get_many`]. No result is returned then, and the table does not change.
+pub fn get_many_places<A: Allocator + Clone>(
+    table: &Table<A>,
+    queries: &[Query<A>],
+) -> Result<Vec<Option<EntryPlace>, A>, Error>
+    ensures returned { spec.Gives (λ found. spec.entries_placed table.now.bytes found.items) result
+        (spec.many_results table.now queries.now) }
+    // The entries are within the table's bytes.
+    ensures placed { IfOk result (λ found.
+        spec.All (λ place. IfSome place (spec.IsPlacedIn table.now.bytes)) found.items) }
+    // On bytes that store a list they are each query's newest visible version in the list, global
+    // seqno applied. It fails with `OutOfMemory` only.
+    ensures list { (es : List spec.Entry) → spec.StoresList table.now.bytes es →
+        let all = spec.lift es table.now.global_seqno in
+        spec.Gives (λ found. spec.entries_placed table.now.bytes found.items) result
+        (Ok (map (λ q. spec.point all q.key q.seqno) queries.now)) }
+    // Without queries it fails only if a clone of the allocator does.
+    ensures calm { queries.now ≡ [] → ((alloc : A) → A.is_infallible alloc) → IsOk result }
+{
+    places(table, queries)
 }

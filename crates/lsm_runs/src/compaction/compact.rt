@@ -187,7 +187,10 @@ fn write_all<L: Lending + Drop, A: Allocator + Clone>(
 ///
 /// `writer` writes what a [`LendingCompaction`] keeps of all their entries, borrowed from their
 /// blocks. It returns the finished tables, none if nothing is kept, and the writer's id counter
-/// after them. The runs are not changed.
+/// after them. The runs are not changed. The writer is dropped, also if the call fails.
+///
+/// Set `evict` in the rules only if no other run has an older version of these keys. Otherwise a
+/// deleted key can come back.
 ///
 /// Conditions:
 ///

@@ -38,10 +38,10 @@ fn run_of_tables<A: Allocator + Clone>(
 
 /// Compacts several runs and puts what is kept in one run.
 ///
-/// It calls [`compact_runs`] with a writer of tables of the first level, with consecutive ids. Each
-/// table but the last has at least `target_size` bytes of data blocks. Then it opens each table
-/// without a global seqno. There is no run if nothing is kept. It also returns the id counter after
-/// the last table.
+/// It calls [`compact_runs`] with a writer of tables of level 0, with consecutive ids. A table ends
+/// before the next new key once its finished data blocks have at least `target_size` bytes. Then it
+/// opens each table without a global seqno. There is no run if nothing is kept. It also returns the
+/// id counter after the last table.
 ///
 /// The conditions on the runs are those of [`compact_runs`]. The given runs are not changed.
 ///

@@ -7,10 +7,11 @@ use lsm_writers::FinishedTable;
 use sst_blocks::{Error, SeqNo, TreeId};
 use std::alloc::Allocator;
 
-/// Options for opening finished tables.
+/// Options for opening finished tables; by default global seqno 0, tree 0, filter and index pinned.
 #[derive(Clone, Copy, Debug, PartialEq, Eq)]
 pub struct OpenOptions {
-    /// The sequence number that is added to every stored one.
+    /// The sequence number that is added to every stored one, for a table that is ingested from
+    /// elsewhere; 0 for a store's own.
     pub global_seqno: SeqNo,
     /// The id of the tree that the table belongs to.
     pub tree_id: TreeId,

@@ -112,11 +112,14 @@ pub(crate) fn open_tables<A: Allocator + Clone>(
     Ok(opened)
 }
 
-/// Writes a list as tables of the first level, opens them and puts them in a run.
+/// Writes a list as tables of level 0, opens them and puts them in a run.
 ///
-/// Each table but the last has at least `target_size` bytes of data blocks. The ids are
-/// consecutive. There is no run if the list has no entry. It also returns the id counter after the
-/// last table.
+/// The list must be writable; see [`is_writable`](lsm_writers::is_writable). It is dropped, also if
+/// the call fails, so a store that flushes passes a clone.
+///
+/// A table ends before the next new key once its finished data blocks, headers included, have at
+/// least `target_size` bytes. So it may exceed that. The ids are consecutive. There is no run if
+/// the list has no entry. The call also returns the id counter after the last table.
 ///
 /// # Errors
 ///
