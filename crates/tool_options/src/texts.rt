@@ -349,7 +349,7 @@ exits with 1, where the key has no version below N.",
         usage: "sst stat [OPTIONS] <FILE>...",
         arguments: &STAT,
         notes: "\
-ReportsOf the data blocks, too. Where there are more than 32 they share lines, as
+Tells the data blocks, too. Where there are more than 32 they share lines, as
 many on each but for the last; an object of JSON has each by itself.",
     },
     CommandText {
