@@ -19,9 +19,9 @@ use Rattle.sst_blocks.specs.table.Index.{last_entry}
 use Rattle.sst_blocks.proofs.KeyLaws.{key_above}
 use Rattle.lsm_writers.specs.declared.writer.FinishedTable.{FinishedTable}
 use Rattle.lsm_writers.specs.Cut.{rest_chunk}
-use Rattle.lsm_writers.specs.Tables.{AddsTable, AreCuts, AreFinished, AreInKeyOrder, AreTables}
-use Rattle.lsm_writers.specs.Tables.{GoesOn, all_written, first_label, gained_all, label_before}
-use Rattle.lsm_writers.specs.Tables.{list_in, lists_in, run_fault, tables_of}
+use Rattle.lsm_writers.specs.Tables.{AddsTable, AreCuts, AreFinished, AreHeld, AreInKeyOrder}
+use Rattle.lsm_writers.specs.Tables.{AreTables, GoesOn, all_written, first_label, gained_all}
+use Rattle.lsm_writers.specs.Tables.{label_before, list_in, lists_in, run_fault, tables_of}
 use Rattle.lsm_writers.specs.Writing.{IsFinished, Writing, finish_fault, fresh_writing, gained}
 use Rattle.lsm_writers.specs.Writing.{written}
 use Rattle.lsm_writers.proofs.Finishing.{nothing_behind}
@@ -29,7 +29,7 @@ use Rattle.lsm_writers.proofs.Chunking.{joined_rest}
 use Rattle.lsm_writers.proofs.Cutting.{rest_is}
 use Rattle.lsm_writers.proofs.Orders.{last_of_cons}
 use Rattle.lsm_writers.proofs.Refused.{none_some}
-use Rattle.lsm_writers.proofs.Rotating.{all_finished}
+use Rattle.lsm_writers.proofs.Rotating.{all_finished, no_lists}
 use Rattle.lsm_writers.proofs.Turning.{state_of}
 use Rattle.lsm_writers.proofs.CutTables.{some_length}
 
@@ -81,21 +81,21 @@ failed_kept w [] = refl
 failed_kept w (e ∷ es) = failed_kept (gained w e) es ∙ failed_by w e _ refl
 
 module _ {A : Type 0} (target : ℕ) (ids : Option ℕ) (fs gs : List (FinishedTable A)) (w : Writing)
-    (h : GoesOn target ids fs w) where
+    (held : AreHeld w.options w.label fs) (h : GoesOn target ids (lists_in fs) w) where
   finished_by : (table : Option (FinishedTable A)) → gs ≡ fs ++ option_to_list table
       → MatchOption table (written w ≡ []) (λ f. IsFinished w f.id f.checksum.0 f.bytes)
       → AreFinished w.options (label_before (length fs) w.label)
       (lists_in fs ++ rest_chunk (written w)) gs
   finished_by None added is =
-      rw (is, added, append-nil (lists_in fs), append-nil fs) h.finished
+      rw (is, added, append-nil (lists_in fs), append-nil fs) held.finished
   finished_by (Some f) added is =
       rw (rest_is (written w) (some_length (written w) is.some), added)
-      (all_finished target ids fs w f h is)
+      (all_finished target ids fs w f held h is)
 
   none_by : (table : Option (FinishedTable A)) → gs ≡ fs ++ option_to_list table
       → MatchOption table (written w ≡ []) (λ f. IsFinished w f.id f.checksum.0 f.bytes)
       → joined (lists_in fs) ++ written w ≡ [] → gs ≡ []
-  none_by None added is none = added ∙ (append-nil fs ∙ h.begun is)
+  none_by None added is none = added ∙ (append-nil fs ∙ no_lists fs (h.begun is))
   none_by (Some f) added is none = absurd (is.some
       (nothing_behind (joined (lists_in fs)) (written w) none))
 

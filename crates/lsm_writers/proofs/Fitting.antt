@@ -21,8 +21,8 @@ use Rattle.lsm_writers.specs.section.IndexRefusing.{index_fault}
 use Rattle.lsm_writers.specs.declared.writer.FinishedTable.{FinishedTable}
 use Rattle.lsm_writers.specs.Cut.{rest_chunk}
 use Rattle.lsm_writers.specs.Tables.{FitsBehind, GoesOn, HasRoomFor, filling, gained_all, ids_fault}
-use Rattle.lsm_writers.specs.Tables.{is_due, rotation_fault, standing, table_fault, took_fault}
-use Rattle.lsm_writers.specs.Tables.{turn_fault}
+use Rattle.lsm_writers.specs.Tables.{is_due, lists_in, rotation_fault, standing, table_fault}
+use Rattle.lsm_writers.specs.Tables.{took_fault, turn_fault}
 use Rattle.lsm_writers.specs.Writing.{Writing, blocks_of, finish_fault, fresh_writing, item_fault}
 use Rattle.lsm_writers.specs.Writing.{sections_fault, spilled, write_fault, written}
 use Rattle.lsm_writers.proofs.AllTables.{failed_kept}
@@ -147,14 +147,14 @@ module _ (target : ℕ) (ids : Option ℕ) (w : Writing) (e : Entry)
 
 -- where there is room, there is no fault
 pub room_fault : {A : Type 0} (target : ℕ) (ids : Option ℕ) (fs : List (FinishedTable A))
-    (w : Writing) (failed : Bool) (e : Entry) → (failed ≡ false → GoesOn target ids fs w)
+    (w : Writing) (failed : Bool) (e : Entry) → (failed ≡ false → GoesOn target ids (lists_in fs) w)
     → HasRoomFor (state_of target ids fs w failed) e
     → took_fault (state_of target ids fs w failed) e ≡ None
 room_fault target ids fs w failed e held room =
     no_fault target ids w e (held room.works).present room.left room.fits fs failed room.works
 
 pub room_turn : {A : Type 0} (target : ℕ) (ids : Option ℕ) (fs : List (FinishedTable A))
-    (w : Writing) (failed : Bool) (e : Entry) → (failed ≡ false → GoesOn target ids fs w)
+    (w : Writing) (failed : Bool) (e : Entry) → (failed ≡ false → GoesOn target ids (lists_in fs) w)
     → HasRoomFor (state_of target ids fs w failed) e → turn_fault target ids w e ≡ None
 room_turn target ids fs w failed e held room =
     turns target ids w e (held room.works).present room.left room.fits _ refl

@@ -24,6 +24,8 @@ pub mod CutTables
 pub mod OneCut
 pub mod Rotating
 pub mod Turning
+pub mod TakenTables
+pub mod Streaming
 pub mod AllTables
 pub mod Fitting
 pub mod Whole

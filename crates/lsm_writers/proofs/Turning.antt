@@ -1,6 +1,6 @@
 -- A call of a writer of many tables, where the next table may begin.
 use Rattle.std.proofs.Common.{◌≡◌, refl, sym, ◌∙◌, ap, subst, ℕ, ◌-◌, ◌^◌, Bool, true, false, List}
-use Rattle.std.proofs.Common.{[], ◌∷◌, ◌++◌, append_assoc, arith, IsTrue}
+use Rattle.std.proofs.Common.{[], ◌∷◌, ◌++◌, append_assoc, IsTrue, inl, inr, length}
 use Rattle.std.specs.Prelude.{Option, Some, None, Result, Ok, Err, IsErrAnd, nat_lt, if◌then◌else◌}
 use Rattle.sst_entries.specs.declared.error.Error.{Error}
 use Rattle.sst_entries.specs.declared.error.Error.TheVariants.{OutOfMemory, TableIdsSpent}
@@ -8,14 +8,16 @@ use Rattle.sst_entries.specs.declared.error.Error.TheVariants.{WriterFailed}
 use Rattle.sst_entries.specs.Entry.{Entry}
 use Rattle.sst_entries.specs.Error.{Refuses}
 use Rattle.sst_entries.specs.Strict.{IsStrictAfter}
+use Rattle.sst_blocks.specs.declared.table.label.Label.{Label}
 use Rattle.sst_blocks.specs.declared.table.options.Options.{Options}
 use Rattle.sst_blocks.specs.table.Options.{label_of}
 use Rattle.sst_entries.proofs.Booleans.{and_parts}
 use Rattle.sst_blocks.specs.table.Chunks.{joined}
 use Rattle.lsm_writers.specs.declared.writer.FinishedTable.{FinishedTable}
 use Rattle.lsm_writers.specs.Cut.{rest_chunk}
-use Rattle.lsm_writers.specs.Tables.{GoesOn, IsFreshRun, IsStanding, TablesWriting, all_written}
-use Rattle.lsm_writers.specs.Tables.{drawn, early_refusal, gained_all, ids_after, ids_fault, is_due}
+use Rattle.lsm_writers.specs.Taken.{IsLeft, StayHeld}
+use Rattle.lsm_writers.specs.Tables.{AreHeld, GoesOn, IsFreshRun, IsStanding, TablesWriting}
+use Rattle.lsm_writers.specs.Tables.{all_written, drawn, early_refusal, gained_all, ids_after, ids_fault, is_due, label_before}
 use Rattle.lsm_writers.specs.Tables.{lists_in, new_tables, next_id, next_writing, rotated}
 use Rattle.lsm_writers.specs.Tables.{rotation_fault, standing, took, took_fault, turn_fault}
 use Rattle.lsm_writers.specs.Writing.{IsFresh, Writing, fresh_writing, gained, may_be_written}
@@ -24,7 +26,8 @@ use Rattle.lsm_writers.proofs.Chunking.{joined_rest}
 use Rattle.lsm_writers.proofs.ListWriting.{written_gained}
 use Rattle.lsm_writers.proofs.Refused.{none_some}
 use Rattle.lsm_writers.proofs.Rotating.{follows_all, follows_none, goes_on_next, goes_on_still}
-use Rattle.lsm_writers.proofs.Rotating.{lists_added}
+use Rattle.lsm_writers.proofs.Rotating.{few_lists, first_stands, held_next, held_still}
+use Rattle.lsm_writers.proofs.Rotating.{lists_added, no_lists, none_held}
 use Rattle.std.proofs.lemmas.List.Concat.{flat_map-append}
 
 -- what is told of a writer that has not refused
@@ -39,7 +42,7 @@ state_of target ids fs w failed = record {
   failed = failed;
 }
 
-ids_left : (ids : Option ℕ) (w : Writing) → rotation_fault ids w ≡ None → ids_fault ids ≡ None
+pub ids_left : (ids : Option ℕ) (w : Writing) → rotation_fault ids w ≡ None → ids_fault ids ≡ None
 ids_left None w h = absurd cc
 ids_left (Some id) w h = refl
 
@@ -63,24 +66,15 @@ pub ids_fine_first : (id : ℕ) (ids : Option ℕ) → Some id ≡ ids → (x : 
 ids_fine_first id ids is x told = none_some x (sym (ids_fine id ids is) ∙ told)
 
 -- a writer of no table yet
-pub goes_on_first : {A : Type 0} (target : ℕ) (ids left : Option ℕ) (id level moment : ℕ)
-    (w : Writing) → Some id ≡ ids → left ≡ drawn ids → w ≡ new_writing (label_of id level moment)
-    → GoesOn {A = A} target left [] w
+pub goes_on_first : (target : ℕ) (ids left : Option ℕ) (id level moment : ℕ) (w : Writing)
+    → Some id ≡ ids → left ≡ drawn ids → w ≡ new_writing (label_of id level moment)
+    → GoesOn target left [] w
 unfolding IsStrictAfter
-goes_on_first {A} target ids left id level moment w is drew e =
+goes_on_first target ids left id level moment w is drew e =
     let next : left ≡ next_id id = drew ∙ ap drawn (sym is) in
-    let made : GoesOn {A = A} target left [] (new_writing (label_of id level moment)) =
-    record {
-      present = refl;
-      strict = tt;
-      cuts = tt;
-      finished = tt;
-      few = omega arith;
-      next =
-          next;
-      begun = λ _. refl;
-    } in
-    subst (λ (v : Writing). GoesOn {A = A} target left [] v) (sym e) made
+    let made : GoesOn target left [] (new_writing (label_of id level moment)) =
+    record { present = refl; strict = tt; cuts = tt; next = next; begun = λ _. refl } in
+    subst (GoesOn target left []) (sym e) made
 
 pub new_tables_is : {A : Type 0} (target : ℕ) (ids left : Option ℕ) (id level moment : ℕ)
     (w : Writing) (fs : List (FinishedTable A)) → Some id ≡ ids → left ≡ drawn ids
@@ -96,8 +90,12 @@ module _ {A : Type 0} (target : ℕ) (ids : Option ℕ) (fs : List (FinishedTabl
   pub fresh_present : IsFresh w
   fresh_present = (subst IsFreshRun (sym is) fresh).1
 
-  pub goes_on_with : (v : Writing) (options : Options) → (failed ≡ false → GoesOn target ids fs w)
-      → v ≡ record w { options = options } → failed ≡ false → GoesOn target ids fs v
+  pub none_held_with : (v : Writing) → AreHeld v.options v.label fs
+  none_held_with v = none_held v.options v.label fs (no_lists fs (subst IsFreshRun (sym is) fresh).0)
+
+  pub goes_on_with : (v : Writing) (options : Options)
+      → (failed ≡ false → GoesOn target ids (lists_in fs) w)
+      → v ≡ record w { options = options } → failed ≡ false → GoesOn target ids (lists_in fs) v
   unfolding IsStrictAfter
   goes_on_with v options goes e works =
       let h = goes works in
@@ -106,28 +104,20 @@ module _ {A : Type 0} (target : ℕ) (ids : Option ℕ) (fs : List (FinishedTabl
       ∙ ap (gained_all (fresh_writing w.label w.options)) none in
       let now : v ≡ fresh_writing w.label options = e
       ∙ ap (λ (u : Writing). record u { options = options }) was in
-      let made : GoesOn {A = A} target ids [] (fresh_writing w.label options) =
-      record {
-        present = refl;
-        strict = tt;
-        cuts = tt;
-        finished = tt;
-        few = omega arith;
-        next =
-            h.next;
-        begun = λ _. refl;
-      } in
+      let made : GoesOn target ids [] (fresh_writing w.label options) =
+      record { present = refl; strict = tt; cuts = tt; next = h.next; begun = λ _. refl } in
       rw (now, h.begun none) made
 
 -- whether a table was due is told, so is what stands then
 module _ {A : Type 0} (target : ℕ) (ids ids' : Option ℕ) (fs fs' : List (FinishedTable A))
     (w w' : Writing) (e : Entry) where
-  follows_by : (due : Bool) → IsStanding due ids fs w ids' fs' w' → GoesOn target ids fs w
+  follows_by : (due : Bool) → IsStanding due ids fs w ids' fs' w'
+      → GoesOn target ids (lists_in fs) w
       → IsTrue (may_be_written (joined (lists_in fs) ++ written w) e.user_key e.seqno)
       → IsTrue (may_be_written (written w') e.user_key e.seqno)
   follows_by false s h next =
       subst (λ (x : Writing). IsTrue (may_be_written (written x) e.user_key e.seqno)) (sym s.2)
-      (follows_all target ids fs w e.user_key e.seqno h ∙ next)
+      (follows_all target ids (lists_in fs) w e.user_key e.seqno h ∙ next)
   follows_by true s h next =
       let low : nat_lt e.seqno (2 ^ 64 - 1) ≡ true = (and_parts _ _ next).0 in
       subst (λ (x : Writing). IsTrue (may_be_written (written x) e.user_key e.seqno)) (sym s.2)
@@ -152,15 +142,28 @@ module _ {A : Type 0} (target : ℕ) (ids ids' : Option ℕ) (fs fs' : List (Fin
       absurd cc
 
   goes_on_by : (due : Bool) → is_due target w e ≡ due → IsStanding due ids fs w ids' fs' w'
-      → turn_fault target ids w e ≡ None → GoesOn target ids fs w
+      → turn_fault target ids w e ≡ None → GoesOn target ids (lists_in fs) w
       → IsTrue (may_be_written (joined (lists_in fs) ++ written w) e.user_key e.seqno)
-      → GoesOn target ids' fs' (gained w' e)
+      → GoesOn target ids' (lists_in fs') (gained w' e)
   goes_on_by false h s fine old next =
-      rw (s.0, s.1, s.2) (goes_on_still target ids fs w e old next h)
+      rw (s.0, s.1, s.2) (goes_on_still target ids (lists_in fs) w e old next h)
   goes_on_by true h s fine old next =
       let turned : turn_fault target ids w e ≡ rotation_fault ids w = rw h refl in
-      rw (s.0, s.2) (goes_on_next target ids fs w e old next h
-      (ids_left ids w (sym turned ∙ fine)) fs' s.1)
+      rw (s.0, s.2, lists_added w fs fs' s.1) (goes_on_next target ids (lists_in fs) w e old next h
+      (ids_left ids w (sym turned ∙ fine)))
+
+  -- the tables held before the entry
+  held_by : (due : Bool) → is_due target w e ≡ due → IsStanding due ids fs w ids' fs' w'
+      → turn_fault target ids w e ≡ None → AreHeld w.options w.label fs
+      → GoesOn target ids (lists_in fs) w → AreHeld w'.options w'.label fs'
+  held_by false h s fine held old =
+      held_still w w' fs fs' s.1 (ap (λ (v : Writing). v.label) s.2)
+      (ap (λ (v : Writing). v.options) s.2) held
+  held_by true h s fine held old =
+      let turned : turn_fault target ids w e ≡ rotation_fault ids w = rw h refl in
+      let next = held_next target ids fs fs' w held old (ids_left ids w (sym turned ∙ fine)) s.1 in
+      held_still (next_writing ids w) w' fs' fs' refl (ap (λ (v : Writing). v.label) s.2)
+      (ap (λ (v : Writing). v.options) s.2) next
 
   listed_by : (due : Bool) → IsStanding due ids fs w ids' fs' w'
       → joined (lists_in fs') ++ written (gained w' e) ≡ (joined (lists_in fs) ++ written w) ++ e
@@ -180,7 +183,7 @@ module _ {A : Type 0} (target : ℕ) (ids ids' : Option ℕ) (fs fs' : List (Fin
   -- where the table that was due stands in its place
   module _ (failed : Bool) (works : failed ≡ false)
       (stands : IsStanding (is_due target w e) ids fs w ids' fs' w') where
-    pub next_follows : GoesOn target ids fs w → IsTrue
+    pub next_follows : GoesOn target ids (lists_in fs) w → IsTrue
         (may_be_written (all_written (state_of target ids fs w failed)) e.user_key e.seqno)
         → IsTrue (may_be_written (written w') e.user_key e.seqno)
     next_follows h next = follows_by _ stands h (rw works at next)
@@ -200,15 +203,72 @@ module _ {A : Type 0} (target : ℕ) (ids ids' : Option ℕ) (fs fs' : List (Fin
     early_is fine x early = early_by x _ refl stands fine (rw works at early)
 
     pub still_goes_on : turn_fault target ids w e ≡ None → (v : Writing) → v ≡ gained w' e
-        → GoesOn target ids fs w → IsTrue (may_be_written
+        → GoesOn target ids (lists_in fs) w → IsTrue (may_be_written
         (all_written (state_of target ids fs w failed)) e.user_key e.seqno)
-        → GoesOn target ids' fs' v
+        → GoesOn target ids' (lists_in fs') v
     still_goes_on fine v is h next = rw is (goes_on_by _ refl stands fine h (rw works at next))
+
+    -- the tables stay held where the writer keeps its table info and options
+    pub held_standing : turn_fault target ids w e ≡ None → AreHeld w.options w.label fs
+        → GoesOn target ids (lists_in fs) w → (v : Writing) → v.label ≡ w'.label
+        → v.options ≡ w'.options → AreHeld v.options v.label fs'
+    held_standing fine held old v label options = held_still w' v fs' fs' refl label options
+        (held_by _ refl stands fine held old)
 
     pub listed_is : (v : Writing) → v ≡ gained w' e
         → joined (lists_in fs') ++ written v ≡ all_written (state_of target ids fs w failed) ++ e
         ∷ []
     listed_is v is = rw (is, works) (listed_by _ stands)
+
+-- ---- what is left after an error
+
+module _ {A : Type 0} (target : ℕ) (ids ids' : Option ℕ) (fs fs' : List (FinishedTable A))
+    (w w' : Writing) (e : Entry) (failed now : Bool) where
+  -- where no table was finished
+  pub left_still : StayHeld fs w fs' w' → IsLeft (state_of target ids fs w failed) e
+      (state_of target ids' fs' w' now)
+  left_still s = record {
+    tables = inl (ap (λ (x : List (FinishedTable A)). lists_in x) s.0);
+    first = λ some. ap (λ (x : List (FinishedTable A)). label_before (length (lists_in x)) w'.label)
+        s.0
+        ∙ ap (λ (l : Label). label_before (length (lists_in fs)) l) s.1;
+    options = s.2;
+  }
+
+  label_by : (due : Bool) → is_due target w e ≡ due → IsStanding due ids fs w ids' fs' w'
+      → turn_fault target ids w e ≡ None → AreHeld w.options w.label fs
+      → GoesOn target ids (lists_in fs) w → (lists_in fs' ≡ [] → ⊥)
+      → label_before (length (lists_in fs')) w'.label
+      ≡ label_before (length (lists_in fs)) w.label
+  label_by false h s fine held old some =
+      ap (λ (x : List (FinishedTable A)). label_before (length (lists_in x)) w'.label) s.1
+      ∙ ap (λ (v : Writing). label_before (length (lists_in fs)) v.label) s.2
+  label_by true h s fine held old some =
+      let turned : turn_fault target ids w e ≡ rotation_fault ids w = rw h refl in
+      let lists = lists_added w fs fs' s.1 in
+      ap (λ (x : List (List Entry)). label_before (length x) w'.label) lists
+      ∙ (ap (λ (v : Writing). label_before (length (lists_in fs ++ rest_chunk (written w))) v.label)
+      s.2
+      ∙ first_stands target ids (lists_in fs) w old (ids_left ids w (sym turned ∙ fine))
+      (few_lists w.options w.label fs held) (λ none. some (lists ∙ none)))
+
+  options_by : (due : Bool) → IsStanding due ids fs w ids' fs' w' → w'.options ≡ w.options
+  options_by false s = ap (λ (v : Writing). v.options) s.2
+  options_by true s = ap (λ (v : Writing). v.options) s.2
+
+  -- where the table that was due stands in its place, and the entry failed
+  pub left_standing : IsStanding (is_due target w e) ids fs w ids' fs' w'
+      → turn_fault target ids w e ≡ None → AreHeld w.options w.label fs
+      → GoesOn target ids (lists_in fs) w → (v : Writing) → v.label ≡ w'.label
+      → v.options ≡ w'.options
+      → IsLeft (state_of target ids fs w failed) e (state_of target ids' fs' v now)
+  left_standing stands fine held old v label options = record {
+    tables = inr (sym (ap (λ (n : TablesWriting). n.tables)
+        (stands_by target ids ids' fs fs' w w' e failed _ refl stands)));
+    first = λ some. ap (λ (l : Label). label_before (length (lists_in fs')) l) label
+        ∙ label_by _ refl stands fine held old some;
+    options = options ∙ options_by _ stands;
+  }
 
 -- a table was due, and no id is left for it
 pub early_due : {A : Type 0} (target : ℕ) (ids : Option ℕ) (fs : List (FinishedTable A))

@@ -6,4 +6,6 @@ pub mod Writing
 pub mod Filtering
 pub mod Held
 pub mod Tables
+pub mod Taken
+pub mod Streamed
 pub mod Words

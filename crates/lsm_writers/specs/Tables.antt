@@ -329,14 +329,18 @@ abbrev pub gained_all : Writing → List Entry → Writing
 gained_all w [] = w
 gained_all w (e ∷ es) = gained_all (gained w e) es
 
--- the writer has exactly its entries; the lists are cut by the target; the finished tables are
--- theirs, with consecutive ids up to the current one
-pub record GoesOn {A : Type 0} (target : ℕ) (ids : Option ℕ) (fs : List (FinishedTable A))
-    (w : Writing) : Type 0 where
-  pub present : w ≡ gained_all (fresh_writing w.label w.options) (written w)
-  pub strict : IsStrict (joined (lists_in fs) ++ written w)
-  pub cuts : AreCuts w.options.data_block_size target (lists_in fs ++ rest_chunk (written w))
-  pub finished : AreFinished w.options (label_before (length fs) w.label) (lists_in fs) fs
-  pub few : length fs ≤ w.label.table_id
-  pub next : ids ≡ next_id w.label.table_id
-  pub begun : written w ≡ [] → fs ≡ []
+-- the writer has exactly its entries; the lists of the tables before it and its own are strict and
+-- cut by the target; the next id is the one after its table's
+pub record GoesOn (target : ℕ) (ids : Option ℕ) (ts : List (List Entry)) (w : Writing) : Type 0
+  where
+    pub present : w ≡ gained_all (fresh_writing w.label w.options) (written w)
+    pub strict : IsStrict (joined ts ++ written w)
+    pub cuts : AreCuts w.options.data_block_size target (ts ++ rest_chunk (written w))
+    pub next : ids ≡ next_id w.label.table_id
+    pub begun : written w ≡ [] → ts ≡ []
+
+-- finished tables of their lists, with consecutive ids up to this table info's, exclusive
+pub record AreHeld {A : Type 0} (options : Options) (label : Label) (fs : List (FinishedTable A))
+    : Type 0 where
+  pub finished : AreFinished options (label_before (length fs) label) (lists_in fs) fs
+  pub few : length fs ≤ label.table_id

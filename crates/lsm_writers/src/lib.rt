@@ -4,11 +4,12 @@
 mod list;
 mod multi_writer;
 mod section;
+mod table_stream;
 mod table_ids;
 mod writer;
 
 pub use list::{is_writable, write_list};
-pub use multi_writer::{MultiWriter, tables_law};
+pub use multi_writer::{MultiWriter, tables_law, taking_law};
 pub use section::{
     BlockIndexWriter, FilterWriter, FilterWriterImpl, FullFilterWriter, FullIndexWriter,
     IndexWriterImpl, KeyBuffer, PartitionedFilterWriter, PartitionedIndexWriter,
@@ -19,5 +20,6 @@ pub use sst_blocks::{
     Timestamp, TreeId,
 };
 pub use table_ids::TableIds;
+pub use table_stream::TableStream;
 pub use writer::meta::Metadata;
 pub use writer::{FinishedTable, Writer};

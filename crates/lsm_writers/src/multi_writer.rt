@@ -1,6 +1,7 @@
 //! The writer of several tables, one after another.
 ghost use Rattle.std.specs.Prelude.{◌≡◌, ◌↔◌, ◌<◌, ◌≤◌, ◌∷◌, ◌++◌, if◌then◌else◌, [], false, true};
-ghost use Rattle.std.specs.Prelude.{IfErr, IfOk, IsTrue, OnErr, OnOk, Some, None};
+ghost use Rattle.std.specs.Prelude.{IfErr, IfOk, IsTrue, OnErr, OnOk, Some, None, length, take};
+ghost use Rattle.std.specs.Option.{option_to_list};
 ghost use Rattle.sst_entries.specs.Lending.{entry_of_ref};
 ghost use Rattle.sst_entries.specs.declared.error.Error.TheVariants.{OutOfMemory};
 ghost use Rattle.sst_blocks.specs.declared.table.options.FilterKind.TheVariants.{
@@ -12,7 +13,7 @@ ghost use Rattle.sst_blocks.specs.declared.table.options.IndexKind.TheVariants.{
 ghost use Rattle.lsm_writers.specs.Words.{Faults, FaultsFirst, IsStrict, failed_fault};
 ghost use Rattle.lsm_writers.specs.Words.{finish_fault};
 ghost use Rattle.lsm_writers.specs.Words.{IsSmallFilter, IsSmallIndex, filter_with_size};
-ghost use Rattle.lsm_writers.specs.Words.{index_with_size, may_be_written, written};
+ghost use Rattle.lsm_writers.specs.Words.{index_with_size, last_of, may_be_written, written};
 ghost use Rattle.lsm_writers.specs.Tables.{AddsTable, AreFinished, AreInKeyOrder, AreTables};
 ghost use Rattle.lsm_writers.specs.Tables.{HasRoomFor, IsFreshRun};
 ghost use Rattle.lsm_writers.specs.Tables.{all_written, drawn, early_refusal, first_label};
@@ -22,6 +23,8 @@ ghost use Rattle.lsm_writers.specs.Tables.{new_tables, next_writing, rotation_fa
 ghost use Rattle.lsm_writers.specs.Tables.{table_fault, tables_of};
 ghost use Rattle.lsm_writers.specs.Tables.{CutLaw, IsStanding, OneCutLaw, OneKeyLaw, TakesLaw};
 ghost use Rattle.lsm_writers.specs.Tables.{took, took_fault, turn_fault, with_options};
+ghost use Rattle.lsm_writers.specs.Taken.{FinishedLaw, IsLeft, StayHeld, TakenLaw, WrittenLaw};
+ghost use Rattle.lsm_writers.specs.Taken.{taken};
 
 use crate::{FinishedTable, TableIds, Timestamp, Writer};
 use sst_blocks::{
@@ -37,15 +40,15 @@ use std::mem;
 ///
 /// The next table begins at the first entry of a key, once the cut data blocks of the current table
 /// reach the target size. A table can exceed the target by one block and all versions of one key.
-/// After an error its finished tables are dropped too.
+/// [`MultiWriter::take_finished`] returns the finished tables one by one, also after an error.
 ///
-/// Contracts see the lists of the finished tables, the writer of the current one and the id
-/// counter.
+/// Contracts see the lists of the finished tables that were not taken, the writer of the current
+/// one and the id counter.
 #[derive(Drop)]
 pub struct MultiWriter<A: Allocator = Global> {
     target_size: u64,
     ids: TableIds,
-    // the tables before the current one
+    // the tables before the current one that were not taken
     finished: Vec<FinishedTable<A>, A>,
     // the current table; its options, level and timestamp are those of all tables
     writer: Writer<A>,
@@ -55,7 +58,7 @@ pub struct MultiWriter<A: Allocator = Global> {
 
 impl<A: Allocator> Model for MultiWriter<A> {
     ghost use Rattle.std.specs.Prelude.{◌≡◌, false};
-    ghost use Rattle.lsm_writers.specs.Tables.{TablesWriting, GoesOn, lists_in};
+    ghost use Rattle.lsm_writers.specs.Tables.{TablesWriting, AreHeld, GoesOn, lists_in};
 
     ghost Value = { TablesWriting };
 
@@ -67,8 +70,10 @@ impl<A: Allocator> Model for MultiWriter<A> {
       failed = w.failed;
     } };
 
-    ghost invariant = { λ w. w.failed ≡ false →
-        GoesOn w.target_size w.ids w.finished.items w.writer };
+    ghost invariant = { λ w.
+        AreHeld w.writer.options w.writer.label w.finished.items
+        × (w.failed ≡ false →
+        GoesOn w.target_size w.ids (lists_in w.finished.items) w.writer) };
 }
 
 impl<A: Allocator + Clone> MultiWriter<A> {
@@ -156,8 +161,9 @@ impl<A: Allocator + Clone> MultiWriter<A> {
     ///   [`Writer::finish`] for the current table;
     /// - the errors of [`Writer::write`].
     ///
-    /// After an error the list is lost. Each later call fails with [`Error::WriterFailed`] and
-    /// changes nothing. An id that was drawn stays drawn, even if the call fails later.
+    /// After an error the list is lost, but for the finished tables: these can still be taken. Each
+    /// later call fails with [`Error::WriterFailed`] and changes nothing. An id that was drawn stays
+    /// drawn, even if the call fails later.
     pub fn write(&mut self, item: InternalValue<A>) -> Result<(), Error>
         requires { IsTrue (may_be_written (all_written self.old) item.user_key item.seqno) }
         ensures ok { OnOk result (self.new ≡ took self.old item) }
@@ -172,6 +178,7 @@ impl<A: Allocator + Clone> MultiWriter<A> {
         // Whatever the result, an unfailed writer draws an id exactly if a table is due.
         ensures ids { self.new.ids ≡ ids_after self.old item }
         ensures kept { self.old.failed ≡ true → self.new ≡ self.old }
+        ensures left { OnErr result (IsLeft self.old item self.new) }
     {
         let outcome = self.write_ref(&item.as_entry_ref());
         drop(item);
@@ -198,6 +205,7 @@ impl<A: Allocator + Clone> MultiWriter<A> {
         // Whatever the result, an unfailed writer draws an id exactly if a table is due.
         ensures ids { self.new.ids ≡ ids_after self.old (entry_of_ref entry.now) }
         ensures kept { self.old.failed ≡ true → self.new ≡ self.old }
+        ensures left { OnErr result (IsLeft self.old (entry_of_ref entry.now) self.new) }
     {
         if self.failed {
             return Err(Error::WriterFailed);
@@ -215,7 +223,26 @@ impl<A: Allocator + Clone> MultiWriter<A> {
         Ok(())
     }
 
-    /// Finishes the current table and returns all tables in key order, none if nothing was written.
+    /// Returns the oldest finished table that was not taken, or `None` if there is none.
+    ///
+    /// Tables can be taken between any two calls, also after an error. The tables that were taken,
+    /// then those that [`MultiWriter::finish`] returns, are those that it returns if none is taken.
+    pub fn take_finished(&mut self) -> Option<FinishedTable<A>>
+        ensures table { AreFinished self.old.present.options (first_label self.old)
+            (take 1 self.old.tables) (option_to_list result) }
+        ensures left { self.new ≡ taken 1 self.old }
+        // The same entries can be written next.
+        ensures last { last_of None (all_written self.new) ≡ last_of None (all_written self.old) }
+        ensures ids { length self.old.tables ≤ self.old.present.label.table_id }
+    {
+        if self.finished.is_empty() {
+            return None;
+        }
+        Some(self.finished.remove(0))
+    }
+
+    /// Finishes the current table and returns all tables that were not taken, in key order, none if
+    /// nothing was written.
     ///
     /// The ids of the tables are consecutive from the first id drawn. At a target of 0 they start
     /// at the second, because the first table is finished before it has an entry.
@@ -427,6 +454,7 @@ fn add_table<A: Allocator + Clone>(
     writer: Writer<A>,
 ) -> Result<(), Error>
     ensures ok { OnOk result (AddsTable writer finished.old.items finished.new.items) }
+    ensures left { OnErr result (finished.new.items ≡ finished.old.items) }
     ensures refused { Faults result (finish_fault writer) }
     ensures idle { OnErr result (written writer ≡ [] → writer.failed ≡ true) }
 {
@@ -449,7 +477,7 @@ fn is_due<A: Allocator + Clone>(target: u64, writer: &Writer<A>, entry: &EntryRe
 /// # Errors
 ///
 /// [`Error::TableIdsSpent`] if no id is left; else the errors of [`Writer::finish`]. The id stays
-/// drawn.
+/// drawn. The finished tables stay, and so does the table info of the current one.
 fn rotate<A: Allocator + Clone>(
     ids: &mut TableIds,
     finished: &mut Vec<FinishedTable<A>, A>,
@@ -458,14 +486,18 @@ fn rotate<A: Allocator + Clone>(
     ensures ids { ids.new ≡ drawn ids.old }
     ensures next { OnOk result (writer.new ≡ next_writing ids.old writer.old) }
     ensures added { OnOk result (AddsTable writer.old finished.old.items finished.new.items) }
+    ensures left { OnErr result
+        (StayHeld finished.old.items writer.old finished.new.items writer.new) }
     ensures refused { Faults result (rotation_fault ids.old writer.old) }
     ensures first { FaultsFirst result (ids_fault ids.old) }
 {
     let Some(id) = ids.next() else {
         return Err(Error::TableIdsSpent);
     };
-    let next = writer.successor(id)?;
-    add_table(finished, mem::replace(writer, next))
+    let next = writer.successor()?;
+    add_table(finished, mem::replace(writer, next))?;
+    writer.set_id(id);
+    Ok(())
 }
 
 /// Begins the next table if one is due. Its errors are those of [`rotate`].
@@ -478,6 +510,8 @@ fn make_ready<A: Allocator + Clone>(
 ) -> Result<(), Error>
     ensures ok { OnOk result (IsStanding (is_due target writer.old (entry_of_ref entry.now))
         ids.old finished.old.items writer.old ids.new finished.new.items writer.new) }
+    ensures left { OnErr result
+        (StayHeld finished.old.items writer.old finished.new.items writer.new) }
     ensures refused { Faults result
         (turn_fault target ids.old writer.old (entry_of_ref entry.now)) }
     ensures first { FaultsFirst result
@@ -503,4 +537,16 @@ pub fn tables_law()
     ensures one_cut { OneCutLaw }
     ensures takes { TakesLaw }
     ensures one_key { OneKeyLaw }
+{}
+
+/// Laws of [`MultiWriter::take_finished`]. The call does nothing.
+///
+/// - Tables that are taken one after another are the oldest ones.
+/// - The taken tables, then those that [`MultiWriter::finish`] returns, are those that it returns
+///   if none is taken.
+/// - Writing is the same, whatever was taken.
+pub fn taking_law<A: Allocator>()
+    ensures taken { TakenLaw A }
+    ensures finished { FinishedLaw A }
+    ensures written { WrittenLaw A }
 {}

@@ -119,19 +119,22 @@ impl<A: Allocator + Clone> Writer<A> {
         Writer::fresh(alloc, label, Options::default())
     }
 
-    /// Creates a writer of the table `id`, with the level, timestamp and options of this one. Fails
-    /// only with [`Error::OutOfMemory`].
-    pub(crate) fn successor(&self, id: TableId) -> Result<Writer<A>, Error>
-        ensures ok { IfOk result (λ w.
-            w ≡ fresh_writing (record self.now.label { table_id = id }) self.now.options) }
+    /// Creates a writer with the table info and options of this one. Fails only with
+    /// [`Error::OutOfMemory`].
+    pub(crate) fn successor(&self) -> Result<Writer<A>, Error>
+        ensures ok { IfOk result (λ w. w ≡ fresh_writing self.now.label self.now.options) }
         ensures err { IfErr result (λ e. e ≡ OutOfMemory) }
     {
-        let label = Label {
-            table_id: id,
-            initial_level: self.label.initial_level,
-            created_at: self.label.created_at,
-        };
-        Writer::fresh(self.chunk.allocator().clone()?, label, self.options)
+        Writer::fresh(self.chunk.allocator().clone()?, self.label, self.options)
+    }
+
+    /// Sets the id of the table.
+    pub(crate) fn set_id(&mut self, id: TableId)
+        ensures { self.new ≡ record self.old {
+          label = record self.old.label { table_id = id };
+        } }
+    {
+        self.label.table_id = id;
     }
 
     /// Creates a writer without entries. Fails only with [`Error::OutOfMemory`].

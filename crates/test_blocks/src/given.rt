@@ -217,8 +217,8 @@ pub(crate) fn table<A: Allocator + Copy>(
     Ok(writer.use_partitioned_index().use_partitioned_filter())
 }
 
-// A writer of tables.
-fn tables<A: Allocator + Copy>(
+/// A writer of tables.
+pub(crate) fn tables<A: Allocator + Copy>(
     alloc: A,
     first: TableId,
     target: u64,

@@ -23,4 +23,6 @@ mod same;
 #[cfg(test)]
 mod sections;
 #[cfg(test)]
+mod taken;
+#[cfg(test)]
 mod writers;

@@ -23,7 +23,7 @@ use Rattle.lsm_runs.proofs.compaction.any_runs_with.compact_any_runs_with.Goals 
 
 pub write_observed-written-requires : goal.write_observed-written-requires
 write_observed-written-requires g c =
-    let next : RunsOn c.args.writer = subst RunsOn c.writer.view_is (c.writer.invariant (ap (λ (w : TablesWriting). w.failed) c.writer.view_is ∙ c.requires.fresh.2)).next in
+    let next : RunsOn c.args.writer = subst RunsOn c.writer.view_is (c.writer.invariant.1 (ap (λ (w : TablesWriting). w.failed) c.writer.view_is ∙ c.requires.fresh.2)).next in
     record { fresh = c.requires.fresh; next = next; can = c.in_ok-source.ensures.can }
 
 pub returns-in_err-source-clause-heard : goal.returns-in_err-source-clause-heard
@@ -97,7 +97,7 @@ returns-in_err-outcome-clause-opens g c some = absurd (some c.in_ok-source.ensur
 pub returns-in_err-outcome-clause-fits : goal.returns-in_err-outcome-clause-fits
 returns-in_err-outcome-clause-fits g c able lists held calm fits =
     let a = c.args in
-    let next : RunsOn c.args.writer = subst RunsOn c.writer.view_is (c.writer.invariant (ap (λ (w : TablesWriting). w.failed) c.writer.view_is ∙ c.requires.fresh.2)).next in
+    let next : RunsOn c.args.writer = subst RunsOn c.writer.view_is (c.writer.invariant.1 (ap (λ (w : TablesWriting). w.failed) c.writer.view_is ∙ c.requires.fresh.2)).next in
     let same = one_way (map arc_value a.runs.now) able.lists lists able.hold held in
     let kept = subst (λ (ls : List (List (List Entry))). FitsThroughout g.F.LentFilter.gives g.C.LentCallback.gets a.rules a.filter a.callback (union_in ls) a.writer) (sym same) fits in
     fits_all g.F.LentFilter.gives g.C.LentCallback.gets a.rules a.filter a.callback a.writer (union_in able.lists) able.writable c.tables_law.ensures.takes c.requires.fresh next calm kept g.O.CompactionObserver.says a.observer.now c.write_observed-written.new.observer c.from_residual-in_err-outcome.result (returns-in_err-outcome-clause-until g c able.lists able.hold able.some)

@@ -19,7 +19,7 @@ pub write_all-requires : goal.write_all-requires
 write_all-requires g c =
     let rules = rules_by c.args.gc_seqno_threshold c.args.evict_tombstones c.args.zero_seqnos in
     let able = c.requires.able in
-    let next : RunsOn c.args.writer = subst RunsOn c.writer.view_is (c.writer.invariant (ap (λ (w : TablesWriting). w.failed) c.writer.view_is ∙ c.requires.fresh.2)).next in
+    let next : RunsOn c.args.writer = subst RunsOn c.writer.view_is (c.writer.invariant.1 (ap (λ (w : TablesWriting). w.failed) c.writer.view_is ∙ c.requires.fresh.2)).next in
     record {
       fresh = c.requires.fresh;
       next = next;
@@ -45,7 +45,7 @@ pub returns-clause-taken : goal.returns-clause-taken
 returns-clause-taken g c lists held fits =
     let rules = rules_by c.args.gc_seqno_threshold c.args.evict_tombstones c.args.zero_seqnos in
     let able = c.requires.able in
-    let next : RunsOn c.args.writer = subst RunsOn c.writer.view_is (c.writer.invariant (ap (λ (w : TablesWriting). w.failed) c.writer.view_is ∙ c.requires.fresh.2)).next in
+    let next : RunsOn c.args.writer = subst RunsOn c.writer.view_is (c.writer.invariant.1 (ap (λ (w : TablesWriting). w.failed) c.writer.view_is ∙ c.requires.fresh.2)).next in
     let writable = subst (λ (ls : List (List (List Entry))). IsWritable (kept_in rules ls)) (one_way (map arc_value c.args.runs.now) able.lists lists able.hold held) (stays_writable rules (union_in able.lists) able.writable) in
     memory_alone c.write_all.result _ (fits_none c.args.writer (kept_in rules lists) c.tables_law.ensures.takes c.requires.fresh next writable fits)
     (returns-clause-refused g c lists held)

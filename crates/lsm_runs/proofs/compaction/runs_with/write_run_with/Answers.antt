@@ -17,7 +17,7 @@ use Rattle.lsm_runs.proofs.compaction.runs_with.write_run_with.Goals as goal
 
 pub write_by-requires-clause-next : goal.write_by-requires-clause-next
 write_by-requires-clause-next g c =
-    subst RunsOn c.writer.view_is (c.writer.invariant (ap (λ (w : TablesWriting). w.failed) c.writer.view_is ∙ c.requires.fresh.2)).next
+    subst RunsOn c.writer.view_is (c.writer.invariant.1 (ap (λ (w : TablesWriting). w.failed) c.writer.view_is ∙ c.requires.fresh.2)).next
 
 pub returns-clause-opened : goal.returns-clause-opened
 returns-clause-opened g c = put_by c.args.how.now c.in_ok-tables.tables.items c.in_ok-opened.opened.items (subst (λ (x : List (FinishedTable _)). AreOpenedBy c.args.how.now x c.in_ok-opened.opened.items) c.deref.ensures.value c.in_ok-opened.ensures.opened) c.new.result c.new.ensures

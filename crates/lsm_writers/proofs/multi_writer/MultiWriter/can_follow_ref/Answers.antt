@@ -1,4 +1,5 @@
 use Rattle.std.proofs.Common.{◌∙◌}
+use Rattle.lsm_writers.specs.Tables.{lists_in}
 use Rattle.lsm_writers.proofs.Rotating.{follows_all, follows_none}
 use Rattle.lsm_writers.proofs.multi_writer.MultiWriter.can_follow_ref.Goals as goal
 
@@ -9,4 +10,4 @@ returns-then-self g c =
 pub returns : goal.returns
 returns g c =
     let i = c.self.inside in
-    rw (← c.self.view_is, c.if-self.false) (c.can_follow_ref.ensures ∙ follows_all i.target_size i.ids i.finished.items i.writer c.args.entry.now.user_key.now c.args.entry.now.seqno (c.self.invariant c.if-self.false))
+    rw (← c.self.view_is, c.if-self.false) (c.can_follow_ref.ensures ∙ follows_all i.target_size i.ids (lists_in i.finished.items) i.writer c.args.entry.now.user_key.now c.args.entry.now.seqno (c.self.invariant.1 c.if-self.false))

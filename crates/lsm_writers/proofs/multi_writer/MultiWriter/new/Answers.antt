@@ -1,10 +1,13 @@
 use Rattle.sst_entries.proofs.Refusals.{faults_memory}
+use Rattle.lsm_writers.proofs.Rotating.{none_held}
 use Rattle.lsm_writers.proofs.Turning.{goes_on_first, ids_fine_first, ids_spent, ids_spent_first, new_tables_is}
 use Rattle.lsm_writers.proofs.multi_writer.MultiWriter.new.Goals as goal
 
 pub invariant_of-result : goal.invariant_of-result
-invariant_of-result g c = λ works.
-    rw c.new-2.ensures.items (goes_on_first c.args.target_size c.args.ids c.next.new.self c.in-Some.id c.args.initial_level c.args.created_at c.in_ok-writer.writer c.in-Some.ensures.id c.next.ensures.left c.in_ok-writer.ensures.ok)
+invariant_of-result g c = (
+  none_held c.in_ok-writer.writer.options c.in_ok-writer.writer.label c.new-2.result.items c.new-2.ensures.items,
+  λ works. rw c.new-2.ensures.items (goes_on_first c.args.target_size c.args.ids c.next.new.self c.in-Some.id c.args.initial_level c.args.created_at c.in_ok-writer.writer c.in-Some.ensures.id c.next.ensures.left c.in_ok-writer.ensures.ok),
+)
 
 pub returns-clause-ok : goal.returns-clause-ok
 returns-clause-ok g c =
