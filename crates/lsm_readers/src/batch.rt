@@ -1,4 +1,4 @@
-//! Point reads for a batch of queries in key order, over any block source.
+//! Point reads for a batch of queries in key order, over any block source whose bytes are known.
 ghost use Rattle.std.specs.Prelude.{◌≡◌, ◌-◌, ◌<◌, ◌≤◌, Option, Ok, IfOk, IfSome, false};
 ghost use Rattle.std.specs.Prelude.{length, replicate, slice_set};
 ghost use Rattle.lsm_readers.specs.Words as spec;
@@ -57,6 +57,7 @@ fn lookup_at<S: LoadBlocks>(
     queries: &[Query<S::Alloc>],
     at: usize,
 ) -> Option<Lookup>
+    requires { spec.IsKnown S.access }
     ensures lookup { let parts = spec.parts_of inner.now in
         IfSome result (λ p.
         spec.IsLookup (S.body source.old) inner.now.global_seqno parts queries.now p) }
@@ -79,6 +80,7 @@ pub(crate) fn find_lookups<S: LoadBlocks>(
     order: &[Headed],
     alloc: S::Alloc,
 ) -> Result<Vec<Lookup, S::Alloc>, AllocError>
+    requires { spec.IsKnown S.access }
     ensures lookups { let parts = spec.parts_of inner.now in
         IfOk result (λ lookups.
         spec.All (spec.IsLookup (S.body source.old) inner.now.global_seqno parts queries.now)
@@ -103,7 +105,8 @@ fn answer_lookup<S: LoadBlocks>(
     query: &Query<S::Alloc>,
     handle: Option<BlockHandle>,
 ) -> Result<Option<InternalValue<S::Alloc>>, Error>
-    requires { let low = query.now.seqno - inner.now.global_seqno in
+    requires known { spec.IsKnown S.access }
+    requires handle { let low = query.now.seqno - inner.now.global_seqno in
         (spec.admitted_handle (S.body source.old) (spec.parts_of inner.now) query.now.key
         low).returned ≡ Ok handle }
     ensures returned { let parts = spec.parts_of inner.now in
@@ -185,6 +188,7 @@ pub(crate) fn read_lookups<S: LoadBlocks>(
     lookups: &[Lookup],
     batch: &mut Batch<S::Alloc>,
 ) -> bool
+    requires known { spec.IsKnown S.access }
     requires lookups { let parts = spec.parts_of inner.now in
         spec.All (spec.IsLookup (S.body source.old) inner.now.global_seqno parts queries.now)
         lookups.now }

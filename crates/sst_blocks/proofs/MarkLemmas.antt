@@ -1,5 +1,5 @@
 -- A payload that has its checksum may be marked.
-use Rattle.std.specs.Prelude.{None}
+use Rattle.std.specs.Prelude.{None, Result, Ok, Err, IfOk}
 use Rattle.std.proofs.Common.{◌≡◌, ◌≤◌, ℕ, zero, suc, ◌+◌, ◌-◌, true, List, [], ◌∷◌, ◌++◌, length}
 use Rattle.std.proofs.Common.{replicate, take, slice_index, slice_set, slice_range, refl, subst}
 use Rattle.std.proofs.Common.{sym, ap, ◌∙◌, arith}
@@ -12,6 +12,9 @@ use Rattle.sst_blocks.specs.declared.block_type.BlockType.TheVariants.{Data, Ind
 use Rattle.sst_blocks.specs.Block.{data_len, header_fault, in_grammar, kind_tag, stored_checksum}
 use Rattle.sst_blocks.specs.Block.{version_in}
 use Rattle.sst_blocks.specs.Marks.{HasItems, HasSum, IsHeaded, IsSaid, Says, head_before}
+use Rattle.sst_blocks.specs.declared.block.placed.Placed.{Placed}
+use Rattle.sst_blocks.specs.Placed.{IsHeadedIn}
+use Rattle.sst_entries.specs.declared.error.Error.{Error}
 use Rattle.sst_blocks.specs.Fnv.{fnv1a}
 use Rattle.sst_blocks.specs.Sections.{body_of}
 
@@ -126,6 +129,27 @@ headed_there bytes at v kind checksum len within none version sum size =
       kind_is = ap (λ (h : List ℕ). slice_index h 4) head
           ∙ decode_kind kind (slice_range (body_of bytes) at (at + 24)) none;
     }
+
+-- a payload that was found by its header is headed
+pub headed_in : (bytes : List ℕ) (offset size : ℕ) (kind : BlockType) (p : Placed)
+    → IsHeadedIn (body_of bytes) offset size kind p
+    → IsHeaded bytes p.start p.end p.header.version kind p.header.checksum
+headed_in bytes offset size kind p headed =
+    let v = p.header.version in
+    let sum = p.header.checksum in
+    let there = headed_there bytes offset v kind sum p.header.data_len
+    (omega (arith, headed.start, headed.end, headed.within))
+    headed.fault headed.version headed.checksum headed.len in
+    let start : offset + 24 ≡ p.start = sym headed.start in
+    let end : offset + 24 + p.header.data_len ≡ p.end = omega (arith, headed.start, headed.end) in
+    subst (λ (s : ℕ). IsHeaded bytes s p.end v kind sum) start
+    (subst (λ (e : ℕ). IsHeaded bytes (offset + 24) e v kind sum) end there)
+
+pub headed_result : (bytes : List ℕ) (offset size : ℕ) (kind : BlockType) (r : Result Placed Error)
+    → IfOk r (λ p. IsHeadedIn (body_of bytes) offset size kind p)
+    → IfOk r (λ p. IsHeaded bytes p.start p.end p.header.version kind p.header.checksum)
+headed_result bytes offset size kind (Ok p) headed = headed_in bytes offset size kind p headed
+headed_result bytes offset size kind (Err e) headed = tt
 
 -- a payload that has the checksum that its header says
 pub sum_there : (bytes : List ℕ) (start end checksum : ℕ) → IsSaid bytes start end checksum

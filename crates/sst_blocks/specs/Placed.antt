@@ -3,10 +3,11 @@ use Rattle.std.specs.Prelude.{◌≡◌, ◌≤◌, ◌<◌, ◌+◌, ◌^◌, �
 use Rattle.std.specs.Prelude.{None}
 use Rattle.std.specs.Option.{option_or}
 use Rattle.sst_blocks.specs.declared.block_type.BlockType.{BlockType}
-use Rattle.sst_blocks.specs.declared.source.Placed.{Placed}
+use Rattle.sst_blocks.specs.declared.block.placed.Placed.{Placed}
 use Rattle.sst_blocks.specs.declared.source.reads.Valid.{Valid}
-use Rattle.sst_blocks.specs.Block.{checked_payload, checksum_fault, has_room, in_grammar, load_result}
-use Rattle.sst_blocks.specs.Block.{place_fault, room_fault}
+use Rattle.sst_blocks.specs.Block.{checked_payload, checksum_fault, data_len, has_room, header_fault}
+use Rattle.sst_blocks.specs.Block.{header_len, in_grammar, load_result, place_fault, room_fault}
+use Rattle.sst_blocks.specs.Block.{stored_checksum, version_in}
 use Rattle.sst_blocks.specs.Marks.{IsHeaded}
 use Rattle.sst_blocks.specs.Fnv.{fnv1a}
 
@@ -21,6 +22,17 @@ pub record IsPlaced (body : List ℕ) (offset size : ℕ) (kind : BlockType) (p 
   pub first : place_fault body offset size kind ≡
       option_or (checksum_fault p.header.checksum (slice_range body p.start p.end))
       (room_fault p.header.version kind (slice_range body p.start p.end))
+
+-- the header at an offset has no fault, and gives the payload's version, checksum and range
+pub record IsHeadedIn (body : List ℕ) (offset size : ℕ) (kind : BlockType) (p : Placed) : Type 0 where
+  pub start : p.start ≡ offset + header_len
+  pub end : p.start + p.header.data_len ≡ p.end
+  pub within : p.end ≤ length body
+  pub fault : header_fault kind (slice_range body offset (offset + header_len)) ≡ None
+  pub version : p.header.version ≡ version_in (slice_range body offset (offset + header_len))
+  pub checksum : p.header.checksum ≡ stored_checksum
+      (slice_range body offset (offset + header_len))
+  pub len : p.header.data_len ≡ data_len (slice_range body offset (offset + header_len))
 
 -- the payload matches its checksum and has room for the items it counts; once tested, it follows
 -- its grammar

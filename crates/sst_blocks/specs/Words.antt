@@ -10,6 +10,7 @@ pub use Rattle.sst_entries.specs.Stream.{CanYield, EndsAtError, YieldsExactly, a
 pub use Rattle.sst_entries.specs.Stream.{back_of, front_of, ok_results}
 pub use Rattle.sst_entries.specs.Strict.{IsStrict, is_before, is_strict_after, may_follow}
 pub use Rattle.sst_blocks.specs.Block.{Loaded, LoadsBack, block_bytes, checksum_fault, data_len}
+pub use Rattle.sst_blocks.specs.Block.{decode_block, decode_fault, head_size}
 pub use Rattle.sst_blocks.specs.Block.{entries_of, grammar_fault, handles_of, has_room}
 pub use Rattle.sst_blocks.specs.Block.{has_room_for, header_fault, header_len, in_grammar}
 pub use Rattle.sst_blocks.specs.Block.{is_filter, kind_tag, loaded, room_fault, stored_checksum}
@@ -50,11 +51,12 @@ pub use Rattle.sst_blocks.specs.Marks.{IsHeaded, IsSaid, Says}
 unfoldable pub use Rattle.sst_blocks.specs.Marks.{HasItems, HasSum}
 unfoldable pub use Rattle.sst_blocks.specs.Number.{le4, le8, num2, num4, num8}
 pub use Rattle.sst_blocks.specs.Opened.{none_opened, with_load}
-pub use Rattle.sst_blocks.specs.Placed.{IsPlaced, IsValid, IsValidAt, IsValidHeaded}
+pub use Rattle.sst_blocks.specs.Placed.{IsHeadedIn, IsPlaced, IsValid, IsValidAt, IsValidHeaded}
 unfoldable pub use Rattle.sst_blocks.specs.Reading.{entry_at, parts_at}
 pub use Rattle.sst_blocks.specs.Sections.{AreAscending, ReadsBack, Written, body_of, finished}
 pub use Rattle.sst_blocks.specs.Sections.{is_past, section_at, section_names, section_of, slot}
 pub use Rattle.sst_blocks.specs.Sections.{slot_index, slots_len, trailer_fault, trailer_mark}
+pub use Rattle.sst_blocks.specs.Sections.{trailer_of}
 unfoldable pub use Rattle.sst_blocks.specs.Sections.{section_in}
 pub use Rattle.sst_blocks.specs.Version.{key_len_at, key_width, longest_key, mark, version_of}
 pub use Rattle.sst_blocks.specs.declared.block_type.BlockType.{BlockType}

@@ -8,7 +8,7 @@ ghost use Rattle.sst_blocks.specs.Words as spec;
 
 mod reads;
 
-use crate::block::{Header, has_room};
+use crate::block::{Header, Placed, has_room, place_in};
 use crate::marks::{Marks, SPAN};
 use crate::{
     Block, BlockHandle, BlockType, Error, Opened, Slice, TRAILER_LEN, Toc, has_hash, hash_four,
@@ -259,28 +259,7 @@ impl<A: Allocator + Clone> BlockSource<A> {
             IfErr result (λ e. spec.place_fault body handle.now.offset handle.now.size kind
             ≡ Some e) }
     {
-        let body = self.body();
-        let size = handle.size() as usize;
-        if size < HEADER_LEN
-            || body.len() < size
-            || ((body.len() - size) as u64) < handle.offset().0
-        {
-            // No room for a header, or past the body.
-            return Err(Error::Truncated);
-        }
-        let start = handle.offset().0 as usize;
-        let header = Header::decode(&body[start..start + HEADER_LEN], kind)?;
-        if header.data_len != header.uncompressed_len
-            || HEADER_LEN + header.data_len as usize != size
-        {
-            // The two lengths disagree, or differ from the handle's.
-            return Err(Error::InvalidHeader);
-        }
-        Ok(Placed {
-            header,
-            start: start + HEADER_LEN,
-            end: start + size,
-        })
+        place_in(self.body(), handle.offset().0, handle.size() as usize, kind)
     }
 
     /// The bytes before the trailer.
@@ -664,14 +643,6 @@ fn sum_of(said: Option<Said>) -> u64
         Some(said) => said.checksum,
         None => 0,
     }
-}
-
-/// The range of a payload, and its header.
-#[derive(Clone, Copy)]
-struct Placed {
-    header: Header,
-    start: usize,
-    end: usize,
 }
 
 /// The range of a payload, and the checksum in its header.

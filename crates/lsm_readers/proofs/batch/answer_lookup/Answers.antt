@@ -14,13 +14,13 @@ returns-in-Some-clause-returned g c =
     let inner = c.args.inner.now in
     let query = c.args.query.now in
     let low = c.saturating_sub-low.result in
-    let read = (c.read_in.ensures.read).returned in
+    let read = (c.read_in.ensures.read c.requires.known).returned in
     let found = subst (λ (key : List ℕ). Gives (λ (x : Option Entry). x) c.read_in.result (match_at body inner.global_seqno key low c.in-Some.handle).returned) c.as_slice.ensures read in
-    let returned = lookup_result body inner.global_seqno (parts_of inner) query.key query.seqno low (Some c.in-Some.handle) c.saturating_sub-low.ensures (rw c.in-Some.is at c.requires) in
+    let returned = lookup_result body inner.global_seqno (parts_of inner) query.key query.seqno low (Some c.in-Some.handle) c.saturating_sub-low.ensures (rw c.in-Some.is at c.requires.handle) in
     subst (λ (returned : Result (Option Entry) Error). Gives (λ (x : Option Entry). x) c.read_in.result returned) (sym returned) found
 
 pub returns-in-None-clause-returned : goal.returns-in-None-clause-returned
 returns-in-None-clause-returned g c =
     let inner = c.args.inner.now in
     let query = c.args.query.now in
-    lookup_result (g.S.LoadBlocks.body c.args.source.now) inner.global_seqno (parts_of inner) query.key query.seqno c.saturating_sub-low.result None c.saturating_sub-low.ensures (rw c.in-None.is at c.requires)
+    lookup_result (g.S.LoadBlocks.body c.args.source.now) inner.global_seqno (parts_of inner) query.key query.seqno c.saturating_sub-low.result None c.saturating_sub-low.ensures (rw c.in-None.is at c.requires.handle)
