@@ -127,7 +127,7 @@ fn an_error_ends_the_range() {
     let entries = random_entries(5, 300);
     let file = write(&small(4), &items(&entries)).bytes;
     let mut damaged = file.clone();
-    damaged[10] ^= 1;
+    damaged[40] ^= 1;
     let runs = Runs::from_tables([Table::open(&damaged).unwrap()]).unwrap();
     let mut range = runs.range_with::<&str, _, _>(.., NEWEST, vec![item("b", 99, "")]).unwrap();
     assert_eq!(range.next(), Some(Err(Error::ChecksumMismatch)));
