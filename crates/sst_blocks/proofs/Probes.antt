@@ -2,7 +2,8 @@
 use Rattle.std.proofs.Common.{◌≡◌, refl, sym, ◌∙◌, ap, ℕ, zero, suc, ◌+◌, ◌-◌, ◌*◌, ◌/◌, ◌%◌, ◌^◌}
 use Rattle.std.proofs.Common.{◌<◌, ◌≤◌, ◌==◌, ◌||◌, ◌&&◌, Bool, true, false, List, [], ◌∷◌, ◌++◌}
 use Rattle.std.proofs.Common.{length, slice_index_or, slice_set, replicate, bit_or, mod-lt, arith}
-use Rattle.std.proofs.Common.{w8, ⊎_elim, ◌≢◌}
+use Rattle.std.proofs.Common.{w8, ⊎_elim, ◌≢◌, inl, inr}
+use Rattle.std.specs.Prelude.{min}
 use Rattle.std.specs.Int.{bit_at}
 use Rattle.std.specs.List.{list_any, list_all}
 use Rattle.std.proofs.lemmas.Bool.{cases_eq, cases_lt, cases_Bool}
@@ -111,6 +112,22 @@ module _ (a s n place step next : ℕ) (some : 0 < n) (here : place ≡ a % n) (
       let whole : place + step ≡ n + over = omega (arith, past) in
       let less : over < n = omega (arith, first, second, here, far, past) in
       sym (place_sum ∙ ap (λ (x : ℕ). x % n) whole ∙ add-mod_left n over ∙ mod-eq_of_lt less)
+
+  -- and the lesser of the sum and a difference that wraps is either
+  pub place_least : (w : ℕ) → n < 2 ^ 63 → w ≡ (place + step + (2 ^ 64 - n)) % 2 ^ 64
+      → min (place + step) w ≡ next % n
+  place_least w short wraps =
+      let first : a % n < n = mod_below a n some in
+      let second : s % n < n = mod_below s n some in
+      elim (cases_lt (place + step) n) [
+        | inl within ↦
+            let is : min (place + step) w ≡ place + step = omega (arith, wraps, within, short) in
+            is ∙ place_on within
+        | inr past ↦
+            let is : min (place + step) w ≡ place + step - n =
+            omega (arith, wraps, first, second, here, far, past, short) in
+            is ∙ place_round past
+      ]
 
 -- and lies at a bit of the filter
 pub probe_is : (h i n len : ℕ) → n ≡ (h + i * stride h) % 2 ^ 64

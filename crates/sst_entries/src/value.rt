@@ -8,7 +8,8 @@ use std::marker::Model;
 
 /// An entry of a table.
 ///
-/// In contracts it is a plain record, `Entry`.
+/// Entries are ordered by key, as [`InternalKey`] says, then by value. In contracts an entry is a
+/// plain record, `Entry`.
 #[derive(Drop)]
 #[derive_where(Debug, PartialEq, Eq, PartialOrd, Ord)]
 pub struct InternalValue<A: Allocator = Global> {

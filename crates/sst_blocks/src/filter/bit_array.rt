@@ -45,11 +45,8 @@ fn next_probe(probe: u64, place: u64, stride: u64, step: u64, len: u64) -> (u64,
         return (next, next % len);
     }
     let place = place + step;
-    if place < len {
-        (next, place)
-    } else {
-        (next, place - len)
-    }
+    // Below `len` the difference wraps, and is the greater. A branch would be taken at random.
+    (next, place.min(place.wrapping_sub(len)))
 }
 
 /// Sets the bits of a hash.
