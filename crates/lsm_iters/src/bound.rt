@@ -6,6 +6,8 @@ use sst_blocks::UserKey;
 use std::alloc::{Allocator, Global};
 
 /// A key at which a range begins or ends.
+///
+/// Unlike `std::ops::Bound` it has no unbounded form: a missing bound is `None`.
 #[derive(Drop)]
 pub enum Bound<A: Allocator = Global> {
     /// The range includes the key's entries.

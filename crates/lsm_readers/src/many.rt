@@ -10,7 +10,7 @@ use crate::point::point_in;
 use sst_blocks::{BlockSource, Builder, Counted, Error, InternalValue, SeqNo, UserKey};
 use std::alloc::{AllocError, Allocator, Global};
 
-/// A point read of one key at a snapshot, for [`many_in`].
+/// A point read of one key at a snapshot, for [`get_many`](crate::get_many).
 #[derive(Drop)]
 #[derive_where(Debug, PartialEq, Eq)]
 pub struct Query<A: Allocator = Global> {

@@ -37,8 +37,9 @@ pub type TableInner<A = Global> = Inner<A>;
 
 /// A shared handle of an open table.
 ///
-/// [`Table::recover`] opens it. Contracts see its bytes, the arguments it was opened with and what
-/// was read then.
+/// [`Table::recover`] opens it. It dereferences to [`Inner`], whose fields have the table's id,
+/// metadata and counts. Contracts see its bytes, the arguments it was opened with and what was read
+/// then.
 #[derive(Drop)]
 pub struct Table<A: Allocator = Global> {
     source: BlockSource<A>,
@@ -275,7 +276,8 @@ impl<A: Allocator + Clone> Table<A> {
     /// Opens a table from the bytes of its file.
     ///
     /// `checksum` is stored, and is not compared with the bytes. `global_seqno` is added to every
-    /// stored seqno.
+    /// stored seqno. It is 0 but for tables that were written elsewhere and ingested at a later
+    /// snapshot.
     ///
     /// A top level of the index or the filter is always pinned. `pin_filter` also pins the block of
     /// a full filter, `pin_index` that of a full index. Each read loads the blocks it needs that
@@ -377,7 +379,8 @@ impl<A: Allocator + Clone> Table<A> {
     /// Returns the newest version of `key` visible at `seqno`, global seqno applied.
     ///
     /// `key_hash` must be [`Table::key_hash`] of the key. The read loads at most one filter block,
-    /// one index block and one data block.
+    /// one index block and one data block. A tombstone is returned as an entry; test
+    /// [`InternalValue::is_tombstone`].
     ///
     /// # Errors
     ///
@@ -407,7 +410,8 @@ impl<A: Allocator + Clone> Table<A> {
 
     /// Opens a scanner of all entries in order, global seqno applied.
     ///
-    /// It reads each data block once, in file order. The call loads the first of them.
+    /// It reads each data block once, in file order. The call loads the first of them. Tombstones
+    /// are yielded as entries.
     ///
     /// # Errors
     ///

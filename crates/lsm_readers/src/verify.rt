@@ -59,6 +59,10 @@ pub struct Finding {
 }
 
 /// The reason why a table was not verified.
+///
+/// It does not implement `std::error::Error`: a finding is not an [`Error`] of the calls.
+///
+/// [`Error`]: sst_blocks::Error
 #[derive(Debug, Drop, PartialEq, Eq)]
 pub enum VerifyError {
     /// An allocation failed. Nothing is known about the table.

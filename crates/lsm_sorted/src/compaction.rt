@@ -11,7 +11,9 @@ pub struct Rules {
     pub watermark: SeqNo,
     /// Whether a tombstone is dropped if no older version of its key is kept.
     ///
-    /// A weak tombstone stays if it hides a next version that is not a value.
+    /// A weak tombstone stays if it hides a next version that is not a value. Set it only if no
+    /// table outside the compaction has an older version of these keys: else a deleted key can come
+    /// back.
     pub evict: bool,
     /// Whether seqnos below the watermark become 0.
     pub zeroing: bool,

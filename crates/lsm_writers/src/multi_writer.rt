@@ -57,8 +57,8 @@ impl<A: Allocator> Model for MultiWriter<A> {
 impl<A: Allocator + Clone> MultiWriter<A> {
     /// Creates a writer of tables at level `initial_level` and with the timestamp `created_at`.
     ///
-    /// Each table but the last has at least `target_size` bytes of data blocks. The call draws the
-    /// first id. At a target of 0 no table has the first id.
+    /// Each table but the last has at least `target_size` bytes of data blocks, headers included.
+    /// The call draws the first id. At a target of 0 no table has the first id.
     ///
     /// # Errors
     ///

@@ -73,7 +73,7 @@ impl<A: Allocator> Model for Writer<A> {
 
 impl<A: Allocator + Clone> Writer<A> {
     /// Creates a writer of the table `id`, at level `initial_level` and with the timestamp
-    /// `created_at`.
+    /// `created_at`. Level and timestamp are stored in the meta block, and nothing else uses them.
     ///
     /// # Errors
     ///

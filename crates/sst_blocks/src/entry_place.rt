@@ -70,11 +70,13 @@ impl EntryPlace {
 
     /// Returns the entry; its key and value share the memory of the bytes.
     ///
+    /// The bytes must contain it.
+    ///
     /// # Errors
     ///
     /// Fails only with [`Error::OutOfMemory`].
     #[inline(always)]
-    pub(crate) fn share<A: Allocator>(&self, bytes: &Slice<A>) -> Result<InternalValue<A>, Error>
+    pub fn share<A: Allocator>(&self, bytes: &Slice<A>) -> Result<InternalValue<A>, Error>
         requires { spec.IsPlacedIn bytes.now self.now }
         ensures found { IfOk result (λ e. e ≡ spec.entry_placed bytes.now self.now) }
         ensures err { IfErr result (λ e. e ≡ spec.OutOfMemory) }

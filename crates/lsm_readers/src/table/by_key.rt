@@ -10,7 +10,8 @@ use std::alloc::Allocator;
 impl<A: Allocator + Clone> Table<A> {
     /// Returns the newest version of `key` visible at `seqno`, global seqno applied.
     ///
-    /// This is [`Table::get`] with the key's hash, which is computed here.
+    /// This is [`Table::get`] with the key's hash, which is computed here. A tombstone is returned
+    /// as an entry; test [`InternalValue::is_tombstone`].
     ///
     /// # Errors
     ///

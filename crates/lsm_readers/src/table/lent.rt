@@ -109,7 +109,8 @@ impl<A: Allocator + Clone> Table<A> {
     ///
     /// It is the entry that [`Table::get`] returns, global seqno applied, without taking a
     /// reference count. `key_hash` must be [`Table::key_hash`] of the key. The read loads at most
-    /// one filter block, one index block and one data block.
+    /// one filter block, one index block and one data block. A tombstone is returned as an entry;
+    /// test [`EntryRef::is_tombstone`].
     ///
     /// # Errors
     ///

@@ -24,7 +24,8 @@ fn answers<A: Allocator + Clone>(
 /// Each result is that of [`Table::get`] with the hash of the query's key. Queries may be in any
 /// order and may repeat. They are looked up in key order. The checksums of their data blocks are
 /// compared several in one loop. A block that several keys need is loaded once, if memory for its
-/// entry offsets is available.
+/// entry offsets is available. A tombstone is returned as an entry; test
+/// [`InternalValue::is_tombstone`].
 ///
 /// # Errors
 ///

@@ -12,7 +12,7 @@ use std::ops::Bound;
 impl<A: Allocator + Clone> Table<A> {
     /// Opens an iterator over all entries in order, from both ends, global seqno applied.
     ///
-    /// The call loads nothing.
+    /// The call loads nothing. Tombstones are yielded as entries.
     ///
     /// # Errors
     ///
@@ -63,7 +63,7 @@ impl<A: Allocator + Clone> Table<A> {
     ///
     /// The entries are in order. If the lower bound is above the upper one, there are none. The
     /// call loads nothing. The first step seeks the bounds in the index. Each data block is loaded
-    /// by the first step that needs it.
+    /// by the first step that needs it. Tombstones are yielded as entries.
     ///
     /// # Errors
     ///

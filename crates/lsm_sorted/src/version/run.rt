@@ -346,6 +346,8 @@ impl<T: Ranged + Drop, A: Allocator> Run<T, A> {
     }
 
     /// Creates a run of tables in their order, or returns `None` exactly for no tables.
+    ///
+    /// The call neither sorts nor tests them; see [`Run::is_in_order`].
     pub fn new(items: Vec<T, A>) -> Option<Run<T, A>>
         ensures { MatchOption result (items.items ≡ [])
             (λ run. (run ≡ items.items) × (items.items ≢ [])) }

@@ -49,26 +49,26 @@ impl FilterKind {
 /// The options that a table is written with.
 #[derive(Clone, Copy, Debug, PartialEq, Eq)]
 pub struct Options {
-    /// The restart interval of data blocks, at least 1.
+    /// The restart interval of data blocks, at least 1; 16 by default.
     ///
     /// It is stored in the meta block and has no other effect.
     pub data_block_restart_interval: u8,
-    /// The restart interval of index blocks.
+    /// The restart interval of index blocks; 1 by default.
     ///
     /// It is stored in the meta block and changes no index block. Only tables written with 1 can be
     /// opened.
     pub index_block_restart_interval: u8,
-    /// The hash ratio of data blocks.
+    /// The hash ratio of data blocks; 0 by default.
     ///
     /// It is stored in the meta block and has no other effect.
     pub data_block_hash_ratio: u32,
-    /// The number of key and value bytes at which a data block is cut.
+    /// The number of key and value bytes at which a data block is cut; 4,096 by default.
     pub data_block_size: u32,
-    /// The layout of the index.
+    /// The layout of the index; full by default.
     pub index_kind: IndexKind,
-    /// The layout of the filter.
+    /// The layout of the filter; full by default.
     pub filter_kind: FilterKind,
-    /// The number of filter bits per key; with 0 there is no filter.
+    /// The number of filter bits per key, 10 by default; with 0 there is no filter.
     pub bloom_policy: BloomConstructionPolicy,
 }
 
