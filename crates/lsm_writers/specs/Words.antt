@@ -69,7 +69,8 @@ pub use Rattle.lsm_writers.specs.Tables.{TakesLaw, all_written, drawn, early_ref
 pub use Rattle.lsm_writers.specs.Tables.{ids_after, ids_fault, is_due, new_tables, next_writing}
 pub use Rattle.lsm_writers.specs.Tables.{rotation_fault, run_fault, table_fault, tables_of, took}
 pub use Rattle.lsm_writers.specs.Tables.{took_fault, turn_fault, with_options}
-pub use Rattle.lsm_writers.specs.Taken.{FinishedLaw, IsLeft, StayHeld, TakenLaw, WrittenLaw, taken}
+pub use Rattle.lsm_writers.specs.Taken.{BegunLaw, FinishedLaw, IsLeft, StayHeld, TakenLaw, WrittenLaw}
+pub use Rattle.lsm_writers.specs.Taken.{taken}
 pub use Rattle.lsm_writers.specs.section.Answering.{IsAdmitted, was_given}
 pub use Rattle.lsm_writers.specs.section.Given.{GivenKeys, all_keys, given_by, no_keys, rest_keys}
 pub use Rattle.lsm_writers.specs.section.Given.{with_key}
