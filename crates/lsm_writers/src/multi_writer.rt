@@ -309,9 +309,8 @@ impl<A: Allocator + Clone> MultiWriter<A> {
     pub fn use_data_block_restart_interval(self, interval: u8) -> MultiWriter<A>
         requires fresh { spec.IsFreshRun self }
         requires some { 0 < interval }
-        ensures { result ≡
-            spec.with_options self
-            (record self.present.options { data_block_restart_interval = interval }) }
+        ensures { spec.SetsOptionOfAll self result
+            (λ o. record o { data_block_restart_interval = interval }) }
     {
         let options = Options {
             data_block_restart_interval: interval,
@@ -326,9 +325,8 @@ impl<A: Allocator + Clone> MultiWriter<A> {
     /// is 1.
     pub fn use_index_block_restart_interval(self, interval: u8) -> MultiWriter<A>
         requires { spec.IsFreshRun self }
-        ensures { result ≡
-            spec.with_options self
-            (record self.present.options { index_block_restart_interval = interval }) }
+        ensures { spec.SetsOptionOfAll self result
+            (λ o. record o { index_block_restart_interval = interval }) }
     {
         let options = Options {
             index_block_restart_interval: interval,
@@ -342,8 +340,8 @@ impl<A: Allocator + Clone> MultiWriter<A> {
     /// It is stored in the meta block and changes nothing else.
     pub fn use_data_block_hash_ratio(self, ratio: u32) -> MultiWriter<A>
         requires { spec.IsFreshRun self }
-        ensures { result ≡
-            spec.with_options self (record self.present.options { data_block_hash_ratio = ratio }) }
+        ensures { spec.SetsOptionOfAll self result
+            (λ o. record o { data_block_hash_ratio = ratio }) }
     {
         let options = Options {
             data_block_hash_ratio: ratio,
@@ -358,8 +356,7 @@ impl<A: Allocator + Clone> MultiWriter<A> {
     pub fn use_data_block_size(self, size: u32) -> MultiWriter<A>
         requires fresh { spec.IsFreshRun self }
         requires small { size ≤ 4194304 }
-        ensures { result ≡
-            spec.with_options self (record self.present.options { data_block_size = size }) }
+        ensures { spec.SetsOptionOfAll self result (λ o. record o { data_block_size = size }) }
     {
         let options = Options {
             data_block_size: size,
@@ -373,9 +370,8 @@ impl<A: Allocator + Clone> MultiWriter<A> {
     /// It replaces a partition size set before.
     pub fn use_partitioned_filter(self) -> MultiWriter<A>
         requires { spec.IsFreshRun self }
-        ensures { result ≡
-            spec.with_options self
-            (record self.present.options { filter_kind = spec.PartitionedFilter 4096 }) }
+        ensures { spec.SetsOptionOfAll self result
+            (λ o. record o { filter_kind = spec.PartitionedFilter 4096 }) }
     {
         let options = Options {
             filter_kind: FilterKind::Partitioned(4_096),
@@ -389,9 +385,8 @@ impl<A: Allocator + Clone> MultiWriter<A> {
     /// It replaces a partition size set before.
     pub fn use_partitioned_index(self) -> MultiWriter<A>
         requires { spec.IsFreshRun self }
-        ensures { result ≡
-            spec.with_options self
-            (record self.present.options { index_kind = spec.PartitionedIndex 4096 }) }
+        ensures { spec.SetsOptionOfAll self result
+            (λ o. record o { index_kind = spec.PartitionedIndex 4096 }) }
     {
         let options = Options {
             index_kind: IndexKind::Partitioned(4_096),
@@ -407,12 +402,10 @@ impl<A: Allocator + Clone> MultiWriter<A> {
     pub fn use_meta_partition_size(self, size: u32) -> MultiWriter<A>
         requires fresh { spec.IsFreshRun self }
         requires small { size ≤ 4194304 }
-        ensures { result ≡
-            spec.with_options self
-            (record self.present.options {
-              index_kind = spec.index_with_size size self.present.options.index_kind;
-              filter_kind = spec.filter_with_size size self.present.options.filter_kind;
-            }) }
+        ensures { spec.SetsOptionOfAll self result (λ o. record o {
+          index_kind = spec.index_with_size size o.index_kind;
+          filter_kind = spec.filter_with_size size o.filter_kind;
+        }) }
     {
         let before = self.writer.options();
         let options = Options {
@@ -428,8 +421,7 @@ impl<A: Allocator + Clone> MultiWriter<A> {
     /// With 0 bits no filter is written.
     pub fn use_bloom_policy(self, policy: BloomConstructionPolicy) -> MultiWriter<A>
         requires { spec.IsFreshRun self }
-        ensures { result ≡
-            spec.with_options self (record self.present.options { bloom_policy = policy }) }
+        ensures { spec.SetsOptionOfAll self result (λ o. record o { bloom_policy = policy }) }
     {
         let options = Options {
             bloom_policy: policy,
