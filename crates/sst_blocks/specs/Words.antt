@@ -3,6 +3,7 @@
 pub use Rattle.sst_entries.specs.Entry.{Entry}
 pub use Rattle.sst_entries.specs.Error.{Faults, FaultsFirst, Gives, Refuses, is_memory, unless}
 pub use Rattle.sst_entries.specs.Key.{key_lt}
+pub use Rattle.sst_entries.specs.Kind.{tag_of}
 pub use Rattle.sst_entries.specs.Lending.{entry_of_ref}
 pub use Rattle.sst_entries.specs.Point.{lower_place, point, read_place, upper_place, within}
 pub use Rattle.sst_entries.specs.Span.{SpanGives, front_length, rest_in}
@@ -17,11 +18,13 @@ pub use Rattle.sst_blocks.specs.Block.{uncompressed_len, version_in}
 pub use Rattle.sst_blocks.specs.Bounds.{bound_of, data_block_bound_of, index_block_bound_of}
 pub use Rattle.sst_blocks.specs.Cursor.{Cursor, advanced, cursor_of, over_cursor, retreated, unlent}
 pub use Rattle.sst_blocks.specs.EntryPlace.{IsPlacedIn, entry_placed, placed_in}
-pub use Rattle.sst_blocks.specs.Encoding.{entries_fault, handles_fault, items_fault}
+pub use Rattle.sst_blocks.specs.Encoding.{IsShortEntry, entries_fault, entry_fault_or, handles_fault}
+pub use Rattle.sst_blocks.specs.Encoding.{items_fault}
 pub use Rattle.sst_blocks.specs.Handle.{Handle}
 pub use Rattle.sst_blocks.specs.Handles.{AreSpellableHandles, AreStrictHandles, end_of, handles_in}
 pub use Rattle.sst_blocks.specs.Handles.{handles_payload, is_above, reaches, window}
-pub use Rattle.sst_blocks.specs.Payload.{AreFit, AreSpellable, items_payload, payload}
+pub use Rattle.sst_blocks.specs.Payload.{AreFit, AreSpellable, IsSpellable, items_payload, payload}
+unfoldable pub use Rattle.sst_blocks.specs.Payload.{spelled}
 pub use Rattle.sst_blocks.specs.Place.{place_of}
 pub use Rattle.sst_blocks.specs.Reading.{entries_in, key_and_number}
 pub use Rattle.sst_blocks.specs.Seeking.{KeepsLower, KeepsLowerEdge, KeepsUpper, KeepsUpperEdge}
