@@ -49,11 +49,11 @@ unfoldable pub use Rattle.sst_blocks.specs.Block.{place_fault, position_fault}
 pub use Rattle.sst_blocks.specs.Fnv.{fnv1a, fnv_back, fnv_basis, fnv_step}
 unfoldable pub use Rattle.sst_blocks.specs.Fnv.{fnv_from}
 pub use Rattle.sst_blocks.specs.Format.{items_in, items_of}
-pub use Rattle.sst_blocks.specs.Marks.{IsHeaded, IsSaid, Says}
-unfoldable pub use Rattle.sst_blocks.specs.Marks.{HasItems, HasSum}
+pub use Rattle.sst_blocks.specs.Marks.{Holds, Says}
 unfoldable pub use Rattle.sst_blocks.specs.Number.{le4, le8, num2, num4, num8}
 pub use Rattle.sst_blocks.specs.Opened.{none_opened, with_load}
-pub use Rattle.sst_blocks.specs.Placed.{IsPlaced, IsValid, IsValidAt, IsValidHeaded}
+pub use Rattle.sst_blocks.specs.Placed.{IsHeaded, IsPlaced, IsValid, checked_in, fault_in}
+pub use Rattle.sst_blocks.specs.Placed.{payload_in}
 unfoldable pub use Rattle.sst_blocks.specs.Reading.{entry_at, parts_at}
 pub use Rattle.sst_blocks.specs.Sections.{AreAscending, ReadsBack, Written, body_of, finished}
 pub use Rattle.sst_blocks.specs.Sections.{is_past, section_at, section_names, section_of, slot}
