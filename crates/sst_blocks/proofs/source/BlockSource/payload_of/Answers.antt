@@ -3,12 +3,11 @@ use Rattle.std.specs.Prelude.{None, Some, Err}
 use Rattle.std.specs.Option.{option_or}
 use Rattle.std.proofs.lemmas.Result.{err_from_is_err_and}
 use Rattle.sst_blocks.specs.Block.{load_result, place_fault, checked_payload, checksum_fault, data_len, header_fault, room_fault, stored_checksum, version_in}
-use Rattle.sst_blocks.specs.Marks.{IsHeaded}
-use Rattle.sst_blocks.proofs.MarkLemmas.{headed_there}
+use Rattle.sst_blocks.proofs.MarkLemmas.{placed_there}
 use Rattle.sst_blocks.specs.Sections.{body_of}
 use Rattle.sst_blocks.proofs.LoadLemmas.{load_truncated, load_fault, load_lengths, load_checked, place_truncated, place_header, place_lengths, place_checked}
-use Rattle.sst_blocks.proofs.source.BlockSource.place.Goals as goal
-use Rattle.sst_blocks.proofs.source.BlockSource.place.Goals.{then-size-lt-HEADER_LEN-via-then-size-lt-HEADER_LEN, then-size-lt-HEADER_LEN-via-else-size-lt-HEADER_LEN+then-body-size, then-size-lt-HEADER_LEN-via-else-size-lt-HEADER_LEN+else-body-size+then-body-size-2, then-header-via-then-header, then-header-via-else-header+then-header-size}
+use Rattle.sst_blocks.proofs.source.BlockSource.payload_of.Goals as goal
+use Rattle.sst_blocks.proofs.source.BlockSource.payload_of.Goals.{then-size-lt-HEADER_LEN-via-then-size-lt-HEADER_LEN, then-size-lt-HEADER_LEN-via-else-size-lt-HEADER_LEN+then-body-size, then-size-lt-HEADER_LEN-via-else-size-lt-HEADER_LEN+else-body-size+then-body-size-2, then-header-via-then-header, then-header-via-else-header+then-header-size}
 
 pub returns-then-size-lt-HEADER_LEN-clause-returned : goal.returns-then-size-lt-HEADER_LEN-clause-returned
 returns-then-size-lt-HEADER_LEN-clause-returned g c =
@@ -60,37 +59,33 @@ returns-then-header-clause-first g c =
     ]) in
     cc (c.body-body.ensures.body, c.offset-start.ensures)
 
--- what is told of the payload is told of the block
+-- of the payload
 
-pub returns-clause-placed : goal.returns-clause-placed
-returns-clause-placed g c =
+pub returns-clause-returned : goal.returns-clause-returned
+returns-clause-returned g c =
     let header = c.in_ok-header.header in
     let payload = slice_range (body_of c.args.self.now) (c.offset-start.result.0 + 24) (c.offset-start.result.0 + c.size-size.result) in
     let load = load_checked c.body-body.result.now c.offset-start.result.0 c.size-size.result c.args.kind (omega arith) (omega arith) c.in_ok-header.ensures.fault (omega (arith, c.in_ok-header.ensures.data_len, c.in_ok-header.ensures.uncompressed_len)) (omega (arith, c.in_ok-header.ensures.data_len, c.in_ok-header.ensures.uncompressed_len)) in
-    let fault = place_checked c.body-body.result.now c.offset-start.result.0 c.size-size.result c.args.kind (omega arith) (omega arith) c.in_ok-header.ensures.fault (omega (arith, c.in_ok-header.ensures.data_len, c.in_ok-header.ensures.uncompressed_len)) (omega (arith, c.in_ok-header.ensures.data_len, c.in_ok-header.ensures.uncompressed_len)) in
     let returned : load_result (body_of c.args.self.now) c.args.handle.now.offset c.args.handle.now.size c.args.kind ≡ checked_payload header.version header.checksum c.args.kind payload = cc (c.body-body.ensures.body, c.offset-start.ensures, c.size-size.ensures, c.in_ok-header.ensures.version, c.in_ok-header.ensures.checksum) in
+    returned
+
+pub returns-clause-first : goal.returns-clause-first
+returns-clause-first g c =
+    let header = c.in_ok-header.header in
+    let payload = slice_range (body_of c.args.self.now) (c.offset-start.result.0 + 24) (c.offset-start.result.0 + c.size-size.result) in
+    let fault = place_checked c.body-body.result.now c.offset-start.result.0 c.size-size.result c.args.kind (omega arith) (omega arith) c.in_ok-header.ensures.fault (omega (arith, c.in_ok-header.ensures.data_len, c.in_ok-header.ensures.uncompressed_len)) (omega (arith, c.in_ok-header.ensures.data_len, c.in_ok-header.ensures.uncompressed_len)) in
     let first : place_fault (body_of c.args.self.now) c.args.handle.now.offset c.args.handle.now.size c.args.kind ≡ option_or (checksum_fault header.checksum payload) (room_fault header.version c.args.kind payload) = cc (c.body-body.ensures.body, c.offset-start.ensures, c.size-size.ensures, c.in_ok-header.ensures.version, c.in_ok-header.ensures.checksum) in
-    record {
-      ordered = omega arith;
-      within = omega (arith, ap length c.body-body.ensures.body);
-      short = omega arith;
-      returned = returned;
-      first = first;
-    }
+    first
 
--- its header says it
-
-pub returns-clause-headed : goal.returns-clause-headed
-returns-clause-headed g c =
-    let bytes : List ℕ = c.args.self.now in
+pub returns-clause-placed : goal.returns-clause-placed
+returns-clause-placed g c =
     let at = c.offset-start.result.0 in
     let head = λ (b : List ℕ). slice_range b at (at + 24) in
-    let header = c.in_ok-header.header in
-    let there = headed_there bytes at header.version c.args.kind header.checksum header.data_len
-    (omega (arith, ap length c.body-body.ensures.body))
-    (subst (λ (b : List ℕ). header_fault c.args.kind (head b) ≡ None) c.body-body.ensures.body c.in_ok-header.ensures.fault)
-    (c.in_ok-header.ensures.version ∙ ap (λ (b : List ℕ). version_in (head b)) c.body-body.ensures.body)
-    (c.in_ok-header.ensures.checksum ∙ ap (λ (b : List ℕ). stored_checksum (head b)) c.body-body.ensures.body)
-    (c.in_ok-header.ensures.data_len ∙ ap (λ (b : List ℕ). data_len (head b)) c.body-body.ensures.body) in
-    let end : at + 24 + header.data_len ≡ at + c.size-size.result = omega arith in
-    subst (λ (e : ℕ). IsHeaded bytes (at + 24) e header.version c.args.kind header.checksum) end there
+    let body = c.body-body.ensures.body in
+    placed_there c.args.self.now at (at + c.size-size.result) c.args.kind c.in_ok-header.header c.is_cached.result
+    (omega arith) (omega (arith, ap length body)) (omega arith)
+    (subst (λ (b : List ℕ). header_fault c.args.kind (head b) ≡ None) body c.in_ok-header.ensures.fault)
+    (c.in_ok-header.ensures.version ∙ ap (λ (b : List ℕ). version_in (head b)) body)
+    (c.in_ok-header.ensures.checksum ∙ ap (λ (b : List ℕ). stored_checksum (head b)) body)
+    (c.in_ok-header.ensures.data_len ∙ ap (λ (b : List ℕ). data_len (head b)) body)
+    c.is_cached.ensures
