@@ -19,7 +19,7 @@ use meta_block::{BlockCounts, write_meta};
 use sst_blocks::{
     BloomConstructionPolicy, Checksum, CompressionType, EMPTY_LEN, ENTRY_HEAD_LEN, Error,
     FilterKind, IndexKind, InternalKey, InternalValue, Label, Options, SectionName, SectionWriter,
-    SeqNo, Slice, TableVersion,
+    SeqNo, Slice, check_entry,
 };
 use sst_entries::{EntryRef, compare_versions};
 use std::alloc::{Allocator, Global};
@@ -609,7 +609,7 @@ fn admit<A: Allocator + Clone>(
     ensures first { spec.FaultsFirst result
         (spec.item_fault chunk.now (spec.entry_of_ref entry.now)) }
 {
-    check_entry(chunk, chunk_size, entry)?;
+    check_room(chunk, chunk_size, entry)?;
     let tally = meta.tally(chunk.allocator(), before, entry)?;
     register_key(
         filter_writer,
@@ -693,8 +693,8 @@ fn write_sections<A: Allocator + Clone>(
     write_meta(file_writer, buffer, label, options, counts, meta)
 }
 
-/// Returns an error if the key or value is too long, or the block of the pending entries too large.
-fn check_entry<A: Allocator>(
+/// Returns an error if the entry is too long, or the block of the pending entries too large with it.
+fn check_room<A: Allocator>(
     chunk: &BlockBuffer<A>,
     chunk_size: usize,
     entry: &EntryRef<'_>,
@@ -704,15 +704,9 @@ fn check_entry<A: Allocator>(
     ensures { MatchResult result (λ _. spec.item_fault chunk.now (spec.entry_of_ref entry.now)
         ≡ None) (λ e. spec.item_fault chunk.now (spec.entry_of_ref entry.now) ≡ Some e) }
 {
-    if entry.user_key.len() > TableVersion::WRITTEN.longest_key() {
-        return Err(Error::KeyTooLong);
-    }
-    let value_len = entry.value.len() as u64;
-    if value_len >= 1 << 32 {
-        return Err(Error::ValueTooLong);
-    }
+    check_entry(entry)?;
     let entries = chunk.len() as u64 + 1;
-    let bytes = chunk_size as u64 + entry.user_key.len() as u64 + value_len;
+    let bytes = chunk_size as u64 + entry.user_key.len() as u64 + entry.value.len() as u64;
     if EMPTY_LEN + ENTRY_HEAD_LEN * entries + bytes >= 1 << 32 {
         return Err(Error::BlockTooLarge);
     }
