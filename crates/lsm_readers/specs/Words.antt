@@ -5,7 +5,7 @@ pub use Rattle.sst_entries.specs.Point.{point, within}
 pub use Rattle.sst_entries.specs.Stream.{CanYield, YieldsExactly, answer_stops, front_of, nowhere}
 pub use Rattle.sst_blocks.specs.filter.KeyHash.{hash_of}
 pub use Rattle.sst_blocks.specs.Sections.{body_of}
-pub use Rattle.sst_blocks.specs.Block.{Loaded, load_at_result, load_result, place_fault}
+pub use Rattle.sst_blocks.specs.Block.{Loaded, entries_of, load_at_result, load_result, place_fault}
 pub use Rattle.sst_blocks.specs.Block.{position_fault}
 pub use Rattle.sst_blocks.specs.Handle.{Handle}
 pub use Rattle.sst_blocks.specs.Opened.{none_opened, with_load}
@@ -57,6 +57,7 @@ pub use Rattle.sst_entries.specs.declared.error.Error.TheVariants.{GlobalSeqNoTo
 pub use Rattle.sst_blocks.specs.Asked.{result_map}
 pub use Rattle.sst_blocks.specs.EntryPlace.{IsPlacedIn, entry_placed, placed_in}
 pub use Rattle.sst_blocks.specs.Fnv.{fnv1a}
+pub use Rattle.sst_blocks.specs.Starts.{HoldsEntries}
 pub use Rattle.sst_blocks.specs.declared.block_type.BlockType.TheVariants.{Data, Index, Meta}
 pub use Rattle.sst_blocks.specs.table.Facts.{is_reclaimable, is_weak, starts_key}
 pub use Rattle.lsm_iters.specs.Bounds.{lower_edge, upper_edge}
