@@ -41,7 +41,6 @@ pub mod StoredParts
 pub mod StoredOne
 pub mod FileStored
 pub mod TableRanges
-pub mod Sizes
 pub mod ManyOfList
 pub mod ByKey
 pub mod LentReads

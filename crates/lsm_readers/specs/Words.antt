@@ -42,7 +42,6 @@ pub use Rattle.lsm_readers.specs.point.Table.{pinned_of}
 pub use Rattle.lsm_iters.specs.block_index.Yielded.{YieldsEnding}
 pub use Rattle.lsm_readers.specs.Ranges.{IsRangeOf, LoadsAtMost, YieldsAll, YieldsWithin}
 pub use Rattle.lsm_readers.specs.Ranges.{blocks_within, index_within, range_results}
-pub use Rattle.lsm_readers.specs.Sizes.{size_of, size_result, size_within, sizes_result}
 pub use Rattle.std.specs.Arc.{arc_value}
 pub use Rattle.std.specs.Iterator.{IsFinite, at_most}
 pub use Rattle.std.specs.List.{All, slice_get}

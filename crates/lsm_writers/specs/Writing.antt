@@ -51,6 +51,10 @@ written w = joined w.cut ++ w.pending
 abbrev pub IsFresh : Writing → Type 0
 IsFresh w = (w.cut ≡ []) × (w.pending ≡ []) × (w.failed ≡ false)
 
+-- the second state has these options changed, and all else is the same
+abbrev pub SetsOption : Writing → Writing → (Options → Options) → Type 0
+SetsOption w v set = v ≡ record w { options = set w.options }
+
 -- the partition size of an index is at most 4,194,304 bytes
 abbrev pub IsSmallIndex : IndexKind → Type 0
 IsSmallIndex FullIndex = Unit {0}

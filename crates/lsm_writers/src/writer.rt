@@ -412,11 +412,8 @@ impl<A: Allocator + Clone> Writer<A> {
     pub fn use_data_block_restart_interval(mut self, interval: u8) -> Writer<A>
         requires fresh { spec.IsFresh self }
         requires some { 0 < interval }
-        ensures { result ≡ record self {
-          options = record self.options {
-            data_block_restart_interval = interval;
-          };
-        } }
+        ensures { spec.SetsOption self result
+            (λ o. record o { data_block_restart_interval = interval }) }
     {
         self.options.data_block_restart_interval = interval;
         self
@@ -428,11 +425,8 @@ impl<A: Allocator + Clone> Writer<A> {
     /// is 1.
     pub fn use_index_block_restart_interval(mut self, interval: u8) -> Writer<A>
         requires { spec.IsFresh self }
-        ensures { result ≡ record self {
-          options = record self.options {
-            index_block_restart_interval = interval;
-          };
-        } }
+        ensures { spec.SetsOption self result
+            (λ o. record o { index_block_restart_interval = interval }) }
     {
         self.options.index_block_restart_interval = interval;
         self
@@ -443,11 +437,7 @@ impl<A: Allocator + Clone> Writer<A> {
     /// It is stored in the meta block and changes nothing else.
     pub fn use_data_block_hash_ratio(mut self, ratio: u32) -> Writer<A>
         requires { spec.IsFresh self }
-        ensures { result ≡ record self {
-          options = record self.options {
-            data_block_hash_ratio = ratio;
-          };
-        } }
+        ensures { spec.SetsOption self result (λ o. record o { data_block_hash_ratio = ratio }) }
     {
         self.options.data_block_hash_ratio = ratio;
         self
@@ -459,11 +449,7 @@ impl<A: Allocator + Clone> Writer<A> {
     pub fn use_data_block_size(mut self, size: u32) -> Writer<A>
         requires fresh { spec.IsFresh self }
         requires small { size ≤ 4194304 }
-        ensures { result ≡ record self {
-          options = record self.options {
-            data_block_size = size;
-          };
-        } }
+        ensures { spec.SetsOption self result (λ o. record o { data_block_size = size }) }
     {
         self.options.data_block_size = size;
         self
@@ -474,9 +460,8 @@ impl<A: Allocator + Clone> Writer<A> {
     /// It replaces a partition size set before.
     pub fn use_partitioned_filter(mut self) -> Writer<A>
         requires { spec.IsFresh self }
-        ensures { result ≡ record self {
-          options = record self.options { filter_kind = spec.PartitionedFilter 4096 };
-        } }
+        ensures { spec.SetsOption self result
+            (λ o. record o { filter_kind = spec.PartitionedFilter 4096 }) }
     {
         self.options.filter_kind = FilterKind::Partitioned(4_096);
         self
@@ -487,9 +472,8 @@ impl<A: Allocator + Clone> Writer<A> {
     /// It replaces a partition size set before.
     pub fn use_partitioned_index(mut self) -> Writer<A>
         requires { spec.IsFresh self }
-        ensures { result ≡ record self {
-          options = record self.options { index_kind = spec.PartitionedIndex 4096 };
-        } }
+        ensures { spec.SetsOption self result
+            (λ o. record o { index_kind = spec.PartitionedIndex 4096 }) }
     {
         self.options.index_kind = IndexKind::Partitioned(4_096);
         self
@@ -501,12 +485,10 @@ impl<A: Allocator + Clone> Writer<A> {
     pub fn use_meta_partition_size(mut self, size: u32) -> Writer<A>
         requires fresh { spec.IsFresh self }
         requires small { size ≤ 4194304 }
-        ensures { result ≡ record self {
-          options = record self.options {
-            index_kind = spec.index_with_size size self.options.index_kind;
-            filter_kind = spec.filter_with_size size self.options.filter_kind;
-          };
-        } }
+        ensures { spec.SetsOption self result (λ o. record o {
+          index_kind = spec.index_with_size size o.index_kind;
+          filter_kind = spec.filter_with_size size o.filter_kind;
+        }) }
     {
         self.options.index_kind = self.options.index_kind.with_size(size);
         self.options.filter_kind = self.options.filter_kind.with_size(size);
@@ -518,9 +500,7 @@ impl<A: Allocator + Clone> Writer<A> {
     /// With 0 bits no filter is written.
     pub fn use_bloom_policy(mut self, policy: BloomConstructionPolicy) -> Writer<A>
         requires { spec.IsFresh self }
-        ensures { result ≡ record self {
-          options = record self.options { bloom_policy = policy };
-        } }
+        ensures { spec.SetsOption self result (λ o. record o { bloom_policy = policy }) }
     {
         self.options.bloom_policy = policy;
         self
