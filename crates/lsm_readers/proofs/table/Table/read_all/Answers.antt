@@ -26,8 +26,8 @@ loop-left-preserved g c =
       early = λ f found. absurd (one.early f (before.early f found));
     }
 
-pub loop-left-decreases : goal.loop-left-decreases
-loop-left-decreases g c =
+pub loop-left-smaller : goal.loop-left-smaller
+loop-left-smaller g c =
     let steps = (c.in_ok-read_next.ensures.goes c.if-branch.false).steps in
     omega (arith, steps)
 
