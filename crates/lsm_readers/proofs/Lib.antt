@@ -9,7 +9,6 @@ pub mod AskedReads
 pub mod ReadViews
 pub mod ManyReads
 pub mod BatchReads
-pub mod PlaceReads
 pub mod ChunkReads
 pub mod PartReads
 pub mod FilterReads
