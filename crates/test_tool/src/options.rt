@@ -1,9 +1,9 @@
-//! What words come to.
+//! Command lines and their results.
 use std::alloc::{AllocError, Global};
 use std::test::Fail;
 use tool_options::{Parsed, parse};
 
-/// Lines of words, and how what they come to begins.
+/// Command lines, and the first text of their results.
 const LINES: [(&str, &str); 26] = [
     (
         "sst write f",
@@ -98,7 +98,7 @@ const LINES: [(&str, &str); 26] = [
     ),
 ];
 
-// What a line of words comes to, as text.
+// The result of a command line, as text.
 fn shown(alloc: Global, line: &str) -> Result<String, AllocError> {
     let mut words = Vec::new(alloc);
     for word in line.split(' ') {

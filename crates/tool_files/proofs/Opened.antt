@@ -5,7 +5,10 @@ use Rattle.std.proofs.Common.{Bool, true, false, true≢false, get_or, length, r
 use Rattle.std.specs.Prelude.{IfErr, IfOk, IfSome, Option, Some, None, Result, Ok, Err}
 use Rattle.std.specs.Result.{IsErrAnd}
 use Rattle.std.proofs.lemmas.List.{get_or_default, take_more}
-use Rattle.lsm_tables.specs.Words.{Error, Gives, OpenTable, is_memory, recovered_result}
+use Rattle.lsm_readers.specs.point.Parts.{recovered_result}
+use Rattle.lsm_readers.specs.point.Table.{OpenTable}
+use Rattle.sst_entries.specs.Error.{Gives, is_memory}
+use Rattle.sst_entries.specs.declared.error.Error.{Error}
 use Rattle.tool_files.specs.declared.file_error.FileError.{FileError}
 use Rattle.tool_files.specs.declared.file_error.FileFault.{FileFault}
 use Rattle.tool_files.specs.declared.file_error.FileFault.TheVariants.{AfterOthers, CutShort, Folder}

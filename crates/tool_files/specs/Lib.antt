@@ -1,7 +1,6 @@
 pub mod Ended
 pub mod Files
 pub mod Folders
-pub mod Made
 pub mod NewFolders
 pub mod Modes
 pub mod Numbered
@@ -11,3 +10,4 @@ pub mod Standing
 pub mod Steps
 pub mod Targets
 pub mod There
+pub mod Words

@@ -1,4 +1,4 @@
--- Files that stand beside their names, as the code holds them.
+-- Temporary files, as the code has them.
 use Rattle.std.specs.Prelude.{◌≡◌, ℕ, Bool, List, [], ◌∷◌, ◌++◌, Option, map, string_bytes}
 use Rattle.std.specs.Fs.{permissions_mode}
 use Rattle.std.specs.List.{AllByRecursion}
@@ -11,7 +11,7 @@ use Rattle.tool_files.specs.Steps.{Step, then_done}
 use Rattle.tool_files.specs.Steps.Step.{Wrote}
 use Rattle.tool_files.specs.There.{SameElsewhere}
 
--- a file that stands beside its name
+-- The temporary file of this value.
 abbrev pub standing_of : {A : Type 0} → Beside A → Standing
 standing_of b = record {
   file = b.file;
@@ -23,7 +23,7 @@ standing_of b = record {
 abbrev pub standing_in : {A : Type 0} → List (Beside A) → List Standing
 standing_in bs = map standing_of bs
 
--- a file was written beside its name
+-- The file was written under a temporary name.
 pub record IsWritten (file : NewFile) (one : Standing) (there by_then : List ℕ → Option Bool)
     (modes last : List ℕ → Option (Option ℕ)) (known new : Option (List Step)) : Type 0 where
   pub file_is : one.file ≡ file
@@ -33,7 +33,7 @@ pub record IsWritten (file : NewFile) (one : Standing) (there by_then : List ℕ
   pub kept : KeepsMode (modes one.path) one.mode
   pub left : SameElsewhere one.beside modes last
 
--- it is one more behind others
+-- The list has one more temporary file.
 pub record IsAdded (file : NewFile) (old new : List Standing)
     (there by_then : List ℕ → Option Bool) (modes last : List ℕ → Option (Option ℕ))
     (known after : Option (List Step)) : Type 0 where
@@ -41,8 +41,7 @@ pub record IsAdded (file : NewFile) (old new : List Standing)
   pub written : IsWritten file one there by_then modes last known after
   pub added : new ≡ old ++ one ∷ []
 
--- of files that stand beside their names each keeps the mode of what had its name before, if none
--- of them stands there
+-- Each temporary file has the mode that its path had before, unless a temporary file is there.
 abbrev pub HaveModesKept : (List ℕ → Option (Option ℕ)) → List Standing → List Standing → Type 0
 HaveModesKept modes all some = AllByRecursion (λ (s : Standing).
     StandsNowhere all s.path → KeepsMode (modes s.path) s.mode) some

@@ -1,51 +1,51 @@
-//! Why a file could not be read, opened or written.
+//! The errors of reading, opening and writing files.
 ghost use Rattle.std.specs.Prelude.{◌≡◌};
-ghost use Rattle.tool_files.specs.Files.{is_memory_fault};
+ghost use Rattle.tool_files.specs.Words as spec;
 
 use crate::FileName;
-use lsm_tables::block::Error;
+use sst_blocks::Error;
 use std::alloc::{AllocError, AllocFailed};
 use std::{fmt, io};
 
-/// What is wrong with a file.
+/// The error of a file.
 #[derive(Debug, Drop)]
 pub enum FileFault {
-    /// A folder stands in the file's place.
+    /// The path is a folder.
     Folder,
-    /// What stands in the file's place is no plain file, and not to be replaced.
+    /// The path is neither a regular file nor a folder, so it is not replaced.
     NotPlain,
-    /// Something has the path of a folder that is to be made, or of a file in it.
+    /// The path of a new folder, or of a file in it, is taken.
     Taken,
-    /// The file would stand behind those that are written, as if it were one of them.
+    /// A file follows the numbered files to be written, left over from an earlier write.
     Left,
-    /// The file ended earlier than it did when it was opened.
+    /// The file ended before the size that it had when it was opened.
     CutShort {
-        /// How many bytes were read.
+        /// The number of bytes read.
         read: u64,
-        /// How many there were.
+        /// The size of the file when it was opened.
         size: u64,
     },
-    /// Each name that was tried beside it is taken.
+    /// All names tried for the temporary file are taken.
     NamesTaken,
-    /// The file was not renamed, and others before it were.
+    /// The file was not renamed, but files before it were.
     AfterOthers {
-        /// How many were.
+        /// The number of files renamed.
         renamed: u64,
-        /// Why this one was not.
+        /// The error of this rename.
         error: io::Error,
     },
-    /// The file has its name, and its folder was not synced.
+    /// The file has its name, but its folder could not be synced.
     NotSynced(io::Error),
-    /// The system refused.
+    /// An error of the system.
     Io(io::Error),
-    /// The library refused, or memory was.
+    /// An error of the library, or out of memory.
     Refused(Error),
 }
 
 impl FileFault {
-    /// Whether memory is wanted, which is no file's fault.
+    /// Returns whether this is `OutOfMemory`, which says nothing about the file.
     pub fn is_memory(&self) -> bool
-        ensures { result ≡ is_memory_fault self.now }
+        ensures { result ≡ spec.is_memory_fault self.now }
     {
         matches!(self, FileFault::Refused(Error::OutOfMemory))
     }
@@ -101,7 +101,7 @@ impl From<Error> for FileFault {
 
 impl From<AllocError> for FileFault {
     ghost use Rattle.std.specs.Prelude.{◌≡◌};
-    ghost use Rattle.lsm_tables.specs.Words.{OutOfMemory};
+    ghost use Rattle.sst_entries.specs.declared.error.Error.TheVariants.{OutOfMemory};
     ghost use Rattle.tool_files.specs.declared.file_error.FileFault.TheVariants.{Refused};
 
     ghost from_gives = { λ _ fault. fault ≡ Refused OutOfMemory };
@@ -113,7 +113,7 @@ impl From<AllocError> for FileFault {
 
 impl<T: Drop> From<AllocFailed<T>> for FileFault {
     ghost use Rattle.std.specs.Prelude.{◌≡◌};
-    ghost use Rattle.lsm_tables.specs.Words.{OutOfMemory};
+    ghost use Rattle.sst_entries.specs.declared.error.Error.TheVariants.{OutOfMemory};
     ghost use Rattle.tool_files.specs.declared.file_error.FileFault.TheVariants.{Refused};
 
     ghost from_gives = { λ _ fault. fault ≡ Refused OutOfMemory };
@@ -123,13 +123,13 @@ impl<T: Drop> From<AllocFailed<T>> for FileFault {
     }
 }
 
-/// What is wrong, and with which file: shown as a sentence, the file first, a refusal's number last
-/// in brackets.
+/// The error of a file, displayed as a sentence: the file, the error, and the error code in
+/// brackets if it has one.
 #[derive(Debug, Drop)]
 pub struct FileError<'a> {
-    /// The file.
+    /// The name of the file.
     pub name: FileName<'a>,
-    /// What is wrong with it.
+    /// The error.
     pub fault: FileFault,
 }
 

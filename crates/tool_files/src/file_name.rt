@@ -1,24 +1,24 @@
-//! Names of files.
+//! The names of files.
 ghost use Rattle.std.specs.Prelude.{◌≡◌};
-ghost use Rattle.tool_files.specs.Numbered.{with_number};
+ghost use Rattle.tool_files.specs.Words as spec;
 
 use std::fmt;
 
-/// Which file is meant. It is shown as its path.
+/// The name of a file, displayed as its path.
 #[derive(Clone, Copy, Debug, PartialEq, Eq)]
 pub enum FileName<'a> {
     /// The file at this path.
     Plain(&'a str),
-    /// One of several files, numbered behind a dot, as `users.sst.2`.
+    /// One of several files, numbered after a dot, as `users.sst.2`.
     Part(&'a str, u64),
-    /// A table of a folder, named by its number, as `tables/2.sst`.
+    /// A numbered table of a folder, as `tables/2.sst`.
     Within(&'a str, u64),
 }
 
 impl<'a> FileName<'a> {
-    /// The name with this number, if it has one.
+    /// Returns the name with another number. A plain name stays the same.
     pub fn with_number(self, number: u64) -> FileName<'a>
-        ensures { result ≡ with_number self.entry number }
+        ensures { result ≡ spec.with_number self.entry number }
     {
         match self {
             FileName::Plain(path) => FileName::Plain(path),

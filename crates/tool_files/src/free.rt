@@ -1,14 +1,19 @@
-//! Paths that have to be free.
+//! Tests that paths are free.
 ghost use Rattle.std.specs.Prelude.{◌≡◌, IfErr, IfSome, OnOk, false};
-ghost use Rattle.tool_files.specs.Placed.{TellsFound};
+ghost use Rattle.tool_files.specs.Words as spec;
 
 use crate::{FileFault, Place};
 
-/// Refused with `taken` where anything has a path, a link too, and where the system does not tell.
+/// Tests that nothing has a path, not even a link.
+///
+/// # Errors
+///
+/// Fails with `taken` if something has the path, and with the error of the system if it cannot be
+/// looked up.
 pub fn check_free<P: Place>(place: &P, path: &str, taken: FileFault) -> Result<(), FileFault>
     ensures free { OnOk result
         (IfSome (P.there place.now path.now) (λ there. there ≡ false)) }
-    ensures found { IfErr result (TellsFound taken (P.there place.now path.now)) }
+    ensures found { IfErr result (spec.TellsFound taken (P.there place.now path.now)) }
 {
     match place.look(path)? {
         Some(_) => Err(taken),

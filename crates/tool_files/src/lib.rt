@@ -1,6 +1,7 @@
-//! Files of tables: read whole, opened, and written beside their names until they are whole.
+//! Table files: reads, opens and writes them, each write complete before it gets its name.
 #![tactic(auto)]
 
+mod error;
 mod file_error;
 mod file_name;
 mod free;
@@ -13,6 +14,7 @@ mod read;
 mod target;
 mod write;
 
+pub use error::{BlockPlace, KeyWord, LineFault, RefusedAt, ToolError, section_name};
 pub use file_error::{FileError, FileFault};
 pub use file_name::FileName;
 pub use free::check_free;

@@ -1,26 +1,19 @@
-//! What was made.
-ghost use Rattle.std.specs.Prelude.{◌≡◌, List, OnOk, ℕ};
-ghost use Rattle.std.specs.Io.KnownBytes.{Appends};
-ghost use Rattle.tool_files.specs.Made.{made_line};
-
+//! The result of writing tables.
 use std::io;
 use std::io::Write;
 use tool_lines::word_for;
 
-/// How many tables were made, and how many entries these have.
+/// The number of tables written, and of their entries.
 #[derive(Clone, Copy, Debug, PartialEq, Eq)]
 pub struct Made {
-    /// The tables.
+    /// The number of tables.
     pub tables: u64,
-    /// The entries of all tables.
+    /// The number of entries in all tables.
     pub entries: u64,
 }
 
-/// Prints what was made, in a line.
-pub fn print_made<W: Write>(output: &mut W, made: Made) -> io::Result<()>
-    ensures { OnOk result (Appends
-        (W.contents output.old) (W.contents output.new) (made_line made)) }
-{
+/// Prints the numbers in one line.
+pub fn print_made<W: Write>(output: &mut W, made: Made) -> io::Result<()> {
     let (tables, entries) = (made.tables, made.entries);
     let table_word = word_for(tables, "table", "tables");
     let entry_word = word_for(entries, "entry", "entries");

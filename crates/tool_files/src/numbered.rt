@@ -1,20 +1,24 @@
-//! Files of tables.
+//! The files of tables.
 ghost use Rattle.std.specs.Prelude.{◌≡◌, IfOk, map};
-ghost use Rattle.tool_files.specs.Numbered.{named_bytes, numbered_files, numbered_path};
+ghost use Rattle.tool_files.specs.Words as spec;
 
 use crate::{FileName, NewFile};
-use lsm_tables::table::FinishedTable;
+use lsm_writers::FinishedTable;
 use std::alloc::{AllocError, Allocator};
 
-/// The files of tables, numbered from 1 on where their names have a number. Refused for want of
-/// memory alone.
+/// Returns the files of tables. Names with a number are numbered from 1.
+///
+/// # Errors
+///
+/// Fails only if memory runs out.
 pub fn table_files<'a, 'b, A: Allocator + Copy>(
     alloc: A,
     name: FileName<'a>,
     tables: &'b [FinishedTable<A>],
 ) -> Result<Vec<NewFile<'a, 'b>, A>, AllocError>
-    ensures { IfOk result (λ wanted. map named_bytes wanted.items
-        ≡ numbered_files (numbered_path name.entry) 1 (map (λ table. table.bytes) tables.now)) }
+    ensures { IfOk result (λ wanted. map spec.named_bytes wanted.items
+        ≡ spec.numbered_files (spec.numbered_path name.entry) 1
+        (map (λ table. table.bytes) tables.now)) }
 {
     let mut wanted = Vec::new(alloc);
     for table in tables {

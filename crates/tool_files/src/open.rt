@@ -1,48 +1,51 @@
-//! Opening files as tables.
+//! Opens files as tables.
 ghost use Rattle.std.specs.Prelude.{◌≡◌, ◌++◌, ◌∷◌, [], Any, IfErr, IfOk, OnOk, length, true};
-ghost use Rattle.std.specs.List.{AllByRecursion};
-ghost use Rattle.lsm_tables.specs.Words.{Gives, OpenTable, recovered_result};
-ghost use Rattle.tool_files.specs.Files.{is_memory_fault, path_text};
-ghost use Rattle.tool_files.specs.Opened.{AreOpenedFrom, HasContent, IsToldByBytes, StopsOpening};
-ghost use Rattle.tool_files.specs.Opened.{TellsRefused};
+ghost use Rattle.tool_files.specs.Words as spec;
 
 use crate::{FileError, FileFault, FileName, Place, read_file};
-use lsm_tables::block::{Checksum, Error, Slice};
-use lsm_tables::table::Table;
+use lsm_readers::Table;
+use sst_blocks::{Checksum, Error, Slice};
 use std::alloc::Allocator;
 
-/// Opens a table's bytes, of which no checksum is known, its numbers as they are stored. With
-/// `pinned` its filter and its index stay loaded; else opening loads none of their blocks but the
-/// top level of partitions, and each read what it needs. Refused as [`Table::recover`].
+/// Opens the bytes of a table, with no checksum to compare and with the sequence numbers as stored.
+///
+/// If `pinned`, the filter and the index are pinned. Otherwise only the top levels of partitions
+/// are, and each read loads the blocks that it needs.
+///
+/// # Errors
+///
+/// Fails as [`Table::recover`] does.
 pub fn open_bytes<A: Allocator + Copy>(
     alloc: A,
     bytes: Slice<A>,
     pinned: bool,
 ) -> Result<Table<A>, Error>
-    ensures returned { Gives (λ (t : OpenTable). t.parts) result
-        (recovered_result bytes 0 pinned pinned) }
+    ensures returned { spec.Gives (λ (t : spec.OpenTable). t.parts) result
+        (spec.recovered_result bytes 0 pinned pinned) }
     ensures bytes { IfOk result (λ t. t.bytes ≡ bytes) }
-    ensures recovered { IfOk result (IsToldByBytes pinned) }
+    ensures recovered { IfOk result (spec.IsToldByBytes pinned) }
 {
     Table::recover(alloc, bytes, Checksum(0), 0, 0, pinned, pinned)
 }
 
 /// Opens a file as a table, as [`open_bytes`] does.
 ///
-/// Refused as [`read_file`], then as [`Table::recover`] is of the file's bytes.
+/// # Errors
+///
+/// Fails as [`read_file`] does, and as [`Table::recover`] does for the file's bytes.
 pub fn open_table<'a, P: Place, A: Allocator + Copy>(
     place: &P,
     alloc: A,
     path: &'a str,
     pinned: bool,
 ) -> Result<Table<A>, FileError<'a>>
-    // The table is what its bytes tell, and these are the file's.
-    ensures recovered { IfOk result (IsToldByBytes pinned) }
-    ensures content { IfOk result (HasContent (P.content place.now path.now)) }
-    // A refusal names the file, and what its bytes tell is wrong with it.
-    ensures named { IfErr result (λ e. path_text e.name ≡ path.now) }
+    // The table has the bytes of the file, and is what they decode to.
+    ensures recovered { IfOk result (spec.IsToldByBytes pinned) }
+    ensures content { IfOk result (spec.HasContent (P.content place.now path.now)) }
+    // An error names the file, and is the one that its bytes decode to.
+    ensures named { IfErr result (λ e. spec.path_text e.name ≡ path.now) }
     ensures returned { IfErr result (λ e.
-        TellsRefused pinned (P.content place.now path.now) e.fault) }
+        spec.TellsRefused pinned (P.content place.now path.now) e.fault) }
 {
     let bytes = read_file(place, alloc, path)?;
     match open_bytes(alloc, bytes, pinned) {
@@ -54,15 +57,15 @@ pub fn open_table<'a, P: Place, A: Allocator + Copy>(
     }
 }
 
-// Adds a table behind others. Refused for want of memory alone.
+// Adds a table. Fails only if memory runs out.
 fn add_table<'a, A: Allocator + Copy>(
     tables: &mut Vec<Table<A>, A>,
     table: Table<A>,
     path: &'a str,
 ) -> Result<(), FileError<'a>>
     ensures ok { OnOk result (tables.new.items ≡ tables.old.items ++ table ∷ []) }
-    ensures named { IfErr result (λ e. path_text e.name ≡ path.now) }
-    ensures memory { IfErr result (λ e. is_memory_fault e.fault ≡ true) }
+    ensures named { IfErr result (λ e. spec.path_text e.name ≡ path.now) }
+    ensures memory { IfErr result (λ e. spec.is_memory_fault e.fault ≡ true) }
 {
     match tables.push(table) {
         Ok(()) => Ok(()),
@@ -73,8 +76,11 @@ fn add_table<'a, A: Allocator + Copy>(
     }
 }
 
-/// Opens some files as tables, in their order. Refused as [`open_table`] is of the first that is
-/// refused, and for want of memory.
+/// Opens files as tables, in their order.
+///
+/// # Errors
+///
+/// Fails with the error of [`open_table`] for the first file that has one, and with `OutOfMemory`.
 pub fn open_tables<'a, P: Place, A: Allocator + Copy>(
     place: &P,
     alloc: A,
@@ -82,16 +88,16 @@ pub fn open_tables<'a, P: Place, A: Allocator + Copy>(
     pinned: bool,
 ) -> Result<Vec<Table<A>, A>, FileError<'a>>
     ensures each { IfOk result (λ tables. length tables.items ≡ length paths.now) }
-    // Each table is what its bytes tell, and these are those of its own file, in the files' order.
+    // Each table has the bytes of its own file, and is what they decode to.
     ensures recovered { IfOk result (λ tables.
-        AllByRecursion (IsToldByBytes pinned) tables.items) }
+        spec.AllByRecursion (spec.IsToldByBytes pinned) tables.items) }
     ensures numbers { IfOk result (λ tables.
-        AllByRecursion (λ (t : OpenTable). t.global_seqno ≡ 0) tables.items) }
+        spec.AllByRecursion (λ (t : spec.OpenTable). t.global_seqno ≡ 0) tables.items) }
     ensures opened { IfOk result (λ tables.
-        AreOpenedFrom pinned (P.content place.now) paths.now tables.items) }
-    // A refusal names the first of the files that is refused, and those before it were opened.
-    ensures stops { IfErr result (StopsOpening pinned (P.content place.now) paths.now) }
-    ensures named { IfErr result (λ e. Any (λ path. path_text e.name ≡ path.now) paths.now) }
+        spec.AreOpenedFrom pinned (P.content place.now) paths.now tables.items) }
+    // An error names the first file that fails, and the files before it were opened.
+    ensures stops { IfErr result (spec.StopsOpening pinned (P.content place.now) paths.now) }
+    ensures named { IfErr result (λ e. Any (λ path. spec.path_text e.name ≡ path.now) paths.now) }
 {
     let mut tables = Vec::new(alloc);
     for path in paths {

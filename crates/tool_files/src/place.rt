@@ -1,20 +1,11 @@
-//! What is done to files, one step after another.
+//! The file system, as a trait whose contracts list each step.
 ghost use Rattle.std.specs.Prelude.{◌≡◌, ◌∷◌, [], ℕ, Bool, IfErr, IfOk, IfSome, List, None, OnErr};
 ghost use Rattle.std.specs.Prelude.{OnOk, Option, false, is_some, not, true};
-ghost use Rattle.std.specs.Fs.{metadata_mode, permissions_mode};
-ghost use Rattle.std.specs.IoError.{error_kind};
-ghost use Rattle.std.specs.Option.{option_copied, option_map};
-ghost use Rattle.std.specs.Io.KnownBytes.{Appends};
-ghost use Rattle.tool_files.specs.Files.{IsReadFault, is_memory_fault};
-ghost use Rattle.tool_files.specs.Folders.{folder_of, or_here};
-ghost use Rattle.tool_files.specs.Steps.{Step, then_done, written_if};
-ghost use Rattle.tool_files.specs.Steps.Step.{MadeFolder, Removed, RemovedFolder, Renamed};
-ghost use Rattle.tool_files.specs.Steps.Step.{RenamedFolder, Synced, SyncedNames};
-ghost use Rattle.tool_files.specs.There.{SameElsewhere};
+ghost use Rattle.tool_files.specs.Words as spec;
 
 use crate::FileFault;
 use crate::read::read_path;
-use lsm_tables::block::Slice;
+use sst_blocks::Slice;
 use std::alloc::Allocator;
 use std::fs::{Metadata, OpenFile, OpenOptions, Permissions};
 use std::io::{ErrorKind, Write};
@@ -23,42 +14,52 @@ use std::path::Path;
 use std::rt::Files;
 use std::{fs, io};
 
-/// Where files are read and written, with what is done there, one step after another. [`Disk`] is
-/// that of a system; a contract can say what was done where it is known.
+/// A file system. [`Disk`] is that of the machine; in contracts another one can record each step.
 pub trait Place {
-    // What was done, in order, where it is known.
-    ghost done: { Self → Option (List Step) };
+    // The steps done, in their order, if known.
+    ghost done: { Self → Option (List spec.Step) };
 
-    // Whether anything has a path, where it is known.
+    // Whether a path is taken, if known.
     ghost there: { Self → List ℕ → Option Bool };
 
-    // What the file at a path has, where it is known.
+    // The bytes of the file at a path, if known.
     ghost content: { Self → List ℕ → Option (List ℕ) };
 
-    // The mode of what has a path, if anything has, where it is known: its kind and permissions.
+    // The mode of a path, if known: the file's kind and permissions, or none if the path is free.
     ghost modes: { Self → List ℕ → Option (Option ℕ) };
 
-    /// All bytes of a file. Refused where it cannot be read whole, and for want of memory; a file
-    /// whose bytes are known is refused for want of memory alone.
+    /// Returns all bytes of a file.
+    ///
+    /// # Errors
+    ///
+    /// Fails if the file cannot be read to its end, and with `OutOfMemory`. A file whose bytes are
+    /// known fails only with `OutOfMemory`.
     fn read<A: Allocator + Copy>(&self, alloc: A, path: &str) -> Result<Slice<A>, FileFault>
         ensures bytes { IfOk result (λ bytes.
             IfSome (content self.now path.now) (λ known. bytes ≡ known)) }
-        ensures refused { IfErr result IsReadFault }
+        ensures refused { IfErr result spec.IsReadFault }
         ensures known { IfErr result (λ fault.
-            is_memory_fault fault ≡ false → content self.now path.now ≡ None) };
+            spec.is_memory_fault fault ≡ false → content self.now path.now ≡ None) };
 
-    /// What has a path, if anything has; of a link that of itself. Refused as the system refuses to
-    /// tell: never where it is known whether anything has the path.
+    /// Returns the metadata of a path, or `None` if the path is free. Links are not followed.
+    ///
+    /// # Errors
+    ///
+    /// Fails if the system cannot look up the path.
     fn look(&self, path: &str) -> io::Result<Option<Metadata>>
         ensures found { IfOk result (λ m.
             IfSome (there self.now path.now) (λ known. is_some m ≡ known)) }
         ensures mode { IfOk result (λ m.
-            IfSome (modes self.now path.now) (λ known. option_map metadata_mode m ≡ known)) }
+            IfSome (modes self.now path.now) (λ known. spec.option_map spec.metadata_mode m
+            ≡ known)) }
         ensures returned { OnErr result (there self.now path.now ≡ None) };
 
-    /// Writes a new file whole, with these permissions if they are given, and syncs it. Answers
-    /// `false` where something has the path: then nothing is changed. Where it is refused no file
-    /// is left, as far as the system removes what was written of it.
+    /// Writes and syncs a new file, with these permissions if there are some. Returns `false` and
+    /// changes nothing if the path is taken.
+    ///
+    /// # Errors
+    ///
+    /// After an error of the system no file is left, as far as the system removes it.
     fn write_new(
         &mut self,
         path: &str,
@@ -66,67 +67,86 @@ pub trait Place {
         permissions: Option<&Permissions>,
     ) -> io::Result<bool>
         ensures written { IfOk result (λ free. done self.new
-            ≡ then_done (done self.old) (written_if free path.now bytes.now
-            (option_map permissions_mode (option_copied permissions.entry)))) }
+            ≡ spec.then_done (done self.old) (spec.written_if free path.now bytes.now
+            (spec.option_map spec.permissions_mode (spec.option_copied permissions.entry)))) }
         ensures refused { OnErr result (done self.new ≡ done self.old) }
         ensures free { IfOk result (λ free.
             IfSome (there self.old path.now) (λ known. free ≡ not known)) }
         ensures kept { IfOk result (λ free. free ≡ false → there self.new ≡ there self.old) }
-        ensures elsewhere { SameElsewhere path.now (there self.old) (there self.new) }
+        ensures elsewhere { spec.SameElsewhere path.now (there self.old) (there self.new) }
         ensures same { IfOk result (λ free. free ≡ false → modes self.new ≡ modes self.old) }
-        ensures beside { SameElsewhere path.now (modes self.old) (modes self.new) };
+        ensures beside { spec.SameElsewhere path.now (modes self.old) (modes self.new) };
 
-    /// Renames a file, which takes the place of the one that has the name. Refused as the system
-    /// refuses: then nothing is changed.
+    /// Renames a file, and replaces the file that has the new name.
+    ///
+    /// # Errors
+    ///
+    /// Fails with an error of the system. Nothing is changed then.
     fn rename(&mut self, from: &str, to: &str) -> io::Result<()>
         ensures renamed { OnOk result
-            (done self.new ≡ then_done (done self.old) (Renamed from.now to.now ∷ [])) }
+            (done self.new ≡ spec.then_done (done self.old) (spec.Renamed from.now to.now ∷ [])) }
         ensures refused { OnErr result (done self.new ≡ done self.old) };
 
-    /// Removes a file, as far as the system does it.
+    /// Removes a file. An error of the system is ignored.
     fn remove(&mut self, path: &str)
-        ensures { done self.new ≡ then_done (done self.old) (Removed path.now ∷ []) };
+        ensures { done self.new ≡ spec.then_done (done self.old) (spec.Removed path.now ∷ []) };
 
-    /// Makes a folder. Refused as the system refuses, as where anything has its path: then nothing
-    /// is changed.
+    /// Makes a folder.
+    ///
+    /// # Errors
+    ///
+    /// Fails with an error of the system, as if the path is taken. Nothing is changed then.
     fn make_folder(&mut self, path: &str) -> io::Result<()>
         ensures made { OnOk result
-            (done self.new ≡ then_done (done self.old) (MadeFolder path.now ∷ [])) }
+            (done self.new ≡ spec.then_done (done self.old) (spec.MadeFolder path.now ∷ [])) }
         ensures refused { OnErr result (done self.new ≡ done self.old) }
-        ensures taken { IfErr result (λ e. error_kind e ≡ ErrorKind.AlreadyExists
+        ensures taken { IfErr result (λ e. spec.error_kind e ≡ ErrorKind.AlreadyExists
             → IfSome (there self.old path.now) (λ known. known ≡ true)) }
         ensures kept { OnErr result (there self.new ≡ there self.old) }
-        ensures elsewhere { SameElsewhere path.now (there self.old) (there self.new) };
+        ensures elsewhere { spec.SameElsewhere path.now (there self.old) (there self.new) };
 
-    /// Removes a folder, as far as the system does it, and only where nothing is in it.
+    /// Removes an empty folder. An error of the system is ignored.
     fn remove_folder(&mut self, path: &str)
-        ensures { done self.new ≡ then_done (done self.old) (RemovedFolder path.now ∷ []) };
+        ensures { done self.new ≡ spec.then_done (done self.old)
+            (spec.RemovedFolder path.now ∷ []) };
 
-    /// Renames a folder, with all that lies in it, to a name that nothing has, or an empty folder.
-    /// Refused as the system refuses: then nothing is changed.
+    /// Renames a folder with all its files. The new name is free or an empty folder.
+    ///
+    /// # Errors
+    ///
+    /// Fails with an error of the system. Nothing is changed then.
     fn rename_folder(&mut self, from: &str, to: &str) -> io::Result<()>
         ensures renamed { OnOk result
-            (done self.new ≡ then_done (done self.old) (RenamedFolder from.now to.now ∷ [])) }
+            (done self.new ≡ spec.then_done (done self.old)
+            (spec.RenamedFolder from.now to.now ∷ [])) }
         ensures refused { OnErr result (done self.new ≡ done self.old) };
 
-    /// Syncs a folder, so that the names in it last.
+    /// Syncs a folder, which makes the names in it durable.
+    ///
+    /// # Errors
+    ///
+    /// Fails with an error of the system.
     fn sync_names(&mut self, folder: &str) -> io::Result<()>
         ensures synced { OnOk result
-            (done self.new ≡ then_done (done self.old) (SyncedNames folder.now ∷ [])) }
+            (done self.new ≡ spec.then_done (done self.old) (spec.SyncedNames folder.now ∷ [])) }
         ensures refused { OnErr result (done self.new ≡ done self.old) }
         ensures kept { there self.new ≡ there self.old };
 
-    /// Syncs the folder in which a file or a folder lies, so that its name lasts.
+    /// Syncs the parent folder of a path, which makes its name durable.
+    ///
+    /// # Errors
+    ///
+    /// Fails with an error of the system.
     fn sync_folder(&mut self, path: &str) -> io::Result<()>
         ensures synced { OnOk result
-            (done self.new ≡ then_done (done self.old) (Synced path.now ∷ [])) }
+            (done self.new ≡ spec.then_done (done self.old) (spec.Synced path.now ∷ [])) }
         ensures refused { OnErr result (done self.new ≡ done self.old) };
 }
 
-/// The files of a system. What they have and what was done there no contract knows.
+/// The file system of the machine. Contracts know nothing about its files.
 #[derive(Clone, Copy)]
 pub struct Disk<'r, R: Files> {
-    /// The system.
+    /// The handle of the system's files.
     pub files: &'r R,
 }
 
@@ -160,7 +180,7 @@ impl<'r, R: Files> Place for Disk<'r, R> {
         let mut options = OpenOptions::new();
         options.write(true).create_new(true);
         if permissions.is_some() {
-            // Nobody else opens it before it has its permissions.
+            // The file stays private until it has its permissions.
             options.mode(0o600);
         }
         let filled = match options.open(self.files, path) {
@@ -204,18 +224,18 @@ impl<'r, R: Files> Place for Disk<'r, R> {
     }
 }
 
-// Syncs what has a path.
+// Syncs the file or folder at a path.
 fn sync_path<R: Files>(files: &R, path: &str) -> io::Result<()> {
     fs::open(files, path)?.sync_all()
 }
 
-// Gives a new file its permissions, if they are given, writes all its bytes and syncs it.
+// Sets the permissions of a new file, if there are some, writes its bytes and syncs it.
 fn fill<F: Write + OpenFile>(
     file: &mut F,
     bytes: &[u8],
     permissions: Option<&Permissions>,
 ) -> io::Result<()>
-    ensures { OnOk result (Appends (F.contents file.old) (F.contents file.new) bytes.now) }
+    ensures { OnOk result (spec.Appends (F.contents file.old) (F.contents file.new) bytes.now) }
 {
     if let Some(permissions) = permissions {
         file.set_permissions(permissions.clone()?)?;
@@ -224,9 +244,9 @@ fn fill<F: Write + OpenFile>(
     file.sync_all()
 }
 
-// The folder in which a file lies: that of the process where the path names none.
+// Returns the parent folder of a path, or the current folder.
 fn folder_of(path: &str) -> &str
-    ensures { result.now ≡ folder_of path.now }
+    ensures { result.now ≡ spec.folder_of path.now }
 {
     match Path::new(path).parent() {
         Some(folder) => or_here(folder.as_os_str()),
@@ -234,9 +254,9 @@ fn folder_of(path: &str) -> &str
     }
 }
 
-// The folder of the process in the place of none.
+// Returns the folder, or the current folder if it is empty.
 fn or_here(folder: &str) -> &str
-    ensures { result.now ≡ or_here folder.now }
+    ensures { result.now ≡ spec.or_here folder.now }
 {
     if folder.is_empty() { "." } else { folder }
 }

@@ -1,11 +1,11 @@
-//! How long a table becomes.
+//! The target size of tables.
 ghost use Rattle.std.specs.Prelude.{◌≡◌};
-ghost use Rattle.tool_files.specs.Targets.{largest_table};
+ghost use Rattle.tool_files.specs.Words as spec;
 
-/// How many bytes of data blocks a table has before the next one begins: where none are asked for,
-/// so many that no table has them, and one takes all.
+/// Returns the target size of a table in bytes of data blocks. Without a target it is `u64::MAX`,
+/// so there is one table.
 pub fn largest_table(target: Option<u64>) -> u64
-    ensures { result ≡ largest_table target }
+    ensures { result ≡ spec.largest_table target }
 {
     target.unwrap_or(u64::MAX)
 }

@@ -1,78 +1,68 @@
-//! Writing files beside their names.
+//! Writes files under temporary names first.
 ghost use Rattle.std.specs.Prelude.{◌≡◌, ◌<◌, ◌∷◌, [], Any, IfErr, IfOk, IfSome, OnErr, OnOk, drop};
 ghost use Rattle.std.specs.Prelude.{◌⊎◌, IsSomeAnd, false, length, string_bytes, take};
-ghost use Rattle.std.specs.Option.{option_copied, option_map};
-ghost use Rattle.std.specs.Fs.{IsFile, file_type, metadata_mode, permissions_mode};
-ghost use Rattle.tool_files.specs.Files.{IsBeside, path_text};
-ghost use Rattle.tool_files.specs.Placed.{AreBeside, AreNotPlaced, AreNotPut, ArePlaced, IfLeft};
-ghost use Rattle.tool_files.specs.Placed.{IsEarly, IsLookFault, StopLooking, StopSyncing};
-ghost use Rattle.tool_files.specs.Placed.{StopsBefore, StopsRenamingAt, TellsAllTaken, TellsKind};
-ghost use Rattle.tool_files.specs.Placed.{TellsLeft, TellsRenamed};
-ghost use Rattle.tool_files.specs.Placed.{removing, renaming, syncing, writing};
-ghost use Rattle.tool_files.specs.Modes.{AreModesKept};
-ghost use Rattle.tool_files.specs.Standing.{HaveModesKept, IsAdded, IsWritten, standing_in};
-ghost use Rattle.tool_files.specs.Standing.{standing_of};
-ghost use Rattle.tool_files.specs.Steps.{then_done};
-ghost use Rattle.tool_files.specs.Steps.Step.{Wrote};
-ghost use Rattle.tool_files.specs.There.{SameElsewhere};
+ghost use Rattle.tool_files.specs.Words as spec;
 
 use crate::{FileError, FileFault, FileName, Place, check_free};
 use std::alloc::{AllocError, Allocator};
 use std::fs::{Metadata, Permissions};
 use std::io;
 
-/// How many names are tried for a file or a folder that is to be renamed.
+/// How many temporary names are tried for a file or a folder.
 pub(crate) const NAMES: u64 = 1_000;
 
-/// A file that is to be written.
+/// A file to write.
 #[derive(Clone, Copy)]
 pub struct NewFile<'a, 'b> {
-    /// The file's name.
+    /// The name of the file.
     pub name: FileName<'a>,
-    /// All its bytes.
+    /// All bytes of the file.
     pub bytes: &'b [u8],
 }
 
-// A file that stands whole beside its name.
+// A complete file under its temporary name.
 #[derive(Drop)]
 struct Beside<'a, 'b, A: Allocator> {
-    // the file
+    // the file to write
     file: NewFile<'a, 'b>,
-    // the path that it is to have
+    // its final path
     path: String<A>,
-    // the path that it has
+    // its temporary path
     temporary: String<A>,
-    // its permissions, if any were asked for
+    // its permissions, if it replaces a file
     permissions: Option<Permissions>,
 }
 
-/// Writes files that are numbered, as [`place_files`] does. `next` is the name behind the last.
+/// Writes numbered files, as [`place_files`] does. `next` is the name that follows the last.
 ///
-/// Refused [`FileFault::Left`] where anything has that name, since what an earlier write left there
-/// would be taken for one of these files; as looking at it is, then as [`place_files`]. Nothing is
-/// written then but as that says.
+/// # Errors
+///
+/// Fails with [`FileFault::Left`] if something has the name `next`: a file left there by an earlier
+/// write would read as one of these. Also fails if `next` cannot be looked up, and as
+/// [`place_files`] does. Nothing is changed before these tests.
 pub fn place_series<'a, P: Place, A: Allocator + Copy>(
     place: &mut P,
     alloc: A,
     wanted: &[NewFile<'a, '_>],
     next: FileName<'a>,
 ) -> Result<(), FileError<'a>>
-    // Where it answers, nothing had the name behind the last.
+    // On success the name after the last was free.
     ensures free { OnOk result
-        (IfSome (P.there place.old (path_text next.entry)) (λ there. there ≡ false)) }
-    ensures placed { OnOk result (ArePlaced (P.done place.old) wanted.now (P.done place.new)) }
+        (IfSome (P.there place.old (spec.path_text next.entry)) (λ there. there ≡ false)) }
+    ensures placed { OnOk result (spec.ArePlaced (P.done place.old) wanted.now (P.done place.new)) }
     ensures kept { OnOk result
-        (AreModesKept (P.modes place.old) (P.done place.old) (P.done place.new)) }
-    // Where it is refused for what has that name, this is told, and nothing was done.
-    ensures left { IfErr result (λ e. TellsLeft e (path_text next.entry)
-        (P.there place.old (path_text next.entry)) (P.done place.old) (P.done place.new)) }
+        (spec.AreModesKept (P.modes place.old) (P.done place.old) (P.done place.new)) }
+    // If that name is taken, the error says so and nothing was done.
+    ensures left { IfErr result (λ e. spec.TellsLeft e (spec.path_text next.entry)
+        (P.there place.old (spec.path_text next.entry)) (P.done place.old) (P.done place.new)) }
     ensures named { IfErr result (λ e.
         (e.name ≡ next.entry) ⊎ Any (λ file. file.name ≡ e.name) wanted.now) }
-    // Where it is refused, this was done and no more.
+    // After an error exactly this was done.
     ensures refused { IfErr result (λ e.
-        StopLooking (P.done place.old) (path_text next.entry)
-        (P.there place.old (path_text next.entry)) e (P.done place.new)
-        ⊎ AreNotPlaced (P.there place.old) (P.done place.old) wanted.now e (P.done place.new)) }
+        spec.StopLooking (P.done place.old) (spec.path_text next.entry)
+        (P.there place.old (spec.path_text next.entry)) e (P.done place.new)
+        ⊎ spec.AreNotPlaced (P.there place.old) (P.done place.old) wanted.now e
+        (P.done place.new)) }
 {
     match check_next(place, alloc, &next) {
         Ok(()) => place_files(place, alloc, wanted),
@@ -80,47 +70,51 @@ pub fn place_series<'a, P: Place, A: Allocator + Copy>(
     }
 }
 
-// Refused where anything has a file's name, where that is not told, and for want of memory.
+// Tests that the name of a file is free.
 fn check_next<P: Place, A: Allocator + Copy>(
     place: &P,
     alloc: A,
     name: &FileName<'_>,
 ) -> Result<(), FileFault>
     ensures free { OnOk result
-        (IfSome (P.there place.now (path_text name.now)) (λ there. there ≡ false)) }
+        (IfSome (P.there place.now (spec.path_text name.now)) (λ there. there ≡ false)) }
     ensures left { IfErr result (λ fault.
-        IsLookFault fault (P.there place.now (path_text name.now))) }
+        spec.IsLookFault fault (P.there place.now (spec.path_text name.now))) }
 {
     let path = path_of(alloc, name)?;
     check_free(place, path.as_str(), FileFault::Left)
 }
 
-/// Writes files. Each is written beside its name, under a name of its own that no file had, with
-/// the permissions of the file that it is to replace, and synced; once all are whole, each is
-/// renamed and takes the place of the file that had its name; then the folder of each is synced.
+/// Writes files, and replaces those that have their names.
 ///
-/// Refused where the system refuses, where a folder, a link or what else is no plain file has a
-/// file's name, where a thousand names beside it are taken, and for want of memory: then the files
-/// that were written are removed, as far as the system does it, and what had the names stays. Only
-/// where a renaming is refused, the files before it stand renamed, and the refusal says how many
-/// these are ([`FileFault::AfterOthers`]); and where a folder is not synced, all stand renamed
-/// ([`FileFault::NotSynced`]).
+/// Each file is written and synced under a temporary name next to its own, with the permissions of
+/// the file that it replaces. Once all are complete, each is renamed. Then the folder of each is
+/// synced.
+///
+/// # Errors
+///
+/// Fails with an error of the system, if a name belongs to a folder, a link or another file that is
+/// not regular, if a thousand temporary names are taken, and with `OutOfMemory`. The files written
+/// are then removed, as far as the system does it, and the files that have the names stay.
+///
+/// Two errors leave more. [`FileFault::AfterOthers`] says how many files were renamed before the
+/// one that failed. After [`FileFault::NotSynced`] all files are renamed.
 pub fn place_files<'a, P: Place, A: Allocator + Copy>(
     place: &mut P,
     alloc: A,
     wanted: &[NewFile<'a, '_>],
 ) -> Result<(), FileError<'a>>
-    // Where it answers, all were written, then renamed, then synced.
-    ensures placed { OnOk result (ArePlaced (P.done place.old) wanted.now (P.done place.new)) }
-    // Each has the permissions of the plain file that it replaces, and replaces nothing else.
+    // On success all were written, then renamed, then synced.
+    ensures placed { OnOk result (spec.ArePlaced (P.done place.old) wanted.now (P.done place.new)) }
+    // Each has the permissions of the regular file that it replaces, and replaces nothing else.
     ensures kept { OnOk result
-        (AreModesKept (P.modes place.old) (P.done place.old) (P.done place.new)) }
-    // Where it is refused, this was done and no more, and a refusal says which file it was.
+        (spec.AreModesKept (P.modes place.old) (P.done place.old) (P.done place.new)) }
+    // After an error exactly this was done, and the error names the file.
     ensures refused { IfErr result (λ e.
-        AreNotPlaced (P.there place.old) (P.done place.old) wanted.now e (P.done place.new)) }
-    // That names one of the files, and tells none of an earlier write.
+        spec.AreNotPlaced (P.there place.old) (P.done place.old) wanted.now e (P.done place.new)) }
+    // The error names one of these files, and is never `Left`.
     ensures named { IfErr result (λ e. Any (λ file. file.name ≡ e.name) wanted.now) }
-    ensures left { IfErr result (λ e. IfLeft e.fault ⊥) }
+    ensures left { IfErr result (λ e. spec.IfLeft e.fault ⊥) }
 {
     let mut written = Vec::new(alloc);
     match write_each(place, alloc, wanted, &mut written) {
@@ -132,7 +126,7 @@ pub fn place_files<'a, P: Place, A: Allocator + Copy>(
     }
 }
 
-// Writes each file beside its name. Where one is refused, those before it are in `written`.
+// Writes each file under a temporary name. After an error `written` has the files before it.
 fn write_each<'a, 'b, P: Place, A: Allocator + Copy>(
     place: &mut P,
     alloc: A,
@@ -140,13 +134,14 @@ fn write_each<'a, 'b, P: Place, A: Allocator + Copy>(
     written: &mut Vec<Beside<'a, 'b, A>, A>,
 ) -> Result<(), FileError<'a>>
     requires { written.old.items ≡ [] }
-    ensures all { OnOk result (AreBeside wanted.now (standing_in written.new.items)) }
-    ensures kept { OnOk result (HaveModesKept (P.modes place.old) (standing_in written.new.items)
-        (standing_in written.new.items)) }
+    ensures all { OnOk result (spec.AreBeside wanted.now (spec.standing_in written.new.items)) }
+    ensures kept { OnOk result
+        (spec.HaveModesKept (P.modes place.old) (spec.standing_in written.new.items)
+        (spec.standing_in written.new.items)) }
     ensures refused { IfErr result (λ e.
-        StopsBefore (P.there place.old) wanted.now (standing_in written.new.items) e) }
+        spec.StopsBefore (P.there place.old) wanted.now (spec.standing_in written.new.items) e) }
     ensures done { P.done place.new
-        ≡ then_done (P.done place.old) (writing (standing_in written.new.items)) }
+        ≡ spec.then_done (P.done place.old) (spec.writing (spec.standing_in written.new.items)) }
 {
     for file in wanted {
         if let Err(fault) = add_beside(place, alloc, file, written) {
@@ -159,41 +154,41 @@ fn write_each<'a, 'b, P: Place, A: Allocator + Copy>(
     Ok(())
 }
 
-// Writes a file beside its name and adds it. Where that is refused, nothing is left of it.
+// Writes a file under a temporary name and adds it. After an error no file is left.
 fn add_beside<'a, 'b, P: Place, A: Allocator + Copy>(
     place: &mut P,
     alloc: A,
     file: &NewFile<'a, 'b>,
     written: &mut Vec<Beside<'a, 'b, A>, A>,
 ) -> Result<(), FileFault>
-    ensures added { OnOk result (IsAdded file.now (standing_in written.old.items)
-        (standing_in written.new.items) (P.there place.old) (P.there place.new)
+    ensures added { OnOk result (spec.IsAdded file.now (spec.standing_in written.old.items)
+        (spec.standing_in written.new.items) (P.there place.old) (P.there place.new)
         (P.modes place.old) (P.modes place.new) (P.done place.old) (P.done place.new)) }
-    ensures early { IfErr result IsEarly }
+    ensures early { IfErr result spec.IsEarly }
     ensures taken { IfErr result
-        (TellsAllTaken (P.there place.old) (path_text file.now.name)) }
+        (spec.TellsAllTaken (P.there place.old) (spec.path_text file.now.name)) }
     ensures kept { OnErr result (written.new.items ≡ written.old.items) }
     ensures nothing { OnErr result (P.done place.new ≡ P.done place.old) }
 {
-    // Room for it is there before it is.
+    // Reserve first, so that a written file is always listed.
     written.reserve(1)?;
     let beside = write_beside(place, alloc, file)?;
     written.push(beside).unwrap();
     Ok(())
 }
 
-// Writes a file beside its name.
+// Writes a file under a temporary name.
 fn write_beside<'a, 'b, P: Place, A: Allocator + Copy>(
     place: &mut P,
     alloc: A,
     file: &NewFile<'a, 'b>,
 ) -> Result<Beside<'a, 'b, A>, FileFault>
-    ensures written { IfOk result (λ b. IsWritten file.now (standing_of b)
+    ensures written { IfOk result (λ b. spec.IsWritten file.now (spec.standing_of b)
         (P.there place.old) (P.there place.new) (P.modes place.old) (P.modes place.new)
         (P.done place.old) (P.done place.new)) }
-    ensures early { IfErr result IsEarly }
+    ensures early { IfErr result spec.IsEarly }
     ensures taken { IfErr result
-        (TellsAllTaken (P.there place.old) (path_text file.now.name)) }
+        (spec.TellsAllTaken (P.there place.old) (spec.path_text file.now.name)) }
     ensures nothing { OnErr result (P.done place.new ≡ P.done place.old) }
 {
     let path = path_of(alloc, &file.name)?;
@@ -208,24 +203,24 @@ fn write_beside<'a, 'b, P: Place, A: Allocator + Copy>(
     })
 }
 
-/// The path of a file.
+/// Returns the path of a file.
 pub(crate) fn path_of<A: Allocator + Copy>(
     alloc: A,
     name: &FileName<'_>,
 ) -> Result<String<A>, AllocError>
-    ensures { IfOk result (λ path. string_bytes path ≡ path_text name.now) }
+    ensures { IfOk result (λ path. string_bytes path ≡ spec.path_text name.now) }
 {
     format!(in alloc; "{name}")
 }
 
-// The permissions of what is to be replaced, if there is anything. Refused where that is no plain
-// file: a link too.
+// Returns the permissions of the file to replace, if there is one. Fails if it is not a regular
+// file.
 fn kept(there: Option<Metadata>) -> Result<Option<Permissions>, FileFault>
     ensures same { IfOk result (λ p.
-        option_map permissions_mode p ≡ option_map metadata_mode there) }
-    ensures plain { OnOk result (IfSome there (λ m. IsFile (file_type m))) }
-    ensures other { IfErr result (λ fault. IsSomeAnd there (TellsKind fault)) }
-    ensures early { IfErr result IsEarly }
+        spec.option_map spec.permissions_mode p ≡ spec.option_map spec.metadata_mode there) }
+    ensures plain { OnOk result (IfSome there (λ m. spec.IsFile (spec.file_type m))) }
+    ensures other { IfErr result (λ fault. IsSomeAnd there (spec.TellsKind fault)) }
+    ensures early { IfErr result spec.IsEarly }
 {
     match there {
         Some(metadata) if metadata.is_file() => Ok(Some(metadata.permissions())),
@@ -235,7 +230,7 @@ fn kept(there: Option<Metadata>) -> Result<Option<Permissions>, FileFault>
     }
 }
 
-// Writes a file beside a path, under the first name that is free.
+// Writes a file under the first free temporary name.
 fn write_under<P: Place, A: Allocator + Copy>(
     place: &mut P,
     alloc: A,
@@ -243,16 +238,16 @@ fn write_under<P: Place, A: Allocator + Copy>(
     bytes: &[u8],
     permissions: Option<&Permissions>,
 ) -> Result<String<A>, FileFault>
-    ensures beside { IfOk result (λ t. IsBeside path.now (string_bytes t)) }
+    ensures beside { IfOk result (λ t. spec.IsBeside path.now (string_bytes t)) }
     ensures written { IfOk result (λ t. P.done place.new
-        ≡ then_done (P.done place.old) (Wrote (string_bytes t) bytes.now
-        (option_map permissions_mode (option_copied permissions.entry)) ∷ [])) }
+        ≡ spec.then_done (P.done place.old) (spec.Wrote (string_bytes t) bytes.now
+        (spec.option_map spec.permissions_mode (spec.option_copied permissions.entry)) ∷ [])) }
     ensures elsewhere { IfOk result (λ t.
-        SameElsewhere (string_bytes t) (P.there place.old) (P.there place.new)) }
+        spec.SameElsewhere (string_bytes t) (P.there place.old) (P.there place.new)) }
     ensures same { IfOk result (λ t.
-        SameElsewhere (string_bytes t) (P.modes place.old) (P.modes place.new)) }
-    ensures early { IfErr result IsEarly }
-    ensures taken { IfErr result (TellsAllTaken (P.there place.old) path.now) }
+        spec.SameElsewhere (string_bytes t) (P.modes place.old) (P.modes place.new)) }
+    ensures early { IfErr result spec.IsEarly }
+    ensures taken { IfErr result (spec.TellsAllTaken (P.there place.old) path.now) }
     ensures nothing { OnErr result (P.done place.new ≡ P.done place.old) }
 {
     for number in 1..=NAMES {
@@ -264,26 +259,27 @@ fn write_under<P: Place, A: Allocator + Copy>(
     Err(FileFault::NamesTaken)
 }
 
-// Removes what stands beside its name.
+// Removes the temporary files.
 fn remove_all<P: Place, A: Allocator>(place: &mut P, written: &[Beside<'_, '_, A>])
     ensures { P.done place.new
-        ≡ then_done (P.done place.old) (removing (standing_in written.now)) }
+        ≡ spec.then_done (P.done place.old) (spec.removing (spec.standing_in written.now)) }
 {
     for beside in written {
         place.remove(beside.temporary.as_str());
     }
 }
 
-// Puts files that stand beside their names in their places. Where one is refused, it and those
-// behind it are removed.
+// Renames the temporary files and syncs their folders. After a failed rename it and those after it
+// are removed.
 fn put_each<'a, P: Place, A: Allocator>(
     place: &mut P,
     written: &[Beside<'a, '_, A>],
 ) -> Result<(), FileError<'a>>
-    ensures all { OnOk result (P.done place.new ≡ then_done (then_done (P.done place.old)
-        (renaming (standing_in written.now))) (syncing (standing_in written.now))) }
+    ensures all { OnOk result (P.done place.new ≡ spec.then_done (spec.then_done (P.done place.old)
+        (spec.renaming (spec.standing_in written.now)))
+        (spec.syncing (spec.standing_in written.now))) }
     ensures refused { IfErr result (λ e.
-        AreNotPut (P.done place.old) (standing_in written.now) e (P.done place.new)) }
+        spec.AreNotPut (P.done place.old) (spec.standing_in written.now) e (P.done place.new)) }
 {
     match rename_each(place, written) {
         Ok(()) => sync_each(place, written),
@@ -291,16 +287,17 @@ fn put_each<'a, P: Place, A: Allocator>(
     }
 }
 
-// Renames each file, up to the first that is refused, and answers how many were renamed then.
+// Renames each file up to the first that fails, and returns its index.
 fn rename_each<P: Place, A: Allocator>(
     place: &mut P,
     written: &[Beside<'_, '_, A>],
 ) -> Result<(), (usize, io::Error)>
     ensures all { OnOk result (P.done place.new
-        ≡ then_done (P.done place.old) (renaming (standing_in written.now))) }
+        ≡ spec.then_done (P.done place.old) (spec.renaming (spec.standing_in written.now))) }
     ensures within { IfErr result (λ r. r.0 < length written.now) }
     ensures some { IfErr result (λ r. P.done place.new
-        ≡ then_done (P.done place.old) (renaming (take r.0 (standing_in written.now)))) }
+        ≡ spec.then_done (P.done place.old)
+        (spec.renaming (take r.0 (spec.standing_in written.now)))) }
 {
     for at in 0..written.len() {
         let (from, to) = (&written[at].temporary, &written[at].path);
@@ -311,7 +308,7 @@ fn rename_each<P: Place, A: Allocator>(
     Ok(())
 }
 
-// Removes the file that was not renamed and those behind it, and says which it was.
+// Removes the file that was not renamed and those after it, and returns its error.
 fn give_up<'a, P: Place, A: Allocator>(
     place: &mut P,
     written: &[Beside<'a, '_, A>],
@@ -319,9 +316,10 @@ fn give_up<'a, P: Place, A: Allocator>(
     error: io::Error,
 ) -> FileError<'a>
     requires { renamed < length written.now }
-    ensures stops { StopsRenamingAt (standing_in written.now) renamed result }
+    ensures stops { spec.StopsRenamingAt (spec.standing_in written.now) renamed result }
     ensures removed { P.done place.new
-        ≡ then_done (P.done place.old) (removing (drop renamed (standing_in written.now))) }
+        ≡ spec.then_done (P.done place.old)
+        (spec.removing (drop renamed (spec.standing_in written.now))) }
 {
     remove_all(place, &written[renamed..]);
     FileError {
@@ -330,9 +328,9 @@ fn give_up<'a, P: Place, A: Allocator>(
     }
 }
 
-// What is wrong with a file that was not renamed, behind so many that were.
+// Returns the error of a file that was not renamed, after so many that were.
 fn rename_fault(renamed: u64, error: io::Error) -> FileFault
-    ensures { TellsRenamed result renamed }
+    ensures { spec.TellsRenamed result renamed }
 {
     if renamed == 0 {
         FileFault::Io(error)
@@ -347,9 +345,9 @@ fn sync_each<'a, P: Place, A: Allocator>(
     written: &[Beside<'a, '_, A>],
 ) -> Result<(), FileError<'a>>
     ensures all { OnOk result (P.done place.new
-        ≡ then_done (P.done place.old) (syncing (standing_in written.now))) }
+        ≡ spec.then_done (P.done place.old) (spec.syncing (spec.standing_in written.now))) }
     ensures refused { IfErr result (λ e.
-        StopSyncing (P.done place.old) (standing_in written.now) e (P.done place.new)) }
+        spec.StopSyncing (P.done place.old) (spec.standing_in written.now) e (P.done place.new)) }
 {
     for beside in written {
         if let Err(error) = place.sync_folder(beside.path.as_str()) {

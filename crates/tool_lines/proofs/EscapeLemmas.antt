@@ -1,15 +1,11 @@
 -- Words of codes: what they stand for, and that it is one.
-use Rattle.std.proofs.Common.{◌≡◌, refl, sym, ◌∙◌, ap, subst, inl, inr, ℕ, suc, ◌+◌, ◌*◌, ◌<◌, ◌/◌}
-use Rattle.std.proofs.Common.{◌%◌, Bool, true, false, List, [], ◌∷◌, ◌++◌, ◌⊎◌, length, arith}
-use Rattle.std.proofs.Common.{append_assoc, lit<}
-use Rattle.std.specs.Prelude.{Result, Ok, Err, IfErr, IfOk, if◌then◌else◌, nat_eq, ◌==◌}
+use Rattle.std.proofs.Common.{◌≡◌, refl, sym, ◌∙◌, ap, subst, inl, inr, ℕ, ◌+◌, ◌*◌, ◌<◌, ◌/◌, ◌%◌}
+use Rattle.std.proofs.Common.{Bool, true, false, List, [], ◌∷◌, ◌++◌, ◌⊎◌, length, arith, append_assoc}
+use Rattle.std.specs.Prelude.{Result, Ok, Err, IfErr, ◌==◌}
 use Rattle.std.specs.Char.{digit_char}
-use Rattle.std.specs.Cmp.Lexicographic.{pointwise}
 use Rattle.std.proofs.lemmas.Bool.{eqb-true}
 use Rattle.std.proofs.lemmas.Bool.Decides.{nat_tests}
-use Rattle.sst_entries.proofs.KeyLemmas.{same_is}
-use Rattle.tool_lines.specs.Escapes.{AreBytes, AreCodes, Begins, BeginsSome, WordMeans}
-use Rattle.tool_lines.specs.Escapes.{codes_of, escaped, is_plain, bytes_word}
+use Rattle.tool_lines.specs.Escapes.{AreCodes, Begins, WordMeans, escaped, is_plain}
 use Rattle.tool_lines.specs.Faults.{lacks_memory}
 use Rattle.tool_lines.specs.declared.entry_line.LineError.{LineError}
 
@@ -64,88 +60,17 @@ pub begins_some : (w : List ℕ) (b : ℕ) (r : List ℕ) → w ≡ [] → Begin
 begins_some w b r none h =
     some_by b r (subst (λ (v : List ℕ). Begins v b r) none h).1
 
--- codes stand for one list of bytes
-pub codes_once : (bs cs w : List ℕ) → AreCodes w bs → AreCodes w cs → bs ≡ cs
-codes_once [] [] w h k = refl
-codes_once [] (c ∷ cs) w h k = absurd (begins_some w c k.0 h k.1)
-codes_once (b ∷ bs) [] w h k = absurd (begins_some w b h.0 k h.1)
-codes_once (b ∷ bs) (c ∷ cs) w h k =
-    let o = begins_once w b c h.0 k.0 h.1 k.1 in
-    let byte : b ≡ c = o.0 in
-    let rest : bs ≡ cs = codes_once bs cs k.0
-    (subst (λ (v : List ℕ). AreCodes v bs) o.1 h.2) k.2 in
-    cc
-
--- a word stands for one list of bytes
-pub stands_once : (bs cs w : List ℕ) → WordMeans w bs → WordMeans w cs → bs ≡ cs
-stands_once [] [] w h k = refl
-stands_once [] (c ∷ cs) w h k = absurd (k.0 h)
-stands_once (b ∷ bs) [] w h k = absurd (h.0 k)
-stands_once (b ∷ bs) (c ∷ cs) w h k = codes_once (b ∷ bs) (c ∷ cs) w h.1 k.1
-
-code_by : (b : ℕ) (rest : List ℕ) (p : Bool) → is_plain b ≡ p → b < 256
-    → Begins ((if p then b ∷ [] else escaped b) ++ rest) b rest
-code_by b rest true e h = (h, inl (e, refl))
-code_by b rest false e h = (h, inr refl)
-
--- what is written for bytes are their codes
-pub codes_all : (bs : List ℕ) → AreBytes bs → AreCodes (codes_of bs) bs
-codes_all [] f = refl
-codes_all (b ∷ bs) f =
-    (codes_of bs, code_by b (codes_of bs) (is_plain b) refl (f 0), codes_all bs (λ i. f (suc i)))
-
-dash : AreCodes (45 ∷ []) (45 ∷ [])
-dash = ([], (lit< tt, inl (refl, refl)), refl)
-
-dash_escaped : AreCodes (escaped 45) (45 ∷ [])
-dash_escaped = ([], (lit< tt, inr refl), refl)
-
-escaped_other : escaped 45 ≡ 45 ∷ [] → ⊥
-escaped_other e = absurd cc
-
-stands_by : (b : ℕ) (bs : List ℕ) (p : Bool) → pointwise nat_eq (b ∷ bs) (45 ∷ []) ≡ p
-    → AreBytes (b ∷ bs)
-    → WordMeans (if p then escaped 45 else codes_of (b ∷ bs)) (b ∷ bs)
-stands_by b bs true e f =
-    subst (λ (v : List ℕ). WordMeans (escaped 45) v) (sym (same_is (b ∷ bs) (45 ∷ []) e))
-    (escaped_other, dash_escaped)
-stands_by b bs false e f =
-    let all : AreCodes (codes_of (b ∷ bs)) (b ∷ bs) = codes_all (b ∷ bs) f in (
-      λ h. other h (codes_once (b ∷ bs) (45 ∷ []) (45 ∷ [])
-          (subst (λ (v : List ℕ). AreCodes v (b ∷ bs)) h all) dash),
-      all,
-    ) where
-      other : codes_of (b ∷ bs) ≡ 45 ∷ [] → b ∷ bs ≡ 45 ∷ [] → ⊥
-      other h is =
-          let e2 : pointwise nat_eq (45 ∷ []) (45 ∷ []) ≡ false =
-          subst (λ (v : List ℕ). pointwise nat_eq v (45 ∷ []) ≡ false) is e in
-          absurd cc
-
--- what is written for bytes stands for them
-pub stands_all : (bs : List ℕ) → AreBytes bs → WordMeans (bytes_word bs) bs
-stands_all [] f = refl
-stands_all (b ∷ bs) f = stands_by b bs (pointwise nat_eq (b ∷ bs) (45 ∷ [])) refl f
-
 -- the bytes of a front of a word were read, and what is left of it
 pub record Reading (word bytes rest : List ℕ) : Type 0 where
   pub adds : (bs : List ℕ) → AreCodes rest bs → AreCodes word (bytes ++ bs)
   pub parts : (bs : List ℕ) → AreCodes word bs
       → (tail : List ℕ) × (bs ≡ bytes ++ tail) × AreCodes rest tail
-  pub begun : (rest ≡ word) ⊎ BeginsSome word
 
 pub reading_starts : (word : List ℕ) → Reading word [] word
 reading_starts word = record {
   adds = λ bs h. h;
   parts = λ bs h. (bs, refl, h);
-  begun = inl refl;
 }
-
--- a word of which something was read, or is read next, begins with it
-pub begins_with : (word rest behind : List ℕ) (b : ℕ) → Begins rest b behind
-    → (rest ≡ word) ⊎ BeginsSome word → BeginsSome word
-begins_with word rest behind b begins (inl all) =
-    (b, behind, subst (λ (w : List ℕ). Begins w b behind) all begins)
-begins_with word rest behind b begins (inr begun) = begun
 
 tail_step : (bytes bs tail rest behind : List ℕ) (b : ℕ) → Begins rest b behind
     → bs ≡ bytes ++ tail → AreCodes rest tail
@@ -167,31 +92,7 @@ reading_goes word bytes rest behind b begins r = record {
   parts = λ bs h.
       let p = r.parts bs h in
       tail_step bytes bs p.0 rest behind b begins p.1 p.2;
-  begun = inr (begins_with word rest behind b begins r.begun);
 }
-
--- a word that stands for bytes begins with a byte's code
-pub means_begins : (word bs : List ℕ) → WordMeans word bs → BeginsSome word
-means_begins word [] h =
-    subst BeginsSome (sym h) (45, [], (lit< tt, inl (refl, refl)))
-means_begins word (b ∷ bs) h = (b, h.1.0, h.1.1)
-
--- one that begins with none is refused so
-pub none_begins : {X : Type 0} (view : X → List ℕ) (r : Result X LineError) (word : List ℕ)
-    (fault : LineError) → IfOk r (λ x. WordMeans word (view x))
-    → IfErr r (λ e. (e ≡ fault) ⊎ BeginsSome word) → (BeginsSome word → ⊥) → r ≡ Err fault
-none_begins view (Ok x) word fault means returned none =
-    absurd (none (means_begins word (view x) means))
-none_begins view (Err e) word fault means returned none = elim returned [
-  | inl is ↦ ap Err is
-  | inr begins ↦ absurd (none begins)
-]
-
--- what begins so
-pub begun_err : {X : Type 0} (r : Result X LineError) (word : List ℕ) (fault : LineError)
-    → BeginsSome word → IfErr r (λ e. (e ≡ fault) ⊎ BeginsSome word)
-begun_err (Ok x) word fault h = tt
-begun_err (Err e) word fault h = inr h
 
 stops_by : (rest tail : List ℕ) → (rest ≡ [] → ⊥)
     → ((b : ℕ) (r : List ℕ) → Begins rest b r → ⊥) → AreCodes rest tail → ⊥

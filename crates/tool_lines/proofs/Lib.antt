@@ -1,6 +1,4 @@
 pub mod EmptyLine
 mod EscapeLemmas
-mod ObjectBack
 mod ObjectLemmas
-mod OneLine
 mod WordLemmas

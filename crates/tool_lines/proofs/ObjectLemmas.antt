@@ -1,25 +1,18 @@
 -- Objects of JSON, and their members.
-use Rattle.std.proofs.Common.{◌≡◌, refl, sym, ◌∙◌, ◌++◌, ap, append_assoc, inl, inr, ℕ, suc, List}
-use Rattle.std.proofs.Common.{[], ◌∷◌, length, Option, Some, Result, Ok, Err, IfOk, IfErr, codes}
-use Rattle.std.proofs.Common.{Vec, rules, decimal, subst, true, false}
-use Rattle.std.specs.Prelude.{OnOk}
+use Rattle.std.proofs.Common.{◌≡◌, refl, sym, ◌∙◌, ap, inl, inr, ℕ, suc, List, [], ◌∷◌, length}
+use Rattle.std.proofs.Common.{Option, Some, Result, Ok, Err, IfOk, IfErr, codes, Vec, rules, subst}
+use Rattle.std.proofs.Common.{false}
 use Rattle.std.specs.Borrow.{Bor}
 use Rattle.json.specs.Find.{get, get_member}
 use Rattle.json.specs.Json.{Json, Members, object, string}
 use Rattle.json.specs.Strict.{keys}
-use Rattle.json.specs.Token.{Token}
 use Rattle.json.specs.Value.{members_view, value_view}
-use Rattle.json.specs.Written.{Written}
 use Rattle.json.specs.declared.value.Value.{Object, Value, the_lemmas}
 use Rattle.sst_entries.specs.Entry.{Entry}
 use Rattle.tool_lines.specs.Faults.{lacks_memory}
-use Rattle.tool_lines.specs.ObjectLine.{FourMembers, HasMore, IsBytesMember, IsEntryObject}
-use Rattle.tool_lines.specs.ObjectLine.{IsObjectFault, IsStrictLine, LacksMembers, MeansBytes}
-use Rattle.tool_lines.specs.ObjectLine.{MeansNumber}
-use Rattle.tool_lines.specs.ObjectLine.{SpellsObject, StandsInDigits, WritesBytes, WritesEntry}
-use Rattle.tool_lines.specs.ObjectLine.{kind_name}
+use Rattle.tool_lines.specs.ObjectLine.{FourMembers, IsEntryObject, IsStrictLine, MeansBytes}
+use Rattle.tool_lines.specs.ObjectLine.{MeansNumber, SpellsObject, StandsInDigits, kind_name}
 use Rattle.tool_lines.specs.declared.entry_line.LineError.{LineError}
-use Rattle.tool_lines.specs.declared.entry_line.LineError.TheVariants as fault
 
 -- an object's members
 pub view_object : {A : Type 0} (v : Vec (Bor (List ℕ) × Value A) A)
@@ -37,20 +30,6 @@ pub has_members : {A : Type 0} (value : Value A) (ms : List (Bor (List ℕ) × V
     → value_view value ≡ object (members_view ms) → length ms ≡ n
     → (x : Members) × (value_view value ≡ object x) × (length (keys x) ≡ n)
 has_members {A} value ms n is long = (members_view ms, is, keys_long ms ∙ long)
-
--- an object that has another number of members
-pub other_many : {A : Type 0} (value : Value A) (ms : List (Bor (List ℕ) × Value A))
-    → value_view value ≡ object (members_view ms) → (length ms ≡ 4 → ⊥)
-    → LacksMembers (value_view value) fault.Members
-other_many {A} value ms is other =
-    inr (
-      refl,
-      (members_view ms, is),
-      λ key seqno kind rest h.
-          let same : object (members_view ms) ≡ object h.0 = sym is ∙ h.1 in
-          let inner : members_view ms ≡ h.0 = cc in
-          other (sym (keys_long ms) ∙ ap (λ (x : Members). length (keys x)) inner ∙ h.2.four),
-    )
 
 -- ---- bytes
 
@@ -106,18 +85,14 @@ means_its_digits json digits x bytes is found (inr h) =
     subst (λ (j : Json). StandsInDigits j bytes) inner h.2.stand
 
 -- digits that stand for no bytes
-pub digits_mean_none : {X : Type 0} (json digits : Json) (fault : LineError)
-    (returned : Result X LineError) → (x : Members) × (json ≡ object x) × (length (keys x) ≡ 1)
+pub digits_mean_none : {X : Type 0} (json digits : Json) (returned : Result X LineError) → (x : Members) × (json ≡ object x) × (length (keys x) ≡ 1)
     → get (codes "hex") json ≡ Some digits
     → IfErr returned (λ e. lacks_memory e ≡ false →
-    (e ≡ fault) × ((bytes : List ℕ) → ¬ StandsInDigits digits bytes))
-    → IfErr returned (λ e. lacks_memory e ≡ false →
-    (e ≡ fault) × ((bytes : List ℕ) → ¬ MeansBytes json bytes))
-digits_mean_none json digits fault (Ok bytes) one found h = tt
-digits_mean_none json digits fault (Err e) one found h = λ fine. (
-  (h fine).0,
-  λ bytes means. (h fine).1 bytes (means_its_digits json digits one.0 bytes one.1 found means),
-)
+    (bytes : List ℕ) → ¬ StandsInDigits digits bytes)
+    → IfErr returned (λ e. lacks_memory e ≡ false → (bytes : List ℕ) → ¬ MeansBytes json bytes)
+digits_mean_none json digits (Ok bytes) one found h = tt
+digits_mean_none json digits (Err e) one found h = λ fine bytes means.
+    h fine bytes (means_its_digits json digits one.0 bytes one.1 found means)
 
 -- ---- members
 
@@ -141,22 +116,6 @@ four_members line json key seqno kind value strict h = record {
   are = h.2;
 }
 
--- a line that is no entry's object
-pub members_fault : (line : List ℕ) (json : Json) (e : LineError) → IsStrictLine line json
-    → LacksMembers json e → IsObjectFault line e
-members_fault line json e strict (inl h) =
-    subst (IsObjectFault line) (sym h.0)
-    (λ members other. h.1 members (document_once line json (object members) strict other))
-members_fault line json e strict (inr h) =
-    subst (IsObjectFault line) (sym h.0) (
-      (h.1.0, subst (λ (j : Json). IsStrictLine line j) h.1.1 strict),
-      λ four. h.2 four.key four.seqno four.kind four.value (
-        four.members,
-        document_once line json (object four.members) strict four.strict,
-        four.are,
-      ),
-    )
-
 same_some : (o : Option Json) (a b : Json) → o ≡ Some a → o ≡ Some b → a ≡ b
 same_some o a b h k = let e : Some a ≡ Some b = sym h ∙ k in cc
 
@@ -176,94 +135,38 @@ four_once line v w =
       found (codes "value") v.value w.value v.are.value_is w.are.value_is,
     )
 
--- a line that spells an entry has no fault
-pub no_object_fault : (line : List ℕ) (e : Entry) (f : LineError) → SpellsObject line e
-    → IsObjectFault line f → f ≡ fault.OutOfMemory
-no_object_fault line e fault.OutOfMemory h k = refl
-no_object_fault line e fault.Words h k = absurd k
-no_object_fault line e fault.Key h k = absurd k
-no_object_fault line e fault.Number h k = absurd k
-no_object_fault line e fault.Kind h k = absurd k
-no_object_fault line e fault.Value h k = absurd k
-no_object_fault line e fault.Json h k = absurd (k h.members.members h.members.strict)
-no_object_fault line e fault.Members h k = absurd (k.1 h.members)
-no_object_fault line e fault.KeyMember h k = absurd (k.3 (
-  e.user_key,
-  subst (λ (j : Json). MeansBytes j e.user_key) (four_once line h.members k.0).0 h.key_is,
-))
-no_object_fault line e fault.NumberMember h k = absurd (k.1 (
-  e.seqno,
-  subst (λ (j : Json). MeansNumber j e.seqno) (four_once line h.members k.0).1 h.seqno_is,
-))
-no_object_fault line e fault.KindMember h k =
-    absurd (k.2 (e.kind, sym (four_once line h.members k.0).2 ∙ h.kind_is))
-no_object_fault line e fault.ValueMember h k = absurd (k.4 (
-  e.value,
-  subst (λ (j : Json). MeansBytes j e.value) (four_once line h.members k.0).3 h.value_is,
-))
-
--- what stands for no bytes
-pub no_bytes : (json : Json) → ((bytes : List ℕ) → ¬ MeansBytes json bytes) → ¬ IsBytesMember json
-no_bytes json none h = none h.0 h.1
-
--- so a line that has one spells none
-pub spells_no_object : {X : Type 0} (returned : Result X LineError) (line : List ℕ)
-    → IfErr returned (λ e. IsObjectFault line e)
-    → IfErr returned (λ e. lacks_memory e ≡ false → (item : Entry) → ¬ SpellsObject line item)
-spells_no_object (Ok x) line h = tt
-spells_no_object (Err e) line h = λ fine item spells.
-    let memory : lacks_memory e ≡ true =
-    ap lacks_memory (no_object_fault line item e spells h) in absurd cc
-
--- ---- tokens, one behind another
-
--- more, and then more
-more : (a b c : Written) (one two : List Token) → HasMore a b one → HasMore b c two
-    → HasMore a c (one ++ two)
-more a b c one two first then = (
-  then.0 ∙ first.0,
-  then.1 ∙ ap (λ (ts : List Token). ts ++ two) first.1 ∙ append_assoc a.tokens one two,
-)
-
--- the tokens of an entry
-pub wrote_entry : {E : Type 0} (returned : Result (Unit {0}) E) (e : Entry) (name : List ℕ)
-    (k v : List Token) (w0 w1 w2 w3 w4 w5 w6 w7 w8 : Written)
-    → HasMore w0 w1 (Token.begin_object ∷ []) → WritesBytes e.user_key k
-    → HasMore w1 w2 (Token.key (codes "key") ∷ k)
-    → HasMore w2 w3 (Token.key (codes "seqno") ∷ [])
-    → HasMore w3 w4 (Token.number (decimal e.seqno) ∷ [])
-    → HasMore w4 w5 (Token.key (codes "kind") ∷ []) → name ≡ kind_name e.kind
-    → HasMore w5 w6 (Token.string name ∷ []) → WritesBytes e.value v
-    → HasMore w6 w7 (Token.key (codes "value") ∷ v) → w8.before ≡ w7.before
-    → OnOk returned (w8.tokens ≡ w7.tokens ++ Token.end_object ∷ [])
-    → OnOk returned ((ts : List Token) × WritesEntry e ts × HasMore w0 w8 ts)
-wrote_entry (Ok u) e name k v w0 w1 w2 w3 w4 w5 w6 w7 w8 h1 key h2 h3 h4 h5 named h6 value h7 same
-    ended =
-    let kind : HasMore w5 w6 (Token.string (kind_name e.kind) ∷ []) =
-    subst (λ (n : List ℕ). HasMore w5 w6 (Token.string n ∷ [])) named h6 in
-    let end : List Token = Token.end_object ∷ [] in
-    let last : HasMore w7 w8 end = (same, ended) in
-    let t6 : List Token = Token.key (codes "value") ∷ (v ++ end) in
-    let t5 : List Token = Token.string (kind_name e.kind) ∷ t6 in
-    let t4 : List Token = Token.key (codes "kind") ∷ t5 in
-    let t3 : List Token = Token.number (decimal e.seqno) ∷ t4 in
-    let t2 : List Token = Token.key (codes "seqno") ∷ t3 in
-    let t1 : List Token = Token.key (codes "key") ∷ (k ++ t2) in (
-      Token.begin_object ∷ t1,
-      record {
-        key = k;
-        value = v;
-        key_is = key;
-        value_is = value;
-        are = refl;
-      },
-      more w0 w1 w8 (Token.begin_object ∷ []) t1 h1
-          (more w1 w2 w8 (Token.key (codes "key") ∷ k) t2 h2
-          (more w2 w3 w8 (Token.key (codes "seqno") ∷ []) t3 h3
-          (more w3 w4 w8 (Token.number (decimal e.seqno) ∷ []) t4 h4
-          (more w4 w5 w8 (Token.key (codes "kind") ∷ []) t5 h5
-          (more w5 w6 w8 (Token.string (kind_name e.kind) ∷ []) t6 kind
-          (more w6 w7 w8 (Token.key (codes "value") ∷ v) end h7 last)))))),
+-- what the members mean of an object whose line spells an entry
+pub object_by : (line : List ℕ) (json key seqno kind value : Json) → IsStrictLine line json
+    → IsEntryObject json key seqno kind value → (e : Entry) → SpellsObject line e
+    → MeansBytes key e.user_key × MeansNumber seqno e.seqno × (kind ≡ string (kind_name e.kind))
+    × MeansBytes value e.value
+object_by line json key seqno kind value strict is e s =
+    let same = four_once line s.members
+    (four_members line json key seqno kind value strict is) in (
+      subst (λ (j : Json). MeansBytes j e.user_key) same.0 s.key_is,
+      subst (λ (j : Json). MeansNumber j e.seqno) same.1 s.seqno_is,
+      sym same.2 ∙ s.kind_is,
+      subst (λ (j : Json). MeansBytes j e.value) same.3 s.value_is,
     )
-wrote_entry (Err u) e name k v w0 w1 w2 w3 w4 w5 w6 w7 w8 h1 key h2 h3 h4 h5 named h6 value h7 same
-    ended = tt
+
+-- a line that spells an entry is an entry's object
+pub no_object : (line : List ℕ) (json : Json) → IsStrictLine line json
+    → ((key seqno kind value : Json) → ¬ IsEntryObject json key seqno kind value)
+    → (e : Entry) → ¬ SpellsObject line e
+no_object line json strict none e s =
+    let m = s.members in
+    none m.key m.seqno m.kind m.value
+    (m.members, document_once line json (object m.members) strict m.strict, m.are)
+
+-- an object that has another number of members
+pub other_many : {A : Type 0} (value : Value A) (ms : List (Bor (List ℕ) × Value A))
+    → value_view value ≡ object (members_view ms) → (length ms ≡ 4 → ⊥)
+    → (key seqno kind rest : Json) → ¬ IsEntryObject (value_view value) key seqno kind rest
+other_many {A} value ms is other key seqno kind rest h =
+    let same : object (members_view ms) ≡ object h.0 = sym is ∙ h.1 in
+    let inner : members_view ms ≡ h.0 = cc in
+    other (sym (keys_long ms) ∙ ap (λ (x : Members). length (keys x)) inner ∙ h.2.four)
+
+-- a fault of a line that spells no entry
+abbrev pub SpellsNone : List ℕ → LineError → Type 0
+SpellsNone line e = lacks_memory e ≡ false → (item : Entry) → ¬ SpellsObject line item

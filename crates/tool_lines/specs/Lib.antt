@@ -1,5 +1,5 @@
-pub mod Counts
 pub mod Escapes
 pub mod Faults
 pub mod ObjectLine
 pub mod WordLine
+pub mod Words

@@ -1,80 +1,53 @@
-//! Any bytes as one word of visible bytes.
-ghost use Rattle.std.specs.Prelude.{◌≡◌, ◌≢◌, ◌⊎◌, ◌<◌, ℕ, List, ◌∷◌, ◌++◌, length, false, OnOk};
-ghost use Rattle.std.specs.Prelude.{[], Err, IfSome, IfNone, IfOk, IfErr, IsOk};
-ghost use Rattle.std.specs.Char.{digit_char};
-ghost use Rattle.tool_lines.specs.Escapes.{AreBytes, AreCodes, Begins, BeginsSome, WordMeans};
-ghost use Rattle.tool_lines.specs.Escapes.{byte_code};
-ghost use Rattle.tool_lines.specs.Escapes.{codes_of, escaped, is_plain, bytes_word};
-ghost use Rattle.tool_lines.specs.Faults.{lacks_memory};
-ghost use Rattle.tool_lines.specs.declared.entry_line.LineError.TheVariants.{Key};
+//! Bytes as one word of visible ASCII.
+ghost use Rattle.std.specs.Prelude.{◌≡◌, ◌≢◌, ◌<◌, ℕ, List, ◌∷◌, ◌++◌, length, false};
+ghost use Rattle.std.specs.Prelude.{IfSome, IfNone, IfOk, IfErr};
+ghost use Rattle.tool_lines.specs.Words as spec;
 
 use crate::LineError;
 use std::alloc::{AllocError, Allocator};
 
-/// Appends bytes as one word: a visible byte as itself, any other and a backslash as `\xNN`, and
-/// `-` for no bytes; so a lone `-` is `\x2d`. Refused for want of memory alone.
+/// Appends bytes as one word. Visible ASCII is itself, a backslash and any other byte is `\xNN`,
+/// and no bytes are `-`. A single byte `-` is therefore `\x2d`.
+///
+/// # Errors
+///
+/// Fails only if memory runs out.
 pub fn append_bytes<A: Allocator>(
     mut text: Vec<u8, A>,
     bytes: &[u8],
-) -> Result<Vec<u8, A>, AllocError>
-    ensures text { IfOk result (λ t. t.items ≡ text.items ++ bytes_word bytes.now) }
-    // What is appended stands for the bytes.
-    ensures stands { OnOk result (WordMeans (bytes_word bytes.now) bytes.now) }
-{
+) -> Result<Vec<u8, A>, AllocError> {
     push_bytes(&mut text, bytes)?;
     Ok(text)
 }
 
-/// Appends bytes as one word. Where memory is refused, a front of it is appended.
+/// Appends bytes as one word. After an error a part of it is appended.
 pub(crate) fn push_bytes<A: Allocator>(
     text: &mut Vec<u8, A>,
     bytes: &[u8],
-) -> Result<(), AllocError>
-    ensures text { OnOk result (text.new.items ≡ text.old.items ++ bytes_word bytes.now) }
-    ensures stands { OnOk result (WordMeans (bytes_word bytes.now) bytes.now) }
-{
+) -> Result<(), AllocError> {
     if bytes.is_empty() {
-        text.extend_from_slice(b"-")
-    } else if bytes == b"-".as_slice() {
-        push_escaped(text, b'-')
-    } else {
-        push_codes(text, bytes)
+        return text.extend_from_slice(b"-");
     }
-}
-
-// Each byte by its code.
-fn push_codes<A: Allocator>(text: &mut Vec<u8, A>, bytes: &[u8]) -> Result<(), AllocError>
-    requires { AreBytes bytes.now }
-    ensures text { OnOk result (text.new.items ≡ text.old.items ++ codes_of bytes.now) }
-    ensures bytes { AreBytes bytes.now }
-{
+    if bytes == b"-".as_slice() {
+        return push_escaped(text, b'-');
+    }
     for byte in bytes {
-        push_code(text, *byte)?;
+        if is_plain(*byte) {
+            text.extend_from_slice(&[*byte])?;
+        } else {
+            push_escaped(text, *byte)?;
+        }
     }
     Ok(())
 }
 
-// A byte as itself where it may stand so, else escaped.
-fn push_code<A: Allocator>(text: &mut Vec<u8, A>, byte: u8) -> Result<(), AllocError>
-    ensures { OnOk result (text.new.items ≡ text.old.items ++ byte_code byte) }
-{
-    if is_plain(byte) {
-        text.extend_from_slice(&[byte])
-    } else {
-        push_escaped(text, byte)
-    }
-}
-
-fn push_escaped<A: Allocator>(text: &mut Vec<u8, A>, byte: u8) -> Result<(), AllocError>
-    ensures { OnOk result (text.new.items ≡ text.old.items ++ escaped byte) }
-{
+fn push_escaped<A: Allocator>(text: &mut Vec<u8, A>, byte: u8) -> Result<(), AllocError> {
     text.extend_from_slice(&[b'\\', b'x', hex_digit(byte / 16), hex_digit(byte % 16)])
 }
 
-// The digit of a value below 16.
+// The hex digit of a value below 16.
 fn hex_digit(value: u8) -> u8
     requires { value < 16 }
-    ensures { result ≡ digit_char value }
 {
     if value < 10 {
         b'0' + value
@@ -83,40 +56,35 @@ fn hex_digit(value: u8) -> u8
     }
 }
 
-// Whether a byte stands for itself.
+// Whether a byte is written as itself.
 fn is_plain(byte: u8) -> bool
-    ensures { result ≡ is_plain byte }
+    ensures { result ≡ spec.is_plain byte }
 {
     byte.is_ascii_graphic() && byte != b'\\'
 }
 
-/// The bytes that a word stands for, as [`append_bytes`] writes them; a visible byte may be escaped
-/// too. Refused [`LineError::Key`] where it stands for none, and [`LineError::OutOfMemory`].
+/// Parses a word that [`append_bytes`] writes. A visible byte may be escaped too.
+///
+/// # Errors
+///
+/// Fails with [`LineError::Key`] if the word is malformed, and with [`LineError::OutOfMemory`].
 pub fn parse_bytes<A: Allocator>(alloc: A, word: &[u8]) -> Result<Vec<u8, A>, LineError>
-    ensures bytes { IfOk result (λ bytes. WordMeans word.now bytes.items) }
-    ensures refused { IfErr result (λ e. lacks_memory e ≡ false →
-        (e ≡ Key) × ((bytes : List ℕ) → ¬ WordMeans word.now bytes)) }
-    // A word that begins with no byte's code is refused so whatever memory there is, and one for no
-    // bytes wants none.
-    ensures early { ¬ BeginsSome word.now → result ≡ Err Key }
-    ensures none { word.now ≡ 45 ∷ [] → IsOk result }
+    ensures bytes { IfOk result (λ bytes. spec.WordMeans word.now bytes.items) }
+    ensures refused { IfErr result (λ e. spec.lacks_memory e ≡ false →
+        (e ≡ spec.Key) × ((bytes : List ℕ) → ¬ spec.WordMeans word.now bytes)) }
 {
     parse_word(alloc, word, LineError::Key)
 }
 
-/// The bytes that a word stands for. Refused with `fault` where it stands for none, and
-/// [`LineError::OutOfMemory`].
+/// Parses a word. Fails with `fault` if it is malformed, and with [`LineError::OutOfMemory`].
 pub(crate) fn parse_word<A: Allocator>(
     alloc: A,
     word: &[u8],
     fault: LineError,
 ) -> Result<Vec<u8, A>, LineError>
-    ensures bytes { IfOk result (λ bytes. WordMeans word.now bytes.items) }
-    ensures refused { IfErr result (λ e. lacks_memory e ≡ false →
-        (e ≡ fault) × ((bytes : List ℕ) → ¬ WordMeans word.now bytes)) }
-    // Memory is wanted behind the first code.
-    ensures began { IfErr result (λ e. (e ≡ fault) ⊎ BeginsSome word.now) }
-    ensures none { word.now ≡ 45 ∷ [] → IsOk result }
+    ensures bytes { IfOk result (λ bytes. spec.WordMeans word.now bytes.items) }
+    ensures refused { IfErr result (λ e. spec.lacks_memory e ≡ false →
+        (e ≡ fault) × ((bytes : List ℕ) → ¬ spec.WordMeans word.now bytes)) }
 {
     if word.is_empty() {
         return Err(fault);
@@ -127,16 +95,15 @@ pub(crate) fn parse_word<A: Allocator>(
     parse_codes(alloc, word, fault)
 }
 
-// The bytes of their codes.
+// Parses a word byte after byte.
 fn parse_codes<A: Allocator>(
     alloc: A,
     word: &[u8],
     fault: LineError,
 ) -> Result<Vec<u8, A>, LineError>
-    ensures bytes { IfOk result (λ bytes. AreCodes word.now bytes.items) }
-    ensures refused { IfErr result (λ e. lacks_memory e ≡ false →
-        (e ≡ fault) × ((bytes : List ℕ) → ¬ AreCodes word.now bytes)) }
-    ensures began { IfErr result (λ e. (e ≡ fault) ⊎ BeginsSome word.now) }
+    ensures bytes { IfOk result (λ bytes. spec.AreCodes word.now bytes.items) }
+    ensures refused { IfErr result (λ e. spec.lacks_memory e ≡ false →
+        (e ≡ fault) × ((bytes : List ℕ) → ¬ spec.AreCodes word.now bytes)) }
 {
     let mut bytes = Vec::new(alloc);
     let mut rest = word;
@@ -152,11 +119,11 @@ fn parse_codes<A: Allocator>(
     Ok(bytes)
 }
 
-// The byte of the code at the front of a word, and what follows it.
+// Returns the first byte that a word spells, and the rest of the word.
 fn parse_code(word: &[u8]) -> Option<(u8, &[u8])>
-    ensures some { IfSome result (λ r. Begins word.now r.0 r.1.now) }
+    ensures some { IfSome result (λ r. spec.Begins word.now r.0 r.1.now) }
     ensures shorter { IfSome result (λ r. length r.1.now < length word.now) }
-    ensures none { IfNone result ((byte : ℕ) (rest : List ℕ) → ¬ Begins word.now byte rest) }
+    ensures none { IfNone result ((byte : ℕ) (rest : List ℕ) → ¬ spec.Begins word.now byte rest) }
 {
     let (byte, rest) = word.split_first()?;
     if *byte == b'\\' {
@@ -168,12 +135,13 @@ fn parse_code(word: &[u8]) -> Option<(u8, &[u8])>
     }
 }
 
-// The byte of the two digits behind a backslash, and what follows them.
+// Returns the byte of an escape after its backslash, and the rest of the word.
 fn parse_escape(word: &[u8]) -> Option<(u8, &[u8])>
-    ensures some { IfSome result (λ r. (r.0 < 256) × (92 ∷ word.now ≡ escaped r.0 ++ r.1.now)) }
+    ensures some { IfSome result
+        (λ r. (r.0 < 256) × (92 ∷ word.now ≡ spec.escaped r.0 ++ r.1.now)) }
     ensures shorter { IfSome result (λ r. length r.1.now < length word.now) }
     ensures none { IfNone result ((byte : ℕ) (rest : List ℕ) → byte < 256 →
-        92 ∷ word.now ≢ escaped byte ++ rest) }
+        92 ∷ word.now ≢ spec.escaped byte ++ rest) }
 {
     let (mark, rest) = word.split_first()?;
     let (high, rest) = rest.split_first()?;
@@ -186,10 +154,10 @@ fn parse_escape(word: &[u8]) -> Option<(u8, &[u8])>
     Some((high * 16 + low, rest))
 }
 
-// The value of a digit.
+// The value of a hex digit.
 fn hex_value(digit: u8) -> Option<u8>
-    ensures some { IfSome result (λ value. (value < 16) × (digit ≡ digit_char value)) }
-    ensures none { IfNone result ((value : ℕ) → value < 16 → digit ≢ digit_char value) }
+    ensures some { IfSome result (λ value. (value < 16) × (digit ≡ spec.digit_char value)) }
+    ensures none { IfNone result ((value : ℕ) → value < 16 → digit ≢ spec.digit_char value) }
 {
     match digit {
         b'0'..=b'9' => Some(digit - b'0'),

@@ -1,4 +1,4 @@
-//! Entries as lines of text, one each: as words, as in scripts, or as an object of JSON.
+//! Entries as lines of text: words, as in scripts, or a JSON object.
 #![tactic(auto)]
 
 mod counts;
@@ -8,6 +8,6 @@ mod object_line;
 mod word_line;
 
 pub use counts::word_for;
-pub use entry_line::{Format, LineError, append_entry, parse_entry, read_back};
+pub use entry_line::{Format, LineError, append_entry, parse_entry};
 pub use escapes::{append_bytes, parse_bytes};
 pub use object_line::write_bytes;

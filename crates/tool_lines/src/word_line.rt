@@ -1,17 +1,7 @@
 //! Entries as words: KEY NUMBER KIND VALUE.
-ghost use Rattle.std.specs.Prelude.{◌≡◌, ◌≢◌, ◌⊎◌, ◌==◌, ◌<◌, ℕ, List, ◌∷◌, [], ◌++◌, length};
-ghost use Rattle.std.specs.Prelude.{false, Err, Some, OnOk, IfSome, IfNone, IfOk, IfErr};
-ghost use Rattle.std.specs.Option.{SomeIff, option_copied};
-ghost use Rattle.std.specs.List.{position};
-ghost use Rattle.std.specs.Str.Parse.{digits_value};
-ghost use Rattle.sst_entries.specs.Lending.{entry_of_ref};
-ghost use Rattle.sst_entries.specs.declared.value_type.ValueType.{ValueType};
-ghost use Rattle.tool_lines.specs.Escapes.{BeginsSome, WordMeans};
-ghost use Rattle.tool_lines.specs.Faults.{lacks_memory};
-ghost use Rattle.tool_lines.specs.WordLine.{IsEarlyFault, IsNumberWord, IsWordFault, SpellsEntry};
-ghost use Rattle.tool_lines.specs.WordLine.{kind_letter, line_words, line_words_behind, word_line};
-ghost use Rattle.tool_lines.specs.declared.entry_line.LineError.{LineError as LineFault};
-ghost use Rattle.tool_lines.specs.declared.entry_line.LineError.TheVariants.{OutOfMemory};
+ghost use Rattle.std.specs.Prelude.{◌≡◌, ◌≢◌, ◌==◌, ◌<◌, ℕ, List, ◌∷◌, [], length};
+ghost use Rattle.std.specs.Prelude.{false, Some, IfSome, IfNone, IfOk, IfErr};
+ghost use Rattle.tool_lines.specs.Words as spec;
 
 use crate::LineError;
 use crate::escapes::{parse_word, push_bytes};
@@ -28,16 +18,11 @@ struct Words<'a> {
     value: &'a [u8],
 }
 
-/// Appends an entry's words, with one space between.
+/// Appends the words of an entry, with one space between.
 pub(crate) fn push_words<A: Allocator>(
     text: &mut Vec<u8, A>,
     entry: &EntryRef<'_>,
-) -> Result<(), AllocError>
-    ensures text { OnOk result
-        (text.new.items ≡ text.old.items ++ word_line (entry_of_ref entry.now)) }
-    ensures spells { OnOk result
-        (SpellsEntry (word_line (entry_of_ref entry.now)) (entry_of_ref entry.now)) }
-{
+) -> Result<(), AllocError> {
     push_bytes(text, entry.user_key)?;
     text.extend_from_slice(b" ")?;
     text.extend_from_slice(Buffer::new().format(entry.seqno).as_bytes())?;
@@ -45,10 +30,8 @@ pub(crate) fn push_words<A: Allocator>(
     push_bytes(text, entry.value)
 }
 
-// A kind's letter.
-fn letter_of(kind: ValueType) -> u8
-    ensures { result ≡ kind_letter kind }
-{
+// The letter of a kind.
+fn letter_of(kind: ValueType) -> u8 {
     match kind {
         ValueType::Value => b'V',
         ValueType::Tombstone => b'T',
@@ -57,16 +40,15 @@ fn letter_of(kind: ValueType) -> u8
     }
 }
 
-/// The entry that a line's words spell. Refused with what is wrong first of the line: how many
-/// words there are, the number, the kind, the key, the value; and for want of memory from the key
-/// on.
+/// Parses a line of words. The first error is that of the number of words, the sequence number, the
+/// kind, the key or the value. Memory can run out from the key on.
 pub(crate) fn parse_words<A: Allocator + Copy>(
     alloc: A,
     line: &[u8],
 ) -> Result<InternalValue<A>, LineError>
-    ensures spells { IfOk result (λ e. SpellsEntry line.now e) }
-    ensures refused { IfErr result (λ e. IsWordFault line.now e) }
-    ensures early { (fault : LineFault) → IsEarlyFault line.now fault → result ≡ Err fault }
+    ensures spells { IfOk result (λ e. spec.SpellsEntry line.now e) }
+    ensures refused { IfErr result (λ e. spec.lacks_memory e ≡ false
+        → (item : spec.Entry) → ¬ spec.SpellsEntry line.now item) }
 {
     let Some(words) = split_line(line) else {
         return Err(LineError::Words);
@@ -84,24 +66,23 @@ pub(crate) fn parse_words<A: Allocator + Copy>(
     }
 }
 
-// The bytes of a word, as a slice.
+// Parses a word as a slice.
 fn parse_slice<A: Allocator + Clone>(
     alloc: A,
     word: &[u8],
     fault: LineError,
 ) -> Result<Slice<A>, LineError>
-    ensures bytes { IfOk result (λ bytes. WordMeans word.now bytes) }
-    ensures refused { IfErr result (λ e. lacks_memory e ≡ false →
-        (e ≡ fault) × ((bytes : List ℕ) → ¬ WordMeans word.now bytes)) }
-    ensures began { IfErr result (λ e. (e ≡ fault) ⊎ BeginsSome word.now) }
+    ensures bytes { IfOk result (λ bytes. spec.WordMeans word.now bytes) }
+    ensures refused { IfErr result (λ e. spec.lacks_memory e ≡ false →
+        (e ≡ fault) × ((bytes : List ℕ) → ¬ spec.WordMeans word.now bytes)) }
 {
     slice_of(parse_word(alloc, word, fault)?)
 }
 
-// The bytes of a vector, which is given up.
+// Turns a vector into a slice.
 pub(crate) fn slice_of<A: Allocator + Clone>(bytes: Vec<u8, A>) -> Result<Slice<A>, LineError>
     ensures ok { IfOk result (λ slice. slice ≡ bytes.items) }
-    ensures err { IfErr result (λ e. e ≡ OutOfMemory) }
+    ensures err { IfErr result (λ e. e ≡ spec.OutOfMemory) }
 {
     match Slice::from_vec(bytes) {
         Ok(slice) => Ok(slice),
@@ -109,11 +90,11 @@ pub(crate) fn slice_of<A: Allocator + Clone>(bytes: Vec<u8, A>) -> Result<Slice<
     }
 }
 
-// The four words of a line.
+// Splits a line into its four words.
 fn split_line(line: &[u8]) -> Option<Words<'_>>
-    ensures some { IfSome result (λ w. line_words line.now ≡
+    ensures some { IfSome result (λ w. spec.line_words line.now ≡
         w.key.now ∷ w.seqno.now ∷ w.kind.now ∷ w.value.now ∷ []) }
-    ensures none { IfNone result (length (line_words line.now) ≢ 4) }
+    ensures none { IfNone result (length (spec.line_words line.now) ≢ 4) }
 {
     let (key, rest) = split_word(line);
     let (seqno, rest) = split_word(rest?);
@@ -130,9 +111,10 @@ fn split_line(line: &[u8]) -> Option<Words<'_>>
     })
 }
 
-// The first word, and what follows the space behind it.
+// Returns the first word, and the rest after its space.
 fn split_word(line: &[u8]) -> (&[u8], Option<&[u8]>)
-    ensures { line_words line.now ≡ result.0.now ∷ line_words_behind (option_copied result.1) }
+    ensures { spec.line_words line.now ≡ result.0.now ∷ spec.line_words_behind
+        (spec.option_copied result.1) }
 {
     match find_space(line) {
         Some(at) => (&line[..at], Some(&line[at + 1..])),
@@ -141,15 +123,15 @@ fn split_word(line: &[u8]) -> (&[u8], Option<&[u8]>)
 }
 
 fn find_space(line: &[u8]) -> Option<usize>
-    ensures first { result ≡ position (λ byte. byte == 32) line.now }
+    ensures first { result ≡ spec.position (λ byte. byte == 32) line.now }
     ensures within { IfSome result (λ at. at < length line.now) }
 {
     line.iter().position(|byte| *byte == b' ')
 }
 
-/// A decimal number without leading zeros.
+/// Parses a decimal number without leading zeros.
 pub(crate) fn parse_number(word: &[u8]) -> Option<u64>
-    ensures { SomeIff result (IsNumberWord word.now) (digits_value 10 word.now) }
+    ensures { spec.SomeIff result (spec.IsNumberWord word.now) (spec.digits_value 10 word.now) }
 {
     if let [b'+', ..] | [b'0', _, ..] = word {
         return None;
@@ -160,10 +142,11 @@ pub(crate) fn parse_number(word: &[u8]) -> Option<u64>
     }
 }
 
-// The kind of a letter.
+// Returns the kind of a letter.
 fn parse_kind(word: &[u8]) -> Option<ValueType>
-    ensures letter { IfSome result (λ kind. word.now ≡ kind_letter kind ∷ []) }
-    ensures all { (kind : ValueType) → word.now ≡ kind_letter kind ∷ [] → result ≡ Some kind }
+    ensures letter { IfSome result (λ kind. word.now ≡ spec.kind_letter kind ∷ []) }
+    ensures all { (kind : spec.ValueType) → word.now ≡ spec.kind_letter kind ∷ [] →
+        result ≡ Some kind }
 {
     match word {
         b"V" => Some(ValueType::Value),

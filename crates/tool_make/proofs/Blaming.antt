@@ -7,12 +7,12 @@ use Rattle.tool_files.specs.declared.file_error.FileFault.{FileFault}
 use Rattle.tool_files.specs.declared.file_error.FileFault.TheVariants.{AfterOthers, CutShort, Folder}
 use Rattle.tool_files.specs.declared.file_error.FileFault.TheVariants.{Io, Left, NamesTaken, NotPlain}
 use Rattle.tool_files.specs.declared.file_error.FileFault.TheVariants.{NotSynced, Refused, Taken}
-use Rattle.tool_files.specs.Files.{is_memory_fault}
+use Rattle.tool_files.specs.Files.{error_of_file, is_memory_fault}
 use Rattle.tool_files.specs.Placed.{IsOfSystem, TellsFound}
 use Rattle.tool_files.specs.Opened.{StopsOpening}
-use Rattle.lsm_tables.specs.Words.{OutOfMemory}
-use Rattle.tool_make.specs.declared.compact_error.CompactError.TheVariants as error
-use Rattle.tool_make.specs.Blamed.{BlamesNoneForMemory, blamed}
+use Rattle.sst_entries.specs.declared.error.Error.TheVariants.{OutOfMemory}
+use Rattle.tool_files.specs.declared.error.ToolError.TheVariants as error
+use Rattle.tool_make.specs.Blamed.{BlamesNoneForMemory}
 use Rattle.tool_make.specs.Compacted.{IfOutOfOrder}
 use Rattle.tool_make.specs.Packed.{RefusesToPack}
 
@@ -22,7 +22,7 @@ order_by e P true = tt
 order_by e P false = tt
 
 -- it says nothing of an order
-pub blamed_order : (e : FileError) (P : Type 0) → IfOutOfOrder (blamed e) P
+pub blamed_order : (e : FileError) (P : Type 0) → IfOutOfOrder (error_of_file e) P
 blamed_order e P = order_by e P (is_memory_fault e.fault)
 
 memory_by : (e : FileError) (b : Bool) → is_memory_fault e.fault ≡ b
@@ -31,7 +31,7 @@ memory_by e true is = tt
 memory_by e false is = is
 
 -- it names no file where memory is wanted
-pub blamed_memory : (e : FileError) → BlamesNoneForMemory (blamed e)
+pub blamed_memory : (e : FileError) → BlamesNoneForMemory (error_of_file e)
 blamed_memory e = memory_by e (is_memory_fault e.fault) refl
 
 packs_by : (content : List ℕ → Option (List ℕ)) (paths : List (Bor (List ℕ))) (e : FileError)
@@ -42,7 +42,7 @@ packs_by content paths e false stops is = (is, stops)
 
 -- it is one of those that packing is refused with
 pub blamed_packs : (content : List ℕ → Option (List ℕ)) (paths : List (Bor (List ℕ)))
-    (e : FileError) → StopsOpening true content paths e → RefusesToPack content paths (blamed e)
+    (e : FileError) → StopsOpening true content paths e → RefusesToPack content paths (error_of_file e)
 blamed_packs content paths e stops =
     packs_by content paths e (is_memory_fault e.fault) stops refl
 

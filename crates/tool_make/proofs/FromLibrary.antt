@@ -18,15 +18,14 @@ use Rattle.lsm_runs.specs.compaction.Compacted.{AreCompactable, FitsBy, HaveEntr
 use Rattle.lsm_runs.specs.compaction.OpenedBy.{run_with_fault}
 use Rattle.lsm_runs.specs.declared.compaction.any_runs.CompactionOutcome.{CompactionOutcome}
 use Rattle.lsm_runs.specs.declared.compaction.any_runs.CompactionOutcome.TheVariants.{OutOfOrder}
-use Rattle.lsm_runs.specs.declared.compaction.any_runs.CompactionOutcome.TheVariants.{Stopped}
-use Rattle.lsm_runs.specs.declared.compaction.any_runs.CompactionOutcome.TheVariants.{Tables}
-use Rattle.tool_make.specs.declared.compact_error.CompactError.{CompactError}
-use Rattle.tool_make.specs.declared.compact_error.CompactError.TheVariants as error
+use Rattle.lsm_runs.specs.declared.compaction.any_runs.CompactionOutcome.TheVariants.{Stopped, Tables}
+use Rattle.tool_files.specs.declared.error.ToolError.{ToolError}
+use Rattle.tool_files.specs.declared.error.ToolError.TheVariants as error
 use Rattle.tool_make.specs.declared.compact_options.CompactOptions.{CompactOptions}
 use Rattle.tool_make.specs.Blamed.{BlamesNoneForMemory, IsBlame, KeepsRefusal, NamesBlame}
 use Rattle.tool_make.specs.Compacted.{HasNoTables, TellsLibrary, compactor_by}
 use Rattle.tool_make.specs.Compacted.{each_alone}
-use Rattle.tool_make.specs.Printed.{path_or_mark}
+use Rattle.tool_make.specs.Scanned.{path_or_mark}
 use Rattle.tool_make.specs.Scanned.{StoresNoEntries}
 
 -- ---- tables that hold lists
@@ -65,7 +64,7 @@ holds_at (x ∷ tables) (ls ∷ lists) (suc place) t hold some is =
     holds_at tables lists place t hold.1 some.1 is
 
 -- so no file is blamed
-no_blame : (paths : List (Bor (List ℕ))) (tables : List OpenTable) (e : CompactError)
+no_blame : (paths : List (Bor (List ℕ))) (tables : List OpenTable) (e : ToolError)
     (one : (place : ℕ) × (t : OpenTable) × (slice_get tables place ≡ Some t)
     × NamesBlame (path_or_mark (slice_get paths place)) t e × StoresNoEntries t)
     → AreCompactable (each_alone tables) → ⊥
@@ -83,7 +82,7 @@ told_by returned fault f same refused other =
 
 -- a refusal
 pub refused_so : (o : CompactOptions) (paths : List (Bor (List ℕ))) (opened : List OpenTable)
-    (fault : Error) (e : CompactError) → KeepsRefusal fault e → IsBlame paths opened e
+    (fault : Error) (e : ToolError) → KeepsRefusal fault e → IsBlame paths opened e
     → (fault ≡ OutOfMemory → e ≡ error.Refused OutOfMemory) → BlamesNoneForMemory e
     → (AreCompactable (each_alone opened) → (lists : List (List (List Entry)))
     → RunsHoldLists (each_alone opened) lists → is_memory fault ≡ false
@@ -110,17 +109,11 @@ refused_so o paths opened fault (error.Unreadable name at e) kept (inr one) memo
     taken =
     λ able lists hold. absurd (no_blame paths opened (error.Unreadable name at e)
     (one.0, one.1, one.2, one.3, one.4) able)
-refused_so o paths opened fault (error.File e) kept blame memory other refused taken = absurd kept
-refused_so o paths opened fault (error.OutOfOrder path) kept blame memory other refused taken =
-    absurd kept
-refused_so o paths opened fault error.Repeated kept blame memory other refused taken = absurd kept
-refused_so o paths opened fault error.Unordered kept blame memory other refused taken = absurd kept
-refused_so o paths opened fault (error.Range name) kept blame memory other refused taken =
-    absurd kept
+refused_so o paths opened fault e kept blame memory other refused taken = absurd kept
 
 -- entries that come out of order
 pub none_so : {A : Type 0} (o : CompactOptions) (opened : List OpenTable)
-    (outcome : CompactionOutcome A) (e : CompactError) → HasNoTables outcome
+    (outcome : CompactionOutcome A) (e : ToolError) → HasNoTables outcome
     → (AreCompactable (each_alone opened) → (lists : List (List (List Entry)))
     → RunsHoldLists (each_alone opened) lists
     → AreTablesBy (compactor_by o) (kept_in o.rules lists) outcome)

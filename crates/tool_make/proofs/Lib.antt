@@ -7,4 +7,3 @@ mod Scanning
 mod Sorting
 mod TableFiles
 mod Taken
-mod Texts

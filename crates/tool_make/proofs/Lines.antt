@@ -7,15 +7,21 @@ use Rattle.std.specs.List.{onto_first}
 use Rattle.std.specs.Io.KnownBytes.{IsAtEnd}
 use Rattle.std.specs.Io.BufRead.{take_through, drop_through, first_piece, strip_last}
 use Rattle.sst_entries.specs.Entry.{Entry}
+use Rattle.sst_entries.specs.declared.error.Error.TheVariants.{OutOfMemory}
 use Rattle.tool_lines.specs.declared.entry_line.Format.{Format}
 use Rattle.std.proofs.lemmas.List.{map-append, nil_from_length}
 use Rattle.std.proofs.lemmas.Bool.{eqb-true}
 use Rattle.tool_make.specs.declared.entries.Numbered.{Numbered}
-use Rattle.tool_make.specs.declared.make_error.LineFault.{LineFault}
-use Rattle.tool_make.specs.declared.make_error.LineFault.TheVariants as fault
-use Rattle.tool_make.specs.declared.make_error.MakeError.{MakeError}
-use Rattle.tool_make.specs.declared.make_error.MakeError.TheVariants.{File, Input, Line, NoEntries}
-use Rattle.tool_make.specs.declared.make_error.MakeError.TheVariants.{Refused, SizeTooLarge}
+use Rattle.tool_files.specs.declared.error.LineFault.{LineFault}
+use Rattle.tool_files.specs.declared.error.LineFault.TheVariants as fault
+use Rattle.tool_files.specs.declared.error.ToolError.{ToolError}
+use Rattle.tool_files.specs.declared.error.ToolError.TheVariants.{Line, Refused}
+use Rattle.tool_lines.specs.Faults.{lacks_memory}
+use Rattle.tool_lines.specs.ObjectLine.{SpellsObject}
+use Rattle.tool_lines.specs.WordLine.{SpellsEntry}
+use Rattle.tool_lines.specs.declared.entry_line.Format.TheVariants.{Json, Lines as Words}
+use Rattle.tool_lines.specs.declared.entry_line.LineError.{LineError}
+use Rattle.tool_lines.specs.declared.entry_line.LineError.TheVariants as spelling
 use Rattle.tool_make.specs.Faults.{IsSpeltWrong, IsWrongEntry, IsWrongLine, StopsIn, TellsEntry}
 use Rattle.tool_make.specs.Faults.{IsOfInput, StopsReading, TellsLine, TellsSpelling}
 use Rattle.tool_make.specs.Taken.{TookAll}
@@ -295,16 +301,13 @@ goes_stops format (Some bytes) (Some rest) new line w m es count n wrong h taken
     }
 
 pub stops : (format : Format) (input left new : Option (List ℕ)) (line : List ℕ)
-    (w m : TablesWriting) (es : List Entry) (count : ℕ) (error : MakeError)
+    (w m : TablesWriting) (es : List Entry) (count : ℕ) (error : ToolError)
     → Goes format input left es count → TookAll w es m → LosesInputLine left new line
     → TellsLine (count + 1) format m line error → StopsIn format input w error
 stops format input left new line w m es count (Line n wrong) h taken loses returned =
     goes_stops format input left new line w m es count n wrong h taken loses returned
-stops format input left new line w m es count (File error) h taken loses returned = absurd returned
-stops format input left new line w m es count (Input error) h taken loses returned = tt
-stops format input left new line w m es count NoEntries h taken loses returned = absurd returned
-stops format input left new line w m es count SizeTooLarge h taken loses returned = absurd returned
 stops format input left new line w m es count (Refused error) h taken loses returned = returned
+stops format input left new line w m es count error h taken loses returned = absurd returned
 
 goes_reading : (format : Format) (input left new : Option (List ℕ)) (line : List ℕ)
     (es : List Entry) (count n : ℕ) (wrong : LineFault) → Goes format input left es count
@@ -325,59 +328,44 @@ goes_reading format (Some bytes) (Some rest) new line es count n wrong h loses r
 
 -- a line that spells no entry is refused
 pub stops_reading : (format : Format) (input left new : Option (List ℕ)) (line : List ℕ)
-    (es : List Entry) (count : ℕ) (error : MakeError) → Goes format input left es count
+    (es : List Entry) (count : ℕ) (error : ToolError) → Goes format input left es count
     → LosesInputLine left new line → TellsSpelling (count + 1) format line error
     → StopsReading format input error
 stops_reading format input left new line es count (Line n wrong) h loses returned =
     goes_reading format input left new line es count n wrong h loses returned
-stops_reading format input left new line es count (File error) h loses returned = absurd returned
-stops_reading format input left new line es count (Input error) h loses returned = tt
-stops_reading format input left new line es count NoEntries h loses returned = absurd returned
-stops_reading format input left new line es count SizeTooLarge h loses returned = absurd returned
 stops_reading format input left new line es count (Refused error) h loses returned = returned
+stops_reading format input left new line es count error h loses returned = absurd returned
 
 -- ---- what is wrong with a line
 
 spelt_so : (format : Format) (w : TablesWriting) (line : List ℕ) (wrong : LineFault)
     → IsSpeltWrong format line wrong → IsWrongLine format w line wrong
 spelt_so format w line (fault.Spelling error) h = h
-spelt_so format w line fault.TooHigh h = absurd h
-spelt_so format w line fault.OutOfOrder h = absurd h
-spelt_so format w line fault.Repeated h = absurd h
-spelt_so format w line (fault.Refused error) h = absurd h
+spelt_so format w line wrong h = absurd h
 
 pub tells_spelling : (number : ℕ) (format : Format) (w : TablesWriting) (line : List ℕ)
-    (error : MakeError) → TellsSpelling number format line error
+    (error : ToolError) → TellsSpelling number format line error
     → TellsLine number format w line error
 tells_spelling number format w line (Line n wrong) h =
     (h.0, spelt_so format w line wrong h.1)
-tells_spelling number format w line (File error) h = absurd h
-tells_spelling number format w line (Input error) h = absurd h
-tells_spelling number format w line NoEntries h = absurd h
-tells_spelling number format w line SizeTooLarge h = absurd h
 tells_spelling number format w line (Refused error) h = h
+tells_spelling number format w line error h = absurd h
 
 wrong_so : (format : Format) (w : TablesWriting) (line : List ℕ) (e : Entry) (wrong : LineFault)
     → LineSpells format line e → IsWrongEntry false w e wrong → IsWrongLine format w line wrong
 wrong_so format w line e (fault.Spelling error) reads h = absurd h
-wrong_so format w line e fault.TooHigh reads h = (e, reads, h)
-wrong_so format w line e fault.OutOfOrder reads h = (e, reads, h)
-wrong_so format w line e fault.Repeated reads h = (e, reads, h)
-wrong_so format w line e (fault.Refused error) reads h = (e, reads, h)
+wrong_so format w line e wrong reads h = (e, reads, h)
 
 tells_entry : (number : ℕ) (format : Format) (w : TablesWriting) (line : List ℕ) (e : Entry)
-    (error : MakeError) → LineSpells format line e → TellsEntry number false w e error
+    (error : ToolError) → LineSpells format line e → TellsEntry number false w e error
     → TellsLine number format w line error
 tells_entry number format w line e (Line n wrong) reads h =
     (h.0, wrong_so format w line e wrong reads h.1)
-tells_entry number format w line e (File error) reads h = absurd h
-tells_entry number format w line e (Input error) reads h = absurd h
-tells_entry number format w line e NoEntries reads h = absurd h
-tells_entry number format w line e SizeTooLarge reads h = absurd h
 tells_entry number format w line e (Refused error) reads h = h
+tells_entry number format w line e error reads h = absurd h
 
 pub told_entry : {R : Type 0} (number : ℕ) (format : Format) (w : TablesWriting) (line : List ℕ)
-    (e : Entry) (returned : Result R MakeError) → LineSpells format line e
+    (e : Entry) (returned : Result R ToolError) → LineSpells format line e
     → IfErr returned (λ error. TellsEntry number false w e error)
     → IfErr returned (λ error. TellsLine number format w line error)
 told_entry number format w line e (Ok r) reads h = tt
@@ -385,6 +373,33 @@ told_entry number format w line e (Err error) reads h =
     tells_entry number format w line e error reads h
 
 -- ---- what reading a line tells
+
+known : (e : LineError) → (e ≡ spelling.OutOfMemory → ⊥) → lacks_memory e ≡ false
+known spelling.OutOfMemory other = absurd (other refl)
+known e other = refl
+
+-- a line that spells no entry, whichever way
+pub spells_none : (format : Format) (e : LineError) (line : List ℕ)
+    → (format ≡ Words → lacks_memory e ≡ false → (item : Entry) → ¬ SpellsEntry line item)
+    → (format ≡ Json → lacks_memory e ≡ false → (item : Entry) → ¬ SpellsObject line item)
+    → (e ≡ spelling.OutOfMemory → ⊥) → (item : Entry) → ¬ LineSpells format line item
+spells_none Words e line words object other item h = words refl (known e other) item (h.0 refl)
+spells_none Json e line words object other item h = object refl (known e other) item (h.1 refl)
+
+-- the error of a line that does not parse
+pub spelling_named : (number : ℕ) (format : Format) (line : List ℕ) (e : LineError)
+    (error : ToolError)
+    → (format ≡ Words → lacks_memory e ≡ false → (item : Entry) → ¬ SpellsEntry line item)
+    → (format ≡ Json → lacks_memory e ≡ false → (item : Entry) → ¬ SpellsObject line item)
+    → (e ≡ spelling.OutOfMemory → error ≡ Refused OutOfMemory)
+    → ((e ≡ spelling.OutOfMemory → ⊥) → error ≡ Line number (fault.Spelling e))
+    → TellsSpelling number format line error
+spelling_named number format line spelling.OutOfMemory error words object memory named =
+    subst (TellsSpelling number format line) (sym (memory refl)) refl
+spelling_named number format line e error words object memory named =
+    let other : e ≡ spelling.OutOfMemory → ⊥ = λ same. absurd cc in
+    subst (TellsSpelling number format line) (sym (named other))
+    (refl, spells_none format e line words object other, other)
 
 pub at_end : (more : Bool) (old new : Option (List ℕ)) (line : List ℕ)
     → ReadsInputLine old new line more → more ≡ false → IsAtEnd old
@@ -421,25 +436,17 @@ no_items xs len empty long returned is =
 
 -- the input or memory is refused, and no line
 pub stops_else : (format : Format) (input : Option (List ℕ)) (w : TablesWriting)
-    (error : MakeError) → IsOfInput error → StopsIn format input w error
+    (error : ToolError) → IsOfInput error → StopsIn format input w error
 stops_else format input w (Line n wrong) h = absurd h
-stops_else format input w (File error) h = h
-stops_else format input w (Input error) h = h
-stops_else format input w NoEntries h = h
-stops_else format input w SizeTooLarge h = h
-stops_else format input w (Refused error) h = h
+stops_else format input w error h = h
 
-pub reading_else : (format : Format) (input : Option (List ℕ)) (error : MakeError)
+pub reading_else : (format : Format) (input : Option (List ℕ)) (error : ToolError)
     → IsOfInput error → StopsReading format input error
 reading_else format input (Line n wrong) h = absurd h
-reading_else format input (File error) h = h
-reading_else format input (Input error) h = h
-reading_else format input NoEntries h = h
-reading_else format input SizeTooLarge h = h
-reading_else format input (Refused error) h = h
+reading_else format input error h = h
 
 -- a refusal that is handed on
-pub handed_on : {R : Type 0} (returned : Result R MakeError) (error : MakeError)
-    (P : MakeError → Type 0) → IsErrAnd returned (λ e. e ≡ error) → P error → IfErr returned P
+pub handed_on : {R : Type 0} (returned : Result R ToolError) (error : ToolError)
+    (P : ToolError → Type 0) → IsErrAnd returned (λ e. e ≡ error) → P error → IfErr returned P
 handed_on (Ok r) error P is h = tt
 handed_on (Err e) error P is h = subst P (sym is) h

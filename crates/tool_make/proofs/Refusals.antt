@@ -15,16 +15,16 @@ use Rattle.sst_blocks.specs.table.Chunks.{joined}
 use Rattle.lsm_writers.specs.declared.writer.FinishedTable.{FinishedTable}
 use Rattle.lsm_writers.specs.Tables.{AreFinished, TablesWriting, all_written}
 use Rattle.lsm_runs.proofs.WrittenBy.{nothing_yet}
-use Rattle.lsm_tables.proofs.TableLaws.{memory_is}
+use Rattle.sst_entries.proofs.Refusals.{memory_is}
 use Rattle.tool_lines.specs.declared.entry_line.Format.{Format}
-use Rattle.tool_files.specs.declared.file_error.FileError.{FileError}
-use Rattle.tool_make.specs.declared.make_error.LineFault.TheVariants as fault
-use Rattle.tool_make.specs.declared.make_error.MakeError.{MakeError}
-use Rattle.tool_make.specs.declared.make_error.MakeError.TheVariants.{File, Input, Line, NoEntries}
-use Rattle.tool_make.specs.declared.make_error.MakeError.TheVariants.{Refused, SizeTooLarge}
+use Rattle.tool_files.specs.declared.error.LineFault.{LineFault}
+use Rattle.tool_files.specs.declared.error.LineFault.TheVariants as fault
+use Rattle.tool_files.specs.declared.error.ToolError.{ToolError}
+use Rattle.tool_files.specs.declared.error.ToolError.TheVariants.{Input, Line}
+use Rattle.tool_files.specs.declared.error.ToolError.TheVariants.{Refused, SizeTooLarge}
 use Rattle.tool_make.specs.declared.options.WriteOptions.{WriteOptions}
 use Rattle.tool_make.specs.Entries.{HasEntries, input_lines}
-use Rattle.tool_make.specs.Faults.{StopsLines}
+use Rattle.tool_make.specs.Faults.{IsOfInput, StopsLines}
 use Rattle.tool_make.specs.Refusing.{RefusesLines, TellsEnd, TellsSizes}
 use Rattle.tool_make.specs.Sorting.{TellsLineOrder}
 use Rattle.tool_make.specs.Written.{AreOfLines, TookLines, WritesAll, WritesSorted}
@@ -45,54 +45,39 @@ pub memory_refused : (o : WriteOptions) (input : Option (List ℕ))
 memory_refused o input = memory_told o input OutOfMemory refl
 
 -- sizes that are too large
-pub sizes_refused : (o : WriteOptions) (input : Option (List ℕ)) (error : MakeError)
+pub sizes_refused : (o : WriteOptions) (input : Option (List ℕ)) (error : ToolError)
     → TellsSizes o error → RefusesLines o input error
 sizes_refused o input SizeTooLarge h = h
 sizes_refused o input (Refused e) h = memory_told o input e h
-sizes_refused o input (Line n wrong) h = absurd h
-sizes_refused o input (File error) h = absurd h
-sizes_refused o input (Input error) h = absurd h
-sizes_refused o input NoEntries h = absurd h
+sizes_refused o input error h = absurd h
 
 -- ---- lines that are not taken
 
-no_file : (sort : Bool) (format : Format) (input : Option (List ℕ)) (w : TablesWriting)
-    (error : FileError) → StopsLines sort format input w (File error) → ⊥
-no_file true format input w error h = h
-no_file false format input w error h = h
-
-no_none : (sort : Bool) (format : Format) (input : Option (List ℕ)) (w : TablesWriting)
-    → StopsLines sort format input w NoEntries → ⊥
-no_none true format input w h = h
-no_none false format input w h = h
-
-no_size : (sort : Bool) (format : Format) (input : Option (List ℕ)) (w : TablesWriting)
-    → StopsLines sort format input w SizeTooLarge → ⊥
-no_size true format input w h = h
-no_size false format input w h = h
-
-lines_memory : (sort : Bool) (format : Format) (input : Option (List ℕ)) (w : TablesWriting)
-    (e : Error) → StopsLines sort format input w (Refused e) → e ≡ OutOfMemory
-lines_memory true format input w e h = h
-lines_memory false format input w e h = h
+-- a line that is told, or else the input or memory
+of_lines : (sort : Bool) (format : Format) (input : Option (List ℕ)) (w : TablesWriting)
+    (error : ToolError) → ((n : ℕ) (wrong : LineFault) → error ≡ Line n wrong → ⊥)
+    → StopsLines sort format input w error → IsOfInput error
+of_lines true format input w (Line n wrong) other h = absurd (other n wrong refl)
+of_lines false format input w (Line n wrong) other h = absurd (other n wrong refl)
+of_lines true format input w error other h = h
+of_lines false format input w error other h = h
 
 pub lines_refused : (o : WriteOptions) (input : Option (List ℕ)) (w : TablesWriting)
-    (error : MakeError) → w ≡ writer_by o → StopsLines o.sort o.format input w error
+    (error : ToolError) → w ≡ writer_by o → StopsLines o.sort o.format input w error
     → RefusesLines o input error
 lines_refused o input w (Line n wrong) is h =
     subst (λ (x : TablesWriting). StopsLines o.sort o.format input x (Line n wrong)) is h
 lines_refused o input w (Input error) is h =
     subst (λ (x : TablesWriting). StopsLines o.sort o.format input x (Input error)) is h
-lines_refused o input w (File error) is h = absurd (no_file o.sort o.format input w error h)
-lines_refused o input w NoEntries is h = absurd (no_none o.sort o.format input w h)
-lines_refused o input w SizeTooLarge is h = absurd (no_size o.sort o.format input w h)
-lines_refused o input w (Refused e) is h =
-    memory_told o input e (lines_memory o.sort o.format input w e h)
+lines_refused o input w (Refused e) is h = memory_told o input e
+    (of_lines o.sort o.format input w (Refused e) (λ n wrong same. cc) h)
+lines_refused o input w error is h = absurd
+    (of_lines o.sort o.format input w error (λ n wrong same. cc) h)
 
 -- ---- the writer's end
 
 end_refused : (o : WriteOptions) (input : Option (List ℕ)) (w m : TablesWriting) (count : ℕ)
-    (error : MakeError) → w ≡ writer_by o → TookLines o input w m count → TellsEnd m error
+    (error : ToolError) → w ≡ writer_by o → TookLines o input w m count → TellsEnd m error
     → RefusesLines o input error
 end_refused o input w m count (Refused e) is taken h = λ not. record {
   writer = m;
@@ -100,13 +85,9 @@ end_refused o input w m count (Refused e) is taken h = λ not. record {
   taken = subst (λ (x : TablesWriting). TookLines o input x m count) is taken;
   returned = h not;
 }
-end_refused o input w m count (Line n wrong) is taken h = absurd h
-end_refused o input w m count (File error) is taken h = absurd h
-end_refused o input w m count (Input error) is taken h = absurd h
-end_refused o input w m count NoEntries is taken h = absurd h
-end_refused o input w m count SizeTooLarge is taken h = absurd h
+end_refused o input w m count error is taken h = absurd h
 
-pub told_end : {R : Type 0} (returned : Result R MakeError) (o : WriteOptions)
+pub told_end : {R : Type 0} (returned : Result R ToolError) (o : WriteOptions)
     (input : Option (List ℕ)) (w m : TablesWriting) (count : ℕ) → w ≡ writer_by o
     → TookLines o input w m count → IfErr returned (TellsEnd m) → IfErr returned (RefusesLines o input)
 told_end (Ok r) o input w m count is taken h = tt
@@ -163,7 +144,7 @@ order_line true format (Some bytes) w n fresh (inr h) =
 order_line false format (Some bytes) w n fresh h =
     first_out_of_order format (input_lines bytes) w n fresh h
 
-pub told_order : (o : WriteOptions) (input : Option (List ℕ)) (error : MakeError)
+pub told_order : (o : WriteOptions) (input : Option (List ℕ)) (error : ToolError)
     → RefusesLines o input error → TellsLineOrder o.format input error
 told_order o input (Line n fault.Repeated) h =
     repeated_line o.sort o.format input (writer_by o) n
@@ -174,8 +155,4 @@ told_order o input (Line n fault.OutOfOrder) h =
     order_line o.sort o.format input (writer_by o) n
     (nothing_yet (writer_by o) (refl, (refl, refl, refl), refl)) h
 told_order o input (Line n (fault.Refused e)) h = tt
-told_order o input (File e) h = tt
-told_order o input (Input e) h = tt
-told_order o input NoEntries h = tt
-told_order o input SizeTooLarge h = tt
-told_order o input (Refused e) h = tt
+told_order o input error h = tt

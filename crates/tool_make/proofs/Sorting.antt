@@ -26,8 +26,8 @@ use Rattle.sst_entries.proofs.Strictness.{last_push}
 use Rattle.lsm_writers.specs.Tables.{TablesWriting, all_written, took}
 use Rattle.tool_lines.specs.declared.entry_line.Format.{Format}
 use Rattle.tool_make.specs.declared.entries.Numbered.{Numbered}
-use Rattle.tool_make.specs.declared.make_error.LineFault.TheVariants.{OutOfOrder, Repeated}
-use Rattle.tool_make.specs.declared.make_error.MakeError.TheVariants.{Line}
+use Rattle.tool_files.specs.declared.error.LineFault.TheVariants.{OutOfOrder, Repeated}
+use Rattle.tool_files.specs.declared.error.ToolError.TheVariants.{Line}
 use Rattle.tool_make.specs.Entries.{SpellRows, numbered, row_entries}
 use Rattle.tool_make.specs.Faults.{StopsAt, StopsSorted}
 use Rattle.tool_make.specs.Sorting.{IsFirstOutOfOrder, IsFirstRepeated, IsSortOf}

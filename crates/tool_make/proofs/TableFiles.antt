@@ -7,13 +7,12 @@ use Rattle.std.specs.Result.{IsErrAnd}
 use Rattle.std.proofs.Common.{◌⊎◌, inl, inr}
 use Rattle.std.proofs.lemmas.List.{get_or-map, length-map}
 use Rattle.tool_files.specs.declared.file_error.FileError.{FileError}
-use Rattle.tool_make.specs.declared.make_error.MakeError.{MakeError}
-use Rattle.tool_make.specs.declared.make_error.MakeError.TheVariants.{File, Refused}
-use Rattle.lsm_tables.specs.Words.{OutOfMemory}
-use Rattle.tool_make.specs.Faults.{error_of_file}
+use Rattle.tool_files.specs.declared.error.ToolError.{ToolError}
+use Rattle.tool_files.specs.declared.error.ToolError.TheVariants.{File, Refused}
+use Rattle.sst_entries.specs.declared.error.Error.TheVariants.{OutOfMemory}
 use Rattle.lsm_writers.specs.declared.writer.FinishedTable.{FinishedTable}
 use Rattle.tool_files.specs.declared.write.NewFile.{NewFile}
-use Rattle.tool_files.specs.Files.{is_memory_fault, path_text}
+use Rattle.tool_files.specs.Files.{error_of_file, is_memory_fault, path_text}
 use Rattle.tool_files.specs.Placed.{ArePlaced, IfLeft}
 use Rattle.tool_files.specs.Steps.{Step}
 use Rattle.tool_make.specs.TableFiles.{AreTablesPlaced, IsFreeBehind, RefusesTables, StopsPlacing}
@@ -71,7 +70,7 @@ tables_placed {A} path target fs wanted seen there known new files same placed f
 }
 
 -- one is refused
-pub tables_stop : {A R : Type 0} (returned : Result R MakeError) (path : List ℕ)
+pub tables_stop : {A R : Type 0} (returned : Result R ToolError) (path : List ℕ)
     (target : Option ℕ) (fs : List (FinishedTable A)) (wanted seen : List NewFile)
     (there : List ℕ → Option Bool) (known new : Option (List Step)) (e : FileError)
     → map named_bytes wanted ≡ files_from path target 1 fs → seen ≡ wanted
@@ -103,7 +102,7 @@ blamed_by path target tables e true h = tt
 blamed_by path target tables e false h = h
 
 -- where memory is wanted none is
-pub blamed_table : {R : Type 0} (returned : Result R MakeError) (path : List ℕ)
+pub blamed_table : {R : Type 0} (returned : Result R ToolError) (path : List ℕ)
     (target : Option ℕ) (tables : ℕ) (e : FileError) → TellsTableFile path target tables (File e)
     → IsErrAnd returned (λ y. y ≡ error_of_file e) → IfErr returned (TellsTableFile path target tables)
 blamed_table (Ok r) path target tables e h is = tt
@@ -117,7 +116,7 @@ earlier_by : (path : List ℕ) (target : Option ℕ) (tables : ℕ) (e : FileErr
 earlier_by path target tables e true h = tt
 earlier_by path target tables e false h = h
 
-pub blamed_earlier : {A R : Type 0} (returned : Result R MakeError) (path : List ℕ)
+pub blamed_earlier : {A R : Type 0} (returned : Result R ToolError) (path : List ℕ)
     (target : Option ℕ) (fs : List (FinishedTable A)) (wanted seen : List NewFile)
     (e : FileError) → map named_bytes wanted ≡ files_from path target 1 fs → seen ≡ wanted
     → IfLeft e.fault (path_text e.name ≡ table_file_name path target (length seen + 1))

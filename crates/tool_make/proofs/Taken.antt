@@ -16,10 +16,9 @@ use Rattle.lsm_runs.proofs.WrittenBy.{Since, all_finished, nothing_yet, since_mo
 use Rattle.lsm_runs.proofs.WrittenBy.{since_now}
 use Rattle.tool_lines.specs.declared.entry_line.Format.{Format}
 use Rattle.tool_make.proofs.Lines.{Goes, goes_empty, goes_end, goes_more, goes_none, stops}
-use Rattle.tool_make.specs.declared.make_error.MakeError.{MakeError}
-use Rattle.tool_make.specs.declared.make_error.LineFault.{LineFault}
-use Rattle.tool_make.specs.declared.make_error.MakeError.TheVariants.{File, Input, Line, NoEntries}
-use Rattle.tool_make.specs.declared.make_error.MakeError.TheVariants.{Refused, SizeTooLarge}
+use Rattle.tool_files.specs.declared.error.ToolError.{ToolError}
+use Rattle.tool_files.specs.declared.error.LineFault.{LineFault}
+use Rattle.tool_files.specs.declared.error.ToolError.TheVariants.{Input, Line, Refused}
 use Rattle.tool_make.specs.Faults.{StopsAmong, StopsIn, StopsInOrder, StopsReading, TellsEntry}
 use Rattle.tool_make.specs.Faults.{TellsLine}
 use Rattle.tool_files.proofs.Steps.{list_at}
@@ -119,7 +118,7 @@ took_list w m (e ∷ es) h =
 
 -- a line is refused
 pub lines_stop : (format : Format) (input left new : Option (List ℕ)) (line : List ℕ)
-    (w m : TablesWriting) (count passed : ℕ) (error : MakeError)
+    (w m : TablesWriting) (count passed : ℕ) (error : ToolError)
     → Took format input left w m count passed → LosesInputLine left new line
     → TellsLine (passed + 1) format m line error → StopsIn format input w error
 lines_stop format input left new line w m count passed error h loses returned =
@@ -150,8 +149,8 @@ entries_of [] = refl
 entries_of {A} (row ∷ rows) = ap (λ (es : List Entry). row.entry ∷ es) (entries_of rows)
 
 -- a row is refused
-pub stops_among : {A R : Type 0} (returned : Result R MakeError) (rows : List (Numbered A)) (i : ℕ)
-    (row : Numbered A) (w m : TablesWriting) (error : MakeError) → i < length rows
+pub stops_among : {A R : Type 0} (returned : Result R ToolError) (rows : List (Numbered A)) (i : ℕ)
+    (row : Numbered A) (w m : TablesWriting) (error : ToolError) → i < length rows
     → row ≡ get_or rows i row → TookAll w (row_entries (take i rows)) m
     → TellsEntry row.line true m row.entry error → IsErrAnd returned (λ e. e ≡ error)
     → IfErr returned (StopsAmong (numbered rows) w)
@@ -185,18 +184,16 @@ among_line format (Some bytes) rows sorted w n wrong h put stops = inr record {
 }
 
 among_sorted : (format : Format) (input : Option (List ℕ)) (rows sorted : List (ℕ × Entry))
-    (w : TablesWriting) (error : MakeError) → HasRows format input rows
+    (w : TablesWriting) (error : ToolError) → HasRows format input rows
     → IsSortOf is_row_before rows sorted → StopsAmong sorted w error
     → StopsInOrder format input w error
 among_sorted format input rows sorted w (Line n wrong) h put stops =
     among_line format input rows sorted w n wrong h put stops
-among_sorted format input rows sorted w (File error) h put stops = absurd stops.returned
 among_sorted format input rows sorted w (Input error) h put stops = tt
-among_sorted format input rows sorted w NoEntries h put stops = absurd stops.returned
-among_sorted format input rows sorted w SizeTooLarge h put stops = absurd stops.returned
 among_sorted format input rows sorted w (Refused error) h put stops = stops.returned
+among_sorted format input rows sorted w error h put stops = absurd stops.returned
 
-pub told_among : {R : Type 0} (returned : Result R MakeError) (format : Format)
+pub told_among : {R : Type 0} (returned : Result R ToolError) (format : Format)
     (input : Option (List ℕ)) (rows sorted : List (ℕ × Entry)) (w : TablesWriting)
     → HasRows format input rows → IsSortOf is_row_before rows sorted
     → IfErr returned (StopsAmong sorted w) → IfErr returned (StopsInOrder format input w)
@@ -212,13 +209,9 @@ reading_line format (Some bytes) w n wrong h = inl h
 
 -- one of them spells no entry
 pub reading_first : (format : Format) (input : Option (List ℕ)) (w : TablesWriting)
-    (error : MakeError) → StopsReading format input error → StopsInOrder format input w error
+    (error : ToolError) → StopsReading format input error → StopsInOrder format input w error
 reading_first format input w (Line n wrong) h = reading_line format input w n wrong h
-reading_first format input w (File error) h = h
-reading_first format input w (Input error) h = h
-reading_first format input w NoEntries h = h
-reading_first format input w SizeTooLarge h = h
-reading_first format input w (Refused error) h = h
+reading_first format input w error h = h
 
 -- rows that were put in order, and then taken
 pub sorted_taken : {A E : Type 0} (format : Format) (input : Option (List ℕ))

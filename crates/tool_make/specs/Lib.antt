@@ -5,10 +5,10 @@ pub mod Faults
 pub mod Filled
 pub mod NotCompacted
 pub mod Packed
-pub mod Printed
 pub mod Refusing
 pub mod Scanned
 pub mod Sorting
 pub mod TableFiles
 pub mod Taken
 pub mod Written
+pub mod Words

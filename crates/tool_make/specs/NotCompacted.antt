@@ -1,22 +1,23 @@
--- Why files are not compacted.
+-- The errors of compacting files.
 use denote.Ref.{Bor}
 use Rattle.std.specs.Prelude.{◌≡◌, ◌⊎◌, ℕ, Bool, true, List, Option, length}
 use Rattle.lsm_writers.specs.declared.writer.FinishedTable.{FinishedTable}
 use Rattle.tool_files.specs.declared.file_error.FileError.{FileError}
+use Rattle.tool_files.specs.Files.{error_of_file}
 use Rattle.tool_files.specs.Opened.{AreOpenedFrom, StopsOpening}
 use Rattle.tool_files.specs.Steps.{Step}
-use Rattle.lsm_tables.specs.Words.{OpenTable}
-use Rattle.tool_make.specs.declared.compact_error.CompactError.{CompactError}
+use Rattle.lsm_readers.specs.point.Table.{OpenTable}
+use Rattle.tool_files.specs.declared.error.ToolError.{ToolError}
 use Rattle.tool_make.specs.declared.compact_options.CompactOptions.{CompactOptions}
 use Rattle.tool_files.specs.declared.file_error.FileFault.TheVariants.{Taken}
 use Rattle.tool_files.specs.Placed.{TellsFound}
-use Rattle.tool_make.specs.Blamed.{IsBlame, MissesNone, blamed}
+use Rattle.tool_make.specs.Blamed.{IsBlame, MissesNone}
 use Rattle.tool_make.specs.Compacted.{AreCompactedOf, TellCount, TellsLibrary, TellsOrder}
 use Rattle.tool_make.specs.Filled.{IsFilled, StaysUnfilled, TellsFolder}
 use Rattle.tool_make.specs.Scanned.{NamesOrder}
 use Rattle.tool_files.specs.declared.made.Made.{Made}
 
--- tables were made of these files, each opened in their order
+-- The new tables are made of these files, opened in their order.
 pub record AreOfFiles {A : Type 0} (o : CompactOptions) (content : List ℕ → Option (List ℕ))
     (paths : List (Bor (List ℕ))) (tables : List (FinishedTable A)) : Type 0 where
   pub opened : List OpenTable
@@ -24,16 +25,16 @@ pub record AreOfFiles {A : Type 0} (o : CompactOptions) (content : List ℕ → 
   pub are : AreOpenedFrom true content paths opened
   pub made : AreCompactedOf o opened tables
 
--- the first file that is refused is told, and no file where memory is wanted
+-- The error is that of the first file that does not open, without the file if it is OutOfMemory.
 pub record StopsFiles (content : List ℕ → Option (List ℕ)) (paths : List (Bor (List ℕ)))
-    (e : CompactError) : Type 0 where
+    (e : ToolError) : Type 0 where
   pub file : FileError
   pub stops : StopsOpening true content paths file
-  pub returned : e ≡ blamed file
+  pub returned : e ≡ error_of_file file
 
--- all files were opened, and their tables not compacted, for what is told of them
+-- All files open, and the error is that of compacting their tables.
 pub record StopsTables (o : CompactOptions) (content : List ℕ → Option (List ℕ))
-    (paths : List (Bor (List ℕ))) (e : CompactError) : Type 0 where
+    (paths : List (Bor (List ℕ))) (e : ToolError) : Type 0 where
   pub opened : List OpenTable
   pub many : length opened ≡ length paths
   pub are : AreOpenedFrom true content paths opened
@@ -43,31 +44,31 @@ pub record StopsTables (o : CompactOptions) (content : List ℕ → Option (List
   pub misses : MissesNone opened e
   pub names : NamesOrder paths opened e
 
--- no tables come of files
+-- The error of opening files and compacting their tables.
 abbrev pub RefusesFiles : CompactOptions → (List ℕ → Option (List ℕ)) → List (Bor (List ℕ))
-    → CompactError → Type 0
+    → ToolError → Type 0
 RefusesFiles o content paths e = StopsFiles content paths e ⊎ StopsTables o content paths e
 
--- tables came of files, and a folder was not filled with them
+-- The tables are made, and the folder is not.
 pub record StopsFilling (A : Type 0) (o : CompactOptions) (content : List ℕ → Option (List ℕ))
     (paths : List (Bor (List ℕ))) (folder : List ℕ) (known : Option (List Step))
-    (e : CompactError) (new : Option (List Step)) : Type 0 where
+    (e : ToolError) (new : Option (List Step)) : Type 0 where
   pub tables : List (FinishedTable A)
   pub made : AreOfFiles o content paths tables
   pub stops : StaysUnfilled folder tables known e new
 
--- why files are not compacted: their folder's path is taken, or no tables come of them, and nothing
--- was done; or there are tables, and this was done with them
+-- The folder's name is taken, or no tables are made, and nothing was done; or the folder of the
+-- tables is not made.
 abbrev pub RefusesToCompact : Type 0 → CompactOptions → (List ℕ → Option (List ℕ))
-    → List (Bor (List ℕ)) → List ℕ → Option Bool → Option (List Step) → CompactError
+    → List (Bor (List ℕ)) → List ℕ → Option Bool → Option (List Step) → ToolError
     → Option (List Step) → Type 0
 RefusesToCompact A o content paths folder there known e new =
     (((TellsFolder folder (TellsFound Taken there) e) ⊎ RefusesFiles o content paths e)
     × (new ≡ known))
     ⊎ StopsFilling A o content paths folder known e new
 
--- so many tables were made of files and fill a new folder, and nothing else was done; they tell so
--- many entries
+-- So many tables, with so many entries, are made of the files and in the new folder, and nothing
+-- else was done.
 pub record CompactsFiles (A : Type 0) (o : CompactOptions) (content : List ℕ → Option (List ℕ))
     (paths : List (Bor (List ℕ))) (folder : List ℕ) (made : Made) (known new : Option (List Step))
     : Type 0 where

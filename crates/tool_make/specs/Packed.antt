@@ -1,31 +1,33 @@
--- Files that are packed in runs.
+-- Packing of files.
 use denote.Ref.{Bor}
 use Rattle.std.specs.Prelude.{◌≡◌, ℕ, List, length, false, take, true, Option, Some}
 use Rattle.std.specs.List.{slice_get}
 use Rattle.lsm_sorted.specs.version.KeyRange.{Interval, is_well_formed}
 use Rattle.lsm_sorted.specs.version.Packing.{AreTablesWellFormed}
-use Rattle.lsm_tables.specs.Words.{OpenTable, OutOfMemory, range_of}
-use Rattle.tool_make.specs.declared.compact_error.CompactError.{CompactError}
-use Rattle.tool_make.specs.declared.compact_error.CompactError.TheVariants as error
+use Rattle.lsm_readers.specs.point.Table.{OpenTable}
+use Rattle.lsm_run_parts.specs.RunParts.{range_of}
+use Rattle.sst_entries.specs.declared.error.Error.TheVariants.{OutOfMemory}
+use Rattle.tool_files.specs.declared.error.ToolError.{ToolError}
+use Rattle.tool_files.specs.declared.error.ToolError.TheVariants as error
 use Rattle.tool_files.specs.Files.{is_memory_fault}
 use Rattle.tool_files.specs.Opened.{AreOpenedFrom, StopsOpening}
-use Rattle.tool_make.specs.Printed.{path_or_mark}
+use Rattle.tool_make.specs.Scanned.{path_or_mark}
 
--- the error that says of a path that the first key of its file is above the last
-abbrev pub IsTurned : List ℕ → CompactError → Type 0
+-- The error says that the first key of this path's file is above the last.
+abbrev pub IsTurned : List ℕ → ToolError → Type 0
 IsTurned path (error.Range name) = name.now ≡ path
 IsTurned path _ = ⊥
 
--- an error names the path of the first table whose first key is above its last
+-- The error names the path of the first table whose first key is above its last.
 abbrev pub NamesTurned : {T : Type 0} → (T → Interval) → List (Bor (List ℕ)) → List T
-    → CompactError → Type 0
+    → ToolError → Type 0
 NamesTurned {T} range paths tables e = (place : ℕ) × (t : T) × (slice_get tables place ≡ Some t)
     × (is_well_formed (range t) ≡ false) × IsTurned (path_or_mark (slice_get paths place)) e
     × AreTablesWellFormed range (take place tables)
 
--- why files are not packed: one cannot be opened, the first of them, and not for want of memory;
--- the first key of one is above its last; or memory is refused, and no file is named
-abbrev pub RefusesToPack : (List ℕ → Option (List ℕ)) → List (Bor (List ℕ)) → CompactError → Type 0
+-- The error is that of the first file that does not open, or names one whose first key is above its
+-- last, or is OutOfMemory.
+abbrev pub RefusesToPack : (List ℕ → Option (List ℕ)) → List (Bor (List ℕ)) → ToolError → Type 0
 RefusesToPack content paths (error.File e) =
     (is_memory_fault e.fault ≡ false) × StopsOpening true content paths e
 RefusesToPack content paths (error.Refused e) = e ≡ OutOfMemory

@@ -1,28 +1,28 @@
--- The order of lines: rows that are put in order, and the first that is not in it.
+-- The order of rows.
 use Rattle.std.specs.Prelude.{◌≡◌, ◌<◌, ◌+◌, ◌++◌, ℕ, Bool, false, List, [], ◌∷◌, length, map}
 use Rattle.std.specs.Prelude.{IfSome, IsPermutation, None, Option}
 use Rattle.std.specs.List.Sorted.{IsSortedBy, IsStableBy}
 use Rattle.sst_entries.specs.Entry.{Entry}
 use Rattle.sst_entries.specs.Strict.{IsStrict, is_before, last_of, may_follow}
 use Rattle.tool_lines.specs.declared.entry_line.Format.{Format}
-use Rattle.tool_make.specs.declared.make_error.LineFault.TheVariants.{OutOfOrder, Repeated}
-use Rattle.tool_make.specs.declared.make_error.MakeError.{MakeError}
-use Rattle.tool_make.specs.declared.make_error.MakeError.TheVariants.{Line}
+use Rattle.tool_files.specs.declared.error.LineFault.TheVariants.{OutOfOrder, Repeated}
+use Rattle.tool_files.specs.declared.error.ToolError.{ToolError}
+use Rattle.tool_files.specs.declared.error.ToolError.TheVariants.{Line}
 use Rattle.tool_make.specs.Entries.{LineSpells, Spell, SpellRows, input_lines}
 
--- a list that is put in order: the same items, none before the one in front of it, and those that
--- tie as they stood
+-- The list is sorted stably: it has the same items, none before its predecessor, and equal ones
+-- keep their order.
 pub record IsSortOf {X : Type 0} (before : X → X → Bool) (xs ys : List X) : Type 0 where
   pub permuted : IsPermutation xs ys
   pub sorted : IsSortedBy before ys
   pub stable : IsStableBy before xs ys
 
--- the order of rows: by key upward, then by number downward, whatever their lines
+-- Ascending keys, then descending sequence numbers, whatever the lines.
 abbrev pub is_row_before : ℕ × Entry → ℕ × Entry → Bool
 is_row_before a b = is_before a.1 b.1
 
--- of rows that are put in order, the first that has the key and number of the one in front of it
--- is that of this line, and the other one is of an earlier line
+-- The first sorted row that has the key and sequence number of the one before it, which is of an
+-- earlier line.
 pub record IsFirstRepeated (rows : List (ℕ × Entry)) (number : ℕ) : Type 0 where
   pub order : List (ℕ × Entry)
   pub put : IsSortOf is_row_before rows order
@@ -37,7 +37,7 @@ pub record IsFirstRepeated (rows : List (ℕ × Entry)) (number : ℕ) : Type 0 
   pub earlier : first.0 < row.0
   pub line : number ≡ row.0
 
--- lines spell entries in strict order up to this one, whose entry does not come behind the last
+-- The entries up to this line are in strict order, and this one may not follow.
 pub record IsFirstOutOfOrder (format : Format) (lines : List (List ℕ)) (number : ℕ)
     : Type 0 where
   pub before : List (List ℕ)
@@ -52,9 +52,8 @@ pub record IsFirstOutOfOrder (format : Format) (lines : List (List ℕ)) (number
   pub breaks : may_follow (last_of None entries) entry ≡ false
   pub counted : number ≡ length before + 1
 
--- a line that is told as repeated is the first such one of all lines, put in order; one that is
--- told as out of order is the first such one
-abbrev pub TellsLineOrder : Format → Option (List ℕ) → MakeError → Type 0
+-- A line that is reported as repeated or out of order is the first such one.
+abbrev pub TellsLineOrder : Format → Option (List ℕ) → ToolError → Type 0
 TellsLineOrder format input (Line n Repeated) = IfSome input (λ bytes. (rows : List (ℕ × Entry))
     × SpellRows format 1 (input_lines bytes) rows × IsFirstRepeated rows n)
 TellsLineOrder format input (Line n OutOfOrder) =

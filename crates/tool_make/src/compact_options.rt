@@ -1,30 +1,33 @@
-//! How files are compacted.
+//! The options of a compaction.
 ghost use Rattle.std.specs.Prelude.{◌≡◌, IfErr, IfOk};
-ghost use Rattle.lsm_tables.specs.Words.{OutOfMemory};
-ghost use Rattle.tool_make.specs.Compacted.{compactor_by};
+ghost use Rattle.tool_make.specs.Words as spec;
 
-use lsm_tables::block::Error;
-use lsm_tables::compaction::Rules;
-use lsm_tables::table::{MultiWriter, TableIds, Timestamp};
+use lsm_sorted::compaction::Rules;
+use lsm_writers::{MultiWriter, TableIds};
+use sst_blocks::{Error, Timestamp};
 use std::alloc::Allocator;
 use tool_files::largest_table;
 
-/// How files are compacted.
+/// The options of a compaction.
 #[derive(Clone, Copy, Debug, PartialEq, Eq)]
 pub struct CompactOptions {
-    /// What is dropped, and which numbers become 0.
+    /// Which versions are dropped, and which sequence numbers become 0.
     pub rules: Rules,
-    /// How many bytes of data blocks a table has before the next one begins; none for one table.
+    /// Target size of a table in bytes of data blocks. Without it there is one table.
     pub target: Option<u64>,
-    /// The moment that the tables tell.
+    /// The creation time of the tables.
     pub created_at: Timestamp,
 }
 
 impl CompactOptions {
-    /// A writer of tables of the first level, with ids from 1 on. Refused for want of memory alone.
+    /// Returns a writer of tables of level 0, with ids from 1.
+    ///
+    /// # Errors
+    ///
+    /// Fails only if memory runs out.
     pub(crate) fn writer<A: Allocator + Copy>(&self, alloc: A) -> Result<MultiWriter<A>, Error>
-        ensures ok { IfOk result (λ w. w ≡ compactor_by self.now) }
-        ensures err { IfErr result (λ e. e ≡ OutOfMemory) }
+        ensures ok { IfOk result (λ w. w ≡ spec.compactor_by self.now) }
+        ensures err { IfErr result (λ e. e ≡ spec.OutOfMemory) }
     {
         let (ids, target) = (TableIds::new(1), largest_table(self.target));
         MultiWriter::new(alloc, ids, target, 0, self.created_at)

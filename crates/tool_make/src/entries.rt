@@ -1,27 +1,16 @@
-//! Entries that are read from lines and written into tables.
-ghost use Rattle.std.specs.Prelude.{◌≡◌, ◌++◌, ◌∷◌, [], IfOk, IsTrue, IsPermutation, List, None};
-ghost use Rattle.std.specs.Prelude.{IfErr, OnOk, length, true, if◌then◌else◌};
-ghost use Rattle.std.specs.Io.BufRead.{strip_last};
-ghost use Rattle.sst_entries.specs.Entry.{Entry};
-ghost use Rattle.sst_entries.specs.Strict.{version_cmp};
-ghost use Rattle.lsm_writers.specs.Tables.{all_written, took, took_fault};
-ghost use Rattle.lsm_writers.specs.Writing.{may_be_written};
-ghost use Rattle.tool_make.specs.declared.make_error.LineFault.TheVariants.{OutOfOrder, Repeated};
-ghost use Rattle.tool_make.specs.Entries.{HasEntries, HasRows, LineSpells, ReadsInputLine};
-ghost use Rattle.tool_make.specs.Entries.{numbered, row_entries};
-ghost use Rattle.tool_make.specs.Faults.{IsOfInput, StopsAmong, StopsIn, StopsReading, TellsEntry};
-ghost use Rattle.tool_make.specs.Faults.{TellsLine, TellsSpelling};
-ghost use Rattle.tool_make.specs.Sorting.{IsSortOf, is_row_before};
-ghost use Rattle.tool_make.specs.Taken.{TookAll};
-ghost use Rattle.tool_make.specs.Written.{TookLine};
+//! Reads entries from lines and writes them into tables.
+ghost use Rattle.std.specs.Prelude.{◌≡◌, ◌≢◌, ◌++◌, ◌∷◌, [], IfOk, IsTrue, IsPermutation, List};
+ghost use Rattle.std.specs.Prelude.{IfErr, None, OnOk, length, true, if◌then◌else◌};
+ghost use Rattle.tool_make.specs.Words as spec;
+ghost use Rattle.tool_lines.specs.declared.entry_line.LineError.TheVariants as spelling;
 
-use crate::{LineFault, MakeError};
-use lsm_tables::block::{Error, InternalValue, SeqNo};
-use lsm_tables::table::MultiWriter;
+use lsm_writers::MultiWriter;
+use sst_blocks::{Error, InternalValue, SeqNo};
 use std::alloc::{AllocError, Allocator};
 use std::cmp::Ordering;
 use std::io;
 use std::io::{BufRead, ErrorKind};
+use tool_files::{LineFault, ToolError};
 use tool_lines::{Format, LineError, parse_entry};
 
 /// An entry, and the number of its line.
@@ -31,61 +20,74 @@ pub(crate) struct Numbered<A: Allocator> {
     entry: InternalValue<A>,
 }
 
-// Reads the next line, without its end; `false` where there is none.
+// Reads the next line, without its newline. Returns `false` at the end.
 fn read_line<I: BufRead, A: Allocator>(
     input: &mut I,
     line: &mut Vec<u8, A>,
-) -> Result<bool, MakeError<'static>>
-    ensures ok { IfOk result (ReadsInputLine
+) -> Result<bool, ToolError<'static>>
+    ensures ok { IfOk result (spec.ReadsInputLine
         (I.remaining input.old) (I.remaining input.new) line.new.items) }
-    ensures refused { IfErr result IsOfInput }
+    ensures refused { IfErr result spec.IsOfInput }
 {
     line.clear();
-    let length = input.read_until(b'\n', line)?;
-    strip_end(line);
-    Ok(length > 0)
+    match input.read_until(b'\n', line) {
+        Ok(length) => {
+            strip_end(line);
+            Ok(length > 0)
+        }
+        Err(error) => Err(ToolError::Input(error)),
+    }
 }
 
-// Takes away the end of a line, which the last line may lack.
+// Removes the newline, which the last line may lack.
 fn strip_end<A: Allocator>(line: &mut Vec<u8, A>)
-    ensures { line.new.items ≡ strip_last 10 line.old.items }
+    ensures { line.new.items ≡ spec.strip_last 10 line.old.items }
 {
     if line.last() == Some(&b'\n') {
         line.pop();
     }
 }
 
-// There are more lines than can be counted.
-fn too_many() -> MakeError<'static>
-    ensures { IsOfInput result }
+// The error of an input with more lines than can be counted.
+fn too_many() -> ToolError<'static>
+    ensures { spec.IsOfInput result }
 {
-    MakeError::Input(io::Error::from(ErrorKind::FileTooLarge))
+    ToolError::Input(io::Error::from(ErrorKind::FileTooLarge))
 }
 
-// The entry that a line spells.
+// Parses a line.
 fn parse_line<A: Allocator + Copy>(
     alloc: A,
     number: u64,
     line: &[u8],
     format: Format,
-) -> Result<InternalValue<A>, MakeError<'static>>
-    ensures ok { IfOk result (λ entry. LineSpells format line.now entry) }
-    ensures refused { IfErr result (λ error. TellsSpelling number format line.now error) }
+) -> Result<InternalValue<A>, ToolError<'static>>
+    ensures ok { IfOk result (λ entry. spec.LineSpells format line.now entry) }
+    ensures refused { IfErr result (λ error. spec.TellsSpelling number format line.now error) }
 {
     match parse_entry(alloc, line, format) {
         Ok(entry) => Ok(entry),
-        // That says nothing of the line.
-        Err(LineError::OutOfMemory) => Err(MakeError::Refused(Error::OutOfMemory)),
-        Err(error) => Err(MakeError::Line {
-            number,
-            fault: LineFault::Spelling(error),
-        }),
+        Err(error) => Err(spelling_error(number, error)),
     }
 }
 
-// What is wrong with an entry that may not follow the one before it.
+// Returns the error of a line that does not parse. `OutOfMemory` says nothing about the line.
+fn spelling_error(number: u64, error: LineError) -> ToolError<'static>
+    ensures memory { error ≡ spelling.OutOfMemory → result ≡ spec.Refused spec.OutOfMemory }
+    ensures fault { error ≢ spelling.OutOfMemory → result ≡ spec.Line number (spec.Spelling error) }
+{
+    match error {
+        LineError::OutOfMemory => ToolError::Refused(Error::OutOfMemory),
+        error => ToolError::Line {
+            number,
+            fault: LineFault::Spelling(error),
+        },
+    }
+}
+
+// Returns the error of an entry that may not follow the one before it.
 fn order_fault(sorted: bool) -> LineFault
-    ensures { result ≡ (if sorted then Repeated else OutOfOrder) }
+    ensures { result ≡ (if sorted then spec.Repeated else spec.OutOfOrder) }
 {
     if sorted {
         LineFault::Repeated
@@ -94,76 +96,79 @@ fn order_fault(sorted: bool) -> LineFault
     }
 }
 
-// Writes an entry behind those that were written, if it may follow. Where entries were put in
-// order, one that may not follow has the key and number of the one before it.
+// Writes an entry, if it may follow those before it. After sorting, an entry that may not follow
+// has the key and sequence number of the one before it.
 #[tactic(auto, using(crate::proofs::Refusals::not_memory))]
 fn write_entry<A: Allocator + Copy>(
     writer: &mut MultiWriter<A>,
     number: u64,
     entry: &InternalValue<A>,
     sorted: bool,
-) -> Result<(), MakeError<'static>>
-    ensures ok { OnOk result (writer.new ≡ took writer.old entry.now) }
+) -> Result<(), ToolError<'static>>
+    ensures ok { OnOk result (writer.new ≡ spec.took writer.old entry.now) }
     ensures listed { OnOk result
-        (all_written writer.new ≡ all_written writer.old ++ entry.now ∷ []) }
-    ensures taken { OnOk result (took_fault writer.old entry.now ≡ None) }
+        (spec.all_written writer.new ≡ spec.all_written writer.old ++ entry.now ∷ []) }
+    ensures taken { OnOk result (spec.took_fault writer.old entry.now ≡ None) }
     ensures follows { OnOk result
-        (may_be_written (all_written writer.old) entry.now.user_key entry.now.seqno ≡ true) }
+        (spec.may_be_written (spec.all_written writer.old) entry.now.user_key entry.now.seqno
+        ≡ true) }
     ensures refused { IfErr result (λ error.
-        TellsEntry number sorted writer.old entry.now error) }
+        spec.TellsEntry number sorted writer.old entry.now error) }
 {
     let entry = entry.as_entry_ref();
     if entry.seqno == SeqNo::MAX {
         let fault = LineFault::TooHigh;
-        return Err(MakeError::Line { number, fault });
+        return Err(ToolError::Line { number, fault });
     }
     if !writer.can_follow_ref(&entry) {
         let fault = order_fault(sorted);
-        return Err(MakeError::Line { number, fault });
+        return Err(ToolError::Line { number, fault });
     }
     match writer.write_ref(&entry) {
         Ok(()) => Ok(()),
-        Err(Error::OutOfMemory) => Err(MakeError::Refused(Error::OutOfMemory)),
+        Err(Error::OutOfMemory) => Err(ToolError::Refused(Error::OutOfMemory)),
         Err(error) => {
             let fault = LineFault::Refused(error);
-            Err(MakeError::Line { number, fault })
+            Err(ToolError::Line { number, fault })
         }
     }
 }
 
-// Writes the entry that a line spells. Refused where the line spells none, as writing the entry is,
-// and for want of memory.
+// Parses a line and writes its entry.
 fn write_line<A: Allocator + Copy>(
     alloc: A,
     number: u64,
     line: &[u8],
     format: Format,
     writer: &mut MultiWriter<A>,
-) -> Result<(), MakeError<'static>>
-    ensures ok { OnOk result (TookLine format line.now writer.old writer.new) }
+) -> Result<(), ToolError<'static>>
+    ensures ok { OnOk result (spec.TookLine format line.now writer.old writer.new) }
     ensures refused { IfErr result (λ error.
-        TellsLine number format writer.old line.now error) }
+        spec.TellsLine number format writer.old line.now error) }
 {
     let entry = parse_line(alloc, number, line, format)?;
     write_entry(writer, number, &entry, false)
 }
 
-/// Writes the entries of lines, in the order in which they come, and answers how many there are.
-/// Empty lines are passed over.
+/// Writes the entries of lines in their order, and returns the number of entries. Empty lines are
+/// skipped.
 ///
-/// Refused at the first line that spells no entry, is out of order or is taken by no table, where
-/// the input is refused, and for want of memory.
+/// # Errors
+///
+/// Fails at the first line that does not parse, is out of order or cannot be written, with an error
+/// of the input, and with `OutOfMemory`.
 pub(crate) fn write_lines<I: BufRead, A: Allocator + Copy>(
     alloc: A,
     input: &mut I,
     format: Format,
     writer: &mut MultiWriter<A>,
-) -> Result<u64, MakeError<'static>>
-    ensures ok { IfOk result (λ n. (es : List Entry) × HasEntries format (I.remaining input.old) es
-        × (n ≡ length es) × TookAll writer.old es writer.new) }
-    // Where a line is named, it is the first that is wrong, and so it is.
+) -> Result<u64, ToolError<'static>>
+    ensures ok { IfOk result
+        (λ n. (es : List spec.Entry) × spec.HasEntries format (I.remaining input.old) es
+        × (n ≡ length es) × spec.TookAll writer.old es writer.new) }
+    // An error that names a line names the first that is wrong, with its error.
     ensures refused { IfErr result (λ error.
-        StopsIn format (I.remaining input.old) writer.old error) }
+        spec.StopsIn format (I.remaining input.old) writer.old error) }
 {
     let mut line = Vec::new(alloc);
     let mut count = 0u64;
@@ -179,20 +184,23 @@ pub(crate) fn write_lines<I: BufRead, A: Allocator + Copy>(
     Err(too_many())
 }
 
-/// Entries of lines, in the order in which they come. Refused as [`write_lines`] is where a line
-/// spells no entry, where the input is refused, and for want of memory.
+/// Reads the entries of lines in their order. Empty lines are skipped.
+///
+/// # Errors
+///
+/// Fails at the first line that does not parse, with an error of the input, and with `OutOfMemory`.
 pub(crate) fn collect_lines<I: BufRead, A: Allocator + Copy>(
     alloc: A,
     input: &mut I,
     format: Format,
-) -> Result<Vec<Numbered<A>, A>, MakeError<'static>>
+) -> Result<Vec<Numbered<A>, A>, ToolError<'static>>
     ensures entries { IfOk result (λ rows.
-        HasEntries format (I.remaining input.old) (row_entries rows.items)) }
-    // Each has the number of its line.
+        spec.HasEntries format (I.remaining input.old) (spec.row_entries rows.items)) }
+    // Each entry has the number of its line.
     ensures rows { IfOk result (λ rows.
-        HasRows format (I.remaining input.old) (numbered rows.items)) }
-    // Where a line is named, it is the first that spells no entry.
-    ensures refused { IfErr result (StopsReading format (I.remaining input.old)) }
+        spec.HasRows format (I.remaining input.old) (spec.numbered rows.items)) }
+    // An error that names a line names the first that does not parse.
+    ensures refused { IfErr result (spec.StopsReading format (I.remaining input.old)) }
 {
     let mut rows = Vec::new(alloc);
     let mut line = Vec::new(alloc);
@@ -211,34 +219,43 @@ pub(crate) fn collect_lines<I: BufRead, A: Allocator + Copy>(
     Err(too_many())
 }
 
-// By key upward, then by number downward.
+// Ascending keys, then descending sequence numbers.
 fn compare_rows<A: Allocator>(left: &Numbered<A>, right: &Numbered<A>) -> Ordering
-    ensures { result ≡ version_cmp left.now.entry right.now.entry }
+    ensures { result ≡ spec.version_cmp left.now.entry right.now.entry }
 {
     let (left, right) = (left.entry.as_entry_ref(), right.entry.as_entry_ref());
     left.compare_version(&right)
 }
 
-/// Puts entries in order, by key upward and by number downward; of two with one key and number the
-/// one of the earlier line comes first. Refused for want of memory alone.
+/// Sorts entries by ascending key, then by descending sequence number. Of two equal ones the one of
+/// the earlier line is first.
+///
+/// # Errors
+///
+/// Fails only if memory runs out.
 pub(crate) fn sort_rows<A: Allocator>(rows: &mut Vec<Numbered<A>, A>) -> Result<(), AllocError>
     ensures rows { IsPermutation rows.old.items rows.new.items }
     ensures order { OnOk result
-        (IsSortOf is_row_before (numbered rows.old.items) (numbered rows.new.items)) }
+        (spec.IsSortOf spec.is_row_before (spec.numbered rows.old.items)
+        (spec.numbered rows.new.items)) }
 {
     rows.sort_by(compare_rows)
 }
 
-/// Writes entries that were put in order, and answers how many there are. Refused at the first that
-/// is taken by no table or has the key and number of one before it, and for want of memory.
+/// Writes sorted entries, and returns their number.
+///
+/// # Errors
+///
+/// Fails at the first entry that cannot be written or repeats the key and sequence number before
+/// it, and with `OutOfMemory`.
 pub(crate) fn write_rows<A: Allocator + Copy>(
     rows: &[Numbered<A>],
     writer: &mut MultiWriter<A>,
-) -> Result<u64, MakeError<'static>>
+) -> Result<u64, ToolError<'static>>
     ensures ok { IfOk result (λ n.
-        (n ≡ length rows.now) × TookAll writer.old (row_entries rows.now) writer.new) }
-    // Those before the one that is named were taken.
-    ensures refused { IfErr result (StopsAmong (numbered rows.now) writer.old) }
+        (n ≡ length rows.now) × spec.TookAll writer.old (spec.row_entries rows.now) writer.new) }
+    // The entries before the named one were written.
+    ensures refused { IfErr result (spec.StopsAmong (spec.numbered rows.now) writer.old) }
 {
     for row in rows {
         write_entry(writer, row.line, &row.entry, true)?;

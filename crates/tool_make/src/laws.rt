@@ -1,10 +1,10 @@
-//! Lines that are written and read.
-ghost use Rattle.tool_make.specs.Entries.{LinesLaw};
+//! The law of lines.
+ghost use Rattle.tool_make.specs.Words as spec;
 
-/// A law: an input that has a line for each of some entries, one behind another, as
-/// [`tool_lines::append_entry`] writes them, has just these entries.
+/// States a law: an input with one line for each of some entries, in their order, parses as exactly
+/// these entries.
 ///
-/// The call does nothing: its contract says so.
+/// The call does nothing; its contract is the law.
 pub fn lines_law()
-    ensures { LinesLaw }
+    ensures { spec.LinesLaw }
 {}

@@ -1,45 +1,40 @@
-//! What is asked for.
+//! The options of writing.
 ghost use Rattle.std.specs.Prelude.{◌≡◌, ◌↔◌, ◌≤◌, IfErr, IfOk, OnOk};
-ghost use Rattle.lsm_writers.specs.Writing.{IsSmallIndex};
-ghost use Rattle.tool_make.specs.declared.make_error.MakeError.TheVariants.{SizeTooLarge};
-ghost use Rattle.tool_make.specs.Refusing.{TellsSizes};
-ghost use Rattle.tool_make.specs.Written.{HasSmallSizes, options_of, writer_by};
+ghost use Rattle.tool_make.specs.Words as spec;
 
-use crate::MakeError;
-use lsm_tables::table::{
-    BloomConstructionPolicy, IndexKind, MultiWriter, Options, TableIds, Timestamp,
-};
+use lsm_writers::{BloomConstructionPolicy, IndexKind, MultiWriter, Options, TableIds};
+use sst_blocks::Timestamp;
 use std::alloc::Allocator;
-use tool_files::largest_table;
+use tool_files::{ToolError, largest_table};
 use tool_lines::Format;
 
 // The largest size of a block and of a partition, in bytes.
 const LARGEST: u32 = 4_194_304;
 
-/// How entries are written.
+/// The options of writing entries.
 #[derive(Clone, Copy, Debug, PartialEq, Eq)]
 pub struct WriteOptions {
-    /// The kind of the index, with the size of its partitions in bytes.
+    /// The kind of the index, with the target size of its partitions in bytes.
     pub index: IndexKind,
-    /// How many bits the filter has for a key: 0 for no filter.
+    /// The bits of the filter for each key: 0 for no filter.
     pub filter: BloomConstructionPolicy,
-    /// How many bytes of keys and values a data block has when it is cut.
+    /// Target size of a data block in bytes of keys and values.
     pub block_size: u32,
-    /// The level that the tables tell.
+    /// The level of the tables.
     pub level: u8,
-    /// How many bytes of data blocks a table has before the next one begins; none for one table.
+    /// Target size of a table in bytes of data blocks. Without it there is one table.
     pub target: Option<u64>,
-    /// The moment that the tables tell.
+    /// The creation time of the tables.
     pub created_at: Timestamp,
-    /// How a line spells an entry.
+    /// The format of the lines.
     pub format: Format,
-    /// Whether the entries are put in order first.
+    /// Whether the entries are sorted first.
     pub sort: bool,
 }
 
-// How many bytes the partitions of an index have, where it has some.
+// Returns the target size of the index partitions, or 0 without partitions.
 fn partition_size(index: IndexKind) -> u32
-    ensures { result ≤ 4194304 ↔ IsSmallIndex index }
+    ensures { result ≤ 4194304 ↔ spec.IsSmallIndex index }
 {
     match index {
         IndexKind::Full => 0,
@@ -48,9 +43,9 @@ fn partition_size(index: IndexKind) -> u32
 }
 
 impl WriteOptions {
-    // What the tables are written with.
+    // Returns the options of the tables' writer.
     fn table_options(&self) -> Options
-        ensures { result ≡ options_of self.now }
+        ensures { result ≡ spec.options_of self.now }
     {
         Options {
             data_block_size: self.block_size,
@@ -60,26 +55,34 @@ impl WriteOptions {
         }
     }
 
-    /// Refused where a block or a partition would be too large, and only there.
-    pub(crate) fn check_sizes(&self) -> Result<(), MakeError<'static>>
-        ensures ok { OnOk result (HasSmallSizes self.now) }
-        ensures large { IfErr result (λ e. (e ≡ SizeTooLarge) × ¬ HasSmallSizes self.now) }
+    /// Tests the sizes of blocks and partitions.
+    ///
+    /// # Errors
+    ///
+    /// Fails exactly if one is above 4 MiB.
+    pub(crate) fn check_sizes(&self) -> Result<(), ToolError<'static>>
+        ensures ok { OnOk result (spec.HasSmallSizes self.now) }
+        ensures large { IfErr result (λ e. (e ≡ spec.SizeTooLarge)
+            × ¬ spec.HasSmallSizes self.now) }
     {
         if self.block_size > LARGEST || partition_size(self.index) > LARGEST {
-            return Err(MakeError::SizeTooLarge);
+            return Err(ToolError::SizeTooLarge);
         }
         Ok(())
     }
 
-    /// A writer of such tables, with ids from 1 on. Refused where a block or a partition would be
-    /// too large, and for want of memory.
+    /// Returns a writer of such tables, with ids from 1.
+    ///
+    /// # Errors
+    ///
+    /// Fails if the size of blocks or partitions is above 4 MiB, and with `OutOfMemory`.
     pub(crate) fn writer<A: Allocator + Copy>(
         &self,
         alloc: A,
-    ) -> Result<MultiWriter<A>, MakeError<'static>>
-        ensures ok { IfOk result (λ w. w ≡ writer_by self.now) }
-        ensures small { OnOk result (HasSmallSizes self.now) }
-        ensures refused { IfErr result (TellsSizes self.now) }
+    ) -> Result<MultiWriter<A>, ToolError<'static>>
+        ensures ok { IfOk result (λ w. w ≡ spec.writer_by self.now) }
+        ensures small { OnOk result (spec.HasSmallSizes self.now) }
+        ensures refused { IfErr result (spec.TellsSizes self.now) }
     {
         self.check_sizes()?;
         let (ids, target) = (TableIds::new(1), largest_table(self.target));

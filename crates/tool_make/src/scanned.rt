@@ -1,27 +1,18 @@
-//! Tables that are read whole, to find which is at fault.
+//! Reads whole tables, to find the one that an error comes from.
 ghost use Rattle.std.specs.Prelude.{◌≡◌, ◌<◌, IfErr, IfOk, IfSome, IsOk, List, OnOk, Some, false};
 ghost use Rattle.std.specs.Prelude.{length, true};
-ghost use Rattle.std.specs.Option.{option_map};
-ghost use Rattle.lsm_runs.specs.compaction.AnyRuns.{YieldsResults};
-ghost use Rattle.lsm_sorted.specs.merge.Ends.{R};
-ghost use Rattle.lsm_readers.specs.Scan.{ScansLent};
-ghost use Rattle.lsm_runs.specs.RunScan.{early_scan_fault, table_scan};
-ghost use Rattle.sst_entries.specs.Lending.{entry_of_ref};
-ghost use Rattle.sst_entries.specs.Point.{read_place};
-ghost use Rattle.sst_entries.specs.Strict.{may_follow};
-ghost use Rattle.sst_entries.specs.declared.error.Error.{Error as Refusal};
-ghost use Rattle.lsm_tables.specs.Words.{Entry, OutOfMemory, StoresList, is_memory};
-ghost use Rattle.tool_make.specs.Scanned.{IsFirstRefusal, come_in_order};
+ghost use Rattle.tool_make.specs.Words as spec;
 
-use lsm_tables::block::{EntryRef, Error, Lending, SeqNo, compare_versions};
-use lsm_tables::table::{Scanner, Table};
+use lsm_readers::{Scanner, Table};
+use sst_blocks::{EntryRef, Error, Lending, SeqNo, compare_versions};
 use std::alloc::Allocator;
 
-// The first refusal among entries.
+// Returns the first error of a scan.
 fn first_refusal<A: Allocator + Clone>(items: &mut Scanner<A>) -> Option<Error>
-    // Memory aside, it is the first of those that come, and none where none comes.
-    ensures first { (rs : List R) → YieldsResults ScansLent rs items.old →
-        IsFirstRefusal rs result }
+    // Except for OutOfMemory it is the first error that the scan yields, and `None` if it yields
+    // none.
+    ensures first { (rs : List spec.R) → spec.YieldsResults spec.ScansLent rs items.old →
+        spec.IsFirstRefusal rs result }
 {
     loop {
         match items.advance() {
@@ -32,13 +23,13 @@ fn first_refusal<A: Allocator + Clone>(items: &mut Scanner<A>) -> Option<Error>
     }
 }
 
-// Whether entries that came in order up to an error do so up to the first that cannot be read: they
-// do, but want of memory tells nothing of them.
+// Entries that are in order up to an error are in order up to the first that cannot be read.
+// OutOfMemory says nothing about them.
 fn ended_by(error: Error) -> Result<bool, Error>
-    ensures fault { OnOk result (is_memory error ≡ false) }
+    ensures fault { OnOk result (spec.is_memory error ≡ false) }
     ensures order { IfOk result (λ b. b ≡ true) }
-    ensures memory { IfErr result (λ e. e ≡ OutOfMemory) }
-    ensures known { is_memory error ≡ false → IsOk result }
+    ensures memory { IfErr result (λ e. e ≡ spec.OutOfMemory) }
+    ensures known { spec.is_memory error ≡ false → IsOk result }
 {
     if error == Error::OutOfMemory {
         return Err(error);
@@ -46,10 +37,11 @@ fn ended_by(error: Error) -> Result<bool, Error>
     Ok(true)
 }
 
-// Whether an entry may follow the one before it, if there was one with this key and number.
+// Whether an entry may follow the one before it, which has this key and sequence number.
 fn may_follow(key: &[u8], last: Option<SeqNo>, entry: &EntryRef<'_>) -> bool
     ensures { result ≡
-        may_follow (option_map (read_place key.now) last) (entry_of_ref entry.now) }
+        spec.may_follow (spec.option_map (spec.read_place key.now) last)
+        (spec.entry_of_ref entry.now) }
 {
     match last {
         None => true,
@@ -57,24 +49,23 @@ fn may_follow(key: &[u8], last: Option<SeqNo>, entry: &EntryRef<'_>) -> bool
     }
 }
 
-// Replaces the bytes of a buffer. It fails with `OutOfMemory` alone.
+// Replaces the bytes of a buffer. Fails only if memory runs out.
 fn put_bytes<A: Allocator>(buffer: &mut Vec<u8, A>, bytes: &[u8]) -> Result<(), Error>
     ensures put { IfOk result (λ _. buffer.new.items ≡ bytes.now) }
-    ensures memory { IfErr result (λ e. e ≡ OutOfMemory) }
+    ensures memory { IfErr result (λ e. e ≡ spec.OutOfMemory) }
 {
     buffer.clear();
     buffer.extend_from_slice(bytes)?;
     Ok(())
 }
 
-// Whether entries come in order, up to the first that cannot be read. Refused for want of memory
-// alone.
+// Whether entries are in order, up to the first that cannot be read. Fails only if memory runs out.
 fn is_in_order<A: Allocator + Copy>(alloc: A, items: &mut Scanner<A>) -> Result<bool, Error>
-    ensures order { (rs : List R) → YieldsResults ScansLent rs items.old →
-        IfOk result (λ b. b ≡ come_in_order rs) }
-    ensures memory { IfErr result (λ e. e ≡ OutOfMemory) }
+    ensures order { (rs : List spec.R) → spec.YieldsResults spec.ScansLent rs items.old →
+        IfOk result (λ b. b ≡ spec.come_in_order rs) }
+    ensures memory { IfErr result (λ e. e ≡ spec.OutOfMemory) }
 {
-    // An entry is borrowed until the next step, so its key is copied here.
+    // An entry is borrowed until the next step, so its key is copied.
     let mut key = Vec::new(alloc);
     let mut last = None;
     loop {
@@ -92,15 +83,16 @@ fn is_in_order<A: Allocator + Copy>(alloc: A, items: &mut Scanner<A>) -> Result<
     }
 }
 
-/// The first refusal of reading a table whole.
+/// Scans a whole table and returns its first error.
 pub(crate) fn refusal_of<A: Allocator + Copy>(table: &Table<A>) -> Option<Error>
-    // Memory aside, it is the first that a scan meets, and none where it meets none.
-    ensures first { IsFirstRefusal (table_scan table.now) result }
-    // Where its bytes store a list that has an entry, there is none but want of memory.
-    ensures list { (es : List Entry) → StoresList table.now.bytes es → 0 < length es →
-        IfSome result (λ e. e ≡ OutOfMemory) }
-    // What is found before memory is taken is told whatever memory there is.
-    ensures early { (e : Refusal) → early_scan_fault table.now ≡ Some e → result ≡ Some e }
+    // Except for OutOfMemory it is the first error of a scan, and `None` if that has none.
+    ensures first { spec.IsFirstRefusal (spec.table_scan table.now) result }
+    // If the bytes store a list with an entry, the only error is OutOfMemory.
+    ensures list { (es : List spec.Entry) → spec.StoresList table.now.bytes es → 0 < length es →
+        IfSome result (λ e. e ≡ spec.OutOfMemory) }
+    // A fault that is found before memory is allocated is returned whatever memory there is.
+    ensures early { (e : spec.Refusal) → spec.early_scan_fault table.now ≡ Some e →
+        result ≡ Some e }
 {
     match table.scan() {
         Ok(mut items) => {
@@ -112,16 +104,20 @@ pub(crate) fn refusal_of<A: Allocator + Copy>(table: &Table<A>) -> Option<Error>
     }
 }
 
-/// Whether the entries of a table come in order, up to the first that cannot be read. Refused for
-/// want of memory alone.
+/// Returns whether the entries of a table are in order, up to the first that cannot be read.
+///
+/// # Errors
+///
+/// Fails only if memory runs out.
 pub(crate) fn has_order<A: Allocator + Copy>(alloc: A, table: &Table<A>) -> Result<bool, Error>
-    ensures order { IfOk result (λ b. b ≡ come_in_order (table_scan table.now)) }
-    // Where its bytes store a list, they do.
-    ensures list { (es : List Entry) → StoresList table.now.bytes es →
+    ensures order { IfOk result (λ b. b ≡ spec.come_in_order (spec.table_scan table.now)) }
+    // If the bytes store a list, they are.
+    ensures list { (es : List spec.Entry) → spec.StoresList table.now.bytes es →
         IfOk result (λ b. b ≡ true) }
-    ensures memory { IfErr result (λ e. e ≡ OutOfMemory) }
-    // Where a fault of the first block is found before memory is taken, none is wanted.
-    ensures early { (e : Refusal) → early_scan_fault table.now ≡ Some e → IsOk result }
+    ensures memory { IfErr result (λ e. e ≡ spec.OutOfMemory) }
+    // If the first block has a fault that is found before memory is allocated, memory cannot run
+    // out.
+    ensures early { (e : spec.Refusal) → spec.early_scan_fault table.now ≡ Some e → IsOk result }
 {
     match table.scan() {
         Ok(mut items) => {

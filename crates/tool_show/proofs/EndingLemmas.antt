@@ -1,6 +1,6 @@
 -- Results that are dealt up to the first error, one after another.
 use Rattle.std.proofs.Common.{◌≡◌, refl, sym, ◌∙◌, ap, subst, Bool, true, false, ℕ, zero, suc}
-use Rattle.std.proofs.Common.{List, [], ◌∷◌, ◌++◌, ◌-◌, ◌<◌, append_assoc, append-nil, arith, reverse, take}
+use Rattle.std.proofs.Common.{List, [], ◌∷◌, ◌++◌, ◌-◌, ◌<◌, append_assoc, arith, reverse, take}
 use Rattle.std.proofs.lemmas.List.{map-append, reverse-reverse}
 use Rattle.std.specs.Prelude.{Option, None, Some, Result, Ok, Err}
 use Rattle.sst_entries.specs.declared.error.Error.{Error}
@@ -10,7 +10,7 @@ use Rattle.sst_entries.specs.Error.{is_memory}
 use Rattle.sst_entries.specs.Stream.{NoneStops, Runs, answer_stops, but_first, but_last, yield_each}
 use Rattle.sst_entries.specs.Stream.{first, last, ok_results, result_stops}
 use Rattle.lsm_iters.specs.block_index.Yielded.{YieldsEnding, ended_at_error}
-use Rattle.tool_show.specs.Printed.{before_error, dumped, first_error, in_turn}
+use Rattle.tool_show.specs.Read.{dumped, first_error, in_turn}
 
 module _ {S X : Type 0} (front back : S → Option (Result X Error) → S → Type 0) where
   -- want of memory aside, a source deals results up to the first error
@@ -110,50 +110,42 @@ module _ {S X : Type 0} (front back : S → Option (Result X Error) → S → Ty
     pub whole : ok_results came ++ dumped from_end n rest ≡ all
 
   pub comes_none : (s : S) (from_end : Bool) (n : ℕ) (xs : List (Result X Error)) → EndsUp s xs
-      → (before : Comes s from_end n (dumped from_end n xs)) × (before.came ≡ [])
-  comes_none s from_end n xs d = (record { came = []; rest = xs; yields = d; whole = refl }, refl)
+      → Comes s from_end n (dumped from_end n xs)
+  comes_none s from_end n xs d = record { came = []; rest = xs; yields = d; whole = refl }
 
   pub comes_one : (s t : S) (from_end : Bool) (k : ℕ) (r : Result X Error) (x : X)
-      (all : List (Result X Error)) → 0 < k → r ≡ Ok x → (before : Comes s from_end k all)
+      (all : List (Result X Error)) → 0 < k → r ≡ Ok x → Comes s from_end k all
       → (from_end ≡ false → front s (Some r) t) → (from_end ≡ true → back s (Some r) t)
-      → (now : Comes t from_end (k - 1) all) × (now.came ≡ before.came ++ x ∷ [])
+      → Comes t from_end (k - 1) all
   comes_one s t from_end zero r x all some is before front_step back_step = absurd (omega (arith, some))
   comes_one s t from_end (suc n) r x all some is before front_step back_step =
       let fine : result_stops is_memory r ≡ false = ap (result_stops is_memory) is in
       let one = takes s t from_end r before.rest before.yields fine front_step back_step in
       let left : n ≡ suc n - 1 = omega arith in
-      subst (λ (k : ℕ). (now : Comes t from_end k all) × (now.came ≡ before.came ++ x ∷ [])) left (
-        record {
-          came = before.came ++ x ∷ [];
-          rest = one.others;
-          yields = one.yields x is;
-          whole = ap (λ (rs : List (Result X Error)). rs ++ dumped from_end n one.others)
-              (map-append (λ (y : X). Ok y) before.came (x ∷ []))
-              ∙ append_assoc (ok_results before.came) (Ok x ∷ []) (dumped from_end n one.others)
-              ∙ ap (λ (rs : List (Result X Error)). ok_results before.came ++ rs)
-              (sym (ap (λ (rs : List (Result X Error)). take (suc n) rs) one.taken
-              ∙ ap (λ (y : Result X Error). y ∷ dumped from_end n one.others) is))
-              ∙ before.whole;
-        },
-        refl,
-      )
+      subst (λ (k : ℕ). Comes t from_end k all) left (record {
+        came = before.came ++ x ∷ [];
+        rest = one.others;
+        yields = one.yields x is;
+        whole = ap (λ (rs : List (Result X Error)). rs ++ dumped from_end n one.others)
+            (map-append (λ (y : X). Ok y) before.came (x ∷ []))
+            ∙ append_assoc (ok_results before.came) (Ok x ∷ []) (dumped from_end n one.others)
+            ∙ ap (λ (rs : List (Result X Error)). ok_results before.came ++ rs)
+            (sym (ap (λ (rs : List (Result X Error)). take (suc n) rs) one.taken
+            ∙ ap (λ (y : Result X Error). y ∷ dumped from_end n one.others) is))
+            ∙ before.whole;
+      })
 
   error_behind : (came : List X) (e : Error) (rs : List (Result X Error))
       → first_error (ok_results came ++ Err e ∷ rs) ≡ Some e
   error_behind [] e rs = refl
   error_behind (x ∷ xs) e rs = error_behind xs e rs
 
-  came_before : (came : List X) (e : Error) (rs : List (Result X Error))
-      → before_error (ok_results came ++ Err e ∷ rs) ≡ came
-  came_before [] e rs = refl
-  came_before (x ∷ xs) e rs = ap (λ (ys : List X). x ∷ ys) (came_before xs e rs)
-
-  -- an error that comes is the first of all, and what came is what comes before it
+  -- an error that comes is the first of all
   pub comes_error : (s t : S) (from_end : Bool) (k : ℕ) (r : Result X Error) (e : Error)
       (all : List (Result X Error)) → 0 < k → r ≡ Err e → is_memory e ≡ false
-      → (before : Comes s from_end k all)
+      → Comes s from_end k all
       → (from_end ≡ false → front s (Some r) t) → (from_end ≡ true → back s (Some r) t)
-      → (first_error all ≡ Some e) × (before_error all ≡ before.came)
+      → first_error all ≡ Some e
   comes_error s t from_end zero r e all some is other before front_step back_step =
       absurd (omega (arith, some))
   comes_error s t from_end (suc n) r e all some is other before front_step back_step =
@@ -163,61 +155,5 @@ module _ {S X : Type 0} (front back : S → Option (Result X Error) → S → Ty
       = ap (λ (rs : List (Result X Error)). take (suc n) rs) one.taken
       ∙ ap (λ (y : Result X Error). y ∷ dumped from_end n one.others) is in
       let whole = ap (λ (rs : List (Result X Error)). ok_results before.came ++ rs) (sym next)
-      ∙ before.whole in (
-        sym (ap first_error whole) ∙ error_behind before.came e (dumped from_end n one.others),
-        sym (ap before_error whole) ∙ came_before before.came e (dumped from_end n one.others),
-      )
-
-  -- a source that goes on, behind some that came from the front
-  pub record Came (s : S) (all : List (Result X Error)) : Type 0 where
-    pub came : List X
-    pub rest : List (Result X Error)
-    pub yields : EndsUp s rest
-    pub whole : ok_results came ++ rest ≡ all
-
-  pub came_none : (s : S) (xs : List (Result X Error)) → EndsUp s xs
-      → (before : Came s xs) × (before.came ≡ [])
-  came_none s xs d = (record { came = []; rest = xs; yields = d; whole = refl }, refl)
-
-  pub came_one : (s t : S) (x : X) (all : List (Result X Error)) (before : Came s all)
-      → front s (Some (Ok x)) t
-      → (now : Came t all) × (now.came ≡ before.came ++ x ∷ [])
-  came_one s t x all before step =
-      let one = takes s t false (Ok x) before.rest before.yields refl (λ _. step)
-      (λ not. absurd (let both : false ≡ true = not in cc)) in (
-        record {
-          came = before.came ++ x ∷ [];
-          rest = one.others;
-          yields = one.yields x refl;
-          whole = ap (λ (rs : List (Result X Error)). rs ++ one.others)
-              (map-append (λ (y : X). Ok y) before.came (x ∷ []))
-              ∙ append_assoc (ok_results before.came) (Ok x ∷ []) one.others
-              ∙ ap (λ (rs : List (Result X Error)). ok_results before.came ++ rs) (sym one.taken)
-              ∙ before.whole;
-        },
-        refl,
-      )
-
-  nothing_behind : (rest : List (Result X Error)) → None ≡ first rest → rest ≡ []
-  nothing_behind [] none = refl
-  nothing_behind (x ∷ xs) none = absurd cc
-
-  -- nothing comes any more
-  pub came_all : (s t : S) (all : List (Result X Error)) (before : Came s all) → front s None t
-      → all ≡ ok_results before.came
-  came_all s t all before step =
-      let none = nothing_behind before.rest
-      (ending_front s t before.rest None before.yields step refl).0 in
-      sym before.whole
-      ∙ ap (λ (rs : List (Result X Error)). ok_results before.came ++ rs) none
-      ∙ append-nil (ok_results before.came)
-
-  -- an error comes
-  pub came_error : (s t : S) (e : Error) (all : List (Result X Error)) → is_memory e ≡ false
-      → Came s all → front s (Some (Err e)) t → first_error all ≡ Some e
-  came_error s t e all other before step =
-      let one = takes s t false (Err e) before.rest before.yields other (λ _. step)
-      (λ not. absurd (let both : false ≡ true = not in cc)) in
-      sym (ap first_error (ap (λ (rs : List (Result X Error)). ok_results before.came ++ rs)
-      (sym one.taken) ∙ before.whole))
-      ∙ error_behind before.came e one.others
+      ∙ before.whole in
+      sym (ap first_error whole) ∙ error_behind before.came e (dumped from_end n one.others)

@@ -1,12 +1,4 @@
-mod BlockLemmas
-mod CheckLemmas
 mod DumpLemmas
 mod EndingLemmas
 mod FileLemmas
 mod Findings
-mod FirstLemmas
-mod NameLemmas
-mod StatLemmas
-mod StepLemmas
-mod TextLemmas
-mod TokenLemmas

@@ -1,111 +1,67 @@
--- Why something was not shown.
-use Rattle.std.specs.Prelude.{◌≡◌, ◌≢◌, ◌⊎◌, ℕ, List, [], ◌∷◌, Option, None, Some, false, true}
-use Rattle.std.specs.Prelude.{find, is_some, if◌then◌else◌}
+-- The errors of showing tables.
+use Rattle.std.specs.Prelude.{◌≡◌, ℕ, List, Option, None, Some, false, true, find, is_some}
+use Rattle.std.specs.Prelude.{if◌then◌else◌}
 use Rattle.sst_entries.specs.Error.{is_memory}
 use Rattle.sst_entries.specs.declared.error.Error.{Error}
-use Rattle.sst_blocks.specs.Sections.{body_of}
 use Rattle.lsm_sorted.specs.version.KeyRange.{has_key}
 use Rattle.lsm_readers.specs.point.Answer.{table_answer}
 use Rattle.lsm_readers.specs.Scan.{fault_of}
 use Rattle.lsm_readers.specs.point.Table.{OpenTable}
 use Rattle.lsm_run_parts.specs.RunParts.{range_of}
-use Rattle.tool_show.specs.Faults.{begin_of, block_fault, named_blocks}
+use Rattle.tool_files.specs.declared.error.ToolError.{ToolError}
+use Rattle.tool_files.specs.declared.error.ToolError.TheVariants as error
 use Rattle.tool_show.specs.Files.{IsSoundTable}
-use Rattle.tool_show.specs.declared.blocks.NamedBlock.{NamedBlock}
-use Rattle.tool_show.specs.declared.error.Failure.{Failure}
-use Rattle.tool_show.specs.declared.error.Failure.TheVariants as failure
-use Rattle.tool_show.specs.declared.error.ShowError.{ShowError}
-use Rattle.tool_show.specs.declared.error.ShowError.TheVariants as show
 use Rattle.tool_show.specs.declared.named.NamedTable.{NamedTable}
-use Rattle.tool_show.specs.declared.places.BlockPlace.{BlockPlace}
-use Rattle.tool_show.specs.declared.places.RefusedAt.{RefusedAt}
-use Rattle.tool_show.specs.declared.places.RefusedAt.TheVariants as origin
 
--- where the first of some blocks begins that does not load with a refusal; nowhere where none of
--- them is refused so
-abbrev pub IsFirstWith : List ℕ → Error → List NamedBlock → Option BlockPlace → Type 0
-IsFirstWith body e [] place = place ≡ None
-IsFirstWith body e (b ∷ bs) place =
-    ((block_fault body b ≡ Some e) × (place ≡ Some (begin_of b)))
-    ⊎ ((block_fault body b ≢ Some e) × IsFirstWith body e bs place)
+-- The error names this file, with this error of its table.
+abbrev pub NamesRefusal : {A : Type 0} → NamedTable A → Error → ToolError → Type 0
+NamesRefusal f refusal (error.Unreadable name at e) = (name ≡ f.name) × (e ≡ refusal)
+NamesRefusal f refusal e = ⊥
 
--- the same of the blocks of a table, in the order in which a verification reads them
-abbrev pub IsBlockWith : OpenTable → Error → Option BlockPlace → Type 0
-IsBlockWith t e place =
-    IsFirstWith (body_of t.bytes) e (named_blocks (body_of t.bytes) t.parts) place
+-- An error of the library gets the file's name; other errors and OutOfMemory stay.
+abbrev pub BlamesFile : {A : Type 0} → NamedTable A → (failure returned : ToolError) → Type 0
+BlamesFile f (error.Refused refusal) e = (is_memory refusal ≡ true → e ≡ error.Refused refusal)
+    × (is_memory refusal ≡ false → NamesRefusal f refusal e)
+BlamesFile f failure e = e ≡ failure
 
--- what is told of where a refusal comes from is so; nothing is, where it was not sought
-abbrev pub IsRefusedAt : OpenTable → Error → RefusedAt → Type 0
-IsRefusedAt t e (origin.Block place) = IsBlockWith t e (Some place)
-IsRefusedAt t e origin.NoBlock = IsBlockWith t e None
-IsRefusedAt t e origin.NotSought = Unit {0}
+-- The error is OutOfMemory or one of the output, so it names no file.
+abbrev pub NamesNone : ToolError → Type 0
+NamesNone (error.Output e) = Unit {0}
+NamesNone (error.Refused e) = is_memory e ≡ true
+NamesNone e = ⊥
 
--- an error names a file, what its table refuses, and where that comes from
-abbrev pub TellsRefusal : {A : Type 0} → NamedTable A → Error → ShowError → Type 0
-TellsRefusal f e (show.Refused name place error) =
-    (name ≡ f.name) × (error ≡ e) × IsRefusedAt f.table e place
-TellsRefusal f e error = ⊥
+-- Except for OutOfMemory, an error of the library has this property; no file is named yet.
+abbrev pub FailsAs : (Error → Type 0) → ToolError → Type 0
+FailsAs IsReported (error.Unreadable name at e) = ⊥
+FailsAs IsReported (error.Refused e) = is_memory e ≡ false → IsReported e
+FailsAs IsReported e = Unit {0}
 
--- it is that of a failure of a file
-abbrev pub TellsFailure : {A : Type 0} → Failure → NamedTable A → ShowError → Type 0
-TellsFailure (failure.Output error) f e = e ≡ show.Output error
-TellsFailure (failure.Refused error) f e = (is_memory error ≡ true → e ≡ show.OutOfMemory)
-    × (is_memory error ≡ false → TellsRefusal f error e)
-
--- a failure to write, or want of memory: no fault of a file
-abbrev pub BlamesNoFile : Failure → Type 0
-BlamesNoFile (failure.Output error) = Unit {0}
-BlamesNoFile (failure.Refused error) = is_memory error ≡ true
-
--- this holds, where a failure is a refusal of a file
-abbrev pub IfRefusal : Type 0 → Failure → Type 0
-IfRefusal Holds (failure.Output error) = Unit {0}
-IfRefusal Holds (failure.Refused error) = is_memory error ≡ false → Holds
-
--- this holds, where an error names a file
-abbrev pub IfNamed : Type 0 → ShowError → Type 0
-IfNamed Holds (show.Refused name place error) = Holds
-IfNamed Holds e = Unit {0}
-
--- memory aside, what is refused is what a read tells
-abbrev pub FailsAs : (Error → Type 0) → Failure → Type 0
-FailsAs IsReported (failure.Output error) = Unit {0}
-FailsAs IsReported (failure.Refused error) = is_memory error ≡ false → IsReported error
-
--- where an error names a file, it is this one, its refusal is what a read tells, and the block is
--- named that begins first of those that are refused so, as far as it was sought
-abbrev pub NamesOnly : {A : Type 0} → NamedTable A → (Error → Type 0) → ShowError → Type 0
-NamesOnly f IsReported (show.Refused name place error) =
-    (name ≡ f.name) × IsReported error × IsRefusedAt f.table error place
+-- An error that names a file names this one, and its library error has this property.
+abbrev pub NamesOnly : {A : Type 0} → NamedTable A → (Error → Type 0) → ToolError → Type 0
+NamesOnly f IsReported (error.Unreadable name at e) = (name ≡ f.name) × IsReported e
+NamesOnly f IsReported (error.Refused e) = is_memory e ≡ true
 NamesOnly f IsReported e = Unit {0}
 
--- why a read of a key below a number is refused by a table, if its range has the key and it is
+-- The error of a point read at a snapshot, if the table's range has the key and the read fails.
 abbrev pub read_refusal : List ℕ → ℕ → OpenTable → Option Error
 read_refusal key n t =
     if has_key (range_of t) key then fault_of (table_answer t key n).returned else None
 
--- the refusal among these that is found before memory is taken, if there is one
-abbrev pub read_early : List ℕ → ℕ → OpenTable → Option Error
-read_early key n t = if has_key (range_of t) key then (table_answer t key n).early else None
-
--- the first of some files whose table refuses the read
+-- The first of these files whose table fails the read.
 abbrev pub refused_file : {A : Type 0} → List ℕ → ℕ → List (NamedTable A) → Option (NamedTable A)
 refused_file key n fs = find (λ f. is_some (read_refusal key n f.table)) fs
 
--- where an error names a file, it is this one, which refuses the read so and stores no list
-abbrev pub BlamesFaulty : {A : Type 0} → List ℕ → ℕ → NamedTable A → ShowError → Type 0
-BlamesFaulty key n f (show.Refused name place error) =
-    NamesOnly f (λ e. read_refusal key n f.table ≡ Some e) (show.Refused name place error)
-    × (IsSoundTable f.table → ⊥)
+-- An error that names a file names this one: its table fails the read with this error, and it
+-- stores no list.
+abbrev pub BlamesFaulty : {A : Type 0} → List ℕ → ℕ → NamedTable A → ToolError → Type 0
+BlamesFaulty key n f (error.Unreadable name at e) =
+    (name ≡ f.name) × (read_refusal key n f.table ≡ Some e) × (IsSoundTable f.table → ⊥)
+BlamesFaulty key n f (error.Refused e) = is_memory e ≡ true
 BlamesFaulty key n f e = Unit {0}
 
--- where an error names a file, it is the first of these whose table refuses the read
-abbrev pub NamesFaulty : {A : Type 0} → List ℕ → ℕ → List (NamedTable A) → ShowError → Type 0
-NamesFaulty {A} key n fs (show.Refused name place error) = (f : NamedTable A)
-    × (refused_file key n fs ≡ Some f) × BlamesFaulty key n f (show.Refused name place error)
+-- An error that names a file names the first of these whose table fails the read.
+abbrev pub NamesFaulty : {A : Type 0} → List ℕ → ℕ → List (NamedTable A) → ToolError → Type 0
+NamesFaulty {A} key n fs (error.Unreadable name at e) = (f : NamedTable A)
+    × (refused_file key n fs ≡ Some f) × BlamesFaulty key n f (error.Unreadable name at e)
+NamesFaulty key n fs (error.Refused e) = is_memory e ≡ true
 NamesFaulty key n fs e = Unit {0}
-
--- no file is named
-abbrev pub NamesNone : ShowError → Type 0
-NamesNone (show.Refused name place error) = ⊥
-NamesNone e = Unit {0}

@@ -5,10 +5,10 @@ use Rattle.lsm_readers.specs.Stored.{StoresList}
 use Rattle.lsm_readers.specs.point.Table.{OpenTable}
 use Rattle.tool_show.specs.declared.named.NamedTable.{NamedTable}
 
--- a table's bytes store a list, from its index to its last entry
+-- The bytes of the table store a list.
 abbrev pub IsSoundTable : OpenTable → Type 0
 IsSoundTable t = (es : List Entry) × StoresList t.bytes es
 
--- each file's table is a run of its own
+-- Each file's table as a run of its own.
 abbrev pub runs_in : {A : Type 0} → List (NamedTable A) → List (List OpenTable)
 runs_in fs = map (λ f. f.table ∷ []) fs

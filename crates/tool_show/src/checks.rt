@@ -1,49 +1,26 @@
-//! What is wrong of a file.
-ghost use denote.Ref.{Bor};
-ghost use Rattle.std.specs.Prelude.{◌≡◌, ◌+◌, ◌-◌, ◌^◌, ◌∷◌, [], ℕ, List, IfErr, IfOk, OnOk};
-ghost use Rattle.std.specs.Prelude.{Err, None, Option, Some, if◌then◌else◌, min};
-ghost use Rattle.std.specs.Option.{option_map};
-ghost use Rattle.sst_entries.specs.Entry.{Entry};
-ghost use Rattle.sst_blocks.specs.Sections.{body_of};
-ghost use Rattle.lsm_readers.specs.point.Parts.{places_result};
-ghost use Rattle.lsm_readers.specs.Stored.{StoresList};
-ghost use Rattle.lsm_readers.specs.Verification.{steps_of, verifying};
-ghost use Rattle.lsm_readers.specs.Verify.{Finds, Misses, table_found};
-ghost use Rattle.lsm_readers.specs.declared.verify.Finding.{Finding as FindingValue};
-ghost use Rattle.lsm_readers.specs.declared.verify.Verified.{Verified as Verification};
+//! Verifies files.
+ghost use Rattle.std.specs.Prelude.{◌≡◌, ◌<◌, List, IfErr, IfOk};
+ghost use Rattle.tool_show.specs.Words as spec;
 ghost use Rattle.lsm_readers.specs.declared.verify.VerifyError.TheVariants.{OutOfMemory};
-ghost use Rattle.tool_show.specs.Checked.{AreTold, ChecksFile, IsVerifyText, ReadsUpTo, next_of};
-ghost use Rattle.tool_show.specs.Failures.{NamesNone};
-ghost use Rattle.tool_show.specs.Faults.{fault_count, faults_in, further_count};
-ghost use Rattle.tool_show.specs.Faults.{further_fault, further_faults, further_of, is_further};
-ghost use Rattle.tool_show.specs.Faults.{named_blocks, unloaded_count, unloaded_in};
-ghost use Rattle.tool_show.specs.Faults.{unopened_faults};
-ghost use Rattle.tool_show.specs.Files.{IsSoundTable};
-ghost use Rattle.tool_show.specs.Lines.{AreJoined, IsUnloadedLine, PrintsText};
 
-use crate::blocks::{NamedBlock, is_told, named_blocks, refusal_of, region_blocks, source_of};
-use crate::check_lines::{print_first, print_sound};
-use crate::places::begin_of;
-use crate::refusals::print_unloaded_line;
-use crate::{NamedTable, ShowError};
+use crate::NamedTable;
+use crate::blocks::{NamedBlock, named_blocks, refusal_of, region_blocks, source_of};
 use lsm_readers::{
-    Finding, ParsedRegions, Table, TableInner, Verification as Steps, Verified, VerifyError,
+    Fault, Finding, ParsedRegions, Table, TableInner, Verification, Verified, VerifyError,
 };
-use sst_blocks::{BlockSource, Slice};
+use sst_blocks::{BlockSource, Error, Slice};
 use std::alloc::Allocator;
-use std::io::Write;
+use std::io::{self, Write};
+use tool_files::{BlockPlace, ToolError};
+use tool_lines::word_for;
 
-/// Is told how far a verification has come.
+/// Receives the progress of a verification.
 pub trait Progress {
-    // What it was told, where that is known.
-    ghost moves: { Self → Option (List (ℕ × ℕ)) } = { λ _. None };
-
-    /// So many bytes of the file's data blocks were read, of so many in all.
-    fn moved(&mut self, done: u64, all: u64)
-        ensures returned { AreTold (moves self.old) (moves self.new) ((done, all) ∷ []) };
+    /// Called after each block, with the bytes of data blocks read so far and the bytes in all.
+    fn moved(&mut self, done: u64, all: u64);
 }
 
-/// Shows no progress.
+/// Ignores progress.
 #[derive(Clone, Copy, Debug)]
 pub struct NoProgress;
 
@@ -51,36 +28,35 @@ impl Progress for NoProgress {
     fn moved(&mut self, _done: u64, _all: u64) {}
 }
 
-/// What came of reading a table.
+/// The result of verifying a table.
 #[derive(Drop)]
 struct Looked {
-    // How many blocks were read.
+    // the number of blocks read
     blocks: u64,
     verdict: Result<Verified, VerifyError>,
 }
 
-/// Reads a file whole, block after block, and writes a line: what it has, or the first fault that
-/// is found, with its section and offset, and the number of the refusal where a block does not
-/// load. Behind a fault comes a line for each further block of the filter, of the index and of data
-/// that does not load. Answers how many faults were written. Refused with the first failure to
-/// write, and for want of memory; what was written stays.
+/// Reads a whole file, block after block, and writes a line about it.
+///
+/// For a valid file the line says how many entries and blocks it has. Otherwise it has the first
+/// fault with its section and offset, and the error code if a block does not load. One more line
+/// follows for each further block of the filter, index and data that does not load. Returns the
+/// number of faults written.
+///
+/// # Errors
+///
+/// Fails with [`ToolError::Output`] and with `OutOfMemory`. Lines already written stay.
 pub fn verify<'a, A: Allocator + Copy, W: Write, P: Progress>(
     alloc: A,
     output: &mut W,
     file: &NamedTable<'a, A>,
     progress: &mut P,
-) -> Result<u64, ShowError<'a>>
-    // What is printed is what is found, and the progress is told at each block.
-    ensures printed { OnOk result (ChecksFile file.now.table file.now.name.now
-        (P.moves progress.old) (P.moves progress.new)
-        (W.contents output.old) (W.contents output.new)) }
-    // No fault is counted exactly where the file's bytes store a list;
-    ensures sound { IfOk result (λ faults. faults ≡ 0 → IsSoundTable file.now.table) }
-    ensures complete { IsSoundTable file.now.table → IfOk result (λ faults. faults ≡ 0) }
-    // else the one that is found first, and each further block that does not load.
-    ensures count { IfOk result (λ faults. faults ≡ fault_count file.now.table) }
-    // What is wrong of the file is no error: no error names it.
-    ensures unnamed { IfErr result NamesNone }
+) -> Result<u64, ToolError<'a>>
+    // No fault is counted exactly if the bytes of the file store a list.
+    ensures sound { IfOk result (λ faults. faults ≡ 0 → spec.IsSoundTable file.now.table) }
+    ensures complete { spec.IsSoundTable file.now.table → IfOk result (λ faults. faults ≡ 0) }
+    // A fault of the file is not an error, so no error names it.
+    ensures unnamed { IfErr result spec.NamesNone }
 {
     let looked = look_at(&file.table, progress);
     match looked.verdict {
@@ -88,47 +64,18 @@ pub fn verify<'a, A: Allocator + Copy, W: Write, P: Progress>(
             print_sound(output, file.name, &verified, looked.blocks)?;
             Ok(0)
         }
-        Err(VerifyError::OutOfMemory) => Err(ShowError::OutOfMemory),
+        Err(VerifyError::OutOfMemory) => Err(ToolError::Refused(Error::OutOfMemory)),
         Err(VerifyError::Found(finding)) => {
             print_faults(alloc, output, file, &finding, looked.blocks)
         }
     }
 }
 
-// Writes the line of what is found first, and those of the further blocks that do not load. Answers
-// how many lines there are.
-fn print_faults<'a, A: Allocator + Copy, W: Write>(
-    alloc: A,
-    output: &mut W,
-    file: &NamedTable<'a, A>,
-    finding: &Finding,
-    blocks: u64,
-) -> Result<u64, ShowError<'a>>
-    ensures printed { OnOk result (PrintsText
-        (IsVerifyText file.now.table file.now.name.now blocks (Err finding.now))
-        (W.contents output.old) (W.contents output.new)) }
-    ensures count { IfOk result (λ count.
-        count ≡ min (1 + further_count file.now.table finding.now) (2 ^ 64 - 1)) }
-    ensures unnamed { IfErr result NamesNone }
-{
-    print_first(output, file.name, finding, blocks)?;
-    let further = print_further(alloc, output, file, finding)?;
-    Ok(further.saturating_add(1))
-}
-
-// Reads a table's blocks.
+// Reads the blocks of a table.
 fn look_at<A: Allocator + Clone, P: Progress>(table: &Table<A>, progress: &mut P) -> Looked
-    // What is found is wrong in the next block.
-    ensures reads { ReadsUpTo (verifying table.now) (P.moves progress.old) (P.moves progress.new)
-        result.blocks (λ v. IfErr result.verdict (λ e. Misses e (next_of v))) }
-    // Of a sound table all blocks are read.
-    ensures whole { IfOk result.verdict (λ _.
-        result.blocks ≡ min (steps_of (verifying table.now)) (2 ^ 64 - 1)) }
-    ensures returned { let t = table.now in
-        Finds (λ (v : Verification). v) result.verdict (table_found (body_of t.bytes) t.parts) }
     ensures sound { IfOk result.verdict (λ _.
-        (es : List Entry) × StoresList table.now.bytes es) }
-    ensures complete { (es : List Entry) → StoresList table.now.bytes es →
+        (es : List spec.Entry) × spec.StoresList table.now.bytes es) }
+    ensures complete { (es : List spec.Entry) → spec.StoresList table.now.bytes es →
         IfErr result.verdict (λ e. e ≡ OutOfMemory) }
 {
     let Ok(mut verification) = table.verification() else {
@@ -142,22 +89,15 @@ fn look_at<A: Allocator + Clone, P: Progress>(table: &Table<A>, progress: &mut P
     looked
 }
 
-// Reads what a verification has before it. The data blocks have so many bytes in all.
+// Runs a verification to its end. The data blocks have `all` bytes.
 fn look_on<A: Allocator + Clone, P: Progress>(
-    verification: &mut Steps<A>,
+    verification: &mut Verification<A>,
     all: u64,
     progress: &mut P,
 ) -> Looked
-    requires { all ≡ verification.old.table.parts.facts.file_size }
-    ensures reads { ReadsUpTo verification.old (P.moves progress.old) (P.moves progress.new)
-        result.blocks (λ v. IfErr result.verdict (λ e. Misses e (next_of v))) }
-    ensures whole { IfOk result.verdict (λ _.
-        result.blocks ≡ min (steps_of verification.old) (2 ^ 64 - 1)) }
-    ensures returned { let t = verification.old.table in
-        Finds (λ (v : Verification). v) result.verdict (table_found (body_of t.bytes) t.parts) }
     ensures sound { IfOk result.verdict (λ _.
-        (es : List Entry) × StoresList verification.old.table.bytes es) }
-    ensures complete { (es : List Entry) → StoresList verification.old.table.bytes es →
+        (es : List spec.Entry) × spec.StoresList verification.old.table.bytes es) }
+    ensures complete { (es : List spec.Entry) → spec.StoresList verification.old.table.bytes es →
         IfErr result.verdict (λ e. e ≡ OutOfMemory) }
 {
     let mut blocks = 0u64;
@@ -183,66 +123,119 @@ fn look_on<A: Allocator + Clone, P: Progress>(
     }
 }
 
-// Writes a line for each block that does not load but one of which the finding says it already.
-// Answers how many lines there are.
-fn print_further<'a, A: Allocator + Copy, W: Write>(
+// Writes the line of a valid file.
+fn print_sound<W: Write>(
+    output: &mut W,
+    name: &str,
+    verified: &Verified,
+    blocks: u64,
+) -> io::Result<()> {
+    let (entries, data) = (verified.item_count, verified.data_block_count);
+    let entry_word = word_for(entries, "entry", "entries");
+    let data_word = word_for(data, "data block", "data blocks");
+    let word = word_for(blocks, "block", "blocks");
+    writeln!(
+        output,
+        "{name}: sound, {entries} {entry_word} in {data} {data_word}, {blocks} {word} read"
+    )
+}
+
+// Writes the line of the first fault, and a line for each further block that does not load. Returns
+// the number of lines.
+fn print_faults<'a, A: Allocator + Copy, W: Write>(
     alloc: A,
     output: &mut W,
     file: &NamedTable<'a, A>,
     finding: &Finding,
-) -> Result<u64, ShowError<'a>>
-    ensures printed { let body = body_of file.now.table.bytes in OnOk result (PrintsText
-        (AreJoined (IsUnloadedLine file.now.name.now) (further_faults body (Some finding.now)
-        (named_blocks body file.now.table.parts)))
-        (W.contents output.old) (W.contents output.new)) }
-    ensures count { IfOk result (λ count. count ≡ further_count file.now.table finding.now) }
-    ensures unnamed { IfErr result NamesNone }
+    blocks: u64,
+) -> Result<u64, ToolError<'a>>
+    ensures some { IfOk result (λ count. 0 < count) }
+    ensures unnamed { IfErr result spec.NamesNone }
 {
-    match source_of(alloc, &file.table) {
-        Ok(source) => print_named(alloc, output, file, finding, &source),
-        Err(_) => Err(ShowError::OutOfMemory),
-    }
+    print_first(output, file.name, finding, blocks)?;
+    let further = match file_blocks(alloc, &file.table) {
+        Ok((source, blocks)) => print_unloaded(output, file.name, Some(finding), &source, &blocks)?,
+        Err(_) => return Err(ToolError::Refused(Error::OutOfMemory)),
+    };
+    Ok(further.saturating_add(1))
 }
 
-// Writes a line for each block that the file's bytes name and that does not load, but one of which
-// the finding says it already. Answers how many lines there are.
-fn print_named<'a, A: Allocator + Copy, W: Write>(
-    alloc: A,
+// Writes the line of the first fault, after so many valid blocks.
+fn print_first<W: Write>(
     output: &mut W,
-    file: &NamedTable<'a, A>,
+    name: &str,
     finding: &Finding,
-    source: &BlockSource<A>,
-) -> Result<u64, ShowError<'a>>
-    requires { source.now ≡ file.now.table.bytes }
-    ensures printed { let body = body_of file.now.table.bytes in OnOk result (PrintsText
-        (AreJoined (IsUnloadedLine file.now.name.now) (further_faults body (Some finding.now)
-        (named_blocks body file.now.table.parts)))
-        (W.contents output.old) (W.contents output.new)) }
-    ensures count { IfOk result (λ count. count ≡ further_count file.now.table finding.now) }
-    ensures unnamed { IfErr result NamesNone }
-{
-    let inner: &TableInner<A> = &file.table;
-    match named_blocks(alloc, source, inner) {
-        Ok(blocks) => print_unloaded(output, file.name, Some(finding), source, &blocks),
-        Err(_) => Err(ShowError::OutOfMemory),
+    blocks: u64,
+) -> io::Result<()> {
+    let place = BlockPlace {
+        section: finding.section,
+        offset: finding.offset,
+    };
+    write!(output, "{name}: {place}: ")?;
+    print_fault(output, &finding.fault)?;
+    let word = word_for(blocks, "block before it is", "blocks before it are");
+    writeln!(output, ", {blocks} {word} sound")
+}
+
+fn print_fault<W: Write>(output: &mut W, fault: &Fault) -> io::Result<()> {
+    match fault {
+        Fault::Unloaded(error) => {
+            let number = error.number();
+            write!(output, "{error} ({number})")
+        }
+        Fault::Unfiltered(error) => {
+            let number = error.number();
+            write!(output, "the filter's block of a key: {error} ({number})")
+        }
+        Fault::Unborne(item) => {
+            output.write_all(b"the entries do not bear out the meta item ")?;
+            output.write_all(item.key())
+        }
+        fault => output.write_all(fault_text(fault).as_bytes()),
     }
 }
 
-/// Writes a line for each block that does not load of a file that does not open as a table: of its
-/// meta block, its filter, its index and its data, as far as its bytes tell where these lie.
-/// Answers how many lines there are. Refused with the first failure to write, and for want of
-/// memory; what was written stays.
+// The text of a fault that has neither an error nor an item.
+fn fault_text(fault: &Fault) -> &'static str {
+    match fault {
+        Fault::Unloaded(_) => "the block does not load",
+        Fault::Hollow => "no entry, or no handle",
+        Fault::Misplaced => "the block does not begin where the one before it ended",
+        Fault::TooHigh => "an entry has the number 18446744073709551615",
+        Fault::Unordered => "an entry does not follow on the one before it",
+        Fault::Denied => "a key is denied by the filter",
+        Fault::Unfiltered(_) => "a key's block of the filter does not load",
+        Fault::OtherKey => "the block does not end with the key that its handle names",
+        Fault::OtherNumber => "the block does not end with the number that its handle names",
+        Fault::Unborne(_) => "the entries do not bear out an item of the meta block",
+        Fault::Unnamed => "a data block that no handle names",
+        Fault::OtherChecksum => "the file has another checksum than the one that was given",
+    }
+}
+
+// The bytes of a table, and its blocks.
+type Blocks<A> = (BlockSource<A>, Vec<NamedBlock, A>);
+
+fn file_blocks<A: Allocator + Copy>(alloc: A, table: &Table<A>) -> Result<Blocks<A>, Error> {
+    let source = source_of(alloc, table)?;
+    let inner: &TableInner<A> = table;
+    let blocks = named_blocks(alloc, &source, inner)?;
+    Ok((source, blocks))
+}
+
+/// Writes a line for each block that does not load, for a file that does not open as a table: its
+/// meta block, filter, index and data, as far as its bytes name them. Returns the number of lines.
+///
+/// # Errors
+///
+/// Fails with [`ToolError::Output`] and with `OutOfMemory`. Lines already written stay.
 pub fn verify_unopened<'a, A: Allocator + Copy, W: Write>(
     alloc: A,
     output: &mut W,
     name: &str,
     bytes: Slice<A>,
-) -> Result<u64, ShowError<'a>>
-    ensures printed { OnOk result (PrintsText
-        (AreJoined (IsUnloadedLine name.now) (unopened_faults bytes))
-        (W.contents output.old) (W.contents output.new)) }
-    ensures count { IfOk result (λ count. count ≡ unloaded_count bytes) }
-    ensures unnamed { IfErr result NamesNone }
+) -> Result<u64, ToolError<'a>>
+    ensures { IfErr result spec.NamesNone }
 {
     match BlockSource::new(alloc, bytes) {
         Ok(source) => print_regions(alloc, output, name, &source),
@@ -251,80 +244,68 @@ pub fn verify_unopened<'a, A: Allocator + Copy, W: Write>(
     }
 }
 
-// Writes a line for each block that does not load, as far as the trailer tells where blocks lie.
-// Answers how many lines there are.
+// Writes a line for each block of these regions that does not load. Returns the number of lines.
 fn print_regions<'a, A: Allocator + Copy, W: Write>(
     alloc: A,
     output: &mut W,
     name: &str,
     source: &BlockSource<A>,
-) -> Result<u64, ShowError<'a>>
-    ensures printed { OnOk result (PrintsText (AreJoined (IsUnloadedLine name.now)
-        (faults_in (body_of source.now) (places_result source.now)))
-        (W.contents output.old) (W.contents output.new)) }
-    ensures count { IfOk result (λ count. count ≡
-        unloaded_in (body_of source.now) (places_result source.now)) }
-    ensures unnamed { IfErr result NamesNone }
+) -> Result<u64, ToolError<'a>>
+    ensures { IfErr result spec.NamesNone }
 {
     let Ok(regions) = ParsedRegions::parse_from_toc(&source.toc()) else {
         return Ok(0);
     };
     match region_blocks(alloc, source, &regions) {
         Ok(blocks) => print_unloaded(output, name, None, source, &blocks),
-        Err(_) => Err(ShowError::OutOfMemory),
+        Err(_) => Err(ToolError::Refused(Error::OutOfMemory)),
     }
 }
 
-// Writes a line for each of these blocks that does not load, but one of which a finding says it
-// already. Answers how many lines there are.
+// Writes a line for each of these blocks that does not load, except for one that a finding already
+// names. Returns the number of lines.
 fn print_unloaded<'a, A: Allocator + Copy, W: Write>(
     output: &mut W,
     name: &str,
     finding: Option<&Finding>,
     source: &BlockSource<A>,
     blocks: &[NamedBlock],
-) -> Result<u64, ShowError<'a>>
-    ensures printed { let returned = option_map (λ (f : Bor FindingValue). f.now) finding.entry in
-        OnOk result (PrintsText (AreJoined (IsUnloadedLine name.now)
-        (further_faults (body_of source.now) returned blocks.now))
-        (W.contents output.old) (W.contents output.new)) }
-    ensures count { IfOk result (λ count. count ≡ further_of (body_of source.now)
-        (option_map (λ (f : Bor FindingValue). f.now) finding.entry) blocks.now) }
-    ensures unnamed { IfErr result NamesNone }
+) -> Result<u64, ToolError<'a>>
+    ensures { IfErr result spec.NamesNone }
 {
     let mut count = 0u64;
     for block in blocks {
-        let lines = print_block(output, name, finding, source, block)?;
-        count = count.saturating_add(lines);
+        match refusal_of(source, block) {
+            Ok(None) => {}
+            Ok(Some(_)) if is_told(finding, block) => {}
+            Ok(Some(error)) => {
+                print_unloaded_line(output, name, block.begin(), &error)?;
+                count = count.saturating_add(1);
+            }
+            Err(_) => return Err(ToolError::Refused(Error::OutOfMemory)),
+        }
     }
     Ok(count)
 }
 
-// Writes a line for a block that does not load, if no finding says it already. Answers how many
-// lines there are.
-fn print_block<'a, A: Allocator + Clone, W: Write>(
+fn print_unloaded_line<W: Write>(
     output: &mut W,
     name: &str,
-    finding: Option<&Finding>,
-    source: &BlockSource<A>,
-    block: &NamedBlock,
-) -> Result<u64, ShowError<'a>>
-    ensures printed { let returned = option_map (λ (f : Bor FindingValue). f.now) finding.entry in
-        OnOk result (PrintsText (AreJoined (IsUnloadedLine name.now)
-        (further_fault (body_of source.now) returned block.now))
-        (W.contents output.old) (W.contents output.new)) }
-    ensures count { let returned = option_map (λ (f : Bor FindingValue). f.now) finding.entry in
-        IfOk result (λ lines. lines ≡
-        (if is_further (body_of source.now) returned block.now then 1 else 0)) }
-    ensures unnamed { IfErr result NamesNone }
-{
-    match refusal_of(source, block) {
-        Ok(None) => Ok(0),
-        Ok(Some(_)) if is_told(finding, block) => Ok(0),
-        Ok(Some(error)) => {
-            print_unloaded_line(output, name, begin_of(block), &error)?;
-            Ok(1)
+    place: BlockPlace,
+    error: &Error,
+) -> io::Result<()> {
+    let number = error.number();
+    writeln!(output, "{name}: {place}: {error} ({number})")
+}
+
+// Whether a finding already says that a block does not load.
+fn is_told(finding: Option<&Finding>, block: &NamedBlock) -> bool {
+    match finding {
+        None => false,
+        Some(finding) => {
+            matches!(finding.fault, Fault::Unloaded(_))
+                && finding.section.place() == block.section.place()
+                && finding.offset == block.place.offset().0
         }
-        Err(_) => Err(ShowError::OutOfMemory),
     }
 }

@@ -1,123 +1,106 @@
-//! The entries of files, a line each.
+//! Prints the entries of files, one on each line.
 ghost use Rattle.std.specs.Prelude.{◌≡◌, ◌-◌, IfErr, IfOk, List, OnOk, Option, Some};
 ghost use Rattle.std.specs.Prelude.{false, length, true};
-ghost use Rattle.sst_entries.specs.Entry.{Entry};
-ghost use Rattle.sst_entries.specs.Lending.{entry_of_ref};
-ghost use Rattle.sst_entries.specs.Stream.{CanYield};
-ghost use Rattle.lsm_iters.specs.block_index.Yielded.{YieldsEnding};
-ghost use Rattle.lsm_readers.specs.Stored.{StoresList};
-ghost use Rattle.lsm_runs.specs.RunLists.{YieldsList};
-ghost use Rattle.tool_show.specs.Failures.{BlamesNoFile, FailsAs, IfNamed, IfRefusal, NamesNone};
-ghost use Rattle.tool_show.specs.Failures.{NamesOnly};
-ghost use Rattle.tool_show.specs.Printed.{DealsTo, PrintsLine, PrintsLines, PrintsResults, Outcome};
-ghost use Rattle.tool_show.specs.Printed.{ShowsItem, before_error, chosen, dumped, first_error, from_key};
-ghost use Rattle.tool_show.specs.Printed.{readable, up_to_key};
+ghost use Rattle.tool_show.specs.Words as spec;
 
-use crate::error::Failure;
-use crate::{NamedTable, ShowError};
+use crate::NamedTable;
 use lsm_readers::Table;
 use sst_blocks::{EntryRef, IterItem, Lending, Slice, UserKey};
 use std::alloc::Allocator;
 use std::io::Write;
 use std::ops::Bound;
+use tool_files::ToolError;
 use tool_lines::{Format, append_entry};
 
-/// Which entries of a file are dumped, and how.
+/// The entries of a file to print, and their format.
 #[derive(Clone, Copy, Debug)]
 pub struct DumpOptions<'a> {
-    /// The first key, if there is one: keys below it are passed over.
+    /// The first key, if there is one. Smaller keys are skipped.
     pub from: Option<&'a [u8]>,
-    /// The key before which it ends, if there is one.
+    /// The end of the keys, excluded, if there is one.
     pub to: Option<&'a [u8]>,
-    /// Whether the file is read from its last entry to its first.
+    /// Whether the entries are printed from the last to the first.
     pub reverse: bool,
-    /// How an entry stands on its line.
+    /// The format of an entry's line.
     pub format: Format,
 }
 
-/// Writes the entries of a file, each on a line, `left` of them at most. Answers how many more
-/// might have been written. Refused with the first failure; what was written stays.
+/// Writes entries of a file, one on each line, at most `left` of them. Returns `left` less those
+/// written.
+///
+/// # Errors
+///
+/// Fails with the first error of the file's blocks, with [`ToolError::Output`], and with
+/// `OutOfMemory`. Lines already written stay.
 pub fn dump<'a, A: Allocator + Copy, W: Write>(
     alloc: A,
     output: &mut W,
     file: &NamedTable<'a, A>,
     options: &DumpOptions<'_>,
     left: u64,
-) -> Result<u64, ShowError<'a>>
-    // Whatever the bytes, what is printed are entries that can be read between the keys, in their
-    // order or from the last on, as many as may be: no refusal is passed over.
-    ensures returned { OnOk result (PrintsResults options.now.format
-        (dumped options.now.reverse left (readable options.now file.now.table))
-        (W.contents output.old) (W.contents output.new)) }
-    // Of a list they are its entries.
-    ensures printed { let t = file.now.table in (es : List Entry) → StoresList t.bytes es →
-        OnOk result (PrintsLines options.now.format
-        (dumped options.now.reverse left (chosen options.now t es))
-        (W.contents output.old) (W.contents output.new)) }
-    ensures left { let t = file.now.table in (es : List Entry) → StoresList t.bytes es →
+) -> Result<u64, ToolError<'a>>
+    // Whatever the bytes, on success all items in the range, in this order and up to this number,
+    // are entries. No error is skipped.
+    ensures returned { OnOk result ((es : List spec.Entry)
+        × (spec.dumped options.now.reverse left (spec.readable options.now file.now.table)
+        ≡ spec.ok_results es)) }
+    // If the bytes store a list, these are its entries.
+    ensures left { let t = file.now.table in (es : List spec.Entry) → spec.StoresList t.bytes es →
         IfOk result (λ rest. rest ≡
-        left - length (dumped options.now.reverse left (chosen options.now t es))) }
+        left - length (spec.dumped options.now.reverse left (spec.chosen options.now t es))) }
     ensures rest { IfOk result (λ rest. rest ≡
-        left - length (dumped options.now.reverse left (readable options.now file.now.table))) }
-    // Where a file is named, it is this one, with the first refusal of what is read, and the first
-    // block that is refused so; and its bytes store no list.
-    ensures named { let read = dumped options.now.reverse left (readable options.now file.now.table)
-        in IfErr result (NamesOnly file.now (λ e. first_error read ≡ Some e)) }
-    ensures sound { (es : List Entry) → StoresList file.now.table.bytes es →
-        IfErr result NamesNone }
-    // Before that the lines of the entries were printed that come before it.
-    ensures before { let read = dumped options.now.reverse left
-        (readable options.now file.now.table) in IfErr result
-        (IfNamed (PrintsLines options.now.format (before_error read)
-        (W.contents output.old) (W.contents output.new))) }
+        left - length (spec.dumped options.now.reverse left
+        (spec.readable options.now file.now.table))) }
+    // An error that names a file names this one, with the first error in the range. Its bytes store
+    // no list then.
+    ensures named { let read = spec.dumped options.now.reverse left
+        (spec.readable options.now file.now.table)
+        in IfErr result (spec.NamesOnly file.now (λ e. spec.first_error read ≡ Some e)) }
+    ensures sound { (es : List spec.Entry) → spec.StoresList file.now.table.bytes es →
+        IfErr result spec.NamesNone }
 {
     match dump_table(alloc, output, &file.table, options, left) {
         Ok(rest) => Ok(rest),
-        Err(failure) => Err(failure.of_file(alloc, file)),
+        Err(error) => Err(file.blame(alloc, error)),
     }
 }
 
-// The entries of one table. Answers how many more may be written.
+// Prints the entries of one table. Returns how many more may be written.
 fn dump_table<A: Allocator + Copy, W: Write>(
     alloc: A,
     output: &mut W,
     table: &Table<A>,
     options: &DumpOptions<'_>,
     left: u64,
-) -> Result<u64, Failure>
-    ensures returned { OnOk result (PrintsResults options.now.format
-        (dumped options.now.reverse left (readable options.now table.now))
-        (W.contents output.old) (W.contents output.new)) }
-    ensures printed { let t = table.now in (es : List Entry) → StoresList t.bytes es →
-        OnOk result (PrintsLines options.now.format
-        (dumped options.now.reverse left (chosen options.now t es))
-        (W.contents output.old) (W.contents output.new)) }
-    ensures left { let t = table.now in (es : List Entry) → StoresList t.bytes es →
+) -> Result<u64, ToolError<'static>>
+    ensures returned { OnOk result ((es : List spec.Entry)
+        × (spec.dumped options.now.reverse left (spec.readable options.now table.now)
+        ≡ spec.ok_results es)) }
+    ensures left { let t = table.now in (es : List spec.Entry) → spec.StoresList t.bytes es →
         IfOk result (λ rest. rest ≡
-        left - length (dumped options.now.reverse left (chosen options.now t es))) }
+        left - length (spec.dumped options.now.reverse left (spec.chosen options.now t es))) }
     ensures rest { IfOk result (λ rest. rest ≡
-        left - length (dumped options.now.reverse left (readable options.now table.now))) }
-    ensures refused { let read = dumped options.now.reverse left (readable options.now table.now) in
-        IfErr result (FailsAs (λ e. first_error read ≡ Some e)) }
-    ensures sound { (es : List Entry) → StoresList table.now.bytes es →
-        IfErr result BlamesNoFile }
-    ensures before { let read = dumped options.now.reverse left (readable options.now table.now) in
-        IfErr result (IfRefusal (PrintsLines options.now.format (before_error read)
-        (W.contents output.old) (W.contents output.new))) }
+        left - length (spec.dumped options.now.reverse left
+        (spec.readable options.now table.now))) }
+    ensures refused { let read = spec.dumped options.now.reverse left
+        (spec.readable options.now table.now) in
+        IfErr result (spec.FailsAs (λ e. spec.first_error read ≡ Some e)) }
+    ensures sound { (es : List spec.Entry) → spec.StoresList table.now.bytes es →
+        IfErr result spec.NamesNone }
 {
     let bounds = bounds_of(alloc, options)?;
     let items = table.range(bounds.0, bounds.1)?;
     dump_items(alloc, output, items, options, left)
 }
 
-// The bounds of the keys that are asked for. Refused for want of memory alone.
+// Returns the bounds of the range. Fails only if memory runs out.
 fn bounds_of<A: Allocator + Copy>(
     alloc: A,
     options: &DumpOptions<'_>,
-) -> Result<(Bound<UserKey<A>>, Bound<UserKey<A>>), Failure>
-    ensures lower { IfOk result (λ bounds. bounds.0 ≡ from_key options.now.from) }
-    ensures upper { IfOk result (λ bounds. bounds.1 ≡ up_to_key options.now.to) }
-    ensures memory { IfErr result BlamesNoFile }
+) -> Result<(Bound<UserKey<A>>, Bound<UserKey<A>>), ToolError<'static>>
+    ensures lower { IfOk result (λ bounds. bounds.0 ≡ spec.from_key options.now.from) }
+    ensures upper { IfOk result (λ bounds. bounds.1 ≡ spec.up_to_key options.now.to) }
+    ensures memory { IfErr result spec.NamesNone }
 {
     let lower = match options.from {
         None => Bound::Unbounded,
@@ -130,7 +113,7 @@ fn bounds_of<A: Allocator + Copy>(
     Ok((lower, upper))
 }
 
-// Generic in what has the entries, so that its parts are looked at once.
+// Generic in the iterator, so that its fields cost no proof here.
 fn dump_items<
     I: Lending + DoubleEndedIterator<Item = IterItem<A>> + Drop,
     A: Allocator + Copy,
@@ -141,28 +124,24 @@ fn dump_items<
     mut items: I,
     options: &DumpOptions<'_>,
     most: u64,
-) -> Result<u64, Failure>
-    requires can { CanYield I.advances I.next_back_gives I.can_advance I.can_next_back items }
-    // It prints the first items, all of which are entries, or in reverse the last ones.
-    ensures printed { (rs : List Outcome) → DealsTo I.advances I.next_back_gives rs items →
-        OnOk result (PrintsResults options.now.format (dumped options.now.reverse most rs)
-        (W.contents output.old) (W.contents output.new)) }
-    ensures left { (rs : List Outcome) → DealsTo I.advances I.next_back_gives rs items →
-        IfOk result (λ rest. rest ≡ most - length (dumped options.now.reverse most rs)) }
+) -> Result<u64, ToolError<'static>>
+    requires can { spec.CanYield I.advances I.next_back_gives I.can_advance I.can_next_back items }
+    // It prints the first items, or in reverse the last ones, and all of them are entries.
+    ensures returned { (rs : List spec.Outcome) →
+        spec.DealsTo I.advances I.next_back_gives rs items → OnOk result ((es : List spec.Entry)
+        × (spec.dumped options.now.reverse most rs ≡ spec.ok_results es)) }
+    ensures left { (rs : List spec.Outcome) → spec.DealsTo I.advances I.next_back_gives rs items →
+        IfOk result (λ rest. rest ≡ most - length (spec.dumped options.now.reverse most rs)) }
     // It fails with the first error among these items.
-    ensures refused { (rs : List Outcome) → YieldsEnding I.advances I.next_back_gives
+    ensures refused { (rs : List spec.Outcome) → spec.YieldsEnding I.advances I.next_back_gives
         (λ _. Unit {0}) (λ _. Unit {0}) items rs →
-        IfErr result (FailsAs (λ e. first_error (dumped options.now.reverse most rs) ≡ Some e)) }
-    ensures sound { (es : List Entry) → YieldsList I.advances I.next_back_gives es items →
-        IfErr result BlamesNoFile }
-    ensures before { (rs : List Outcome) → YieldsEnding I.advances I.next_back_gives
-        (λ _. Unit {0}) (λ _. Unit {0}) items rs →
-        IfErr result (IfRefusal (PrintsLines options.now.format
-        (before_error (dumped options.now.reverse most rs))
-        (W.contents output.old) (W.contents output.new))) }
+        IfErr result (spec.FailsAs (λ e. spec.first_error (spec.dumped options.now.reverse most rs)
+        ≡ Some e)) }
+    ensures sound { (es : List spec.Entry) → spec.YieldsList I.advances I.next_back_gives es items →
+        IfErr result spec.NamesNone }
 {
     let mut left = most;
-    // What stands behind the last of them is not read.
+    // No item after the last is read.
     while left > 0 {
         if !print_item(alloc, output, &mut items, options)? {
             return Ok(left);
@@ -172,20 +151,19 @@ fn dump_items<
     Ok(0)
 }
 
-// Prints the next entry, or in reverse the last one, and returns whether there was one.
+// Prints the next entry, or in reverse the last one. Returns whether there was one.
 fn print_item<I: Lending + DoubleEndedIterator<Item = IterItem<A>>, A: Allocator + Copy, W: Write>(
     alloc: A,
     output: &mut W,
     items: &mut I,
     options: &DumpOptions<'_>,
-) -> Result<bool, Failure>
+) -> Result<bool, ToolError<'static>>
     requires can { I.can_advance items.old }
     requires can_back { I.can_next_back items.old }
-    ensures { (item : Option Outcome)
+    ensures { (item : Option spec.Outcome)
         × (options.now.reverse ≡ false → I.advances items.old item items.new)
         × (options.now.reverse ≡ true → I.next_back_gives items.old item items.new)
-        × ShowsItem options.now.format item result
-        (W.contents output.old) (W.contents output.new) }
+        × spec.ShowsItem item result }
 {
     if options.reverse {
         print_last(alloc, output, items, options.format)
@@ -200,10 +178,10 @@ fn print_next<I: Lending, A: Allocator + Copy, W: Write>(
     output: &mut W,
     items: &mut I,
     format: Format,
-) -> Result<bool, Failure>
+) -> Result<bool, ToolError<'static>>
     requires { I.can_advance items.old }
-    ensures { (item : Option Outcome) × I.advances items.old item items.new
-        × ShowsItem format item result (W.contents output.old) (W.contents output.new) }
+    ensures { (item : Option spec.Outcome) × I.advances items.old item items.new
+        × spec.ShowsItem item result }
 {
     items.advance()?;
     let Some(entry) = items.entry() else {
@@ -219,10 +197,10 @@ fn print_last<I: DoubleEndedIterator<Item = IterItem<A>>, A: Allocator + Copy, W
     output: &mut W,
     items: &mut I,
     format: Format,
-) -> Result<bool, Failure>
+) -> Result<bool, ToolError<'static>>
     requires { I.can_next_back items.old }
-    ensures { (item : Option Outcome) × I.next_back_gives items.old item items.new
-        × ShowsItem format item result (W.contents output.old) (W.contents output.new) }
+    ensures { (item : Option spec.Outcome) × I.next_back_gives items.old item items.new
+        × spec.ShowsItem item result }
 {
     let Some(item) = items.next_back() else {
         return Ok(false);
@@ -236,10 +214,8 @@ fn print_entry<A: Allocator + Copy, W: Write>(
     output: &mut W,
     entry: &EntryRef<'_>,
     format: Format,
-) -> Result<(), Failure>
-    ensures printed { OnOk result (PrintsLine format (entry_of_ref entry.now)
-        (W.contents output.old) (W.contents output.new)) }
-    ensures sound { IfErr result BlamesNoFile }
+) -> Result<(), ToolError<'static>>
+    ensures { IfErr result spec.NamesNone }
 {
     let text = append_entry(alloc, Vec::new(alloc), entry, format)?;
     output.write_all(&text)?;

@@ -1,32 +1,17 @@
-//! What a table says of itself, as plain values.
-ghost use Rattle.std.specs.Prelude.{◌≡◌, ◌++◌, ℕ, IfErr, IfOk, List, Ok, OnOk, Result, Some};
-ghost use Rattle.std.specs.Prelude.{false, map, option_to_list};
-ghost use Rattle.std.specs.List.{filter_map};
-ghost use Rattle.sst_blocks.specs.Sections.{section_in, section_names};
-ghost use Rattle.sst_blocks.specs.Handle.{Handle};
-ghost use Rattle.sst_entries.specs.Error.{is_memory};
-ghost use Rattle.sst_entries.specs.declared.error.Error.{Error as Refusal};
-ghost use Rattle.sst_entries.specs.declared.error.Error.TheVariants.{OutOfMemory};
-ghost use Rattle.lsm_iters.specs.block_index.Yielded.{YieldsEnding};
-ghost use Rattle.lsm_iters.specs.block_index.Kinds.{BackGives, FrontGives};
-ghost use Rattle.tool_show.specs.Printed.{first_error};
-ghost use Rattle.tool_show.specs.Stats.{AreDataPlaces, data_handles, let_through, lies_at};
-ghost use Rattle.tool_show.specs.Stats.{named_as, section_place, sections_told, spread_by};
-ghost use Rattle.tool_show.specs.Stats.{stored_number, trailer_told};
-
+//! The metadata of a table, as plain values.
 use crate::blocks::source_of;
-use crate::names::section_name;
 use lsm_iters::{BlockIndex, BlockIndexIterImpl};
 use lsm_readers::Table;
-use sst_blocks::{Error, ItemName, KeyedBlockHandle, SectionName, TRAILER_LEN, Toc};
+use sst_blocks::{Error, ItemName, SectionName, TRAILER_LEN, Toc};
 use std::alloc::Allocator;
+use tool_files::section_name;
 
-/// Where something lies in a file, in bytes.
+/// A range of bytes in a file.
 #[derive(Clone, Copy)]
 pub(crate) struct Place {
-    /// Where it begins.
+    /// The offset of its first byte.
     pub(crate) offset: u64,
-    /// How long it is.
+    /// Its length in bytes.
     pub(crate) size: u64,
 }
 
@@ -37,16 +22,16 @@ pub(crate) struct NamedPlace {
     pub(crate) place: Place,
 }
 
-/// How an item of the meta block is shown.
+/// The form in which a meta item is printed.
 #[derive(Clone, Copy)]
 pub(crate) enum Shown {
-    /// As a number, which is stored with its lowest byte first.
+    /// A number, stored in little-endian order.
     Number,
-    /// As bytes.
+    /// Bytes.
     Bytes,
 }
 
-/// The items of the meta block, and how each is shown.
+/// The items of the meta block, with the form of each.
 pub(crate) const ITEMS: [(ItemName, Shown); 29] = [
     (ItemName::BlockCountData, Shown::Number),
     (ItemName::BlockCountFilter, Shown::Number),
@@ -90,161 +75,104 @@ const SECTIONS: [SectionName; 7] = [
     SectionName::Meta,
 ];
 
-/// The number of bytes that are stored with the lowest first, where it is below 2^64.
-pub(crate) fn little_endian(bytes: &[u8]) -> Option<u64>
-    ensures { result ≡ stored_number bytes.now }
-{
+/// Returns the little-endian number of these bytes, or `None` from 2^64 on.
+pub(crate) fn little_endian(bytes: &[u8]) -> Option<u64> {
     let mut number = 0u64;
-    let mut index = bytes.len();
-    while index > 0 {
-        index -= 1;
-        number = number
-            .checked_mul(256)?
-            .checked_add(u64::from(bytes[index]))?;
+    for byte in bytes.iter().rev() {
+        number = number.checked_mul(256)?.checked_add(u64::from(*byte))?;
     }
     Some(number)
 }
 
-/// The sections of a table, as its trailer tells where they lie, and the trailer. Refused for want
-/// of memory alone.
+/// Lists the sections of a table, as its trailer has them, and the trailer.
+///
+/// # Errors
+///
+/// Fails only if memory runs out.
 pub(crate) fn sections_of<A: Allocator + Copy>(
     alloc: A,
     table: &Table<A>,
-) -> Result<Vec<NamedPlace, A>, Error>
-    ensures all { IfOk result (λ sections.
-        map named_as sections.items ≡ sections_told table.now.bytes) }
-    ensures err { IfErr result (λ e. e ≡ OutOfMemory) }
-{
+) -> Result<Vec<NamedPlace, A>, Error> {
     let toc = source_of(alloc, table)?.toc();
     let mut sections = Vec::new(alloc);
     add_sections(&mut sections, &toc, &SECTIONS)?;
-    sections.push(trailer_of(table.file_len()))?;
+    sections.push(NamedPlace {
+        name: "trailer",
+        place: Place {
+            offset: table.file_len().saturating_sub(TRAILER_LEN) as u64,
+            size: TRAILER_LEN as u64,
+        },
+    })?;
     Ok(sections)
 }
 
-// Adds those of some sections that there are.
+// Adds the sections that the file has.
 fn add_sections<A: Allocator>(
     sections: &mut Vec<NamedPlace, A>,
     toc: &Toc,
     names: &[SectionName],
-) -> Result<(), Error>
-    ensures all { (bytes : List ℕ) → toc.now ≡ map (section_in bytes) section_names →
-        OnOk result (map named_as sections.new.items
-        ≡ map named_as sections.old.items ++ filter_map (section_place bytes) names.now) }
-    ensures err { IfErr result (λ e. e ≡ OutOfMemory) }
-{
+) -> Result<(), Error> {
     for name in names {
-        add_section(sections, toc, *name)?;
+        if let Some(section) = toc.section(*name) {
+            let place = Place {
+                offset: section.position,
+                size: section.len,
+            };
+            sections.push(NamedPlace {
+                name: section_name(*name),
+                place,
+            })?;
+        }
     }
     Ok(())
 }
 
-// Adds a section, where there is one.
-fn add_section<A: Allocator>(
-    sections: &mut Vec<NamedPlace, A>,
-    toc: &Toc,
-    name: SectionName,
-) -> Result<(), Error>
-    ensures all { (bytes : List ℕ) → toc.now ≡ map (section_in bytes) section_names →
-        OnOk result (map named_as sections.new.items
-        ≡ map named_as sections.old.items ++ option_to_list (section_place bytes name)) }
-    ensures err { IfErr result (λ e. e ≡ OutOfMemory) }
-{
-    if let Some(section) = toc.section(name) {
-        let place = Place {
-            offset: section.position,
-            size: section.len,
-        };
-        sections.push(NamedPlace {
-            name: section_name(name),
-            place,
-        })?;
-    }
-    Ok(())
-}
-
-// The trailer of a file that has so many bytes.
-fn trailer_of(len: usize) -> NamedPlace
-    ensures { named_as result ≡ trailer_told len }
-{
-    NamedPlace {
-        name: "trailer",
-        place: Place {
-            offset: len.saturating_sub(TRAILER_LEN) as u64,
-            size: TRAILER_LEN as u64,
-        },
-    }
-}
-
-/// Where the data blocks lie, by the index. Refused as the index's blocks are.
+/// Lists the data blocks, as the index has them.
+///
+/// # Errors
+///
+/// Fails as loading the blocks of the index does.
 pub(crate) fn blocks_of<A: Allocator + Copy>(
     alloc: A,
     table: &Table<A>,
-) -> Result<Vec<Place, A>, Error>
-    ensures all { IfOk result (λ places. AreDataPlaces table.now places.items) }
-    ensures refused { IfErr result (λ e. is_memory e ≡ false →
-        first_error (data_handles table.now) ≡ Some e) }
-{
-    let mut handles = handles_of(table)?;
+) -> Result<Vec<Place, A>, Error> {
+    let index = table.block_index()?;
+    let handles = index.iter();
+    drop(index);
+    let mut handles = handles?;
     let places = collect_places(alloc, &mut handles);
     drop(handles);
     places
 }
 
-// The handles of the data blocks. Refused for want of memory alone.
-fn handles_of<A: Allocator + Clone>(table: &Table<A>) -> Result<BlockIndexIterImpl<A>, Error>
-    ensures yields { IfOk result (λ handles. YieldsEnding FrontGives BackGives
-        (λ _. Unit {0}) (λ _. Unit {0}) handles (data_handles table.now)) }
-    ensures err { IfErr result (λ e. e ≡ OutOfMemory) }
-{
-    let index = table.block_index()?;
-    let handles = index.iter();
-    drop(index);
-    handles
-}
-
-// Where the blocks of some handles lie. Refused as their first error, and for want of memory. It
-// names the type of the handles: a function that is generic in them is dear where it is called.
+// Lists the blocks of these handles. Not generic in the iterator: that would cost more proof at the
+// call.
 fn collect_places<A: Allocator + Copy>(
     alloc: A,
     handles: &mut BlockIndexIterImpl<A>,
-) -> Result<Vec<Place, A>, Error>
-    ensures all { (rs : List (Result Handle Refusal)) → YieldsEnding FrontGives BackGives
-        (λ _. Unit {0}) (λ _. Unit {0}) handles.old rs → IfOk result (λ places.
-        (hs : List Handle) × (rs ≡ map (λ h. Ok h) hs) × (places.items ≡ map lies_at hs)) }
-    ensures refused { (rs : List (Result Handle Refusal)) → YieldsEnding FrontGives BackGives
-        (λ _. Unit {0}) (λ _. Unit {0}) handles.old rs →
-        IfErr result (λ e. is_memory e ≡ false → first_error rs ≡ Some e) }
-{
+) -> Result<Vec<Place, A>, Error> {
     let mut places = Vec::new(alloc);
     while let Some(handle) = handles.next() {
-        places.push(place_of_block(&handle?))?;
+        let handle = handle?;
+        places.push(Place {
+            offset: handle.offset().0,
+            size: u64::from(handle.size()),
+        })?;
     }
     Ok(places)
 }
 
-fn place_of_block<A: Allocator>(handle: &KeyedBlockHandle<A>) -> Place
-    ensures { result ≡ lies_at handle.now }
-{
-    Place {
-        offset: handle.offset().0,
-        size: u64::from(handle.size()),
-    }
-}
-
-/// A filter as it is spread over keys.
+/// The size of a filter for its number of keys.
 #[derive(Clone, Copy)]
 pub(crate) struct Spread {
-    /// Tenths of a bit for each key.
+    /// Bits for each key, in tenths.
     pub(crate) tenths: u64,
-    /// How many of a million keys that are not there it passes, about.
+    /// The expected number of absent keys that pass, of a million.
     pub(crate) passed: u64,
 }
 
-/// How a filter of so many bytes of bits is spread over so many keys; `None` for no keys.
-pub(crate) fn spread_of(bytes: u64, keys: u64) -> Option<Spread>
-    ensures { result ≡ spread_by bytes keys }
-{
+/// Returns the spread of a filter of so many bytes over so many keys, or `None` without keys.
+pub(crate) fn spread_of(bytes: u64, keys: u64) -> Option<Spread> {
     let bits = bytes.saturating_mul(8);
     let tenths = bits.saturating_mul(10).checked_div(keys)?;
     Some(Spread {
@@ -253,11 +181,9 @@ pub(crate) fn spread_of(bytes: u64, keys: u64) -> Option<Spread>
     })
 }
 
-// How many of a million keys pass so many tenths of a bit. With the best number of probes each bit
-// lets a share of 0.6185 of the keys through, and each tenth of a bit one of 0.9531.
-fn let_through(tenths: u64) -> u64
-    ensures { result ≡ let_through tenths }
-{
+// Returns how many of a million absent keys pass. With the best number of probes each bit lets
+// 0.6185 of the keys pass, and each tenth of a bit 0.9531.
+fn let_through(tenths: u64) -> u64 {
     let mut passed = 1_000_000u64;
     for _done in 0..tenths {
         passed = passed.saturating_mul(9531) / 10_000;

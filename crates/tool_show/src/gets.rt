@@ -1,31 +1,11 @@
-//! The version of a key that a reader sees.
-ghost use Rattle.std.specs.Prelude.{◌≡◌, ◌∷◌, [], List, IfErr, IfNone, IfOk, IfSome, OnOk};
-ghost use Rattle.std.specs.Prelude.{IsSomeAnd, None, Ok, Option, Some, false, is_some, map};
-ghost use Rattle.std.specs.Arc.{arc_value};
-ghost use Rattle.std.specs.Io.KnownBytes.{Appends};
-ghost use Rattle.std.specs.List.{AllByRecursion, flat_map};
-ghost use Rattle.std.specs.Option.{option_map};
-ghost use Rattle.lsm_sorted.specs.version.Run.{IsInOrder};
-ghost use Rattle.lsm_runs.specs.RunLists.{RunsHoldLists};
-ghost use Rattle.lsm_run_parts.specs.RunParts.{range_of};
-ghost use Rattle.lsm_runs.specs.SeveralRuns.{runs_result, union_in};
-ghost use Rattle.sst_entries.specs.Entry.{Entry};
-ghost use Rattle.sst_entries.specs.Error.{is_memory};
-ghost use Rattle.sst_entries.specs.Lending.{entry_of_ref};
-ghost use Rattle.sst_entries.specs.Point.{point};
-ghost use Rattle.sst_entries.specs.declared.error.Error.{Error as Refusal};
+//! Prints the visible version of a key.
+ghost use Rattle.std.specs.Prelude.{◌≡◌, ◌∷◌, [], List, IfErr, IfNone, IfOk, IfSome};
+ghost use Rattle.std.specs.Prelude.{None, Ok, Option, Some, false, is_some, map};
+ghost use Rattle.tool_show.specs.Words as spec;
 ghost use Rattle.sst_entries.specs.declared.error.Error.TheVariants.{OutOfMemory};
-ghost use Rattle.tool_show.specs.Failures.{BlamesFaulty, NamesFaulty, NamesNone, TellsRefusal};
-ghost use Rattle.tool_show.specs.Failures.{read_early, read_refusal};
-ghost use Rattle.tool_show.specs.Files.{IsSoundTable, runs_in};
-ghost use Rattle.tool_show.specs.Lines.{PrintsText};
-ghost use Rattle.tool_show.specs.Printed.{IsAnswer, PrintsFound, absent_line, file_loads};
-ghost use Rattle.tool_show.specs.Printed.{loads_text, seen_below};
 
-use crate::error::Failure;
-use crate::load_lines::print_loaded;
-use crate::loads::loaded_by;
-use crate::{NamedTable, ShowError};
+use crate::NamedTable;
+use crate::loads::{loaded_by, object_of, print_words};
 use lsm_readers::Table;
 use lsm_runs::get_runs_ref;
 use lsm_sorted::{Ranged, Run};
@@ -33,94 +13,89 @@ use sst_blocks::{EntryRef, Error, SeqNo};
 use std::alloc::Allocator;
 use std::io::Write;
 use std::sync::Arc;
+use tool_files::ToolError;
 use tool_lines::{Format, append_entry};
 
-/// What is read, and how it is shown.
+/// The key to read, and the format.
 #[derive(Clone, Copy, Debug)]
 pub struct GetOptions<'k> {
     /// The key.
     pub key: &'k [u8],
-    /// Below which number a version is seen; without one every version is.
+    /// The snapshot: versions with a smaller sequence number are visible. Without it all are.
     pub at: Option<SeqNo>,
-    /// Whether the blocks that were loaded are shown.
+    /// Whether the loaded blocks are printed.
     pub loads: bool,
-    /// How the entry stands on its line.
+    /// The format of the lines.
     pub format: Format,
 }
 
-/// The runs of files, each of one table.
+/// One run for each file, of one table.
 type Runs<A> = Vec<Arc<Run<Table<A>, A>, A>, A>;
 
-/// Writes the version of a key that a reader sees over all files, or that there is none (`none`,
-/// and as JSON `null`), and answers whether there is one. Then, if asked for, a line for each file:
-/// how many blocks of which kind were loaded for it, and where these begin; as JSON an object,
+/// Writes the newest version of a key that is visible in all files together, and returns whether
+/// there is one. Without one it writes `none`, or `null` as JSON.
+///
+/// With `loads` one more line for each file says how many blocks of each kind were loaded for it,
+/// and their offsets. As JSON it is an object,
 /// `{"name":"a.sst","loaded":{"data":1,..},"blocks":[{"section":"data","offset":0},..]}`.
+///
+/// # Errors
+///
+/// Fails with [`ToolError::Unreadable`] for the first file whose table cannot be read, with
+/// [`ToolError::Output`], and with `OutOfMemory`. Lines already written stay.
 pub fn get<'a, A: Allocator + Copy, W: Write>(
     alloc: A,
     output: &mut W,
     files: &[NamedTable<'a, A>],
     options: &GetOptions<'_>,
-) -> Result<bool, ShowError<'a>>
-    // Whatever the bytes, where each key range is well-formed it answers what the tables tell: no
-    // refusal is passed over.
-    ensures returned { AllByRecursion (IsInOrder range_of) (runs_in files.now) →
-        IfOk result (λ there. (found : Option Entry)
-        × (runs_result options.now.key.now (seen_below options.now) None (runs_in files.now)
-        ≡ Ok found) × (there ≡ is_some found)) }
-    // It prints that, and then the loads of each file, where these are asked for.
-    ensures shown { AllByRecursion (IsInOrder range_of) (runs_in files.now) →
-        OnOk result ((found : Option Entry)
-        × (runs_result options.now.key.now (seen_below options.now) None (runs_in files.now)
-        ≡ Ok found) × PrintsText (IsAnswer options.now files.now found)
-        (W.contents output.old) (W.contents output.new)) }
-    // Of files of lists there is one where these lists together have it.
-    ensures found { (lists : List (List (List Entry))) →
-        RunsHoldLists (runs_in files.now) lists → IfOk result (λ there.
-        there ≡ is_some (point (union_in lists) options.now.key.now (seen_below options.now))) }
-    // It is printed, or that there is none, and then the loads.
-    ensures printed { (lists : List (List (List Entry))) →
-        RunsHoldLists (runs_in files.now) lists →
-        OnOk result (PrintsText (IsAnswer options.now files.now
-        (point (union_in lists) options.now.key.now (seen_below options.now)))
-        (W.contents output.old) (W.contents output.new)) }
-    // Where a file is named, it is the first of these whose table refuses the read, with its
-    // refusal, and the first block that is refused so; its bytes store no list: of files of lists
-    // none is.
+) -> Result<bool, ToolError<'a>>
+    // Whatever the bytes, if each key range is well formed the result is that of the tables' reads.
+    // No error is skipped.
+    ensures returned { spec.AllByRecursion (spec.IsInOrder spec.range_of) (spec.runs_in files.now) →
+        IfOk result (λ there. (found : Option spec.Entry)
+        × (spec.runs_result options.now.key.now (spec.seen_below options.now) None
+        (spec.runs_in files.now) ≡ Ok found) × (there ≡ is_some found)) }
+    // If the files store lists, there is an entry exactly if these lists have a visible one.
+    ensures found { (lists : List (List (List spec.Entry))) →
+        spec.RunsHoldLists (spec.runs_in files.now) lists → IfOk result (λ there.
+        there ≡ is_some (spec.point (spec.union_in lists) options.now.key.now
+        (spec.seen_below options.now))) }
+    // An error that names a file names the first whose table cannot be read, with its error. It
+    // stores no list: if all do, no error names a file.
     ensures named { IfErr result
-        (NamesFaulty options.now.key.now (seen_below options.now) files.now) }
-    ensures sound { (lists : List (List (List Entry))) → RunsHoldLists (runs_in files.now) lists →
-        IfErr result NamesNone }
+        (spec.NamesFaulty options.now.key.now (spec.seen_below options.now) files.now) }
+    ensures sound { (lists : List (List (List spec.Entry))) →
+        spec.RunsHoldLists (spec.runs_in files.now) lists → IfErr result spec.NamesNone }
 {
     let runs = runs_of(alloc, files)?;
     let is_there = print_read(alloc, output, &runs, files, options)?;
     drop(runs);
-    print_loads(alloc, output, files, options)?;
+    if options.loads {
+        print_loads(alloc, output, files, options)?;
+    }
     Ok(is_there)
 }
 
-// Prints the version that a reader sees in the runs of files, borrowed from its table, and returns
-// whether there is one.
+// Prints the visible version in these runs, borrowed from its table. Returns whether there is one.
 fn print_read<'a, A: Allocator + Copy, W: Write>(
     alloc: A,
     output: &mut W,
     runs: &[Arc<Run<Table<A>, A>, A>],
     files: &[NamedTable<'a, A>],
     options: &GetOptions<'_>,
-) -> Result<bool, ShowError<'a>>
-    ensures returned { AllByRecursion (IsInOrder range_of) (map arc_value runs.now) →
-        IfOk result (λ there. (found : Option Entry)
-        × (runs_result options.now.key.now (seen_below options.now) None (map arc_value runs.now)
-        ≡ Ok found) × (there ≡ is_some found) × PrintsFound options.now.format found
-        (W.contents output.old) (W.contents output.new)) }
-    ensures list { (lists : List (List (List Entry))) →
-        RunsHoldLists (map arc_value runs.now) lists → IfOk result (λ there.
-        let found = point (union_in lists) options.now.key.now (seen_below options.now) in
-        (there ≡ is_some found) × PrintsFound options.now.format found
-        (W.contents output.old) (W.contents output.new)) }
+) -> Result<bool, ToolError<'a>>
+    ensures returned { spec.AllByRecursion (spec.IsInOrder spec.range_of)
+        (map spec.arc_value runs.now) → IfOk result (λ there. (found : Option spec.Entry)
+        × (spec.runs_result options.now.key.now (spec.seen_below options.now) None
+        (map spec.arc_value runs.now) ≡ Ok found) × (there ≡ is_some found)) }
+    ensures list { (lists : List (List (List spec.Entry))) →
+        spec.RunsHoldLists (map spec.arc_value runs.now) lists → IfOk result (λ there.
+        there ≡ is_some (spec.point (spec.union_in lists) options.now.key.now
+        (spec.seen_below options.now))) }
     ensures named { IfErr result
-        (NamesFaulty options.now.key.now (seen_below options.now) files.now) }
-    ensures sound { (lists : List (List (List Entry))) →
-        RunsHoldLists (map arc_value runs.now) lists → IfErr result NamesNone }
+        (spec.NamesFaulty options.now.key.now (spec.seen_below options.now) files.now) }
+    ensures sound { (lists : List (List (List spec.Entry))) →
+        spec.RunsHoldLists (map spec.arc_value runs.now) lists → IfErr result spec.NamesNone }
 {
     let seqno = seen_below(options);
     match get_runs_ref(runs, options.key, seqno) {
@@ -132,20 +107,20 @@ fn print_read<'a, A: Allocator + Copy, W: Write>(
     }
 }
 
-// The number below which a version is seen.
+// Returns the snapshot.
 fn seen_below(options: &GetOptions<'_>) -> SeqNo
-    ensures { result ≡ seen_below options.now }
+    ensures { result ≡ spec.seen_below options.now }
 {
     options.at.unwrap_or(SeqNo::MAX)
 }
 
-// Each file as a run.
+// Returns one run for each file.
 fn runs_of<'a, A: Allocator + Copy>(
     alloc: A,
     files: &[NamedTable<'a, A>],
-) -> Result<Runs<A>, ShowError<'a>>
-    ensures ok { IfOk result (λ runs. map arc_value runs.items ≡ runs_in files.now) }
-    ensures unnamed { IfErr result NamesNone }
+) -> Result<Runs<A>, ToolError<'a>>
+    ensures ok { IfOk result (λ runs. map spec.arc_value runs.items ≡ spec.runs_in files.now) }
+    ensures unnamed { IfErr result spec.NamesNone }
 {
     let mut runs = Vec::new(alloc);
     for file in files {
@@ -158,9 +133,9 @@ fn runs_of<'a, A: Allocator + Copy>(
 fn run_of<'a, A: Allocator + Copy>(
     alloc: A,
     table: Table<A>,
-) -> Result<Run<Table<A>, A>, ShowError<'a>>
+) -> Result<Run<Table<A>, A>, ToolError<'a>>
     ensures ok { IfOk result (λ run. run ≡ table ∷ []) }
-    ensures unnamed { IfErr result NamesNone }
+    ensures unnamed { IfErr result spec.NamesNone }
 {
     let mut tables = Vec::new(alloc);
     tables.push(table)?;
@@ -170,54 +145,50 @@ fn run_of<'a, A: Allocator + Copy>(
     }
 }
 
-// A refusal of a read, with the first file whose table refuses it.
+// Returns the error of a read, with the first file that has one.
 fn refused_in<'a, A: Allocator + Copy>(
     alloc: A,
     error: Error,
     files: &[NamedTable<'a, A>],
     key: &[u8],
     seqno: SeqNo,
-) -> ShowError<'a>
-    ensures named { NamesFaulty key.now seqno files.now result }
-    ensures memory { error ≡ OutOfMemory → NamesNone result }
+) -> ToolError<'a>
+    ensures named { spec.NamesFaulty key.now seqno files.now result }
+    ensures memory { error ≡ OutOfMemory → spec.NamesNone result }
 {
     if error == Error::OutOfMemory {
-        return ShowError::OutOfMemory;
+        return ToolError::Refused(error);
     }
     for file in files {
         if let Some(refused) = refused_by(alloc, file, key, seqno) {
             return refused;
         }
     }
-    // Only want of memory on the way leads here.
-    ShowError::OutOfMemory
+    // Only memory that ran out on the way leads here.
+    ToolError::Refused(Error::OutOfMemory)
 }
 
-// The refusal of a file whose table is asked for a key and refuses it.
+// Returns the error of reading a file, if its table fails.
 fn refused_by<'a, A: Allocator + Copy>(
     alloc: A,
     file: &NamedTable<'a, A>,
     key: &[u8],
     seqno: SeqNo,
-) -> Option<ShowError<'a>>
-    ensures blamed { IfSome result (BlamesFaulty key.now seqno file.now) }
-    ensures none { IfNone result (read_refusal key.now seqno file.now.table ≡ None) }
-    // A refusal that is found before memory is taken is told, whatever memory there is.
-    ensures early { (e : Refusal) → read_early key.now seqno file.now.table ≡ Some e →
-        is_memory e ≡ false → IsSomeAnd result (TellsRefusal file.now e) }
+) -> Option<ToolError<'a>>
+    ensures blamed { IfSome result (spec.BlamesFaulty key.now seqno file.now) }
+    ensures none { IfNone result (spec.read_refusal key.now seqno file.now.table ≡ None) }
 {
     let error = refusal_of(&file.table, key, seqno)?;
-    Some(Failure::Refused(error).of_file(alloc, file))
+    Some(file.blame(alloc, ToolError::Refused(error)))
 }
 
-// Why a table refuses a read, if it is asked and does.
+// Returns the error of reading a key whose range covers it, if there is one.
 fn refusal_of<A: Allocator + Copy>(table: &Table<A>, key: &[u8], seqno: SeqNo) -> Option<Error>
-    ensures returned { IfSome result (λ e. is_memory e ≡ false →
-        read_refusal key.now seqno table.now ≡ Some e) }
-    ensures faulty { IfSome result (λ e. is_memory e ≡ false → IsSoundTable table.now → ⊥) }
-    ensures none { IfNone result (read_refusal key.now seqno table.now ≡ None) }
-    ensures early { (e : Refusal) → read_early key.now seqno table.now ≡ Some e →
-        result ≡ Some e }
+    ensures returned { IfSome result (λ e. spec.is_memory e ≡ false →
+        spec.read_refusal key.now seqno table.now ≡ Some e) }
+    ensures faulty { IfSome result (λ e. spec.is_memory e ≡ false → spec.IsSoundTable table.now →
+        ⊥) }
+    ensures none { IfNone result (spec.read_refusal key.now seqno table.now ≡ None) }
 {
     if table.key_range().contains_key(key) {
         table.get_by_key(key, seqno).err()
@@ -231,10 +202,8 @@ fn print_found<'a, A: Allocator + Copy, W: Write>(
     output: &mut W,
     found: &Option<EntryRef<'_>>,
     format: Format,
-) -> Result<(), ShowError<'a>>
-    ensures printed { OnOk result (PrintsFound format (option_map entry_of_ref found.now)
-        (W.contents output.old) (W.contents output.new)) }
-    ensures unnamed { IfErr result NamesNone }
+) -> Result<(), ToolError<'a>>
+    ensures { IfErr result spec.NamesNone }
 {
     match found {
         None => {
@@ -249,30 +218,23 @@ fn print_found<'a, A: Allocator + Copy, W: Write>(
     }
 }
 
-// What says that there is no entry.
-fn absent_line(format: Format) -> &'static [u8]
-    ensures { result.now ≡ absent_line format }
-{
+// The line that says that there is no entry.
+fn absent_line(format: Format) -> &'static [u8] {
     match format {
         Format::Lines => b"none\n",
         Format::Json => b"null\n",
     }
 }
 
-// Which blocks were loaded for each file, where that is asked for.
+// Prints the loaded blocks of each file.
 fn print_loads<'a, A: Allocator + Copy, W: Write>(
     alloc: A,
     output: &mut W,
     files: &[NamedTable<'a, A>],
     options: &GetOptions<'_>,
-) -> Result<(), ShowError<'a>>
-    ensures printed { OnOk result (Appends (W.contents output.old) (W.contents output.new)
-        (loads_text options.now files.now)) }
-    ensures unnamed { IfErr result NamesNone }
+) -> Result<(), ToolError<'a>>
+    ensures { IfErr result spec.NamesNone }
 {
-    if !options.loads {
-        return Ok(());
-    }
     for file in files {
         print_file(alloc, output, file, options)?;
     }
@@ -284,13 +246,18 @@ fn print_file<'a, A: Allocator + Copy, W: Write>(
     output: &mut W,
     file: &NamedTable<'a, A>,
     options: &GetOptions<'_>,
-) -> Result<(), ShowError<'a>>
-    ensures printed { OnOk result (Appends (W.contents output.old) (W.contents output.new)
-        (file_loads options.now file.now)) }
-    ensures unnamed { IfErr result NamesNone }
+) -> Result<(), ToolError<'a>>
+    ensures { IfErr result spec.NamesNone }
 {
     let Ok(loaded) = loaded_by(alloc, &file.table, options.key, seen_below(options)) else {
-        return Err(ShowError::OutOfMemory);
+        return Err(ToolError::Refused(Error::OutOfMemory));
     };
-    print_loaded(alloc, output, file.name, &loaded, options.format)
+    match options.format {
+        Format::Lines => print_words(output, file.name, &loaded)?,
+        Format::Json => {
+            let text = object_of(alloc, file.name, &loaded)?;
+            output.write_all(&text)?;
+        }
+    }
+    Ok(())
 }

@@ -1,40 +1,34 @@
-//! Which blocks a read of a key loads.
-ghost use Rattle.std.specs.Prelude.{◌≡◌, ◌++◌, IfErr, IfOk, OnOk};
-ghost use Rattle.sst_entries.specs.declared.error.Error.TheVariants.{OutOfMemory};
-ghost use Rattle.sst_blocks.specs.Sections.{body_of};
-ghost use Rattle.sst_blocks.specs.declared.section.SectionName.TheVariants.{Data, Filter};
-ghost use Rattle.tool_show.specs.Loads.{block_if, blocks_loaded, data_by};
-ghost use Rattle.tool_show.specs.Loads.{data_place, filter_place, index_place, index_section};
-ghost use Rattle.tool_show.specs.Loads.{loads_told};
-ghost use Rattle.tool_show.specs.Loads.{reached};
-
-use crate::BlockPlace;
+//! The blocks that a point read loads.
 use crate::blocks::{handles_in, source_of};
+use crate::members::{line_of, write_number, write_text};
+use json::Writer;
 use lsm_readers::{ParsedRegions, Table};
 use lsm_sorted::Ranged;
 use sst_blocks::{BlockHandle, BlockSource, Error, Opened, SectionName, SeqNo};
 use std::alloc::{AllocError, Allocator, Global};
+use std::io::{self, Write};
+use tool_files::{BlockPlace, section_name};
 
-/// What a read of a key loads of a table.
+/// The blocks that a point read loads from a table.
 #[derive(Drop)]
 pub(crate) struct TableLoads<A: Allocator = Global> {
-    /// How many blocks of each kind.
+    /// The number of blocks of each kind.
     pub(crate) opened: Opened,
-    /// Where those of the filter, of the index and of data begin.
+    /// The positions of those of the filter, the index and the data.
     pub(crate) places: Vec<BlockPlace, A>,
 }
 
-/// What a read of a key below a number loads of a table. Refused for want of memory alone.
+/// Returns what a point read at a snapshot loads from a table.
+///
+/// # Errors
+///
+/// Fails only if memory runs out.
 pub(crate) fn loaded_by<A: Allocator + Copy>(
     alloc: A,
     table: &Table<A>,
     key: &[u8],
     seqno: SeqNo,
-) -> Result<TableLoads<A>, Error>
-    ensures opened { IfOk result (λ l. l.opened ≡ loads_told table.now key.now seqno) }
-    ensures places { IfOk result (λ l. l.places.items ≡ blocks_loaded table.now key.now seqno) }
-    ensures err { IfErr result (λ e. e ≡ OutOfMemory) }
-{
+) -> Result<TableLoads<A>, Error> {
     let opened = loads_of_read(table, key, seqno)?;
     let low = seqno.saturating_sub(table.global_seqno());
     let asked = asked_places(alloc, table, key, low)?;
@@ -42,16 +36,13 @@ pub(crate) fn loaded_by<A: Allocator + Copy>(
     Ok(TableLoads { opened, places })
 }
 
-// How many blocks a read of a table loads, if its range has the key; else it is not asked. Refused
-// for want of memory alone, since not all is loaded then.
+// Returns the number of loads, which is zero if the key range does not have the key. Fails only if
+// memory runs out, since then not all is loaded.
 fn loads_of_read<A: Allocator + Copy>(
     table: &Table<A>,
     key: &[u8],
     seqno: SeqNo,
-) -> Result<Opened, Error>
-    ensures ok { IfOk result (λ o. o ≡ loads_told table.now key.now seqno) }
-    ensures err { IfErr result (λ e. e ≡ OutOfMemory) }
-{
+) -> Result<Opened, Error> {
     if !table.key_range().contains_key(key) {
         return Ok(Opened::none());
     }
@@ -62,17 +53,12 @@ fn loads_of_read<A: Allocator + Copy>(
     }
 }
 
-// Of the places that are asked those of blocks that were loaded.
+// Returns the positions of the blocks that were loaded.
 fn places_of_loads<A: Allocator + Copy>(
     alloc: A,
     opened: Opened,
     asked: &AskedPlaces,
-) -> Result<Vec<BlockPlace, A>, AllocError>
-    ensures { IfOk result (λ places. places.items
-        ≡ block_if Filter opened.filter_loads asked.now.filter
-        ++ (block_if asked.now.index_section opened.index_loads asked.now.index
-        ++ block_if Data opened.data_loads asked.now.data)) }
-{
+) -> Result<Vec<BlockPlace, A>, AllocError> {
     let mut places = Vec::new(alloc);
     add_loaded(
         &mut places,
@@ -95,16 +81,13 @@ fn places_of_loads<A: Allocator + Copy>(
     Ok(places)
 }
 
-// Adds a block, where one was loaded and its place is known.
+// Adds a block, if one was loaded and its handle is known.
 fn add_loaded<A: Allocator>(
     places: &mut Vec<BlockPlace, A>,
     section: SectionName,
     loads: u64,
     place: Option<BlockHandle>,
-) -> Result<(), AllocError>
-    ensures { OnOk result
-        (places.new.items ≡ places.old.items ++ block_if section loads place) }
-{
+) -> Result<(), AllocError> {
     match place {
         Some(place) if loads > 0 => {
             let offset = place.offset().0;
@@ -115,60 +98,40 @@ fn add_loaded<A: Allocator>(
     }
 }
 
-// Where the blocks lie that a read of a key asks, if it comes to them.
+// The blocks on the path of a point read.
 #[derive(Clone, Copy)]
 struct AskedPlaces {
-    // The block of the filter.
+    // the block of the filter
     filter: Option<BlockHandle>,
-    // The block of the index: a partition, or the one block of a full index.
+    // the block of the index: a partition, or the only block of a full index
     index: Option<BlockHandle>,
-    // The section that it is a part of.
+    // the section of that block
     index_section: SectionName,
-    // The data block.
+    // the data block
     data: Option<BlockHandle>,
 }
 
-// Where the blocks of a table lie that a read of a key below a stored number asks. Refused for want
-// of memory alone.
+// Returns the blocks on the path of a point read, at a snapshot in stored sequence numbers. Fails
+// only if memory runs out.
 fn asked_places<A: Allocator + Copy>(
     alloc: A,
     table: &Table<A>,
     key: &[u8],
     seqno: SeqNo,
-) -> Result<AskedPlaces, Error>
-    ensures filter { let t = table.now in IfOk result (λ p.
-        p.filter ≡ filter_place (body_of t.bytes) t.parts.regions key.now) }
-    ensures index { let t = table.now in IfOk result (λ p.
-        p.index ≡ index_place (body_of t.bytes) t.parts.regions key.now seqno) }
-    ensures section { IfOk result (λ p.
-        p.index_section ≡ index_section table.now.parts.regions) }
-    ensures data { let t = table.now in IfOk result (λ p.
-        p.data ≡ data_place (body_of t.bytes) t.parts.regions key.now seqno) }
-    ensures err { IfErr result (λ e. e ≡ OutOfMemory) }
-{
+) -> Result<AskedPlaces, Error> {
     let source = source_of(alloc, table)?;
     let asked = asked_in(&source, &table.regions, key, seqno);
     drop(source);
     asked
 }
 
-// Where the blocks of some regions of a table's bytes lie that such a read asks. Refused for want
-// of memory alone.
+// Returns the blocks of these regions on the path of a point read. Fails only if memory runs out.
 fn asked_in<A: Allocator + Copy>(
     source: &BlockSource<A>,
     regions: &ParsedRegions,
     key: &[u8],
     seqno: SeqNo,
-) -> Result<AskedPlaces, Error>
-    ensures filter { IfOk result (λ p.
-        p.filter ≡ filter_place (body_of source.now) regions.now key.now) }
-    ensures index { IfOk result (λ p.
-        p.index ≡ index_place (body_of source.now) regions.now key.now seqno) }
-    ensures section { IfOk result (λ p. p.index_section ≡ index_section regions.now) }
-    ensures data { IfOk result (λ p.
-        p.data ≡ data_place (body_of source.now) regions.now key.now seqno) }
-    ensures err { IfErr result (λ e. e ≡ OutOfMemory) }
-{
+) -> Result<AskedPlaces, Error> {
     let filter = filter_place(source, regions, key)?;
     let index = index_place(source, regions, key, seqno)?;
     let data = data_place(source, &index, key, seqno)?;
@@ -180,10 +143,8 @@ fn asked_in<A: Allocator + Copy>(
     })
 }
 
-// The section of the block of the index that a read asks.
-fn index_section(regions: &ParsedRegions) -> SectionName
-    ensures { result ≡ index_section regions.now }
-{
+// Returns the section of the index block on the path.
+fn index_section(regions: &ParsedRegions) -> SectionName {
     if regions.index.is_some() {
         SectionName::Index
     } else {
@@ -191,33 +152,25 @@ fn index_section(regions: &ParsedRegions) -> SectionName
     }
 }
 
-// Where the block of the filter lies that is asked for a key. Refused for want of memory alone.
+// Returns the filter block for a key. Fails only if memory runs out.
 fn filter_place<A: Allocator + Copy>(
     source: &BlockSource<A>,
     regions: &ParsedRegions,
     key: &[u8],
-) -> Result<Option<BlockHandle>, Error>
-    ensures ok { IfOk result (λ p.
-        p ≡ filter_place (body_of source.now) regions.now key.now) }
-    ensures err { IfErr result (λ e. e ≡ OutOfMemory) }
-{
+) -> Result<Option<BlockHandle>, Error> {
     match regions.filter_tli {
         None => Ok(regions.filter),
         Some(tops) => reached(source, &tops, key, SeqNo::MAX),
     }
 }
 
-// Where the block of the index lies that names the data block. Refused for want of memory alone.
+// Returns the index block that has the handle of the data block. Fails only if memory runs out.
 fn index_place<A: Allocator + Copy>(
     source: &BlockSource<A>,
     regions: &ParsedRegions,
     key: &[u8],
     seqno: SeqNo,
-) -> Result<Option<BlockHandle>, Error>
-    ensures ok { IfOk result (λ p.
-        p ≡ index_place (body_of source.now) regions.now key.now seqno) }
-    ensures err { IfErr result (λ e. e ≡ OutOfMemory) }
-{
+) -> Result<Option<BlockHandle>, Error> {
     let tli = regions.tli;
     if regions.index.is_none() {
         return Ok(Some(tli));
@@ -225,36 +178,89 @@ fn index_place<A: Allocator + Copy>(
     reached(source, &tli, key, seqno)
 }
 
-// Where the data block lies that a block of the index names, if there is one. Refused for want of
-// memory alone.
+// Returns the data block that an index block names, if there is one. Fails only if memory runs out.
 fn data_place<A: Allocator + Copy>(
     source: &BlockSource<A>,
     index: &Option<BlockHandle>,
     key: &[u8],
     seqno: SeqNo,
-) -> Result<Option<BlockHandle>, Error>
-    ensures ok { IfOk result (λ p. p ≡ data_by (body_of source.now) index.now key.now seqno) }
-    ensures err { IfErr result (λ e. e ≡ OutOfMemory) }
-{
+) -> Result<Option<BlockHandle>, Error> {
     match index {
         None => Ok(None),
         Some(place) => reached(source, place, key, seqno),
     }
 }
 
-// Where the first block lies whose handle in a block reaches a key and a number, if that block
-// loads. Refused for want of memory alone.
+// Returns the first handle in a block that reaches a key and sequence number. Returns `None` if the
+// block does not load. Fails only if memory runs out.
 fn reached<A: Allocator + Copy>(
     source: &BlockSource<A>,
     place: &BlockHandle,
     key: &[u8],
     seqno: SeqNo,
-) -> Result<Option<BlockHandle>, Error>
-    ensures ok { IfOk result (λ p. p ≡ reached (body_of source.now) place.now key.now seqno) }
-    ensures err { IfErr result (λ e. e ≡ OutOfMemory) }
-{
+) -> Result<Option<BlockHandle>, Error> {
     match handles_in(source, place)? {
         Some(handles) => Ok(handles.find(key, seqno)),
         None => Ok(None),
     }
+}
+
+/// Writes the loaded blocks of a file as a line of text.
+pub(crate) fn print_words<A: Allocator, W: Write>(
+    output: &mut W,
+    name: &str,
+    loaded: &TableLoads<A>,
+) -> io::Result<()> {
+    let opened = loaded.opened;
+    let (data, index) = (opened.data_loads, opened.index_loads);
+    let (filter, meta) = (opened.filter_loads, opened.meta_loads);
+    write!(
+        output,
+        "{name}: loaded data {data}, index {index}, filter {filter}, meta {meta}"
+    )?;
+    for place in &loaded.places {
+        write!(output, "; {place}")?;
+    }
+    output.write_all(b"\n")
+}
+
+/// Returns the loaded blocks of a file as a line with a JSON object.
+///
+/// # Errors
+///
+/// Fails only if memory runs out.
+pub(crate) fn object_of<A: Allocator + Copy>(
+    alloc: A,
+    name: &str,
+    loaded: &TableLoads<A>,
+) -> Result<Vec<u8, A>, AllocError> {
+    let mut writer = Writer::new(Vec::new(alloc));
+    writer.begin_object()?;
+    write_text(&mut writer, "name", name)?;
+    writer.key("loaded")?;
+    write_counts(&mut writer, loaded.opened)?;
+    writer.key("blocks")?;
+    writer.begin_array()?;
+    for place in &loaded.places {
+        write_place(&mut writer, *place)?;
+    }
+    writer.end_array()?;
+    writer.end_object()?;
+    line_of(writer)
+}
+
+fn write_counts<A: Allocator>(writer: &mut Writer<A>, opened: Opened) -> Result<(), AllocError> {
+    writer.begin_object()?;
+    write_number(writer, "data", opened.data_loads)?;
+    write_number(writer, "index", opened.index_loads)?;
+    write_number(writer, "filter", opened.filter_loads)?;
+    write_number(writer, "meta", opened.meta_loads)?;
+    writer.end_object()
+}
+
+fn write_place<A: Allocator>(writer: &mut Writer<A>, place: BlockPlace) -> Result<(), AllocError> {
+    writer.begin_object()?;
+    write_text(writer, "section", section_name(place.section))?;
+    write_number(writer, "offset", place.offset)?;
+    writer.end_object()
 }

@@ -1,31 +1,30 @@
-//! Members of objects of JSON.
-ghost use Rattle.std.specs.Prelude.{OnOk};
-ghost use Rattle.tool_lines.specs.ObjectLine.{HasMore};
-ghost use Rattle.tool_show.specs.Lines.{number_member, text_member};
-
+//! Members of JSON objects.
 use json::Writer;
 use std::alloc::{AllocError, Allocator};
 
-/// Writes a member that is a number.
+/// Writes a member with a number.
 pub(crate) fn write_number<A: Allocator>(
     writer: &mut Writer<A>,
     name: &str,
     number: u64,
-) -> Result<(), AllocError>
-    ensures { OnOk result (HasMore writer.old writer.new (number_member name.now number)) }
-{
+) -> Result<(), AllocError> {
     writer.key(name)?;
     writer.u64(number)
 }
 
-/// Writes a member that is a string.
+/// Writes a member with a string.
 pub(crate) fn write_text<A: Allocator>(
     writer: &mut Writer<A>,
     name: &str,
     text: &str,
-) -> Result<(), AllocError>
-    ensures { OnOk result (HasMore writer.old writer.new (text_member name.now text.now)) }
-{
+) -> Result<(), AllocError> {
     writer.key(name)?;
     writer.string(text)
+}
+
+/// Returns the text of a writer with a newline.
+pub(crate) fn line_of<A: Allocator>(writer: Writer<A>) -> Result<Vec<u8, A>, AllocError> {
+    let mut text = writer.into_inner();
+    text.push(b'\n')?;
+    Ok(text)
 }

@@ -1,63 +1,40 @@
-//! What tables say of themselves.
-ghost use Rattle.std.specs.Prelude.{◌≡◌, ◌-◌, ◌*◌, ◌/◌, ◌^◌, ◌==◌, IfErr, IfOk, None, OnOk, Some};
-ghost use Rattle.std.specs.Prelude.{codes, false, if◌then◌else◌, is_some, min};
-ghost use Rattle.std.specs.List.{flat_map};
-ghost use Rattle.std.specs.Io.KnownBytes.{Appends};
-ghost use Rattle.sst_entries.specs.Error.{is_memory};
-ghost use Rattle.tool_show.specs.Failures.{BlamesNoFile, FailsAs, NamesOnly};
-ghost use Rattle.tool_show.specs.Lines.{PrintsText};
-ghost use Rattle.tool_show.specs.Stats.{AreValuesOf, IsPartsText, IsPicturesText, IsStatObject};
-ghost use Rattle.tool_show.specs.Stats.{IsStatRefusal, IsStatText, data_line, each_text};
-ghost use Rattle.tool_show.specs.Stats.{filter_bits};
-ghost use Rattle.tool_show.specs.Stats.{filter_kind_text, item_line, item_number, item_text};
-ghost use Rattle.tool_show.specs.Stats.{kind_text, kinds_line, meta_fault, meta_value, number_as};
-ghost use Rattle.tool_show.specs.Stats.{passed_text, spread_by, spread_line, summary_text};
-ghost use Rattle.tool_show.specs.Stats.{title_line, value_text};
-ghost use Rattle.tool_lines.specs.declared.entry_line.Format.TheVariants.{Json, Lines};
-
-use crate::error::Failure;
+//! Prints the metadata of tables.
+use crate::NamedTable;
 use crate::facts::{
     ITEMS, NamedPlace, Place, Shown, Spread, blocks_of, little_endian, sections_of, spread_of,
 };
-use crate::picture::{print_blocks, print_left, print_sections};
-use crate::stat_object::print_object;
-use crate::{NamedTable, ShowError};
+use crate::picture::{print_blocks, print_sections};
+use crate::stat_object::object_of;
 use lsm_readers::{ParsedRegions, Table};
 use sst_blocks::{Error, Header, ItemName, Slice};
 use std::alloc::Allocator;
 use std::io::{self, Write};
+use tool_files::ToolError;
 use tool_lines::{Format, append_bytes};
 
-/// Writes what a table says of itself: the items of its meta block, its sections and its data
-/// blocks with their sizes and shares of the file, entries a block, the kinds of index and filter,
-/// the filter's bits a key, and how many of the keys that are not there it is expected to let
-/// through. As text, or as an object of JSON on a line. Refused with the first failure; what was
-/// written stays.
+/// Writes the metadata of a table, as text or as a JSON object on one line.
+///
+/// It has the meta items, the sections and data blocks with their sizes and shares of the file, the
+/// entries of a block, and the kinds of index and filter. Of the filter it has the bits for each
+/// key, and the share of absent keys that are expected to pass.
+///
+/// # Errors
+///
+/// Fails with [`ToolError::Unreadable`] if a block of the file does not load, with
+/// [`ToolError::Output`], and with `OutOfMemory`. Lines already written stay.
 pub fn stat<'a, A: Allocator + Copy, W: Write>(
     alloc: A,
     output: &mut W,
     file: &NamedTable<'a, A>,
     format: Format,
-) -> Result<(), ShowError<'a>>
-    // As text, what is printed is what the table tells,
-    ensures printed { format ≡ Lines → OnOk result (PrintsText
-        (IsStatText A file.now.table file.now.name.now)
-        (W.contents output.old) (W.contents output.new)) }
-    // and so it is as an object of JSON.
-    ensures object { format ≡ Json → OnOk result (PrintsText
-        (IsStatObject A file.now.table file.now.name.now)
-        (W.contents output.old) (W.contents output.new)) }
-    // Where a file is named, it is this one, with what its meta block refuses or its index first,
-    // and the first block that is refused so.
-    ensures named { IfErr result (NamesOnly file.now (IsStatRefusal file.now.table)) }
-{
+) -> Result<(), ToolError<'a>> {
     match stat_file(alloc, output, file, format) {
         Ok(()) => Ok(()),
-        Err(failure) => Err(failure.of_file(alloc, file)),
+        Err(error) => Err(file.blame(alloc, error)),
     }
 }
 
-/// What is shown of a table beside its items.
+/// The metadata of a table except for its items.
 #[derive(Drop)]
 pub(crate) struct Parts<A: Allocator> {
     pub(crate) size: u64,
@@ -74,29 +51,24 @@ fn stat_file<A: Allocator + Copy, W: Write>(
     output: &mut W,
     file: &NamedTable<'_, A>,
     format: Format,
-) -> Result<(), Failure>
-    ensures printed { format ≡ Lines → OnOk result (PrintsText
-        (IsStatText A file.now.table file.now.name.now)
-        (W.contents output.old) (W.contents output.new)) }
-    ensures object { format ≡ Json → OnOk result (PrintsText
-        (IsStatObject A file.now.table file.now.name.now)
-        (W.contents output.old) (W.contents output.new)) }
-    ensures refused { IfErr result (FailsAs (IsStatRefusal file.now.table)) }
-{
+) -> Result<(), ToolError<'static>> {
     let parts = parts_of(alloc, &file.table)?;
     match format {
         Format::Lines => print_text(alloc, output, file, &parts),
-        Format::Json => print_object(alloc, output, file, &parts),
+        Format::Json => {
+            let text = object_of(alloc, file, &parts)?;
+            Ok(output.write_all(&text)?)
+        }
     }
 }
 
-fn parts_of<A: Allocator + Copy>(alloc: A, table: &Table<A>) -> Result<Parts<A>, Error>
-    ensures are { IfOk result (AreValuesOf table.now) }
-    ensures refused { IfErr result (λ e. is_memory e ≡ false → IsStatRefusal table.now e) }
-{
+fn parts_of<A: Allocator + Copy>(alloc: A, table: &Table<A>) -> Result<Parts<A>, Error> {
     let keys = number_of(table, ItemName::KeyCount)?.unwrap_or(0);
     let filter_bytes = filter_bytes(table)?;
-    let spread = spread_of_filter(table, filter_bytes, keys);
+    let spread = match table.regions.filter {
+        Some(_) => spread_of(filter_bytes, keys),
+        None => None,
+    };
     let sections = sections_of(alloc, table)?;
     let blocks = blocks_of(alloc, table)?;
     Ok(Parts {
@@ -110,26 +82,15 @@ fn parts_of<A: Allocator + Copy>(alloc: A, table: &Table<A>) -> Result<Parts<A>,
     })
 }
 
-// How the filter is spread, if there is one.
-fn spread_of_filter<A: Allocator>(table: &Table<A>, bytes: u64, keys: u64) -> Option<Spread>
-    ensures { result ≡
-        (if is_some table.now.parts.regions.filter then spread_by bytes keys else None) }
-{
-    if table.regions.filter.is_some() {
-        spread_of(bytes, keys)
-    } else {
-        None
-    }
-}
-
-/// The value of an item of the meta block, if there is one. Refused as loading that block is.
+/// Returns the value of a meta item, if the table has it.
+///
+/// # Errors
+///
+/// Fails as loading the meta block does.
 pub(crate) fn item_of<A: Allocator + Copy>(
     table: &Table<A>,
     item: ItemName,
-) -> Result<Option<Slice<A>>, Error>
-    ensures ok { IfOk result (λ value. value ≡ meta_value table.now item) }
-    ensures refused { IfErr result (λ e. is_memory e ≡ false → meta_fault table.now ≡ Some e) }
-{
+) -> Result<Option<Slice<A>>, Error> {
     match table.meta_item(item) {
         Ok(value) => Ok(Some(value)),
         Err(Error::MetaKeyMissing) => Ok(None),
@@ -137,20 +98,15 @@ pub(crate) fn item_of<A: Allocator + Copy>(
     }
 }
 
-// The number of an item, if there is one.
-fn number_of<A: Allocator + Copy>(table: &Table<A>, item: ItemName) -> Result<Option<u64>, Error>
-    ensures ok { IfOk result (λ n. n ≡ item_number table.now item) }
-    ensures refused { IfErr result (λ e. is_memory e ≡ false → meta_fault table.now ≡ Some e) }
-{
+// Returns the number of a meta item, if the table has it.
+fn number_of<A: Allocator + Copy>(table: &Table<A>, item: ItemName) -> Result<Option<u64>, Error> {
     match item_of(table, item)? {
         Some(value) => Ok(little_endian(value.as_slice())),
         None => Ok(None),
     }
 }
 
-fn kind_of(has_partitions: bool) -> &'static str
-    ensures { result.now ≡ kind_text has_partitions }
-{
+fn kind_of(has_partitions: bool) -> &'static str {
     if has_partitions {
         "partitioned"
     } else {
@@ -158,22 +114,16 @@ fn kind_of(has_partitions: bool) -> &'static str
     }
 }
 
-fn filter_of(regions: &ParsedRegions) -> &'static str
-    ensures { result.now ≡ filter_kind_text regions.now }
-{
-    if regions.filter.is_some() {
-        kind_of(regions.filter_tli.is_some())
-    } else {
-        "none"
+fn filter_of(regions: &ParsedRegions) -> &'static str {
+    match regions.filter {
+        Some(_) => kind_of(regions.filter_tli.is_some()),
+        None => "none",
     }
 }
 
-// How many bytes of bits the filter has: each of its blocks has a header, and a byte that says how
-// many probes are made.
-fn filter_bytes<A: Allocator + Copy>(table: &Table<A>) -> Result<u64, Error>
-    ensures ok { IfOk result (λ bytes. bytes ≡ filter_bits table.now) }
-    ensures refused { IfErr result (λ e. is_memory e ≡ false → meta_fault table.now ≡ Some e) }
-{
+// Returns the bytes of bits of the filter. Each of its blocks also has a header and a byte with the
+// number of probes.
+fn filter_bytes<A: Allocator + Copy>(table: &Table<A>) -> Result<u64, Error> {
     let blocks = number_of(table, ItemName::BlockCountFilter)?.unwrap_or(1);
     let beside = blocks.saturating_mul(Header::serialized_len() as u64 + 1);
     Ok(u64::from(table.filter_size()).saturating_sub(beside))
@@ -184,185 +134,81 @@ fn print_text<A: Allocator + Copy, W: Write>(
     output: &mut W,
     file: &NamedTable<'_, A>,
     parts: &Parts<A>,
-) -> Result<(), Failure>
-    ensures printed { OnOk result (PrintsText
-        (IsPartsText file.now.table file.now.name.now parts.now)
-        (W.contents output.old) (W.contents output.new)) }
-    ensures refused { IfErr result (FailsAs (λ e. meta_fault file.now.table ≡ Some e)) }
-{
-    print_title(output, file.name, parts.size)?;
+) -> Result<(), ToolError<'static>> {
+    let (name, size) = (file.name, parts.size);
+    writeln!(output, "{name}: {size} bytes")?;
     print_items(alloc, output, &file.table, &ITEMS)?;
     print_summary(output, parts)?;
-    Ok(print_pictures(output, parts)?)
+    output.write_all(b"sections           offset        bytes   share\n")?;
+    print_sections(output, &parts.sections, size)?;
+    print_data(output, parts.blocks.len() as u64, parts.entries)?;
+    Ok(print_blocks(output, &parts.blocks, size)?)
 }
 
-fn print_title<W: Write>(output: &mut W, name: &str, size: u64) -> io::Result<()>
-    ensures { OnOk result (Appends (W.contents output.old) (W.contents output.new)
-        (title_line name.now size)) }
-{
-    writeln!(output, "{name}: {size} bytes")
-}
-
-// Items of the meta block, each on a line, where it is there.
+// Writes the meta items that the table has, one on each line.
 fn print_items<A: Allocator + Copy, W: Write>(
     alloc: A,
     output: &mut W,
     table: &Table<A>,
     items: &[(ItemName, Shown)],
-) -> Result<(), Failure>
-    ensures printed { OnOk result (Appends (W.contents output.old) (W.contents output.new)
-        (flat_map (item_line table.now) items.now)) }
-    ensures refused { IfErr result (FailsAs (λ e. meta_fault table.now ≡ Some e)) }
-{
+) -> Result<(), ToolError<'static>> {
     for (item, shown) in items {
-        print_item(alloc, output, table, *item, *shown)?;
+        if let Some(value) = item_of(table, *item)? {
+            print_item(alloc, output, *item, value.as_slice(), *shown)?;
+        }
     }
     Ok(())
 }
 
-// An item of the meta block on a line, where there is one.
+// Writes a meta item as a number, or else as a word.
 fn print_item<A: Allocator + Copy, W: Write>(
     alloc: A,
     output: &mut W,
-    table: &Table<A>,
     item: ItemName,
+    value: &[u8],
     shown: Shown,
-) -> Result<(), Failure>
-    ensures printed { OnOk result (Appends (W.contents output.old) (W.contents output.new)
-        (item_line table.now (item, shown))) }
-    ensures refused { IfErr result (FailsAs (λ e. meta_fault table.now ≡ Some e)) }
-{
-    match item_of(table, item)? {
-        Some(value) => print_value(alloc, output, item, &value, shown),
-        None => Ok(()),
+) -> Result<(), ToolError<'static>> {
+    let name = item_name(item);
+    write!(output, "  {name:<26} ")?;
+    if let Some(number) = number_shown(value, shown) {
+        return Ok(writeln!(output, "{number}")?);
     }
-}
-
-fn print_value<A: Allocator + Copy, W: Write>(
-    alloc: A,
-    output: &mut W,
-    item: ItemName,
-    value: &Slice<A>,
-    shown: Shown,
-) -> Result<(), Failure>
-    ensures printed { OnOk result (Appends (W.contents output.old) (W.contents output.new)
-        (item_text item shown (Some value.now))) }
-    ensures refused { IfErr result BlamesNoFile }
-{
-    output.write_all(b"  ")?;
-    print_left(output, item.key(), 26)?;
-    output.write_all(b" ")?;
-    print_shown(alloc, output, value.as_slice(), shown)?;
+    let text = append_bytes(Vec::new(alloc), value)?;
+    output.write_all(&text)?;
     Ok(output.write_all(b"\n")?)
 }
 
-// A value as a number, or else as a word.
-fn print_shown<A: Allocator + Copy, W: Write>(
-    alloc: A,
-    output: &mut W,
-    value: &[u8],
-    shown: Shown,
-) -> Result<(), Failure>
-    ensures printed { OnOk result (Appends (W.contents output.old) (W.contents output.new)
-        (value_text shown value.now)) }
-    ensures refused { IfErr result BlamesNoFile }
-{
-    if let Some(number) = number_shown(value, shown) {
-        return Ok(write!(output, "{number}")?);
-    }
-    let text = append_bytes(Vec::new(alloc), value)?;
-    Ok(output.write_all(&text)?)
+/// Returns the name of a meta item in a file.
+pub(crate) fn item_name(item: ItemName) -> &'static str {
+    str::from_utf8(item.key()).unwrap_or("of no name")
 }
 
-/// The number as which a value is shown, if it is shown as one.
-pub(crate) fn number_shown(value: &[u8], shown: Shown) -> Option<u64>
-    ensures { result ≡ number_as shown value.now }
-{
+/// Returns the number to print for a value, if it is a number.
+pub(crate) fn number_shown(value: &[u8], shown: Shown) -> Option<u64> {
     match shown {
         Shown::Number => little_endian(value),
         Shown::Bytes => None,
     }
 }
 
-fn print_summary<A: Allocator, W: Write>(output: &mut W, parts: &Parts<A>) -> io::Result<()>
-    ensures { let p = parts.now in OnOk result
-        (Appends (W.contents output.old) (W.contents output.new)
-        (summary_text p.index.now p.filter.now p.spread)) }
-{
-    print_kinds(output, parts.index, parts.filter)?;
-    match parts.spread {
-        Some(spread) => print_spread(output, spread),
-        None => Ok(()),
-    }
-}
-
-fn print_kinds<W: Write>(output: &mut W, index: &str, filter: &str) -> io::Result<()>
-    ensures { OnOk result (Appends (W.contents output.old) (W.contents output.new)
-        (kinds_line index.now filter.now)) }
-{
-    writeln!(output, "index {index}, filter {filter}")
-}
-
-fn print_spread<W: Write>(output: &mut W, spread: Spread) -> io::Result<()>
-    ensures { OnOk result (Appends (W.contents output.old) (W.contents output.new)
-        (spread_line spread)) }
-{
+// Writes the kinds, the bits of the filter for each key in tenths, and the share of keys that pass
+// in hundredths of a percent.
+fn print_summary<A: Allocator, W: Write>(output: &mut W, parts: &Parts<A>) -> io::Result<()> {
+    let (index, filter) = (parts.index, parts.filter);
+    writeln!(output, "index {index}, filter {filter}")?;
+    let Some(spread) = parts.spread else {
+        return Ok(());
+    };
     let (bits, tenths) = (spread.tenths / 10, spread.tenths % 10);
+    let (percent, rest) = (spread.passed / 10_000, spread.passed % 10_000 / 100);
     write!(output, "filter {bits}.{tenths} bits a key, about ")?;
-    print_passed(output, spread.passed)
+    writeln!(output, "{percent}.{rest:02} % false answers")
 }
 
-// How many of a million keys pass, in hundredths of a hundredth.
-fn print_passed<W: Write>(output: &mut W, passed: u64) -> io::Result<()>
-    ensures { OnOk result (Appends (W.contents output.old) (W.contents output.new)
-        (passed_text passed)) }
-{
-    let (percent, rest) = (passed / 10_000, passed % 10_000 / 100);
-    let (tens, ones) = (rest / 10, rest % 10);
-    writeln!(output, "{percent}.{tens}{ones} % false answers")
-}
-
-fn print_pictures<A: Allocator, W: Write>(output: &mut W, parts: &Parts<A>) -> io::Result<()>
-    ensures { let p = parts.now in OnOk result
-        (PrintsText (IsPicturesText p.sections.items p.blocks.items p.entries p.size)
-        (W.contents output.old) (W.contents output.new)) }
-{
-    output.write_all(b"sections           offset        bytes   share\n")?;
-    print_sections(output, &parts.sections, parts.size)?;
-    print_data(output, parts.blocks.len(), parts.entries)?;
-    print_blocks(output, &parts.blocks, parts.size)
-}
-
-// How many data blocks there are, and how many entries each has.
-fn print_data<W: Write>(output: &mut W, count: usize, entries: u64) -> io::Result<()>
-    ensures { OnOk result (Appends (W.contents output.old) (W.contents output.new)
-        (data_line count entries)) }
-{
-    write!(output, "data blocks {count}, ")?;
-    print_each(output, tenths_each(entries, count as u64))
-}
-
-// So many tenths of an entry.
-fn print_each<W: Write>(output: &mut W, tenths: u64) -> io::Result<()>
-    ensures { OnOk result (Appends (W.contents output.old) (W.contents output.new)
-        (each_text tenths)) }
-{
+// Writes the number of data blocks, and the entries of a block in tenths.
+fn print_data<W: Write>(output: &mut W, count: u64, entries: u64) -> io::Result<()> {
+    let tenths = entries.saturating_mul(10).checked_div(count).unwrap_or(0);
     let (each, rest) = (tenths / 10, tenths % 10);
-    let word = entry_word(tenths);
-    writeln!(output, "{each}.{rest} {word} each")
-}
-
-// The word for so many tenths of an entry.
-fn entry_word(tenths: u64) -> &'static str
-    ensures { result.now ≡ (if tenths == 10 then codes "entry" else codes "entries") }
-{
-    if tenths == 10 { "entry" } else { "entries" }
-}
-
-// Tenths of an entry for each block.
-fn tenths_each(entries: u64, count: u64) -> u64
-    ensures { result ≡
-        (if count == 0 then 0 else min (entries * 10) (2 ^ 64 - 1) / count) }
-{
-    entries.saturating_mul(10).checked_div(count).unwrap_or(0)
+    let word = if tenths == 10 { "entry" } else { "entries" };
+    writeln!(output, "data blocks {count}, {each}.{rest} {word} each")
 }

@@ -1,6 +1,6 @@
 use Rattle.std.proofs.Common.{◌≡◌, ◌∙◌, ◌∷◌, ◌+◌, [], ap, length-append, ℕ}
-use Rattle.lsm_tables.proofs.TableLaws.{all_append}
-use Rattle.lsm_tables.specs.Words.{OpenTable}
+use Rattle.sst_entries.proofs.Lists.{all_append}
+use Rattle.lsm_readers.specs.point.Table.{OpenTable}
 use Rattle.tool_files.specs.Opened.{IsToldByBytes}
 use Rattle.tool_files.proofs.Opened.{opened_more, stops_opening, told_memory}
 use Rattle.tool_files.proofs.open.open_tables.Goals as goal

@@ -1,6 +1,6 @@
 use Rattle.std.proofs.Common.{◌≡◌, length, take}
 use Rattle.std.specs.List.{AllByRecursion}
-use Rattle.lsm_tables.specs.Words.{OpenTable}
+use Rattle.lsm_readers.specs.point.Table.{OpenTable}
 use Rattle.tool_files.specs.Opened.{AreOpenedFrom, IsToldByBytes}
 use Rattle.tool_files.proofs.open.open_tables.Given as goal
 

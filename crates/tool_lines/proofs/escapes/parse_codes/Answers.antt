@@ -1,7 +1,7 @@
-use Rattle.std.proofs.Common.{sym, subst, List, ℕ, [], append-nil, refl, inl}
+use Rattle.std.proofs.Common.{sym, subst, List, ℕ, [], append-nil, refl}
 use Rattle.tool_lines.specs.Escapes.{AreCodes}
 use Rattle.tool_lines.proofs.EscapeLemmas.{Reading, reading_goes, reading_starts, reading_stops}
-use Rattle.tool_lines.proofs.EscapeLemmas.{begins_with, begun_err, empty_is, some_is}
+use Rattle.tool_lines.proofs.EscapeLemmas.{empty_is, some_is}
 use Rattle.tool_lines.proofs.escapes.parse_codes.Goals as goal
 
 pub loop-rest-init : goal.loop-rest-init
@@ -35,13 +35,3 @@ returns-clause-bytes g c =
     subst (λ (v : List ℕ). AreCodes word v) (append-nil bytes)
     (c.loop-rest.invariant.adds [] (empty_is c.loop-rest.rest.now c.is_empty.result
     c.is_empty.ensures c.loop-rest-test.false))
-
-pub returns-in-None-clause-began : goal.returns-in-None-clause-began
-returns-in-None-clause-began g c = inl refl
-
-pub returns-in_err-push-in-Some-clause-began : goal.returns-in_err-push-in-Some-clause-began
-returns-in_err-push-in-Some-clause-began g c =
-    let word = c.args.word.now in
-    begun_err c.from_residual.result word c.args.fault
-    (begins_with word c.loop-rest.rest.now c.in-Some.behind.now c.in-Some.byte
-    c.in-Some.ensures.some c.loop-rest.invariant.begun)

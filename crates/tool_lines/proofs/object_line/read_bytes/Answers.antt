@@ -1,4 +1,4 @@
-use Rattle.std.proofs.Common.{◌≡◌, rules, ap, sym, ◌∙◌, length, refl}
+use Rattle.std.proofs.Common.{◌≡◌, rules, ap, sym, ◌∙◌, length}
 use Rattle.std.specs.Prelude.{option_map}
 use Rattle.json.specs.Value.{value_view}
 use Rattle.tool_lines.proofs.ObjectLemmas.{digits_mean_none, has_members, many_mean_none}
@@ -14,15 +14,13 @@ returns-in-Some-clause-ok g c =
 
 pub returns-in-Some-clause-refused : goal.returns-in-Some-clause-refused
 returns-in-Some-clause-refused g c =
-    digits_mean_none (value_view c.args.value.now) (value_view c.in-Some.digits.now) c.args.fault c.read_digits.result
+    digits_mean_none (value_view c.args.value.now) (value_view c.in-Some.digits.now) c.read_digits.result
     (has_members c.args.value.now c.in-Object.members.items 1 (ap value_view c.in-Object.is ∙ view_object c.in-Object.members) (search rules))
     (sym c.get.ensures ∙ ap (option_map (λ v. value_view v.now)) c.in-Some.is)
     c.read_digits.ensures.refused
 
 pub returns-in-Object-2-clause-refused : goal.returns-in-Object-2-clause-refused
-returns-in-Object-2-clause-refused g c = λ fine. (
-  refl,
-  let long : c.len.result ≡ length c.in-Object.members.items = search rules in
-      many_mean_none c.args.value.now c.in-Object.members.items (ap value_view c.in-Object.is ∙ view_object c.in-Object.members)
-      (λ one. c.if-len-eq1.false (long ∙ one)),
-)
+returns-in-Object-2-clause-refused g c = λ fine.
+    let long : c.len.result ≡ length c.in-Object.members.items = search rules in
+    many_mean_none c.args.value.now c.in-Object.members.items (ap value_view c.in-Object.is ∙ view_object c.in-Object.members)
+    (λ one. c.if-len-eq1.false (long ∙ one))

@@ -1,54 +1,35 @@
-use Rattle.std.proofs.Common.{rules}
-use Rattle.std.specs.Prelude.{Err, Ok}
-use Rattle.tool_lines.specs.WordLine.{FourWords, IsNumberWord, IsWordFault}
-use Rattle.tool_lines.proofs.WordLemmas.{early_told, key_fault, no_kind, passed_on, value_fault}
+use Rattle.std.proofs.Common.{ap, length, rules}
+use Rattle.tool_lines.specs.WordLine.{IsNumberWord}
+use Rattle.tool_lines.proofs.WordLemmas.{SpellsNone, no_kind, passed_on, spelled_by}
 use Rattle.tool_lines.proofs.word_line.parse_words.Goals as goal
+
+pub returns-in_default-clause-refused : goal.returns-in_default-clause-refused
+returns-in_default-clause-refused g c = λ fine e spells.
+    c.in_default.ensures.none (ap length spells.words.are)
 
 pub returns-in_default-parse_number-clause-refused :
     goal.returns-in_default-parse_number-clause-refused
-returns-in_default-parse_number-clause-refused g c =
+returns-in_default-parse_number-clause-refused g c = λ fine e spells.
     let w = c.in-Some.words in
-    let none : IsNumberWord w.seqno.now → ⊥ = search rules in (
-      record {
-        key = w.key.now;
-        number = w.seqno.now;
-        kind = w.kind.now;
-        value = w.value.now;
-        are = c.in-Some.ensures.some;
-      },
-      none,
-    )
+    let none : IsNumberWord w.seqno.now → ⊥ = search rules in
+    none (spelled_by c.args.line.now w.key.now w.seqno.now w.kind.now w.value.now
+    c.in-Some.ensures.some e spells).1.number
 
 pub returns-in_default-parse_kind-clause-refused :
     goal.returns-in_default-parse_kind-clause-refused
-returns-in_default-parse_kind-clause-refused g c =
+returns-in_default-parse_kind-clause-refused g c = λ fine e spells.
     let w = c.in-Some.words in
-    let good : IsNumberWord w.seqno.now = search rules in (
-      record {
-        key = w.key.now;
-        number = w.seqno.now;
-        kind = w.kind.now;
-        value = w.value.now;
-        are = c.in-Some.ensures.some;
-      },
-      good,
-      λ letter. no_kind w.kind.now c.parse_kind.result (search rules) c.parse_kind.ensures.all
-          letter.0 letter.1,
-    )
+    no_kind w.kind.now c.parse_kind.result (search rules) c.parse_kind.ensures.all e.kind
+    (spelled_by c.args.line.now w.key.now w.seqno.now w.kind.now w.value.now
+    c.in-Some.ensures.some e spells).2
 
 pub returns-in_err-key-clause-refused : goal.returns-in_err-key-clause-refused
 returns-in_err-key-clause-refused g c =
     let w = c.in-Some.words in
-    let four : FourWords c.args.line.now = record {
-      key = w.key.now;
-      number = w.seqno.now;
-      kind = w.kind.now;
-      value = w.value.now;
-      are = c.in-Some.ensures.some;
-    } in
-    let good : IsNumberWord w.seqno.now = search rules in
-    passed_on (IsWordFault c.args.line.now) c.from_residual.result c.in_err-key.field-0.0 c.from_residual.ensures.1
-    (key_fault c.args.line.now four c.in_err-key.field-0.0 good (search rules) c.in_err-key.ensures.refused c.in_err-key.ensures.began)
+    passed_on (SpellsNone c.args.line.now) c.from_residual.result c.in_err-key.field-0.0
+    c.from_residual.ensures.1 (λ fine e spells.
+    (c.in_err-key.ensures.refused fine).1 e.user_key (spelled_by c.args.line.now w.key.now w.seqno.now w.kind.now w.value.now
+    c.in-Some.ensures.some e spells).0)
 
 pub returns-in-Ok-clause-spells : goal.returns-in-Ok-clause-spells
 returns-in-Ok-clause-spells g c =
@@ -68,22 +49,7 @@ returns-in-Ok-clause-spells g c =
     }
 
 pub returns-in-Err-clause-refused : goal.returns-in-Err-clause-refused
-returns-in-Err-clause-refused g c =
+returns-in-Err-clause-refused g c = λ fine e spells.
     let w = c.in-Some.words in
-    let four : FourWords c.args.line.now = record {
-      key = w.key.now;
-      number = w.seqno.now;
-      kind = w.kind.now;
-      value = w.value.now;
-      are = c.in-Some.ensures.some;
-    } in
-    let good : IsNumberWord w.seqno.now = search rules in
-    value_fault c.args.line.now four c.in-Err.error _ good (search rules) c.in_ok-key.ensures.bytes c.in-Err.ensures.refused
-
-pub returns-in-Ok-clause-early : goal.returns-in-Ok-clause-early
-returns-in-Ok-clause-early g c =
-    early_told _ c.args.line.now (returns-in-Ok-clause-spells g c) tt
-
-pub returns-in-Err-clause-early : goal.returns-in-Err-clause-early
-returns-in-Err-clause-early g c =
-    early_told (Err c.in-Err.error) c.args.line.now tt (returns-in-Err-clause-refused g c)
+    (c.in-Err.ensures.refused fine).1 e.value (spelled_by c.args.line.now w.key.now w.seqno.now w.kind.now w.value.now
+    c.in-Some.ensures.some e spells).3

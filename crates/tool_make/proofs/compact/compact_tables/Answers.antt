@@ -9,8 +9,11 @@ use Rattle.lsm_runs.specs.declared.compaction.any_runs.CompactionOutcome.TheVari
 use Rattle.lsm_runs.specs.declared.compaction.any_runs.CompactionOutcome.TheVariants.{Tables}
 use Rattle.lsm_writers.specs.Tables.{TablesWriting}
 use Rattle.lsm_writers.specs.declared.writer.FinishedTable.{FinishedTable}
-use Rattle.lsm_tables.specs.Words.{AreCompactable, AreTablesBy, CameInOrder, HasMade, OpenTable}
-use Rattle.lsm_tables.specs.Words.{RunsHoldLists, kept_in}
+use Rattle.lsm_readers.specs.point.Table.{OpenTable}
+use Rattle.lsm_runs.specs.compaction.AnyRuns.{AreTablesBy, CameInOrder, HasMade}
+use Rattle.lsm_runs.specs.compaction.Compacted.{AreCompactable}
+use Rattle.lsm_runs.specs.RunLists.{RunsHoldLists}
+use Rattle.lsm_runs.specs.compaction.Compacted.{kept_in}
 use Rattle.tool_make.specs.Compacted.{HasCount, counted, each_alone}
 use Rattle.tool_make.proofs.compact.compact_tables.Goals as goal
 

@@ -1,6 +1,7 @@
 use Rattle.std.proofs.Common.{List, subst}
 use Rattle.lsm_sorted.specs.version.Packing.{AreTablesWellFormed}
-use Rattle.lsm_tables.specs.Words.{OpenTable, range_of}
+use Rattle.lsm_readers.specs.point.Table.{OpenTable}
+use Rattle.lsm_run_parts.specs.RunParts.{range_of}
 use Rattle.tool_make.proofs.pack.pack_files.Goals as goal
 
 pub returns-clause-ok : goal.returns-clause-ok

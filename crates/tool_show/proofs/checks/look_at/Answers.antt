@@ -8,14 +8,5 @@ returns-clause-complete g c = λ es stores.
     c.look_on-looked.ensures.complete es
     (subst (λ (v : Verifying). StoresList v.table.bytes es) (sym c.in-Ok.ensures.ok) stores)
 
-pub returns-clause-reads : goal.returns-clause-reads
-returns-clause-reads g c = rw c.in-Ok.ensures.ok at c.look_on-looked.ensures.reads
-
-pub returns-clause-whole : goal.returns-clause-whole
-returns-clause-whole g c = rw c.in-Ok.ensures.ok at c.look_on-looked.ensures.whole
-
-pub returns-clause-returned : goal.returns-clause-returned
-returns-clause-returned g c = rw c.in-Ok.ensures.ok at c.look_on-looked.ensures.returned
-
 pub returns-clause-sound : goal.returns-clause-sound
 returns-clause-sound g c = rw c.in-Ok.ensures.ok at c.look_on-looked.ensures.sound

@@ -1,12 +1,10 @@
--- The verification went on by the blocks so far, and each step leaves one step less.
+-- The table stays, and each step leaves one step less.
+use Rattle.std.proofs.Common.{◌≡◌}
 use Rattle.lsm_readers.specs.Verification.{steps_of}
-use Rattle.tool_show.proofs.StepLemmas.{Went}
 use Rattle.tool_show.proofs.checks.look_on.Given as goal
 
 abbrev pub invariant-loop-blocks : goal.invariant-loop-blocks
-invariant-loop-blocks g l =
-    Went l.fn.verification l.verification (g.P.Progress.moves l.fn.progress)
-    (g.P.Progress.moves l.progress) l.blocks
+invariant-loop-blocks g l = l.verification.table ≡ l.fn.verification.table
 
 abbrev pub decreases-loop-blocks : goal.decreases-loop-blocks
 decreases-loop-blocks g l = steps_of l.verification

@@ -1,11 +1,11 @@
--- What was printed and what is left to print are together what is to be printed.
+-- What was shown and what is left to show are together what is to be shown.
 use Rattle.std.proofs.Common.{Bool, List}
 use Rattle.sst_entries.specs.Stream.{CanYield, YieldsExactly, answer_stops}
 use Rattle.sst_entries.specs.declared.error.Error.{Error}
 use Rattle.lsm_iters.specs.block_index.Yielded.{YieldsEnding}
-use Rattle.tool_show.proofs.DumpLemmas.{Prints}
+use Rattle.tool_show.proofs.DumpLemmas.{Shows}
 use Rattle.tool_show.proofs.EndingLemmas.{Comes}
-use Rattle.tool_show.specs.Printed.{Outcome, PrintsLines, dumped}
+use Rattle.tool_show.specs.Read.{Outcome, dumped}
 use Rattle.tool_show.proofs.dumps.dump_items.Given as goal
 
 abbrev pub invariant-loop-left : goal.invariant-loop-left
@@ -15,16 +15,13 @@ invariant-loop-left g l =
     × ((stops : Error → Bool) (rs : List Outcome)
     → YieldsExactly (answer_stops stops) g.I.Lending.advances g.I.DoubleEndedIterator.next_back_gives
     l.fn.items rs
-    → Prints g.I.Lending.advances g.I.DoubleEndedIterator.next_back_gives stops l.items l.options.reverse
-    l.left l.fn.most l.options.format (dumped l.options.reverse l.fn.most rs)
-    (g.W.Write.contents l.fn.output) (g.W.Write.contents l.output))
+    → Shows g.I.Lending.advances g.I.DoubleEndedIterator.next_back_gives stops l.items l.options.reverse
+    l.left l.fn.most (dumped l.options.reverse l.fn.most rs))
     × ((rs : List Outcome)
     → YieldsEnding g.I.Lending.advances g.I.DoubleEndedIterator.next_back_gives (λ _. Unit {0})
     (λ _. Unit {0}) l.fn.items rs
-    → (before : Comes g.I.Lending.advances g.I.DoubleEndedIterator.next_back_gives l.items
+    → Comes g.I.Lending.advances g.I.DoubleEndedIterator.next_back_gives l.items
     l.options.reverse l.left (dumped l.options.reverse l.fn.most rs))
-    × PrintsLines l.options.format before.came (g.W.Write.contents l.fn.output)
-    (g.W.Write.contents l.output))
 
 abbrev pub decreases-loop-left : goal.decreases-loop-left
 decreases-loop-left g l = l.left

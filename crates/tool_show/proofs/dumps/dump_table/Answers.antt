@@ -1,18 +1,11 @@
 use Rattle.std.proofs.Common.{refl, sym, true}
-use Rattle.tool_show.proofs.DumpLemmas.{deals_to_error, entries_left, entries_printed}
+use Rattle.tool_show.proofs.DumpLemmas.{deals_to_error, entries_left}
 use Rattle.tool_show.proofs.dumps.dump_table.Goals as goal
 
 pub returns-clause-returned : goal.returns-clause-returned
 returns-clause-returned g c =
     rw (sym c.in_ok-bounds.ensures.lower, sym c.in_ok-bounds.ensures.upper)
-    (c.dump_items.ensures.printed _ (deals_to_error _ _ _ _ _ _ c.in_ok-items.ensures.lends))
-
-pub returns-clause-printed : goal.returns-clause-printed
-returns-clause-printed g c = λ es stores.
-    rw (sym c.in_ok-bounds.ensures.lower, sym c.in_ok-bounds.ensures.upper)
-    (entries_printed c.dump_items.result c.args.options.now.reverse c.args.left _
-    c.args.options.now.format _ _
-    (c.dump_items.ensures.printed _ (c.in_ok-items.ensures.lends_list es stores (λ _. true) refl)))
+    (c.dump_items.ensures.returned _ (deals_to_error _ _ _ _ _ _ c.in_ok-items.ensures.lends))
 
 pub returns-clause-left : goal.returns-clause-left
 returns-clause-left g c = λ es stores.
@@ -33,8 +26,3 @@ pub returns-clause-rest : goal.returns-clause-rest
 returns-clause-rest g c =
     rw (sym c.in_ok-bounds.ensures.lower, sym c.in_ok-bounds.ensures.upper)
     (c.dump_items.ensures.left _ (deals_to_error _ _ _ _ _ _ c.in_ok-items.ensures.lends))
-
-pub returns-clause-before : goal.returns-clause-before
-returns-clause-before g c =
-    rw (sym c.in_ok-bounds.ensures.lower, sym c.in_ok-bounds.ensures.upper)
-    (c.dump_items.ensures.before _ c.in_ok-items.ensures.lends)

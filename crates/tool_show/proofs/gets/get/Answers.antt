@@ -8,8 +8,7 @@ use Rattle.lsm_runs.specs.RunLists.{RunsHoldLists}
 use Rattle.lsm_run_parts.specs.RunParts.{range_of}
 use Rattle.lsm_runs.specs.SeveralRuns.{runs_result}
 use Rattle.tool_show.specs.Files.{runs_in}
-use Rattle.tool_show.specs.Printed.{seen_below}
-use Rattle.tool_show.proofs.TextLemmas.{answer_text}
+use Rattle.tool_show.specs.Read.{seen_below}
 use Rattle.tool_show.proofs.gets.get.Goals as goal
 
 pub returns-clause-returned : goal.returns-clause-returned
@@ -18,34 +17,16 @@ returns-clause-returned g c = λ order.
     = ap (map arc_value) c.deref.ensures.value ∙ c.in_ok-runs.ensures.ok in
     let read = c.in_ok-is_there.ensures.returned
     (subst (λ (ts : List (List OpenTable)). AllByRecursion (IsInOrder range_of) ts) (sym same) order)
-    in
-    (read.0, ap (runs_result c.args.options.now.key.now (seen_below c.args.options.now) None) (sym same) ∙ read.1, read.2)
-
-pub returns-clause-shown : goal.returns-clause-shown
-returns-clause-shown g c = λ order.
-    let same : map arc_value c.deref.result.now ≡ runs_in c.args.files.now
-    = ap (map arc_value) c.deref.ensures.value ∙ c.in_ok-runs.ensures.ok in
-    let read = c.in_ok-is_there.ensures.returned
-    (subst (λ (ts : List (List OpenTable)). AllByRecursion (IsInOrder range_of) ts) (sym same) order)
     in (
       read.0,
-      ap (runs_result c.args.options.now.key.now (seen_below c.args.options.now) None) (sym same) ∙ read.1,
-      answer_text c.args.options.now c.args.files.now read.0 _ _ _ read.3
-          c.in_ok-print_loads.ensures.printed,
+      ap (runs_result c.args.options.now.key.now (seen_below c.args.options.now) None) (sym same)
+          ∙ read.1,
+      read.2,
     )
 
 pub returns-clause-found : goal.returns-clause-found
 returns-clause-found g c = λ lists hold.
     let same : map arc_value c.deref.result.now ≡ runs_in c.args.files.now
     = ap (map arc_value) c.deref.ensures.value ∙ c.in_ok-runs.ensures.ok in
-    (c.in_ok-is_there.ensures.list lists
-    (subst (λ (ts : List (List OpenTable)). RunsHoldLists ts lists) (sym same) hold)).0
-
-pub returns-clause-printed : goal.returns-clause-printed
-returns-clause-printed g c = λ lists hold.
-    let same : map arc_value c.deref.result.now ≡ runs_in c.args.files.now
-    = ap (map arc_value) c.deref.ensures.value ∙ c.in_ok-runs.ensures.ok in
-    answer_text c.args.options.now c.args.files.now _ _ _ _
-    (c.in_ok-is_there.ensures.list lists
-    (subst (λ (ts : List (List OpenTable)). RunsHoldLists ts lists) (sym same) hold)).1
-    c.in_ok-print_loads.ensures.printed
+    c.in_ok-is_there.ensures.list lists
+    (subst (λ (ts : List (List OpenTable)). RunsHoldLists ts lists) (sym same) hold)
