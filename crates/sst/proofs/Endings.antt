@@ -2,9 +2,9 @@
 use Rattle.std.proofs.Common.{◌≡◌, refl, subst, ℕ, ◌≤◌, Bool, List, inl, inr}
 use Rattle.std.specs.Prelude.{IfErr, IfOk, MatchResult, None, Option, Result, Ok, Err}
 use Rattle.std.specs.declared.io.Error.{Error}
-use Rattle.tool_files.specs.Steps.{Step}
-use Rattle.tool_files.specs.declared.error.ToolError.{ToolError}
-use Rattle.tool_files.specs.declared.error.ToolError.TheVariants as error
+use Rattle.sst_tool.specs.files.Steps.{Step}
+use Rattle.sst_tool.specs.declared.files.error.ToolError.{ToolError}
+use Rattle.sst_tool.specs.declared.files.error.ToolError.TheVariants as error
 use Rattle.tool_options.specs.Asks.{AsksFrom}
 use Rattle.tool_options.specs.declared.tasks.Task.{Task}
 use Rattle.tool_options.specs.declared.tasks.Task.TheVariants as task

@@ -8,11 +8,11 @@ use Rattle.std.proofs.lemmas.List.{take-append-drop, take_all, take_more}
 use Rattle.sst_entries.specs.Stream.{ok_results}
 use Rattle.lsm_readers.specs.point.Table.{OpenTable}
 use Rattle.sst_entries.specs.Entry.{Entry}
-use Rattle.tool_files.specs.Opened.{AreOpenedFrom, HasContent, IsToldByBytes}
-use Rattle.tool_files.proofs.Opened.{opened_more}
-use Rattle.tool_show.specs.Read.{Outcome, dumped, readable}
-use Rattle.tool_show.specs.declared.dumps.DumpOptions.{DumpOptions}
-use Rattle.tool_show.specs.declared.named.NamedTable.{NamedTable}
+use Rattle.sst_tool.specs.files.Opened.{AreOpenedFrom, HasContent, IsToldByBytes}
+use Rattle.sst_tool.proofs.files.Opened.{opened_more}
+use Rattle.sst_tool.specs.show.Read.{Outcome, dumped, readable}
+use Rattle.sst_tool.specs.declared.show.dumps.DumpOptions.{DumpOptions}
+use Rattle.sst_tool.specs.declared.show.named.NamedTable.{NamedTable}
 use Rattle.sst.specs.Showing.{AreNamed, DumpsEach}
 
 mapped_more : {A B : Type 0} (f : A → B) (xs : List A) (x : A)

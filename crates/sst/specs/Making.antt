@@ -5,17 +5,17 @@ use Rattle.lsm_writers.specs.declared.writer.FinishedTable.{FinishedTable}
 use Rattle.tool_options.specs.declared.tasks.CompactTask.{CompactTask}
 use Rattle.tool_options.specs.declared.tasks.PackTask.{PackTask}
 use Rattle.tool_options.specs.declared.tasks.WriteTask.{WriteTask}
-use Rattle.tool_files.specs.Steps.{Step}
-use Rattle.tool_files.specs.declared.error.ToolError.{ToolError}
-use Rattle.tool_files.specs.declared.error.ToolError.TheVariants as error
-use Rattle.tool_files.specs.declared.made.Made.{Made}
-use Rattle.tool_make.specs.Packed.{RefusesToPack}
-use Rattle.tool_make.specs.Refusing.{RefusesToWrite}
-use Rattle.tool_make.specs.TableFiles.{AreTablesPlaced}
-use Rattle.tool_make.specs.Written.{AreOfLines}
-use Rattle.tool_make.specs.declared.options.WriteOptions.{WriteOptions}
-use Rattle.tool_make.specs.NotCompacted.{CompactsFiles, RefusesToCompact}
-use Rattle.tool_make.specs.declared.compact_options.CompactOptions.{CompactOptions}
+use Rattle.sst_tool.specs.files.Steps.{Step}
+use Rattle.sst_tool.specs.declared.files.error.ToolError.{ToolError}
+use Rattle.sst_tool.specs.declared.files.error.ToolError.TheVariants as error
+use Rattle.sst_tool.specs.declared.files.made.Made.{Made}
+use Rattle.sst_tool.specs.make.Packed.{RefusesToPack}
+use Rattle.sst_tool.specs.make.Refusing.{RefusesToWrite}
+use Rattle.sst_tool.specs.make.TableFiles.{AreTablesPlaced}
+use Rattle.sst_tool.specs.make.Written.{AreOfLines}
+use Rattle.sst_tool.specs.declared.make.options.WriteOptions.{WriteOptions}
+use Rattle.sst_tool.specs.make.NotCompacted.{CompactsFiles, RefusesToCompact}
+use Rattle.sst_tool.specs.declared.make.compact_options.CompactOptions.{CompactOptions}
 use Rattle.sst.specs.Options.{compact_by, write_by}
 
 -- The error is one of the output.

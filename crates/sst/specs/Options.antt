@@ -3,10 +3,10 @@ use Rattle.std.specs.Prelude.{◌*◌, ◌-◌, ◌^◌, ℕ, Bool, min, if◌th
 use Rattle.sst_blocks.specs.declared.table.options.IndexKind.{IndexKind}
 use Rattle.sst_blocks.specs.declared.table.options.IndexKind.TheVariants.{Full, Partitioned}
 use Rattle.sst_blocks.specs.declared.filter.policy.BloomConstructionPolicy.TheVariants.{BitsPerKey}
-use Rattle.tool_make.specs.declared.compact_options.CompactOptions.{CompactOptions}
-use Rattle.tool_lines.specs.declared.entry_line.Format.{Format}
-use Rattle.tool_lines.specs.declared.entry_line.Format.TheVariants.{Lines, Json}
-use Rattle.tool_make.specs.declared.options.WriteOptions.{WriteOptions}
+use Rattle.sst_tool.specs.declared.make.compact_options.CompactOptions.{CompactOptions}
+use Rattle.sst_tool.specs.declared.lines.entry_line.Format.{Format}
+use Rattle.sst_tool.specs.declared.lines.entry_line.Format.TheVariants.{Lines, Json}
+use Rattle.sst_tool.specs.declared.make.options.WriteOptions.{WriteOptions}
 use Rattle.tool_options.specs.declared.tasks.CompactTask.{CompactTask}
 use Rattle.tool_options.specs.declared.tasks.WriteTask.{WriteTask}
 

@@ -11,15 +11,15 @@ use Rattle.lsm_run_parts.specs.RunParts.{range_of}
 use Rattle.lsm_runs.specs.SeveralRuns.{runs_result}
 use Rattle.lsm_readers.specs.point.Table.{OpenTable}
 use Rattle.sst_entries.specs.Entry.{Entry}
-use Rattle.tool_files.specs.Opened.{AreOpenedFrom, HasContent, IsToldByBytes}
-use Rattle.tool_lines.specs.Escapes.{WordMeans}
+use Rattle.sst_tool.specs.files.Opened.{AreOpenedFrom, HasContent, IsToldByBytes}
+use Rattle.sst_tool.specs.lines.Escapes.{WordMeans}
 use Rattle.tool_options.specs.declared.tasks.DumpTask.{DumpTask}
 use Rattle.tool_options.specs.declared.tasks.GetTask.{GetTask}
-use Rattle.tool_show.specs.Files.{runs_in}
-use Rattle.tool_show.specs.Read.{dumped, readable, seen_below}
-use Rattle.tool_show.specs.declared.dumps.DumpOptions.{DumpOptions}
-use Rattle.tool_show.specs.declared.gets.GetOptions.{GetOptions}
-use Rattle.tool_show.specs.declared.named.NamedTable.{NamedTable}
+use Rattle.sst_tool.specs.show.Files.{runs_in}
+use Rattle.sst_tool.specs.show.Read.{dumped, readable, seen_below}
+use Rattle.sst_tool.specs.declared.show.dumps.DumpOptions.{DumpOptions}
+use Rattle.sst_tool.specs.declared.show.gets.GetOptions.{GetOptions}
+use Rattle.sst_tool.specs.declared.show.named.NamedTable.{NamedTable}
 use Rattle.sst.specs.Options.{format_of}
 
 -- Each file was opened as the table of its own bytes, with its name.

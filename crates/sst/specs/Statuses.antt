@@ -1,9 +1,9 @@
 -- The exit statuses.
 use Rattle.std.specs.Prelude.{ℕ, Bool, true, false}
-use Rattle.tool_files.specs.declared.error.ToolError.{ToolError}
-use Rattle.tool_files.specs.declared.error.ToolError.TheVariants as error
-use Rattle.tool_lines.specs.declared.entry_line.LineError.{LineError}
-use Rattle.tool_lines.specs.declared.entry_line.LineError.TheVariants as line
+use Rattle.sst_tool.specs.declared.files.error.ToolError.{ToolError}
+use Rattle.sst_tool.specs.declared.files.error.ToolError.TheVariants as error
+use Rattle.sst_tool.specs.declared.lines.entry_line.LineError.{LineError}
+use Rattle.sst_tool.specs.declared.lines.entry_line.LineError.TheVariants as line
 
 -- A malformed key is an error of the command line.
 abbrev pub status_of_key : LineError → ℕ

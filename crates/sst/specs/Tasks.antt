@@ -1,9 +1,9 @@
 -- The results of tasks and command lines.
 use Rattle.std.specs.Prelude.{◌≡◌, ◌≤◌, ◌⊎◌, ℕ, Bool, List, Option, None, IfErr, IfOk, Result, Ok, Err}
-use Rattle.tool_files.specs.Steps.{Step}
-use Rattle.tool_files.specs.declared.error.ToolError.{ToolError}
-use Rattle.tool_files.specs.declared.made.Made.{Made}
-use Rattle.tool_show.specs.Failures.{NamesNone}
+use Rattle.sst_tool.specs.files.Steps.{Step}
+use Rattle.sst_tool.specs.declared.files.error.ToolError.{ToolError}
+use Rattle.sst_tool.specs.declared.files.made.Made.{Made}
+use Rattle.sst_tool.specs.show.Failures.{NamesNone}
 use Rattle.tool_options.specs.declared.tasks.Task.{Task}
 use Rattle.tool_options.specs.declared.tasks.Task.TheVariants as task
 use Rattle.tool_options.specs.Asks.{AsksFrom}

@@ -6,8 +6,8 @@ use Rattle.lsm_readers.specs.point.Parts.{recovered_result}
 use Rattle.lsm_readers.specs.point.Table.{OpenTable}
 use Rattle.sst_entries.specs.Error.{Gives, is_memory}
 use Rattle.sst_entries.specs.declared.error.Error.{Error}
-use Rattle.tool_files.specs.Opened.{IsToldByBytes}
-use Rattle.tool_show.specs.Files.{IsSoundTable}
+use Rattle.sst_tool.specs.files.Opened.{IsToldByBytes}
+use Rattle.sst_tool.specs.show.Files.{IsSoundTable}
 
 -- The file's bytes, if known, are those of a table that store a list.
 abbrev pub IsSoundFile : Option (List ℕ) → Type 0

@@ -1,10 +1,10 @@
 //! The progress bar.
 use crate::System;
+use sst_tool::show::Progress;
 use std::fs;
 use std::io::Write;
 use std::rt::{Clock, Files};
 use std::time::Duration;
-use tool_show::Progress;
 
 const DONE: &str = "####################";
 

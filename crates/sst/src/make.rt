@@ -6,14 +6,14 @@ use crate::System;
 use lsm_sorted::compaction::Rules;
 use lsm_writers::{BloomConstructionPolicy, IndexKind};
 use sst_blocks::Timestamp;
+use sst_tool::files::{Place, ToolError, print_made};
+use sst_tool::lines::Format;
+use sst_tool::make::{
+    CompactOptions, WriteOptions, compact_files, pack_files, print_packed, write_entries,
+};
 use std::alloc::Global;
 use std::io::{Read, Write};
 use std::rt::{Clock, Files};
-use tool_files::{Place, ToolError, print_made};
-use tool_lines::Format;
-use tool_make::{
-    CompactOptions, WriteOptions, compact_files, pack_files, print_packed, write_entries,
-};
 use tool_options::{CompactTask, PackTask, WriteTask};
 
 /// Returns the format of lines.

@@ -3,12 +3,12 @@ ghost use Rattle.std.specs.Prelude.{◌≡◌, ◌≤◌, IfErr, IfOk, MatchResu
 ghost use Rattle.sst.specs.Words as spec;
 
 use crate::{System, make, show};
+use sst_tool::files::{Place, ToolError};
+use sst_tool::lines::LineError;
 use std::convert::AsStr;
 use std::io;
 use std::io::{Read, Write};
 use std::rt::{Clock, Files};
-use tool_files::{Place, ToolError};
-use tool_lines::LineError;
 use tool_options::{Parsed, Task, parse};
 
 // The status of a yes or no: 0 for yes.

@@ -6,13 +6,13 @@ use crate::System;
 use crate::bar::{Bar, Work, behind};
 use crate::make::format_of;
 use sst_blocks::{Error, Slice};
+use sst_tool::files::{FileFault, KeyWord, Place, ToolError, open_bytes, open_table};
+use sst_tool::lines::parse_bytes;
+use sst_tool::show::{DumpOptions, GetOptions, NamedTable, NoProgress};
 use std::alloc::Global;
 use std::io::Write;
 use std::rt::{Clock, Files};
-use tool_files::{FileFault, KeyWord, Place, ToolError, open_bytes, open_table};
-use tool_lines::parse_bytes;
 use tool_options::{DumpTask, GetTask, StatTask, VerifyTask};
-use tool_show::{DumpOptions, GetOptions, NamedTable, NoProgress};
 
 // Opens a file as a table. Only top levels are pinned, so an error of the filter or the index comes
 // from the read that loads it.
@@ -109,7 +109,7 @@ fn dump_each<'a, P: Place, W: Write>(
         }
         // One file is open at a time.
         let file = open_named(alloc, place, name)?;
-        left = tool_show::dump(alloc, output, &file, options, left)?;
+        left = sst_tool::show::dump(alloc, output, &file, options, left)?;
     }
     Ok(())
 }
@@ -131,7 +131,7 @@ pub(crate) fn get<'a, P: Place, W: Write>(
         format: format_of(task.json),
     };
     let tables = open_each(alloc, place, task.files.as_slice())?;
-    tool_show::get(alloc, output, tables.as_slice(), &options)
+    sst_tool::show::get(alloc, output, tables.as_slice(), &options)
 }
 
 /// Prints the metadata of tables.
@@ -143,7 +143,7 @@ pub(crate) fn stat<'a, P: Place, W: Write>(
 ) -> Result<(), ToolError<'a>> {
     for name in task.files.as_slice() {
         let file = open_named(alloc, place, name)?;
-        tool_show::stat(alloc, output, &file, format_of(task.json))?;
+        sst_tool::show::stat(alloc, output, &file, format_of(task.json))?;
     }
     Ok(())
 }
@@ -291,7 +291,7 @@ fn print_unopened<'a, W: Write>(
     }
     let number = error.number();
     writeln!(output, "{name}: {error} ({number})")?;
-    let blocks = tool_show::verify_unopened(alloc, output, name, bytes)?;
+    let blocks = sst_tool::show::verify_unopened(alloc, output, name, bytes)?;
     Ok(blocks.saturating_add(1))
 }
 
@@ -318,10 +318,10 @@ fn verify_opened<'a, R: Files, C: Clock, W: Write, E: Write>(
         Some(work) => {
             let size = file.table.file_len() as u64;
             let mut bar = Bar::new(errors, system.clock, work, size);
-            let faults = tool_show::verify(system.alloc, output, file, &mut bar);
+            let faults = sst_tool::show::verify(system.alloc, output, file, &mut bar);
             bar.clear();
             faults
         }
-        None => tool_show::verify(system.alloc, output, file, &mut NoProgress),
+        None => sst_tool::show::verify(system.alloc, output, file, &mut NoProgress),
     }
 }

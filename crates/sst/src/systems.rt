@@ -1,7 +1,7 @@
 //! The system that the tool runs on.
+use sst_tool::files::Disk;
 use std::alloc::Global;
 use std::rt::Files;
-use tool_files::Disk;
 
 /// The files, the clock and the allocator.
 #[derive_where(Clone, Copy)]

@@ -4,10 +4,10 @@ use crate::files::written::{NEVER, write_options};
 use lsm_tables::block::{EntryRef, ValueType};
 use lsm_tables::table::Table;
 use std::alloc::Global;
-use tool_files::{Place, open_table};
-use tool_lines::{Format, append_entry};
-use tool_make::write_entries;
-use tool_show::{DumpOptions, NamedTable, dump};
+use sst_tool::files::{Place, open_table};
+use sst_tool::lines::{Format, append_entry};
+use sst_tool::make::write_entries;
+use sst_tool::show::{DumpOptions, NamedTable, dump};
 
 // The number of entries.
 const ENTRIES: usize = 511;

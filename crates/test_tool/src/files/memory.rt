@@ -4,7 +4,7 @@ use std::alloc::{AllocError, Allocator, Global};
 use std::fs::{Metadata, Permissions};
 use std::io;
 use std::io::ErrorKind;
-use tool_files::{FileFault, Place};
+use sst_tool::files::{FileFault, Place};
 
 /// A file or a folder.
 #[derive(Drop)]

@@ -5,7 +5,7 @@ use crate::files::written::{
 };
 use lsm_tables::block::Error;
 use std::alloc::Global;
-use tool_files::FileFault;
+use sst_tool::files::FileFault;
 
 // Whether a file has exactly these bytes.
 fn has(place: &Memory, path: &str, bytes: &[u8]) -> bool {

@@ -3,9 +3,9 @@ use crate::files::memory::Memory;
 use lsm_tables::compaction::Rules;
 use lsm_tables::table::{BloomConstructionPolicy, IndexKind, Timestamp};
 use std::alloc::Global;
-use tool_files::{FileFault, Place, ToolError, open_table};
-use tool_lines::Format;
-use tool_make::{CompactOptions, WriteOptions, compact_files, write_entries};
+use sst_tool::files::{FileFault, Place, ToolError, open_table};
+use sst_tool::lines::Format;
+use sst_tool::make::{CompactOptions, WriteOptions, compact_files, write_entries};
 
 /// The number of a step that is not reached, so that none fails.
 pub(crate) const NEVER: u64 = 1_000;

@@ -1,9 +1,9 @@
 use denote.Ref.{Bor}
 use Rattle.std.proofs.Common.{ℕ, List, inl, subst}
-use Rattle.tool_make.specs.NotCompacted.{RefusesToCompact}
+use Rattle.sst_tool.specs.make.NotCompacted.{RefusesToCompact}
 use Rattle.std.specs.Global.{Global}
 use Rattle.sst.specs.Making.{RefusesCompact}
-use Rattle.tool_files.specs.declared.error.ToolError.{ToolError}
+use Rattle.sst_tool.specs.declared.files.error.ToolError.{ToolError}
 use Rattle.sst.proofs.Failures.{passed_failure}
 use Rattle.sst.proofs.make.compact.Goals as goal
 

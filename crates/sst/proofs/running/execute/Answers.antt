@@ -1,6 +1,6 @@
 use Rattle.sst.specs.Tasks.{RefusesTask}
-use Rattle.tool_files.specs.declared.error.ToolError.{ToolError}
-use Rattle.tool_files.specs.declared.error.ToolError.TheVariants as error
+use Rattle.sst_tool.specs.declared.files.error.ToolError.{ToolError}
+use Rattle.sst_tool.specs.declared.files.error.ToolError.TheVariants as error
 use Rattle.sst.proofs.Endings.{not_passed_on}
 use Rattle.sst.proofs.Failures.{passed_failure}
 use Rattle.sst.proofs.running.execute.Goals as goal

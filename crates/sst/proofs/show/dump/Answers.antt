@@ -1,7 +1,7 @@
 use denote.Ref.{Bor}
 use Rattle.std.proofs.Common.{ℕ, List, refl, subst, sym}
 use Rattle.std.specs.Prelude.{Option}
-use Rattle.tool_show.specs.declared.dumps.DumpOptions.{DumpOptions}
+use Rattle.sst_tool.specs.declared.show.dumps.DumpOptions.{DumpOptions}
 use Rattle.sst.specs.Showing.{AsksDump, DumpsEach, MeansKey}
 use Rattle.sst.proofs.Named.{on_ok}
 use Rattle.sst.proofs.show.dump.Goals as goal

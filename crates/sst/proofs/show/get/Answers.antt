@@ -7,11 +7,11 @@ use Rattle.lsm_sorted.specs.version.Run.{IsInOrder}
 use Rattle.lsm_run_parts.specs.RunParts.{range_of}
 use Rattle.lsm_runs.specs.SeveralRuns.{runs_result}
 use Rattle.sst_entries.specs.Entry.{Entry}
-use Rattle.tool_lines.specs.Escapes.{WordMeans}
-use Rattle.tool_show.specs.Files.{runs_in}
-use Rattle.tool_show.specs.Read.{seen_below}
-use Rattle.tool_show.specs.declared.gets.GetOptions.{GetOptions}
-use Rattle.tool_show.specs.declared.named.NamedTable.{NamedTable}
+use Rattle.sst_tool.specs.lines.Escapes.{WordMeans}
+use Rattle.sst_tool.specs.show.Files.{runs_in}
+use Rattle.sst_tool.specs.show.Read.{seen_below}
+use Rattle.sst_tool.specs.declared.show.gets.GetOptions.{GetOptions}
+use Rattle.sst_tool.specs.declared.show.named.NamedTable.{NamedTable}
 use Rattle.sst.specs.Showing.{AreNamed, DoesGet}
 use Rattle.sst.proofs.Named.{on_each}
 use Rattle.sst.proofs.show.get.Goals as goal

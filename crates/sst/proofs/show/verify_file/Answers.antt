@@ -1,4 +1,4 @@
-use Rattle.tool_files.specs.Files.{is_memory_fault}
+use Rattle.sst_tool.specs.files.Files.{is_memory_fault}
 use Rattle.sst.proofs.Files.{missed}
 use Rattle.sst.proofs.show.verify_file.Goals as goal
 

@@ -1,9 +1,0 @@
--- The errors of lines.
-use Rattle.std.specs.Prelude.{Bool, true, false}
-use Rattle.tool_lines.specs.declared.entry_line.LineError.{LineError}
-use Rattle.tool_lines.specs.declared.entry_line.LineError.TheVariants.{OutOfMemory}
-
--- The error is OutOfMemory.
-abbrev pub lacks_memory : LineError → Bool
-lacks_memory OutOfMemory = true
-lacks_memory e = false

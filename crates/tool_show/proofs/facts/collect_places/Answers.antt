@@ -1,4 +1,0 @@
-use Rattle.tool_show.proofs.facts.collect_places.Goals as goal
-
-pub loop-handle-smaller : goal.loop-handle-smaller
-loop-handle-smaller g c = (c.in-Some.ensures.goes.on tt).2
