@@ -5,7 +5,7 @@ use Rattle.std.specs.Str.Parse.{ParsesUnsigned}
 use Rattle.clap.specs.Words.{ReadsOne, Text, matched_of, one_of, one_text, raw_values, rows_of}
 use Rattle.clap.specs.declared.parser.matches.Found.{Found}
 use Rattle.clap.proofs.WalkLemmas.{one_text-rows, raw_values-rows}
-use Rattle.tool_options.specs.Tasks.{Spells, placed}
+use Rattle.tool_options.specs.Tasks.{Spells, named_files}
 
 -- a number that is read as its type reads a text
 spells : {E : Type 0} (bits : ℕ) (gives : Text → Result ℕ E → Type 0)
@@ -25,5 +25,5 @@ spells_one bits gives exact f id r none value = spells bits gives exact (one_of 
     (λ e. none (one_text-rows f id ∙ e)) (λ t e. value t (one_text-rows f id ∙ e))
 
 pub placed_of : (f : Found) (shown : Option (List Text)) → shown ≡ option_map raw_values (matched_of f (codes "files"))
-    → unwrap_or shown [] ≡ placed (rows_of f)
+    → unwrap_or shown [] ≡ named_files (rows_of f)
 placed_of f shown e = ap (λ (o : Option (List Text)). unwrap_or o []) (e ∙ raw_values-rows f (codes "files"))

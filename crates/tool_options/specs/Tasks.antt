@@ -35,8 +35,8 @@ SpellsBits text bits = ((text ≡ codes "none") × (bits ≡ 0))
     ⊎ (Spells 32 (Some text) (Some bits) × (1 ≤ bits) × (bits ≤ 100))
 
 -- The positional words.
-abbrev pub placed : List Row → List Text
-placed rows = unwrap_or (all_of (codes "files") rows) []
+abbrev pub named_files : List Row → List Text
+named_files rows = unwrap_or (all_of (codes "files") rows) []
 
 -- The flag is set.
 abbrev pub Has : List Row → Text → Type 0
@@ -54,7 +54,7 @@ pub record AsksToWrite (rows : List Row) (t : WriteTask) : Type 0 where
   pub json : IsTrue t.json ↔ Has rows (codes "json")
 
 pub record AsksToDump (rows : List Row) (t : DumpTask) : Type 0 where
-  pub files : texts_of t.files.items ≡ placed rows
+  pub files : texts_of t.files.items ≡ named_files rows
   pub from : text_in t.from ≡ first_of (codes "from") rows
   pub to : text_in t.to ≡ first_of (codes "to") rows
   pub reverse : IsTrue t.reverse ↔ Has rows (codes "reverse")
@@ -63,17 +63,17 @@ pub record AsksToDump (rows : List Row) (t : DumpTask) : Type 0 where
 
 -- The key is the last word.
 pub record AsksToGet (rows : List Row) (t : GetTask) : Type 0 where
-  pub files : texts_of t.files.items ++ t.key.now ∷ [] ≡ placed rows
+  pub files : texts_of t.files.items ++ t.key.now ∷ [] ≡ named_files rows
   pub at : Spells 64 (one_of (codes "at") rows) t.at
   pub loads : IsTrue t.loads ↔ Has rows (codes "loads")
   pub json : IsTrue t.json ↔ Has rows (codes "json")
 
 pub record AsksForStat (rows : List Row) (t : StatTask) : Type 0 where
-  pub files : texts_of t.files.items ≡ placed rows
+  pub files : texts_of t.files.items ≡ named_files rows
   pub json : IsTrue t.json ↔ Has rows (codes "json")
 
 pub record AsksToCompact (rows : List Row) (t : CompactTask) : Type 0 where
-  pub files : texts_of t.files.items ≡ placed rows
+  pub files : texts_of t.files.items ≡ named_files rows
   pub folder : first_of (codes "to") rows ≡ Some t.folder.now
   pub watermark : Spells 64 (one_of (codes "watermark") rows) (Some t.watermark)
   pub evict : IsTrue t.evict ↔ Has rows (codes "evict")
@@ -86,6 +86,6 @@ AsksFor name rows (task.Write t) = (name ≡ codes "write") × AsksToWrite rows 
 AsksFor name rows (task.Dump t) = (name ≡ codes "dump") × AsksToDump rows t
 AsksFor name rows (task.Get t) = (name ≡ codes "get") × AsksToGet rows t
 AsksFor name rows (task.Stat t) = (name ≡ codes "stat") × AsksForStat rows t
-AsksFor name rows (task.Verify t) = (name ≡ codes "verify") × (texts_of t.files.items ≡ placed rows)
+AsksFor name rows (task.Verify t) = (name ≡ codes "verify") × (texts_of t.files.items ≡ named_files rows)
 AsksFor name rows (task.Compact t) = (name ≡ codes "compact") × AsksToCompact rows t
-AsksFor name rows (task.Pack t) = (name ≡ codes "pack") × (texts_of t.files.items ≡ placed rows)
+AsksFor name rows (task.Pack t) = (name ≡ codes "pack") × (texts_of t.files.items ≡ named_files rows)

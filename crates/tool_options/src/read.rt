@@ -171,7 +171,7 @@ fn flag(matches: &ArgMatches<'_>, name: &str) -> bool
 // Returns the positional words.
 fn files<'a>(alloc: Global, matches: &ArgMatches<'a>) -> Result<Vec<&'a str>, AllocError>
     ensures { let rows = spec.rows_of (spec.found_of matches.now) in
-        IfOk result (λ files. spec.texts_of files.items ≡ spec.placed rows) }
+        IfOk result (λ files. spec.texts_of files.items ≡ spec.named_files rows) }
 {
     match matches.get_strs("files") {
         Some(files) => files.to_vec(alloc),

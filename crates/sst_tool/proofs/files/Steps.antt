@@ -13,7 +13,7 @@ use Rattle.sst_tool.specs.declared.files.file_error.FileFault.TheVariants.{Io, L
 use Rattle.sst_tool.specs.declared.files.file_error.FileFault.TheVariants.{NotSynced, Refused, Taken}
 use Rattle.sst_tool.specs.declared.files.write.Beside.{Beside}
 use Rattle.sst_tool.specs.declared.files.write.NewFile.{NewFile}
-use Rattle.sst_tool.specs.files.Placed.{AreBeside, AreNotPlaced, AreNotPut, ArePlaced, IsEarly}
+use Rattle.sst_tool.specs.files.Placed.{AreBeside, AreNotPlaced, AreNotPut, AreInPlace, IsEarly}
 use Rattle.sst_tool.specs.files.Placed.{IsNotSynced, Standing, StandsBeside, StopSyncing}
 use Rattle.sst_tool.specs.files.Placed.{SameButBeside, StopsRenamingAt, StopsBefore, TellsAllTaken}
 use Rattle.sst_tool.specs.files.Placed.{TellsRenamed}
@@ -292,7 +292,7 @@ stops_syncing {A} known now bs i b e less here named returned so_far = record {
 pub placed : (known one new : Option (List Step)) (wanted : List NewFile) (all : List Standing)
     → AreBeside wanted all → one ≡ then_done known (writing all)
     → new ≡ then_done (then_done one (renaming all)) (syncing all)
-    → ArePlaced known wanted new
+    → AreInPlace known wanted new
 placed known one new wanted all are written done =
     let rest : new ≡ then_done known (writing all ++ (renaming all ++ syncing all)) =
     done ∙ then_more one (renaming all) (syncing all)
@@ -421,7 +421,7 @@ pub put_placed : {A R : Type 0} (returned : Result R FileError) (known one new :
     (wanted : List NewFile) (bs named : List (Beside A)) → AreBeside wanted (standing_in bs)
     → named ≡ bs → one ≡ then_done known (writing (standing_in bs))
     → OnOk returned (new ≡ then_done (then_done one (renaming (standing_in named)))
-    (syncing (standing_in named))) → OnOk returned (ArePlaced known wanted new)
+    (syncing (standing_in named))) → OnOk returned (AreInPlace known wanted new)
 put_placed (Err e) known one new wanted bs named are same written h = tt
 put_placed {A} (Ok r) known one new wanted bs named are same written h =
     placed known one new wanted (standing_in bs) are written

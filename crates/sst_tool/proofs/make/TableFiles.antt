@@ -13,7 +13,7 @@ use Rattle.sst_entries.specs.declared.error.Error.TheVariants.{OutOfMemory}
 use Rattle.lsm_writers.specs.declared.writer.FinishedTable.{FinishedTable}
 use Rattle.sst_tool.specs.declared.files.write.NewFile.{NewFile}
 use Rattle.sst_tool.specs.files.Files.{error_of_file, is_memory_fault, path_text}
-use Rattle.sst_tool.specs.files.Placed.{ArePlaced, IfLeft}
+use Rattle.sst_tool.specs.files.Placed.{AreInPlace, IfLeft}
 use Rattle.sst_tool.specs.files.Steps.{Step}
 use Rattle.sst_tool.specs.make.TableFiles.{AreTablesPlaced, IsFreeBehind, RefusesTables, StopsPlacing}
 use Rattle.sst_tool.specs.make.TableFiles.{TellsEarlier, TellsTableFile, files_from, table_file_name}
@@ -58,13 +58,13 @@ tells_file {A} path target fs wanted e files one =
 pub tables_placed : {A : Type 0} (path : List ℕ) (target : Option ℕ)
     (fs : List (FinishedTable A)) (wanted seen : List NewFile) (there : List ℕ → Option Bool)
     (known new : Option (List Step)) → map named_bytes wanted ≡ files_from path target 1 fs
-    → seen ≡ wanted → ArePlaced known seen new
+    → seen ≡ wanted → AreInPlace known seen new
     → IsFreeBehind target (there (table_file_name path target (length seen + 1)))
     → AreTablesPlaced path target fs there known new
 tables_placed {A} path target fs wanted seen there known new files same placed free = record {
   wanted = wanted;
   files = files;
-  placed = subst (λ (ws : List NewFile). ArePlaced known ws new) same placed;
+  placed = subst (λ (ws : List NewFile). AreInPlace known ws new) same placed;
   free = subst (λ (n : ℕ). IsFreeBehind target (there (table_file_name path target (n + 1))))
       (ap (λ (ws : List NewFile). length ws) same ∙ as_many path target fs wanted files) free;
 }

@@ -50,7 +50,7 @@ pub record AreBeside (files : List NewFile) (all : List Standing) : Type 0 where
 
 -- All files were written, then all were renamed, then their folders synced, and nothing else was
 -- done.
-pub record ArePlaced (known : Option (List Step)) (wanted : List NewFile)
+pub record AreInPlace (known : Option (List Step)) (wanted : List NewFile)
     (new : Option (List Step)) : Type 0 where
   pub all : List Standing
   pub are : AreBeside wanted all

@@ -21,7 +21,7 @@ pub use Rattle.sst_tool.specs.files.NewFolders.{writing_files}
 pub use Rattle.sst_tool.specs.files.Numbered.{named_bytes, numbered_files, numbered_path, with_number}
 pub use Rattle.sst_tool.specs.files.Opened.{AreOpenedFrom, HasContent, IsToldByBytes, StopsOpening}
 pub use Rattle.sst_tool.specs.files.Opened.{TellsRefused}
-pub use Rattle.sst_tool.specs.files.Placed.{AreBeside, AreNotPlaced, AreNotPut, ArePlaced, IfLeft}
+pub use Rattle.sst_tool.specs.files.Placed.{AreBeside, AreNotPlaced, AreNotPut, AreInPlace, IfLeft}
 pub use Rattle.sst_tool.specs.files.Placed.{IsEarly, IsLookFault, IsNotSynced, StopLooking, StopSyncing}
 pub use Rattle.sst_tool.specs.files.Placed.{StopsBefore, StopsRenamingAt, TellsAllTaken, TellsFound}
 pub use Rattle.sst_tool.specs.files.Placed.{TellsKind, TellsLeft, TellsRenamed, removing, renaming}

@@ -5,7 +5,7 @@ use Rattle.std.specs.Fmt.{decimal}
 use Rattle.lsm_writers.specs.declared.writer.FinishedTable.{FinishedTable}
 use Rattle.sst_tool.specs.files.Files.{error_of_file, path_text}
 use Rattle.sst_tool.specs.files.Numbered.{named_bytes, numbered_files}
-use Rattle.sst_tool.specs.files.Placed.{AreNotPlaced, ArePlaced, IfLeft, StopLooking}
+use Rattle.sst_tool.specs.files.Placed.{AreNotPlaced, AreInPlace, IfLeft, StopLooking}
 use Rattle.sst_tool.specs.files.Steps.{Step}
 use Rattle.sst_tool.specs.declared.files.file_error.FileError.{FileError}
 use Rattle.sst_tool.specs.declared.files.write.NewFile.{NewFile}
@@ -48,7 +48,7 @@ pub record AreTablesPlaced {A : Type 0} (path : List ℕ) (target : Option ℕ)
     (known new : Option (List Step)) : Type 0 where
   pub wanted : List NewFile
   pub files : map named_bytes wanted ≡ files_from path target 1 fs
-  pub placed : ArePlaced known wanted new
+  pub placed : AreInPlace known wanted new
   pub free : IsFreeBehind target (there (table_file_name path target (length fs + 1)))
 
 -- The files are not written, or not durable. With a target the name after the last is tested first.

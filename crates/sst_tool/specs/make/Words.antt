@@ -32,7 +32,7 @@ pub use Rattle.sst_tool.specs.files.Files.{path_text}
 pub use Rattle.sst_tool.specs.files.Modes.{AreModesKept}
 pub use Rattle.sst_tool.specs.files.Numbered.{named_bytes, numbered_path}
 pub use Rattle.sst_tool.specs.files.Opened.{AreOpenedFrom}
-pub use Rattle.sst_tool.specs.files.Placed.{ArePlaced, IfLeft, TellsFound}
+pub use Rattle.sst_tool.specs.files.Placed.{AreInPlace, IfLeft, TellsFound}
 pub use Rattle.sst_tool.specs.declared.files.error.LineFault.TheVariants.{OutOfOrder, Repeated}
 pub use Rattle.sst_tool.specs.declared.files.error.LineFault.TheVariants.{Spelling}
 pub use Rattle.sst_tool.specs.declared.files.error.ToolError.TheVariants.{Line, Refused, SizeTooLarge}

@@ -49,7 +49,7 @@ pub fn place_series<'a, P: Place, A: Allocator + Copy>(
     // On success the name after the last was free.
     ensures free { OnOk result
         (IfSome (P.there place.old (spec.path_text next.entry)) (λ there. there ≡ false)) }
-    ensures placed { OnOk result (spec.ArePlaced (P.done place.old) wanted.now (P.done place.new)) }
+    ensures placed { OnOk result (spec.AreInPlace (P.done place.old) wanted.now (P.done place.new)) }
     ensures kept { OnOk result
         (spec.AreModesKept (P.modes place.old) (P.done place.old) (P.done place.new)) }
     // If that name is taken, the error says so and nothing was done.
@@ -105,7 +105,7 @@ pub fn place_files<'a, P: Place, A: Allocator + Copy>(
     wanted: &[NewFile<'a, '_>],
 ) -> Result<(), FileError<'a>>
     // On success all were written, then renamed, then synced.
-    ensures placed { OnOk result (spec.ArePlaced (P.done place.old) wanted.now (P.done place.new)) }
+    ensures placed { OnOk result (spec.AreInPlace (P.done place.old) wanted.now (P.done place.new)) }
     // Each has the permissions of the regular file that it replaces, and replaces nothing else.
     ensures kept { OnOk result
         (spec.AreModesKept (P.modes place.old) (P.done place.old) (P.done place.new)) }

@@ -143,7 +143,7 @@ fn place_tables<'a, P: Place, A: Allocator + Copy>(
     target: Option<u64>,
     wanted: &[NewFile<'a, '_>],
 ) -> Result<(), FileError<'a>>
-    ensures placed { OnOk result (spec.ArePlaced (P.done place.old) wanted.now (P.done place.new)) }
+    ensures placed { OnOk result (spec.AreInPlace (P.done place.old) wanted.now (P.done place.new)) }
     ensures kept { OnOk result
         (spec.AreModesKept (P.modes place.old) (P.done place.old) (P.done place.new)) }
     ensures free { OnOk result (spec.IsFreeBehind target
