@@ -9,7 +9,7 @@ use Rattle.sst_entries.specs.Stream.{ok_results}
 use Rattle.lsm_readers.specs.point.Table.{OpenTable}
 use Rattle.sst_entries.specs.Entry.{Entry}
 use Rattle.sst_tool.specs.files.Opened.{AreOpenedFrom, HasContent, IsToldByBytes}
-use Rattle.sst_tool.proofs.files.Opened.{opened_more}
+use Rattle.sst_tool.proofs.Opened.{opened_more}
 use Rattle.sst_tool.specs.show.Read.{Outcome, dumped, readable}
 use Rattle.sst_tool.specs.declared.show.dumps.DumpOptions.{DumpOptions}
 use Rattle.sst_tool.specs.declared.show.named.NamedTable.{NamedTable}

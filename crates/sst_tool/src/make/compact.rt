@@ -243,7 +243,7 @@ fn compact_opened<'a, A: Allocator + Copy>(
 }
 
 // Opens files and compacts their tables.
-#[tactic(auto, using(crate::proofs::make::Blaming::blamed_memory, crate::proofs::make::Blaming::blamed_order))]
+#[tactic(auto, using(crate::proofs::Blaming::blamed_memory, crate::proofs::Blaming::blamed_order))]
 fn open_and_compact<'a, P: Place, A: Allocator + Copy>(
     place: &P,
     alloc: A,

@@ -98,7 +98,7 @@ fn order_fault(sorted: bool) -> LineFault
 
 // Writes an entry, if it may follow those before it. After sorting, an entry that may not follow
 // has the key and sequence number of the one before it.
-#[tactic(auto, using(crate::proofs::make::Refusals::not_memory))]
+#[tactic(auto, using(crate::proofs::Refusals::not_memory))]
 fn write_entry<A: Allocator + Copy>(
     writer: &mut MultiWriter<A>,
     number: u64,

@@ -11,7 +11,7 @@ use std::alloc::Allocator;
 /// # Errors
 ///
 /// Fails if something has the name, and if it cannot be looked up.
-#[tactic(auto, using(crate::proofs::make::Blaming::found_memory))]
+#[tactic(auto, using(crate::proofs::Blaming::found_memory))]
 pub(crate) fn check_folder<'a, P: Place>(place: &P, folder: &'a str) -> Result<(), ToolError<'a>>
     ensures free { OnOk result
         (IfSome (P.there place.now folder.now) (λ there. there ≡ false)) }
@@ -34,7 +34,7 @@ pub(crate) fn check_folder<'a, P: Place>(place: &P, folder: &'a str) -> Result<(
 /// # Errors
 ///
 /// Fails as [`place_folder`] does.
-#[tactic(auto, using(crate::proofs::make::Blaming::blamed_memory, crate::proofs::make::Blaming::blamed_order))]
+#[tactic(auto, using(crate::proofs::Blaming::blamed_memory, crate::proofs::Blaming::blamed_order))]
 pub(crate) fn write_tables<'a, P: Place, A: Allocator + Copy>(
     place: &mut P,
     alloc: A,

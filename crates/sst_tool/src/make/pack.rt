@@ -29,7 +29,7 @@ fn check_ranges<'a, T: Ranged>(paths: &[&'a str], tables: &[T]) -> Result<(), To
 ///
 /// Fails as [`open_tables`] does, if the first key of a file is above its last, and with
 /// `OutOfMemory`.
-#[tactic(auto, using(crate::proofs::make::Blaming::blamed_packs))]
+#[tactic(auto, using(crate::proofs::Blaming::blamed_packs))]
 pub fn pack_files<'a, P: Place, A: Allocator + Copy>(
     place: &P,
     alloc: A,

@@ -1,6 +1,6 @@
 use Rattle.std.proofs.Common.{◌≡◌, false, refl, subst}
 use Rattle.std.specs.Prelude.{Bool, IfSome, Option, map}
-use Rattle.sst_tool.proofs.files.NewFolders.{name_filled, stops_naming}
+use Rattle.sst_tool.proofs.NewFolders.{name_filled, stops_naming}
 use Rattle.sst_tool.specs.files.NewFolders.{TellsTaken}
 use Rattle.sst_tool.proofs.files.new_folder.fill_and_name.Goals as goal
 

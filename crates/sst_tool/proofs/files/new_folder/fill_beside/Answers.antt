@@ -1,5 +1,5 @@
 use Rattle.std.specs.Prelude.{map, string_bytes}
-use Rattle.sst_tool.proofs.files.NewFolders.{emptied}
+use Rattle.sst_tool.proofs.NewFolders.{emptied}
 use Rattle.sst_tool.proofs.files.new_folder.fill_beside.Goals as goal
 
 pub returns-clause-refused : goal.returns-clause-refused

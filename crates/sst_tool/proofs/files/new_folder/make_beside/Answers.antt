@@ -1,6 +1,6 @@
 use Rattle.std.proofs.Common.{◌∙◌, arith, rules}
 use Rattle.std.specs.Prelude.{string_bytes}
-use Rattle.sst_tool.proofs.files.There.{same_from, taken_more}
+use Rattle.sst_tool.proofs.There.{same_from, taken_more}
 use Rattle.sst_tool.proofs.files.new_folder.make_beside.Goals as goal
 
 pub returns-in-Ok-clause-elsewhere : goal.returns-in-Ok-clause-elsewhere

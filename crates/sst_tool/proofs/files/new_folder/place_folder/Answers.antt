@@ -1,5 +1,5 @@
 use Rattle.std.specs.Prelude.{map, string_bytes}
-use Rattle.sst_tool.proofs.files.NewFolders.{free_before, name_made, placed_folder, refused_folder, taken_before}
+use Rattle.sst_tool.proofs.NewFolders.{free_before, name_made, placed_folder, refused_folder, taken_before}
 use Rattle.sst_tool.proofs.files.new_folder.place_folder.Goals as goal
 
 pub returns-in-Ok-clause-placed : goal.returns-in-Ok-clause-placed

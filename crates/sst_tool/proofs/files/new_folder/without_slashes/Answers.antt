@@ -1,4 +1,4 @@
-use Rattle.sst_tool.proofs.files.NewFolders.{stem_is}
+use Rattle.sst_tool.proofs.NewFolders.{stem_is}
 use Rattle.sst_tool.proofs.files.new_folder.without_slashes.Goals as goal
 
 pub returns : goal.returns

@@ -1,6 +1,6 @@
 use Rattle.std.proofs.Common.{ap, rules}
 use Rattle.std.specs.Prelude.{map, string_bytes}
-use Rattle.sst_tool.proofs.files.NewFolders.{behind_more, stops_writing, within_taken, wrote_within}
+use Rattle.sst_tool.proofs.NewFolders.{behind_more, stops_writing, within_taken, wrote_within}
 use Rattle.std.proofs.Common.{refl}
 use Rattle.sst_tool.proofs.files.new_folder.write_within.Goals as goal
 

@@ -1,7 +1,7 @@
 use Rattle.std.proofs.Common.{◌∙◌, ap, length-append, rules, ◌+◌, [], ◌∷◌}
 use Rattle.sst_tool.specs.files.Files.{path_text}
 use Rattle.sst_tool.specs.files.Numbered.{numbered_path}
-use Rattle.sst_tool.proofs.files.FilesMore.{files_more}
+use Rattle.sst_tool.proofs.FilesMore.{files_more}
 use Rattle.sst_tool.proofs.files.numbered.table_files.Goals as goal
 
 pub loop-table-preserved : goal.loop-table-preserved

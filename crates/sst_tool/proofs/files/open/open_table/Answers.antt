@@ -1,4 +1,4 @@
-use Rattle.sst_tool.proofs.files.Opened.{refused_told}
+use Rattle.sst_tool.proofs.Opened.{refused_told}
 use Rattle.sst_tool.proofs.files.open.open_table.Goals as goal
 
 pub returns-in-Err-clause-returned : goal.returns-in-Err-clause-returned

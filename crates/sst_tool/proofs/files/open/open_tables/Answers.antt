@@ -2,7 +2,7 @@ use Rattle.std.proofs.Common.{◌≡◌, ◌∙◌, ◌∷◌, ◌+◌, [], ap, 
 use Rattle.sst_entries.proofs.Lists.{all_append}
 use Rattle.lsm_readers.specs.point.Table.{OpenTable}
 use Rattle.sst_tool.specs.files.Opened.{IsToldByBytes}
-use Rattle.sst_tool.proofs.files.Opened.{opened_more, stops_opening, told_memory}
+use Rattle.sst_tool.proofs.Opened.{opened_more, stops_opening, told_memory}
 use Rattle.sst_tool.proofs.files.open.open_tables.Goals as goal
 
 pub loop-path-preserved : goal.loop-path-preserved

@@ -1,6 +1,6 @@
 use Rattle.std.proofs.Common.{refl, sym, ◌∙◌, ap}
 use Rattle.std.proofs.lemmas.List.{drop-map, take_rest}
-use Rattle.sst_tool.proofs.files.Steps.{stopped_at}
+use Rattle.sst_tool.proofs.Steps.{stopped_at}
 use Rattle.sst_tool.specs.files.Placed.{removing}
 use Rattle.sst_tool.specs.files.Standing.{standing_in, standing_of}
 use Rattle.sst_tool.specs.files.Steps.{then_done}

@@ -1,5 +1,5 @@
-use Rattle.sst_tool.proofs.files.Modes.{modes_kept}
-use Rattle.sst_tool.proofs.files.Steps.{none_left, put_names, put_placed, put_refused}
+use Rattle.sst_tool.proofs.Modes.{modes_kept}
+use Rattle.sst_tool.proofs.Steps.{none_left, put_names, put_placed, put_refused}
 use Rattle.sst_tool.specs.files.Standing.{standing_in}
 use Rattle.sst_tool.proofs.files.write.place_files.Goals as goal
 

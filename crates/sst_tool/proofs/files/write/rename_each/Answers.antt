@@ -1,6 +1,6 @@
 use Rattle.std.proofs.Common.{sym, ◌∙◌, ap}
 use Rattle.std.proofs.lemmas.List.{take-map, take_all}
-use Rattle.sst_tool.proofs.files.Steps.{renamed_more, then_none}
+use Rattle.sst_tool.proofs.Steps.{renamed_more, then_none}
 use Rattle.sst_tool.specs.files.Placed.{renaming}
 use Rattle.sst_tool.specs.files.Standing.{standing_in, standing_of}
 use Rattle.sst_tool.specs.files.Steps.{then_done}

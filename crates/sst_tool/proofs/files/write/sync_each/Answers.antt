@@ -1,6 +1,6 @@
 use Rattle.std.proofs.Common.{refl, sym, ◌∙◌, ap, List, ℕ, ◌∷◌, []}
 use Rattle.std.proofs.lemmas.List.{take_all}
-use Rattle.sst_tool.proofs.files.Steps.{one_more, stops_syncing, then_none}
+use Rattle.sst_tool.proofs.Steps.{one_more, stops_syncing, then_none}
 use Rattle.sst_tool.specs.files.Placed.{syncing}
 use Rattle.sst_tool.specs.files.Standing.{standing_in}
 use Rattle.sst_tool.specs.files.Steps.{then_done}

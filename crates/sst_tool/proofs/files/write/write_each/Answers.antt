@@ -1,7 +1,7 @@
 use Rattle.std.proofs.Common.{refl}
 use Rattle.std.proofs.lemmas.List.{get_or_default}
-use Rattle.sst_tool.proofs.files.Steps.{beside_more, kept_more, left_more, same_more, stopped_before}
-use Rattle.sst_tool.proofs.files.Steps.{written_more}
+use Rattle.sst_tool.proofs.Steps.{beside_more, kept_more, left_more, same_more, stopped_before}
+use Rattle.sst_tool.proofs.Steps.{written_more}
 use Rattle.sst_tool.proofs.files.write.write_each.Goals as goal
 
 pub returns-in-Err-clause-refused : goal.returns-in-Err-clause-refused

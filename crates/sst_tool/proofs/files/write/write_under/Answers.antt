@@ -2,8 +2,8 @@ use Rattle.std.proofs.Common.{◌∙◌, arith, rules}
 use Rattle.std.specs.Fs.{permissions_mode}
 use Rattle.std.specs.Option.{option_copied, option_map}
 use Rattle.std.specs.Prelude.{string_bytes}
-use Rattle.sst_tool.proofs.files.Steps.{passed_over, wrote_new}
-use Rattle.sst_tool.proofs.files.There.{not_free, same_from, taken_more}
+use Rattle.sst_tool.proofs.Steps.{passed_over, wrote_new}
+use Rattle.sst_tool.proofs.There.{not_free, same_from, taken_more}
 use Rattle.sst_tool.proofs.files.write.write_under.Goals as goal
 
 pub returns-then-branch-clause-written : goal.returns-then-branch-clause-written

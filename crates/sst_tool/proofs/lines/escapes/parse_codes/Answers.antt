@@ -1,7 +1,7 @@
 use Rattle.std.proofs.Common.{sym, subst, List, ℕ, [], append-nil, refl}
 use Rattle.sst_tool.specs.lines.Escapes.{AreCodes}
-use Rattle.sst_tool.proofs.lines.EscapeLemmas.{Reading, reading_goes, reading_starts, reading_stops}
-use Rattle.sst_tool.proofs.lines.EscapeLemmas.{empty_is, some_is}
+use Rattle.sst_tool.proofs.EscapeLemmas.{Reading, reading_goes, reading_starts, reading_stops}
+use Rattle.sst_tool.proofs.EscapeLemmas.{empty_is, some_is}
 use Rattle.sst_tool.proofs.lines.escapes.parse_codes.Goals as goal
 
 pub loop-rest-init : goal.loop-rest-init

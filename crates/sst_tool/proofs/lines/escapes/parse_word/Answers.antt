@@ -1,5 +1,5 @@
 use Rattle.std.proofs.Common.{rules}
-use Rattle.sst_tool.proofs.lines.EscapeLemmas.{refused_word}
+use Rattle.sst_tool.proofs.EscapeLemmas.{refused_word}
 use Rattle.sst_tool.proofs.lines.escapes.parse_word.Goals as goal
 
 pub returns-clause-refused : goal.returns-clause-refused

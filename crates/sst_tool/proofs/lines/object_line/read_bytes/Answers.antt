@@ -1,8 +1,8 @@
 use Rattle.std.proofs.Common.{◌≡◌, rules, ap, sym, ◌∙◌, length}
 use Rattle.std.specs.Prelude.{option_map}
 use Rattle.json.specs.Value.{value_view}
-use Rattle.sst_tool.proofs.lines.ObjectLemmas.{digits_mean_none, has_members, many_mean_none}
-use Rattle.sst_tool.proofs.lines.ObjectLemmas.{means_digits, view_object}
+use Rattle.sst_tool.proofs.ObjectLemmas.{digits_mean_none, has_members, many_mean_none}
+use Rattle.sst_tool.proofs.ObjectLemmas.{means_digits, view_object}
 use Rattle.sst_tool.proofs.lines.object_line.read_bytes.Goals as goal
 
 pub returns-in-Some-clause-ok : goal.returns-in-Some-clause-ok

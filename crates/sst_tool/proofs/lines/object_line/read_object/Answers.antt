@@ -1,7 +1,7 @@
 use Rattle.std.proofs.Common.{rules}
 use Rattle.json.specs.Value.{value_view}
-use Rattle.sst_tool.proofs.lines.ObjectLemmas.{SpellsNone, four_members, no_object, object_by}
-use Rattle.sst_tool.proofs.lines.WordLemmas.{passed_on}
+use Rattle.sst_tool.proofs.ObjectLemmas.{SpellsNone, four_members, no_object, object_by}
+use Rattle.sst_tool.proofs.WordLemmas.{passed_on}
 use Rattle.sst_tool.proofs.lines.object_line.read_object.Goals as goal
 
 pub returns-in_err-members-clause-refused : goal.returns-in_err-members-clause-refused

@@ -1,6 +1,6 @@
 use Rattle.std.proofs.Common.{◌≡◌, rules, ap, ◌∙◌, length}
 use Rattle.json.specs.Value.{value_view}
-use Rattle.sst_tool.proofs.lines.ObjectLemmas.{has_members, other_many, view_object}
+use Rattle.sst_tool.proofs.ObjectLemmas.{has_members, other_many, view_object}
 use Rattle.sst_tool.proofs.lines.object_line.test_members.Goals as goal
 
 pub returns-in-Object-clause-ok : goal.returns-in-Object-clause-ok

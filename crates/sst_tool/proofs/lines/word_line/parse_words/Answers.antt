@@ -1,6 +1,6 @@
 use Rattle.std.proofs.Common.{ap, length, rules}
 use Rattle.sst_tool.specs.lines.WordLine.{IsNumberWord}
-use Rattle.sst_tool.proofs.lines.WordLemmas.{SpellsNone, no_kind, passed_on, spelled_by}
+use Rattle.sst_tool.proofs.WordLemmas.{SpellsNone, no_kind, passed_on, spelled_by}
 use Rattle.sst_tool.proofs.lines.word_line.parse_words.Goals as goal
 
 pub returns-in_default-clause-refused : goal.returns-in_default-clause-refused

@@ -1,6 +1,6 @@
 use Rattle.std.proofs.Common.{rules}
 use Rattle.std.specs.Option.{option_copied}
-use Rattle.sst_tool.proofs.lines.WordLemmas.{copied_some, five_words}
+use Rattle.sst_tool.proofs.WordLemmas.{copied_some, five_words}
 use Rattle.sst_tool.proofs.lines.word_line.split_line.Goals as goal
 
 pub returns-then-is_some-clause-none : goal.returns-then-is_some-clause-none

@@ -1,7 +1,7 @@
 use Rattle.std.proofs.Common.{◌∙◌, ap, sym, ◌-◌, ◌+◌, List, ℕ, ◌∷◌, take, drop, length, arith}
 use Rattle.std.proofs.lemmas.List.{take_all, length-drop}
 use Rattle.sst_tool.specs.lines.WordLine.{line_words}
-use Rattle.sst_tool.proofs.lines.WordLemmas.{cut_at, uncut}
+use Rattle.sst_tool.proofs.WordLemmas.{cut_at, uncut}
 use Rattle.sst_tool.proofs.lines.word_line.split_word.Goals as goal
 
 pub returns-in-Some : goal.returns-in-Some

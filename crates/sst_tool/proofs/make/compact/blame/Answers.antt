@@ -1,7 +1,7 @@
 use Rattle.std.proofs.Common.{ap, refl}
 use Rattle.std.specs.Prelude.{Some, length}
 use Rattle.std.proofs.lemmas.Option.{slice_get_read}
-use Rattle.sst_tool.proofs.make.Scanning.{unread_early}
+use Rattle.sst_tool.proofs.Scanning.{unread_early}
 use Rattle.sst_tool.proofs.make.compact.blame.Goals as goal
 
 pub returns-in-Some-OutOfMemory-clause-misses : goal.returns-in-Some-OutOfMemory-clause-misses

@@ -1,7 +1,7 @@
 use Rattle.std.proofs.Common.{◌∙◌, refl, sym}
 use Rattle.std.specs.Prelude.{Err, length}
 use Rattle.std.proofs.lemmas.Option.{slice_get_read}
-use Rattle.sst_tool.proofs.make.Scanning.{stores_none, unordered_early}
+use Rattle.sst_tool.proofs.Scanning.{stores_none, unordered_early}
 use Rattle.sst_tool.proofs.make.compact.blame_order.Goals as goal
 
 pub returns-in-Ok-false-clause-names : goal.returns-in-Ok-false-clause-names

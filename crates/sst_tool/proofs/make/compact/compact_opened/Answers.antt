@@ -1,4 +1,4 @@
-use Rattle.sst_tool.proofs.make.FromLibrary.{none_so, refused_so}
+use Rattle.sst_tool.proofs.FromLibrary.{none_so, refused_so}
 use Rattle.sst_tool.proofs.make.compact.compact_opened.Goals as goal
 
 pub returns-in-Err-clause-library : goal.returns-in-Err-clause-library

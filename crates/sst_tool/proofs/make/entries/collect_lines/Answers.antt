@@ -1,9 +1,9 @@
 use Rattle.std.proofs.Common.{refl, rules, subst, ◌+◌}
 use Rattle.sst_tool.specs.make.Entries.{numbered, row_entries}
 use Rattle.sst_tool.specs.make.Faults.{StopsReading, TellsSpelling}
-use Rattle.sst_tool.proofs.make.Lines.{at_end, goes_empty, goes_end, goes_row, handed_on, lost, no_items}
-use Rattle.sst_tool.proofs.make.Lines.{reading_else, reads_at, rows_empty, rows_end, rows_row}
-use Rattle.sst_tool.proofs.make.Lines.{stops_reading}
+use Rattle.sst_tool.proofs.LineLemmas.{at_end, goes_empty, goes_end, goes_row, handed_on, lost, no_items}
+use Rattle.sst_tool.proofs.LineLemmas.{reading_else, reads_at, rows_empty, rows_end, rows_row}
+use Rattle.sst_tool.proofs.LineLemmas.{stops_reading}
 use Rattle.sst_tool.proofs.make.entries.collect_lines.Goals as goal
 use Rattle.sst_tool.proofs.make.entries.collect_lines.Goals.{then-not-is_empty+in_ok-entry+in_ok-push, else-not-is_empty}
 

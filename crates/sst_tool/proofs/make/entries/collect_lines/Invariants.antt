@@ -1,4 +1,4 @@
-use Rattle.sst_tool.proofs.make.Lines.{Goes, GoesRows}
+use Rattle.sst_tool.proofs.LineLemmas.{Goes, GoesRows}
 use Rattle.sst_tool.specs.make.Entries.{numbered, row_entries}
 use Rattle.sst_tool.proofs.make.entries.collect_lines.Given as goal
 

@@ -1,4 +1,4 @@
-use Rattle.sst_tool.proofs.make.Lines.{spelling_named}
+use Rattle.sst_tool.proofs.LineLemmas.{spelling_named}
 use Rattle.sst_tool.proofs.make.entries.parse_line.Goals as goal
 
 pub returns-in-Err-clause-refused : goal.returns-in-Err-clause-refused

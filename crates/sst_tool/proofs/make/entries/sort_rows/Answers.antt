@@ -2,7 +2,7 @@ use Rattle.std.proofs.Common.{rules}
 use Rattle.std.proofs.lemmas.List.Sorted.{answers_always, ranks_by}
 use Rattle.sst_entries.proofs.OrderLemmas.{number_total}
 use Rattle.sst_tool.specs.declared.make.entries.Numbered.{Numbered}
-use Rattle.sst_tool.proofs.make.Sorting.{sorted_rows}
+use Rattle.sst_tool.proofs.Sorting.{sorted_rows}
 use Rattle.sst_tool.proofs.make.entries.sort_rows.Goals as goal
 
 pub returns-clause-order : goal.returns-clause-order

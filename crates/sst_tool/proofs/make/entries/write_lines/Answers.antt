@@ -1,8 +1,8 @@
 use Rattle.std.proofs.Common.{rules, arith}
 use Rattle.sst_tool.specs.make.Faults.{StopsIn, TellsLine}
 use Rattle.std.proofs.Common.{◌+◌, subst}
-use Rattle.sst_tool.proofs.make.Lines.{at_end, handed_on, lost, no_items, stops_else}
-use Rattle.sst_tool.proofs.make.Taken.{lines_empty, lines_end, lines_more, lines_stop}
+use Rattle.sst_tool.proofs.LineLemmas.{at_end, handed_on, lost, no_items, stops_else}
+use Rattle.sst_tool.proofs.Taken.{lines_empty, lines_end, lines_more, lines_stop}
 use Rattle.sst_tool.proofs.make.entries.write_lines.Goals as goal
 use Rattle.sst_tool.proofs.make.entries.write_lines.Goals.{then-not-is_empty+in_ok-write_line, else-not-is_empty}
 

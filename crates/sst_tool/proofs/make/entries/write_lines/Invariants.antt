@@ -1,5 +1,5 @@
 use Rattle.std.specs.Prelude.{◌≤◌}
-use Rattle.sst_tool.proofs.make.Taken.{Took}
+use Rattle.sst_tool.proofs.Taken.{Took}
 use Rattle.sst_tool.proofs.make.entries.write_lines.Given as goal
 
 abbrev pub invariant-loop-before : goal.invariant-loop-before

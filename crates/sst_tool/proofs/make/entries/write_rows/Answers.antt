@@ -1,4 +1,4 @@
-use Rattle.sst_tool.proofs.make.Taken.{rows_more, stops_among}
+use Rattle.sst_tool.proofs.Taken.{rows_more, stops_among}
 use Rattle.sst_tool.proofs.make.entries.write_rows.Goals as goal
 
 pub loop-row-preserved : goal.loop-row-preserved

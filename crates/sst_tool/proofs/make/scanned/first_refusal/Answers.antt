@@ -1,6 +1,6 @@
 use Rattle.lsm_readers.specs.Scan.{ScansLent}
-use Rattle.sst_tool.proofs.make.Scanning.{came_entry, came_err, came_none, came_nothing, came_ok}
-use Rattle.sst_tool.proofs.make.Scanning.{refused_behind, refused_last, refused_none}
+use Rattle.sst_tool.proofs.Scanning.{came_entry, came_err, came_none, came_nothing, came_ok}
+use Rattle.sst_tool.proofs.Scanning.{refused_behind, refused_last, refused_none}
 use Rattle.sst_tool.proofs.make.scanned.first_refusal.Goals as goal
 
 pub loop-error-preserved : goal.loop-error-preserved

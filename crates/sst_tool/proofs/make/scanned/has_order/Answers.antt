@@ -3,7 +3,7 @@ use Rattle.std.specs.Prelude.{None, Some}
 use Rattle.sst_entries.specs.Stream.{ok_results}
 use Rattle.lsm_readers.specs.point.Answer.{lift}
 use Rattle.lsm_runs.specs.RunScan.{table_scan}
-use Rattle.sst_tool.proofs.make.Scanning.{early_fine, order_told, refused_order, stored_strict}
+use Rattle.sst_tool.proofs.Scanning.{early_fine, order_told, refused_order, stored_strict}
 use Rattle.sst_tool.proofs.make.scanned.has_order.Goals as goal
 
 pub returns-in-Ok-clause-order : goal.returns-in-Ok-clause-order

@@ -2,9 +2,9 @@ use Rattle.std.proofs.Common.{◌∙◌, refl, sym, true, false}
 use Rattle.std.specs.Prelude.{None, Some}
 use Rattle.sst_entries.specs.Lending.{entry_of_ref}
 use Rattle.lsm_readers.specs.Scan.{ScansLent}
-use Rattle.sst_tool.proofs.make.Scanning.{came_err, came_lent, came_none, came_ok, ended_so}
-use Rattle.sst_tool.proofs.make.Scanning.{order_broken, order_more, order_none, order_refused}
-use Rattle.sst_tool.proofs.make.Scanning.{test_told}
+use Rattle.sst_tool.proofs.Scanning.{came_err, came_lent, came_none, came_ok, ended_so}
+use Rattle.sst_tool.proofs.Scanning.{order_broken, order_more, order_none, order_refused}
+use Rattle.sst_tool.proofs.Scanning.{test_told}
 use Rattle.sst_tool.proofs.make.scanned.is_in_order.Goals as goal
 
 pub returns-in-Err-clause-order : goal.returns-in-Err-clause-order

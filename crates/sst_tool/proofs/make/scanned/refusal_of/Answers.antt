@@ -3,7 +3,7 @@ use Rattle.std.specs.Prelude.{None, Some}
 use Rattle.sst_entries.specs.Stream.{ok_results}
 use Rattle.lsm_readers.specs.point.Answer.{lift}
 use Rattle.lsm_runs.specs.RunScan.{table_scan}
-use Rattle.sst_tool.proofs.make.Scanning.{only_memory, refused_first, scan_refused}
+use Rattle.sst_tool.proofs.Scanning.{only_memory, refused_first, scan_refused}
 use Rattle.sst_tool.proofs.make.scanned.refusal_of.Goals as goal
 
 pub returns-in-Ok-clause-first : goal.returns-in-Ok-clause-first

@@ -1,6 +1,6 @@
 use Rattle.std.proofs.Common.{◌∙◌}
 use Rattle.sst_tool.specs.files.Numbered.{numbered_path}
-use Rattle.sst_tool.proofs.files.FilesMore.{same_files}
+use Rattle.sst_tool.proofs.FilesMore.{same_files}
 use Rattle.sst_tool.specs.make.TableFiles.{table_file_name}
 use Rattle.sst_tool.proofs.make.write.files_of.Goals as goal
 

@@ -1,6 +1,6 @@
 use Rattle.std.specs.Prelude.{length}
-use Rattle.sst_tool.proofs.make.TableFiles.{blamed_earlier, blamed_table, tables_placed, tables_stop}
-use Rattle.sst_tool.proofs.make.TableFiles.{tells_next}
+use Rattle.sst_tool.proofs.TableFiles.{blamed_earlier, blamed_table, tables_placed, tables_stop}
+use Rattle.sst_tool.proofs.TableFiles.{tells_next}
 use Rattle.sst_tool.proofs.make.write.put_tables.Goals as goal
 
 pub returns-clause-placed : goal.returns-clause-placed

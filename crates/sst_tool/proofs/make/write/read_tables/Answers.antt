@@ -1,6 +1,6 @@
 use Rattle.std.proofs.Common.{rules}
-use Rattle.sst_tool.proofs.make.Lines.{no_items}
-use Rattle.sst_tool.proofs.make.Refusals.{none_spelled}
+use Rattle.sst_tool.proofs.LineLemmas.{no_items}
+use Rattle.sst_tool.proofs.Refusals.{none_spelled}
 use Rattle.sst_tool.proofs.make.write.read_tables.Goals as goal
 
 pub returns-then-is_empty-clause-refused : goal.returns-then-is_empty-clause-refused

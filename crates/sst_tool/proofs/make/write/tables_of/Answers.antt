@@ -1,6 +1,6 @@
-use Rattle.sst_tool.proofs.make.Lines.{handed_on}
-use Rattle.sst_tool.proofs.make.Refusals.{lines_refused, sizes_refused, told_end}
-use Rattle.sst_tool.proofs.make.Taken.{told_lines}
+use Rattle.sst_tool.proofs.LineLemmas.{handed_on}
+use Rattle.sst_tool.proofs.Refusals.{lines_refused, sizes_refused, told_end}
+use Rattle.sst_tool.proofs.Taken.{told_lines}
 use Rattle.sst_tool.specs.make.Refusing.{RefusesLines}
 use Rattle.sst_tool.proofs.make.write.tables_of.Goals as goal
 

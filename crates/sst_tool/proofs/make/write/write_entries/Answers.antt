@@ -1,6 +1,6 @@
 use Rattle.sst_tool.specs.make.Sorting.{TellsLineOrder}
-use Rattle.sst_tool.proofs.make.Lines.{handed_on}
-use Rattle.sst_tool.proofs.make.Refusals.{told_order}
+use Rattle.sst_tool.proofs.LineLemmas.{handed_on}
+use Rattle.sst_tool.proofs.Refusals.{told_order}
 use Rattle.sst_tool.proofs.make.write.write_entries.Goals as goal
 
 pub returns-in_err-tables-clause-order : goal.returns-in_err-tables-clause-order

@@ -1,8 +1,8 @@
 use Rattle.sst_tool.specs.make.Entries.{numbered}
 use Rattle.sst_tool.specs.make.Faults.{StopsInOrder}
-use Rattle.sst_tool.proofs.make.Lines.{handed_on}
-use Rattle.sst_tool.proofs.make.Sorting.{row_entries_sorted}
-use Rattle.sst_tool.proofs.make.Taken.{reading_first, sorted_taken, told_among}
+use Rattle.sst_tool.proofs.LineLemmas.{handed_on}
+use Rattle.sst_tool.proofs.Sorting.{row_entries_sorted}
+use Rattle.sst_tool.proofs.Taken.{reading_first, sorted_taken, told_among}
 use Rattle.sst_tool.proofs.make.write.write_sorted.Goals as goal
 
 pub returns-clause-ok : goal.returns-clause-ok

@@ -1,6 +1,6 @@
 use Rattle.std.proofs.Common.{◌≡◌}
 use Rattle.lsm_readers.specs.declared.verify.VerifyError.TheVariants.{Found}
-use Rattle.sst_tool.proofs.show.Findings.{not_memory}
+use Rattle.sst_tool.proofs.Findings.{not_memory}
 use Rattle.sst_tool.proofs.show.checks.verify.Goals as goal
 
 pub returns-in-Err-Found-clause-complete : goal.returns-in-Err-Found-clause-complete

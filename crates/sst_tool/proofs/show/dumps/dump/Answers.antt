@@ -1,4 +1,4 @@
-use Rattle.sst_tool.proofs.show.FileLemmas.{failure_none, failure_only}
+use Rattle.sst_tool.proofs.FileLemmas.{failure_none, failure_only}
 use Rattle.sst_tool.proofs.show.dumps.dump.Goals as goal
 
 pub returns-in-Err-clause-named : goal.returns-in-Err-clause-named

@@ -5,10 +5,10 @@ use Rattle.sst_entries.specs.Stream.{ok_results}
 use Rattle.sst_entries.proofs.StreamLemmas.{can_now, can_now_back}
 use Rattle.sst_tool.specs.show.Failures.{FailsAs, NamesNone}
 use Rattle.sst_tool.specs.show.Read.{dumped, first_error}
-use Rattle.sst_tool.proofs.show.DumpLemmas.{end_shown, entry_shown, error_is_memory, error_shown}
-use Rattle.sst_tool.proofs.show.DumpLemmas.{may_go_on, none_fails, shows_all, shows_end, shows_none}
-use Rattle.sst_tool.proofs.show.DumpLemmas.{shows_one}
-use Rattle.sst_tool.proofs.show.EndingLemmas.{comes_error, comes_none, comes_one, ends_up}
+use Rattle.sst_tool.proofs.DumpLemmas.{end_shown, entry_shown, error_is_memory, error_shown}
+use Rattle.sst_tool.proofs.DumpLemmas.{may_go_on, none_fails, shows_all, shows_end, shows_none}
+use Rattle.sst_tool.proofs.DumpLemmas.{shows_one}
+use Rattle.sst_tool.proofs.EndingLemmas.{comes_error, comes_none, comes_one, ends_up}
 use Rattle.sst_tool.proofs.show.dumps.dump_items.Goals as goal
 
 pub loop-left-init : goal.loop-left-init

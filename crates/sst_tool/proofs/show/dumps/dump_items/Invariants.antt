@@ -3,8 +3,8 @@ use Rattle.std.proofs.Common.{Bool, List}
 use Rattle.sst_entries.specs.Stream.{CanYield, YieldsExactly, answer_stops}
 use Rattle.sst_entries.specs.declared.error.Error.{Error}
 use Rattle.lsm_iters.specs.block_index.Yielded.{YieldsEnding}
-use Rattle.sst_tool.proofs.show.DumpLemmas.{Shows}
-use Rattle.sst_tool.proofs.show.EndingLemmas.{Comes}
+use Rattle.sst_tool.proofs.DumpLemmas.{Shows}
+use Rattle.sst_tool.proofs.EndingLemmas.{Comes}
 use Rattle.sst_tool.specs.show.Read.{Outcome, dumped}
 use Rattle.sst_tool.proofs.show.dumps.dump_items.Given as goal
 

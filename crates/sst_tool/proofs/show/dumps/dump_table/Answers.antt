@@ -1,5 +1,5 @@
 use Rattle.std.proofs.Common.{refl, sym, true}
-use Rattle.sst_tool.proofs.show.DumpLemmas.{deals_to_error, entries_left}
+use Rattle.sst_tool.proofs.DumpLemmas.{deals_to_error, entries_left}
 use Rattle.sst_tool.proofs.show.dumps.dump_table.Goals as goal
 
 pub returns-clause-returned : goal.returns-clause-returned

@@ -3,7 +3,7 @@ use Rattle.std.specs.Prelude.{IfSome, Option}
 use Rattle.sst_entries.specs.Error.{is_memory}
 use Rattle.sst_entries.specs.declared.error.Error.{Error}
 use Rattle.sst_tool.specs.show.Files.{IsSoundTable}
-use Rattle.sst_tool.proofs.show.FileLemmas.{error_faulty}
+use Rattle.sst_tool.proofs.FileLemmas.{error_faulty}
 use Rattle.sst_tool.proofs.show.gets.refusal_of.Goals as goal
 
 pub returns-then-contains_key-clause-faulty : goal.returns-then-contains_key-clause-faulty

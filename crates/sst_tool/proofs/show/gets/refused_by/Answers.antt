@@ -1,4 +1,4 @@
-use Rattle.sst_tool.proofs.show.FileLemmas.{read_blamed}
+use Rattle.sst_tool.proofs.FileLemmas.{read_blamed}
 use Rattle.sst_tool.proofs.show.gets.refused_by.Goals as goal
 
 pub returns-clause-blamed : goal.returns-clause-blamed

@@ -1,7 +1,7 @@
 use Rattle.std.proofs.Common.{ap}
 use Rattle.std.specs.Prelude.{is_some}
 use Rattle.sst_tool.specs.show.Failures.{read_refusal}
-use Rattle.sst_tool.proofs.show.FileLemmas.{none_more, one_named}
+use Rattle.sst_tool.proofs.FileLemmas.{none_more, one_named}
 use Rattle.sst_tool.proofs.show.gets.refused_in.Goals as goal
 
 pub loop-file-preserved : goal.loop-file-preserved

@@ -1,7 +1,7 @@
 use Rattle.std.proofs.Common.{◌≡◌, ◌∷◌, [], ◌+◌, sym, subst, map, take, rules}
 use Rattle.std.specs.Arc.{arc_value}
 use Rattle.sst_tool.specs.show.Files.{runs_in}
-use Rattle.sst_tool.proofs.show.FileLemmas.{runs_more}
+use Rattle.sst_tool.proofs.FileLemmas.{runs_more}
 use Rattle.sst_tool.proofs.show.gets.runs_of.Goals as goal
 
 pub loop-file-preserved : goal.loop-file-preserved

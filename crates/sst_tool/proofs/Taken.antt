@@ -15,13 +15,13 @@ use Rattle.lsm_runs.specs.compaction.Compacted.{RunsOn}
 use Rattle.lsm_runs.proofs.WrittenBy.{Since, all_finished, nothing_yet, since_more}
 use Rattle.lsm_runs.proofs.WrittenBy.{since_now}
 use Rattle.sst_tool.specs.declared.lines.entry_line.Format.{Format}
-use Rattle.sst_tool.proofs.make.Lines.{Goes, goes_empty, goes_end, goes_more, goes_none, stops}
+use Rattle.sst_tool.proofs.LineLemmas.{Goes, goes_empty, goes_end, goes_more, goes_none, stops}
 use Rattle.sst_tool.specs.declared.files.error.ToolError.{ToolError}
 use Rattle.sst_tool.specs.declared.files.error.LineFault.{LineFault}
 use Rattle.sst_tool.specs.declared.files.error.ToolError.TheVariants.{Input, Line, Refused}
 use Rattle.sst_tool.specs.make.Faults.{StopsAmong, StopsIn, StopsInOrder, StopsReading, TellsEntry}
 use Rattle.sst_tool.specs.make.Faults.{TellsLine}
-use Rattle.sst_tool.proofs.files.Steps.{list_at}
+use Rattle.sst_tool.proofs.Steps.{list_at}
 use Rattle.std.specs.Result.{IsErrAnd}
 use Rattle.std.proofs.Common.{inl, inr, drop}
 use Rattle.sst_tool.specs.make.Entries.{HasEntries, HasRows, LosesInputLine, LineSpells, numbered}

@@ -18,7 +18,7 @@ use Rattle.sst_tool.specs.files.Steps.{Step}
 use Rattle.sst_tool.specs.make.TableFiles.{AreTablesPlaced, IsFreeBehind, RefusesTables, StopsPlacing}
 use Rattle.sst_tool.specs.make.TableFiles.{TellsEarlier, TellsTableFile, files_from, table_file_name}
 use Rattle.sst_tool.specs.files.Numbered.{named_bytes}
-use Rattle.sst_tool.proofs.files.FilesMore.{file_named, files_long}
+use Rattle.sst_tool.proofs.FilesMore.{file_named, files_long}
 
 -- so many
 pub as_many : {A : Type 0} (path : List ℕ) (target : Option ℕ) (fs : List (FinishedTable A))

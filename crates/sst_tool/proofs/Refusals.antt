@@ -29,7 +29,7 @@ use Rattle.sst_tool.specs.make.Refusing.{RefusesLines, TellsEnd, TellsSizes}
 use Rattle.sst_tool.specs.make.Sorting.{TellsLineOrder}
 use Rattle.sst_tool.specs.make.Written.{AreOfLines, TookLines, WritesAll, WritesSorted}
 use Rattle.sst_tool.specs.make.Written.{writer_by}
-use Rattle.sst_tool.proofs.make.Sorting.{first_out_of_order, first_repeated}
+use Rattle.sst_tool.proofs.Sorting.{first_out_of_order, first_repeated}
 
 -- what is no want of memory
 pub not_memory : (e : Error) → e ≢ OutOfMemory → is_memory e ≡ false

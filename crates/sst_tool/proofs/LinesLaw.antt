@@ -8,7 +8,7 @@ use Rattle.std.proofs.lemmas.List.Elements.{All-head, All-tail}
 use Rattle.sst_entries.specs.Entry.{Entry}
 use Rattle.sst_tool.specs.declared.lines.entry_line.Format.{Format}
 use Rattle.sst_tool.specs.declared.lines.entry_line.Format.TheVariants.{Json, Lines}
-use Rattle.sst_tool.proofs.lines.EmptyLine.{empty_no_object, empty_no_words}
+use Rattle.sst_tool.proofs.EmptyLine.{empty_no_object, empty_no_words}
 use Rattle.sst_tool.specs.make.Entries.{SpellInTurn, HasEntries, LineSpells, Spell, input_lines}
 use Rattle.sst_tool.specs.make.Entries.{lines_text}
 

@@ -12,7 +12,7 @@ use Rattle.sst_tool.specs.files.Placed.{AreBeside, Standing, StandsBeside, Stand
 use Rattle.sst_tool.specs.files.Placed.{syncing, writing}
 use Rattle.sst_tool.specs.files.Standing.{HaveModesKept}
 use Rattle.sst_tool.specs.files.Steps.{Step, then_done}
-use Rattle.sst_tool.proofs.files.Steps.{then_more}
+use Rattle.sst_tool.proofs.Steps.{then_more}
 
 plain_mode : (there : Option Metadata) → IfSome there (λ m. IsFile (file_type m))
     → IfSome (option_map metadata_mode there) IsPlainMode

@@ -32,8 +32,8 @@ use Rattle.sst_tool.specs.files.Steps.{Step, then_done}
 use Rattle.sst_tool.specs.files.Steps.Step.{MadeFolder, Removed, RemovedFolder, Synced}
 use Rattle.sst_tool.specs.files.Steps.Step.{Wrote}
 use Rattle.sst_tool.specs.files.There.{LiesElsewhere, SameButBehind, SameElsewhere}
-use Rattle.sst_tool.proofs.files.FilesMore.{files_behind}
-use Rattle.sst_tool.proofs.files.Steps.{then_more}
+use Rattle.sst_tool.proofs.FilesMore.{files_behind}
+use Rattle.sst_tool.proofs.Steps.{then_more}
 
 -- ---- the name beside a folder's
 

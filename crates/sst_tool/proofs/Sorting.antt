@@ -33,7 +33,7 @@ use Rattle.sst_tool.specs.make.Faults.{StopsAt, StopsSorted}
 use Rattle.sst_tool.specs.make.Sorting.{IsFirstOutOfOrder, IsFirstRepeated, IsSortOf}
 use Rattle.sst_tool.specs.make.Sorting.{is_row_before}
 use Rattle.sst_tool.specs.make.Taken.{TookAll}
-use Rattle.sst_tool.proofs.make.Taken.{entries_of, took_list}
+use Rattle.sst_tool.proofs.Taken.{entries_of, took_list}
 
 -- ---- what is put in order by something of it, seen by that alone
 

@@ -17,7 +17,7 @@ use Rattle.sst_tool.specs.declared.files.file_error.FileFault.TheVariants.{NotSy
 use Rattle.sst_tool.specs.files.Files.{IsReadFault, is_memory_fault, path_text}
 use Rattle.sst_tool.specs.files.Opened.{AreOpenedFrom, HasContent, IsToldByBytes, StopsOpening}
 use Rattle.sst_tool.specs.files.Opened.{TellsRefused}
-use Rattle.sst_tool.proofs.files.Steps.{list_at}
+use Rattle.sst_tool.proofs.Steps.{list_at}
 
 -- what is told of some bytes is told of the table's
 pub recovered_so : (pinned : Bool) (returned : Result OpenTable Error) (bytes : List ℕ)

@@ -1,4 +1,0 @@
-pub mod EmptyLine
-mod EscapeLemmas
-mod ObjectLemmas
-mod WordLemmas

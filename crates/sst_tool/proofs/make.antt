@@ -1,9 +1,0 @@
-mod Blaming
-mod FromLibrary
-mod Lines
-mod LinesLaw
-mod Refusals
-mod Scanning
-mod Sorting
-mod TableFiles
-mod Taken

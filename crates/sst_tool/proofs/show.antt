@@ -1,4 +1,0 @@
-mod DumpLemmas
-mod EndingLemmas
-mod FileLemmas
-mod Findings
