@@ -1,7 +1,7 @@
 //! Lines of entries, and errors of lines.
 use sst_entries::{EntryRef, ValueType};
-use std::alloc::Allocator;
 use sst_tool::lines::{Format, LineError, append_entry, parse_entry};
+use std::alloc::Allocator;
 
 const ENTRIES: [EntryRef<'static>; 4] = [
     EntryRef {

@@ -3,11 +3,11 @@ use crate::files::memory::Memory;
 use crate::files::written::{NEVER, write_options};
 use lsm_tables::block::{EntryRef, ValueType};
 use lsm_tables::table::Table;
-use std::alloc::Global;
 use sst_tool::files::{Place, open_table};
 use sst_tool::lines::{Format, append_entry};
 use sst_tool::make::write_entries;
 use sst_tool::show::{DumpOptions, NamedTable, dump};
+use std::alloc::Global;
 
 // The number of entries.
 const ENTRIES: usize = 511;

@@ -1,10 +1,10 @@
 //! A file system in memory.
 use lsm_tables::block::Slice;
+use sst_tool::files::{FileFault, Place};
 use std::alloc::{AllocError, Allocator, Global};
 use std::fs::{Metadata, Permissions};
 use std::io;
 use std::io::ErrorKind;
-use sst_tool::files::{FileFault, Place};
 
 /// A file or a folder.
 #[derive(Drop)]

@@ -4,8 +4,8 @@ use crate::files::written::{
     Asked, LINES, NEVER, compact, entries_of, keep_all, returned, sources, write, write_options,
 };
 use lsm_tables::block::Error;
-use std::alloc::Global;
 use sst_tool::files::FileFault;
+use std::alloc::Global;
 
 // Whether a file has exactly these bytes.
 fn has(place: &Memory, path: &str, bytes: &[u8]) -> bool {

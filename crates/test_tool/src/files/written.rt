@@ -2,10 +2,10 @@
 use crate::files::memory::Memory;
 use lsm_tables::compaction::Rules;
 use lsm_tables::table::{BloomConstructionPolicy, IndexKind, Timestamp};
-use std::alloc::Global;
 use sst_tool::files::{FileFault, Place, ToolError, open_table};
 use sst_tool::lines::Format;
 use sst_tool::make::{CompactOptions, WriteOptions, compact_files, write_entries};
+use std::alloc::Global;
 
 /// The number of a step that is not reached, so that none fails.
 pub(crate) const NEVER: u64 = 1_000;
