@@ -92,10 +92,7 @@ const LINES: [(&str, &str); 26] = [
     ("sst man", "shown .TH SST 1 \"\" \"sst 1.0"),
     ("sst completion bash", "shown "),
     ("sst --version", "shown sst 1.0\n"),
-    (
-        "sst help pack",
-        "shown Prints in which runs tables can stand\n",
-    ),
+    ("sst help pack", "shown Prints the fewest runs of tables\n"),
 ];
 
 // The result of a command line, as text.
