@@ -399,7 +399,7 @@ spelling_named number format line spelling.OutOfMemory error words object memory
 spelling_named number format line e error words object memory named =
     let other : e ≡ spelling.OutOfMemory → ⊥ = λ same. absurd cc in
     subst (TellsSpelling number format line) (sym (named other))
-    (refl, spells_none format e line words object other, other)
+    (refl, (spells_none format e line words object other, other))
 
 pub at_end : (more : Bool) (old new : Option (List ℕ)) (line : List ℕ)
     → ReadsInputLine old new line more → more ≡ false → IsAtEnd old

@@ -10,6 +10,7 @@ use crate::lines::Format;
 use crate::make::WriteOptions;
 use crate::make::entries::{collect_lines, sort_rows, write_lines, write_rows};
 use lsm_writers::{FinishedTable, MultiWriter};
+use sst_blocks::Error;
 use std::alloc::Allocator;
 use std::io::{BufRead, BufReader, Read};
 
@@ -89,6 +90,7 @@ fn tables_of<I: BufRead, A: Allocator + Copy>(
 }
 
 // Returns the tables of an input, at least one, and the number of their entries.
+#[tactic(auto, using(crate::proofs::Refusals::memory_refused))]
 fn read_tables<I: Read + Drop, A: Allocator + Copy>(
     alloc: A,
     input: I,
@@ -100,7 +102,9 @@ fn read_tables<I: Read + Drop, A: Allocator + Copy>(
     ensures small { OnOk result (spec.HasSmallSizes options.now) }
     ensures refused { IfErr result (spec.RefusesLines options.now (I.remaining input)) }
 {
-    let mut input = BufReader::new(alloc, input)?;
+    let Ok(mut input) = BufReader::new(alloc, input) else {
+        return Err(ToolError::Refused(Error::OutOfMemory));
+    };
     let (tables, entries) = tables_of(alloc, &mut input, options)?;
     drop(input);
     if tables.is_empty() {

@@ -22,7 +22,7 @@ pub returns-in_ok-print_found-in-Ok-clause-returned : goal.returns-in_ok-print_f
 returns-in_ok-print_found-in-Ok-clause-returned g c = λ order.
     let returned = c.in-Ok.ensures.returned order in
     let there = mapped_there entry_of_ref c.in-Ok.found in
-    (option_map entry_of_ref c.in-Ok.found, cc (returned, c.seen_below.ensures), cc (there, c.is_some.ensures))
+    (option_map entry_of_ref c.in-Ok.found, cc (returned, c.seen_below-seqno.ensures), cc (there, c.is_some.ensures))
 
 pub returns-in-Err-clause-sound : goal.returns-in-Err-clause-sound
 returns-in-Err-clause-sound g c = λ lists hold.
