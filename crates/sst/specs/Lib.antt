@@ -1,9 +1,7 @@
-pub mod Bars
-pub mod Endings
 pub mod Making
 pub mod Options
-pub mod Packing
 pub mod Showing
 pub mod Statuses
 pub mod Tasks
 pub mod Verified
+pub mod Words

@@ -1,28 +1,28 @@
--- How tables are made, as the command line asks for it.
+-- The options of commands that write tables.
 use Rattle.std.specs.Prelude.{◌*◌, ◌-◌, ◌^◌, ℕ, Bool, min, if◌then◌else◌}
 use Rattle.sst_blocks.specs.declared.table.options.IndexKind.{IndexKind}
 use Rattle.sst_blocks.specs.declared.table.options.IndexKind.TheVariants.{Full, Partitioned}
 use Rattle.sst_blocks.specs.declared.filter.policy.BloomConstructionPolicy.TheVariants.{BitsPerKey}
-use Rattle.tool_make.specs.declared.compact_options.CompactOptions.{CompactOptions}
-use Rattle.tool_lines.specs.declared.entry_line.Format.{Format}
-use Rattle.tool_lines.specs.declared.entry_line.Format.TheVariants.{Lines, Json}
-use Rattle.tool_make.specs.declared.options.WriteOptions.{WriteOptions}
+use Rattle.sst_tool.specs.declared.make.compact_options.CompactOptions.{CompactOptions}
+use Rattle.sst_tool.specs.declared.lines.entry_line.Format.{Format}
+use Rattle.sst_tool.specs.declared.lines.entry_line.Format.TheVariants.{Lines, Json}
+use Rattle.sst_tool.specs.declared.make.options.WriteOptions.{WriteOptions}
 use Rattle.tool_options.specs.declared.tasks.CompactTask.{CompactTask}
 use Rattle.tool_options.specs.declared.tasks.WriteTask.{WriteTask}
 
--- how a line spells an entry
+-- The format of lines.
 abbrev pub format_of : Bool → Format
 format_of json = if json then Json else Lines
 
--- the kind of the index
+-- The kind of the index.
 abbrev pub index_asked : Bool → ℕ → IndexKind
 index_asked partitioned size = if partitioned then Partitioned size else Full
 
--- tenths of a bit for so many bits
+-- Tenths of so many bits.
 abbrev pub tenths : ℕ → ℕ
 tenths bits = min (bits * 10) (2 ^ 32 - 1)
 
--- options for writing as a task asks for them: of the options alone is the moment
+-- The options of a task for writing, with the given creation time.
 abbrev pub write_by : WriteTask → WriteOptions → WriteOptions
 write_by task o = record o {
   index = index_asked task.partitioned task.partition_size;
@@ -34,7 +34,7 @@ write_by task o = record o {
   sort = task.sort;
 }
 
--- and so for compacting
+-- The options of a task for compacting, with the given creation time.
 abbrev pub compact_by : CompactTask → CompactOptions → CompactOptions
 compact_by task o = record o {
   rules = record {

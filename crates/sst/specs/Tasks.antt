@@ -1,97 +1,66 @@
--- What comes of a task, and of the words of a command line.
-use Rattle.std.specs.Prelude.{◌≡◌, ◌≤◌, ◌⊎◌, ℕ, Bool, List, Option, None, IfErr, IfOk}
-use Rattle.std.specs.Prelude.{Result, Ok, Err, string_bytes}
-use Rattle.std.specs.Io.KnownBytes.{Appends, Keeps}
-use Rattle.tool_files.specs.Steps.{Step}
+-- The results of tasks and command lines.
+use Rattle.std.specs.Prelude.{◌≡◌, ◌≤◌, ◌⊎◌, ℕ, Bool, List, Option, None, IfErr, IfOk, Result, Ok, Err}
+use Rattle.sst_tool.specs.files.Steps.{Step}
+use Rattle.sst_tool.specs.declared.files.error.ToolError.{ToolError}
+use Rattle.sst_tool.specs.declared.files.made.Made.{Made}
+use Rattle.sst_tool.specs.show.Failures.{NamesNone}
 use Rattle.tool_options.specs.declared.tasks.Task.{Task}
 use Rattle.tool_options.specs.declared.tasks.Task.TheVariants as task
 use Rattle.tool_options.specs.Asks.{AsksFrom}
 use Rattle.tool_options.specs.declared.words.Parsed.{Parsed}
 use Rattle.tool_options.specs.declared.words.Parsed.TheVariants as parsed
-use Rattle.sst.specs.Endings.{EndsVerify}
-use Rattle.sst.specs.Making.{DoesCompact, DoesWrite, RefusesCompact, RefusesWrite}
-use Rattle.sst.specs.Packing.{DoesPack, RefusesPack}
-use Rattle.sst.specs.Showing.{DoesDump, DoesGet, RefusesDump, RefusesGet, RefusesStat}
-use Rattle.sst.specs.Showing.{StatsEach}
+use Rattle.sst.specs.Making.{CompactsTables, RefusesCompact, RefusesPack, RefusesWrite}
+use Rattle.sst.specs.Making.{WritesTables}
+use Rattle.sst.specs.Showing.{DoesDump, DoesGet}
 use Rattle.sst.specs.Statuses.{status_of_answer, status_of_failure}
-use Rattle.sst.specs.Verified.{AreSoundFiles, DoesVerify}
-use Rattle.sst.specs.declared.failure.Failure.{Failure}
+use Rattle.sst.specs.Verified.{AreSoundFiles, HaveFaulty}
 
--- a task is done with a status, on an input, what files have, what has a path and what was done
--- before, and this is done then and printed
+-- The task succeeds with this status, for this input and these files, and does exactly this.
 abbrev pub DoesTask : Task → Option (List ℕ) → (List ℕ → Option (List ℕ))
-    → (List ℕ → Option Bool) → (known new : Option (List Step)) → (status : ℕ)
-    → (old_text new_text : Option (List ℕ)) → Type 0
-DoesTask (task.Write t) input content there known new status old text =
-    (status ≡ 0) × DoesWrite t input there known new old text
-DoesTask (task.Compact t) input content there known new status old text =
-    (status ≡ 0) × DoesCompact t content known new old text
-DoesTask (task.Pack t) input content there known new status old text =
-    (status ≡ 0) × (new ≡ known) × DoesPack t content old text
-DoesTask (task.Verify t) input content there known new status old text =
-    (new ≡ known) × (status ≡ 0 → AreSoundFiles content t.files.items)
-    × ((sound : Bool) × (status ≡ status_of_answer sound)
-    × DoesVerify content t.files.items sound old text)
-DoesTask (task.Get t) input content there known new status old text = (new ≡ known)
-    × ((found : Bool) × (status ≡ status_of_answer found) × DoesGet t content found old text)
-DoesTask (task.Dump t) input content there known new status old text =
-    (status ≡ 0) × (new ≡ known) × DoesDump t content old text
-DoesTask (task.Stat t) input content there known new status old text =
-    (status ≡ 0) × (new ≡ known) × StatsEach t.json content t.files.items old text
+    → (List ℕ → Option Bool) → (known new : Option (List Step)) → (status : ℕ) → Type 0
+DoesTask (task.Write t) input content there known new status =
+    (status ≡ 0) × ((made : Made) × WritesTables t input there made known new)
+DoesTask (task.Compact t) input content there known new status =
+    (status ≡ 0) × ((made : Made) × CompactsTables t content made known new)
+DoesTask (task.Pack t) input content there known new status = (status ≡ 0) × (new ≡ known)
+DoesTask (task.Verify t) input content there known new status = (new ≡ known)
+    × (status ≡ 0 → AreSoundFiles content t.files.items)
+    × (status ≡ 1 → HaveFaulty content t.files.items)
+DoesTask (task.Get t) input content there known new status = (new ≡ known)
+    × ((found : Bool) × (status ≡ status_of_answer found) × DoesGet t content found)
+DoesTask (task.Dump t) input content there known new status =
+    (status ≡ 0) × (new ≡ known) × DoesDump t content
+DoesTask (task.Stat t) input content there known new status = (status ≡ 0) × (new ≡ known)
 
--- a task is refused with a failure, and this is done then and printed: where nothing makes files,
--- nothing is done to them
+-- The task fails with this error, and does exactly this. Tasks that write no files do nothing to
+-- them.
 abbrev pub RefusesTask : Task → Option (List ℕ) → (List ℕ → Option (List ℕ))
-    → (List ℕ → Option Bool) → (known : Option (List Step)) → Failure
-    → (new : Option (List Step)) → (old_text new_text : Option (List ℕ)) → Type 0
-RefusesTask (task.Write t) input content there known e new old text =
-    RefusesWrite t input there known e new
-RefusesTask (task.Compact t) input content there known e new old text =
+    → (List ℕ → Option Bool) → (known : Option (List Step)) → ToolError
+    → (new : Option (List Step)) → Type 0
+RefusesTask (task.Write t) input content there known e new = RefusesWrite t input there known e new
+RefusesTask (task.Compact t) input content there known e new =
     RefusesCompact t content there known e new
-RefusesTask (task.Pack t) input content there known e new old text =
+RefusesTask (task.Pack t) input content there known e new =
     (new ≡ known) × RefusesPack t content e
-RefusesTask (task.Verify t) input content there known e new old text =
-    (new ≡ known) × EndsVerify e
-RefusesTask (task.Dump t) input content there known e new old text =
-    (new ≡ known) × RefusesDump t content e old text
-RefusesTask (task.Get t) input content there known e new old text =
-    (new ≡ known) × RefusesGet t content e old text
-RefusesTask (task.Stat t) input content there known e new old text =
-    (new ≡ known) × RefusesStat t content e old text
+RefusesTask (task.Verify t) input content there known e new = (new ≡ known) × NamesNone e
+RefusesTask t input content there known e new = new ≡ known
 
--- a task is done, and what it printed passed on
-abbrev pub EndsTask : Task → Option (List ℕ) → (List ℕ → Option (List ℕ))
-    → (List ℕ → Option Bool) → (known new : Option (List Step)) → (status : ℕ)
-    → (old_text new_text : Option (List ℕ)) → Type 0
-EndsTask t input content there known new status old text = (printed : Option (List ℕ))
-    × DoesTask t input content there known new status old printed × Keeps printed text
-
--- a task is refused, and what it printed before passed on
-abbrev pub StopsTask : Task → Option (List ℕ) → (List ℕ → Option (List ℕ))
-    → (List ℕ → Option Bool) → (known : Option (List Step)) → Failure
-    → (new : Option (List Step)) → (old_text new_text : Option (List ℕ)) → Type 0
-StopsTask t input content there known e new old text = (printed : Option (List ℕ))
-    × RefusesTask t input content there known e new old printed × Keeps printed text
-
--- the status with which something ends
-abbrev pub status_of_done : Result ℕ Failure → ℕ
+-- The status of a result.
+abbrev pub status_of_done : Result ℕ ToolError → ℕ
 status_of_done (Ok status) = status
 status_of_done (Err e) = status_of_failure e
 
--- the program does a task, of files of which nothing is known, and tells how that ended; or it
--- prints a text, and tells whether the output took it; or the words are at fault
-abbrev pub RunsAs : Parsed → Option (List ℕ) → (status : ℕ) → (old_text new_text : Option (List ℕ))
-    → Type 0
-RunsAs (parsed.Task t) input status old text = (done : Result ℕ Failure)
-    × IfOk done (λ s. EndsTask t input (λ _. None) (λ _. None) None None s old text)
-    × IfErr done (λ e. StopsTask t input (λ _. None) (λ _. None) None e None old text)
+-- The program runs the task, and its status is that of the result; or it prints a text, and its
+-- status says whether that worked; or the words are wrong.
+abbrev pub RunsAs : Parsed → Option (List ℕ) → (status : ℕ) → Type 0
+RunsAs (parsed.Task t) input status = (done : Result ℕ ToolError)
+    × IfOk done (λ s. DoesTask t input (λ _. None) (λ _. None) None None s)
+    × IfErr done (λ e. RefusesTask t input (λ _. None) (λ _. None) None e None)
     × (status ≡ status_of_done done)
-RunsAs (parsed.Shown shown) input status old text =
-    (status ≡ 0 → Appends old text (string_bytes shown)) × (status ≤ 1)
-RunsAs (parsed.Mistaken shown) input status old text = status ≡ 2
+RunsAs (parsed.Shown shown) input status = status ≤ 1
+RunsAs (parsed.Mistaken shown) input status = status ≡ 2
 
--- the program does what its words ask for, unless memory is wanted to read them
-abbrev pub Runs : List (List ℕ) → Option (List ℕ) → (status : ℕ) → (old_text new_text : Option (List ℕ))
-    → Type 0
-Runs words input status old text =
-    ((p : Parsed) × AsksFrom words p × RunsAs p input status old text) ⊎ (status ≡ 1)
+-- The program runs the command of its words, unless memory runs out reading them.
+abbrev pub Runs : List (List ℕ) → Option (List ℕ) → (status : ℕ) → Type 0
+Runs words input status =
+    ((p : Parsed) × AsksFrom words p × RunsAs p input status) ⊎ (status ≡ 1)

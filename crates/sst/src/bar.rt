@@ -1,31 +1,28 @@
-//! The bar that shows how far a command has come.
-ghost use Rattle.std.specs.Prelude.{◌≡◌, ◌<◌, IfSome, None};
-ghost use Rattle.sst.specs.Bars.{hundredths};
-
+//! The progress bar.
 use crate::System;
+use sst_tool::show::Progress;
 use std::fs;
 use std::io::Write;
 use std::rt::{Clock, Files};
 use std::time::Duration;
-use tool_show::Progress;
 
 const DONE: &str = "####################";
 
 const LEFT: &str = "....................";
 
-/// How far the work on several files has come.
+/// The progress over several files.
 #[derive(Clone, Copy)]
 pub(crate) struct Work {
-    // when it began, if the clock said so
+    // when it began, if the clock works
     started: Option<Duration>,
-    // how many bytes the files have that are done
+    // the bytes of the files that are done
     before: u64,
-    // how many bytes all files have, if that is known
+    // the bytes of all files, if known
     all: Option<u64>,
 }
 
 impl Work {
-    /// Work on some files that begins now.
+    /// Returns the progress at the start.
     pub(crate) fn of<R: Files, C: Clock>(system: System<'_, R, C>, names: &[&str]) -> Work {
         Work {
             started: system.clock.monotonic().ok(),
@@ -35,7 +32,7 @@ impl Work {
     }
 }
 
-/// The work behind a file.
+/// Returns the progress after a file.
 pub(crate) fn behind<R: Files>(work: Option<Work>, files: &R, name: &str) -> Option<Work> {
     let work = work?;
     let size = size_of(files, name).unwrap_or(0);
@@ -45,8 +42,8 @@ pub(crate) fn behind<R: Files>(work: Option<Work>, files: &R, name: &str) -> Opt
     })
 }
 
-// How many bytes a file has; none is known of what is no plain file, as a pipe. What cannot be read
-// has none.
+// Returns the size of a regular file, `None` for others such as a pipe, and 0 if it cannot be
+// looked up.
 fn size_of<R: Files>(files: &R, name: &str) -> Option<u64> {
     match fs::metadata(files, name) {
         Ok(metadata) if metadata.is_file() => Some(metadata.len()),
@@ -64,35 +61,29 @@ fn size_of_all<R: Files>(files: &R, names: &[&str]) -> Option<u64> {
     Some(all)
 }
 
-/// A bar on a terminal, which is drawn anew when a further hundredth is done.
+/// A bar on a terminal, drawn again at each further hundredth.
 #[derive(Drop)]
 pub(crate) struct Bar<'e, 'c, E: Write, C: Clock> {
     errors: &'e mut E,
     clock: &'c C,
     work: Work,
-    // how many bytes the file has
+    // the size of the file
     size: u64,
-    // how many hundredths were drawn last
+    // the hundredths drawn last
     drawn: Option<u64>,
 }
 
-/// How many hundredths are done of what there is: all where there is nothing.
-pub(crate) fn hundredths(done: u64, all: u64) -> u64
-    ensures { result ≡ hundredths done all }
-{
+// Returns the hundredths that are done: all of nothing.
+fn hundredths(done: u64, all: u64) -> u64 {
     match (u128::from(done) * 100).checked_div(u128::from(all)) {
         Some(part) => u64::try_from(part.min(100)).unwrap_or(100),
         None => 100,
     }
 }
 
-/// How many seconds are left, if the rest takes as long as what is done took for its length. None
-/// is told in the first second, nor before anything is done.
-pub(crate) fn seconds_left(done: u64, all: u64, millis: u64) -> Option<u64>
-    ensures early { millis < 1000 → result ≡ None }
-    ensures nothing { done ≡ 0 → result ≡ None }
-    ensures end { IfSome result (λ seconds. done ≡ all → seconds ≡ 0) }
-{
+// Estimates the seconds left, at the speed so far. Returns `None` in the first second, and before
+// anything is done.
+fn seconds_left(done: u64, all: u64, millis: u64) -> Option<u64> {
     if millis < 1_000 {
         return None;
     }
@@ -102,7 +93,7 @@ pub(crate) fn seconds_left(done: u64, all: u64, millis: u64) -> Option<u64>
     Some(u64::try_from(seconds).unwrap_or(u64::MAX))
 }
 
-// So large a part of a size as `done` is of `all`.
+// Returns the part of a size that `done` is of `all`.
 fn part_of(size: u64, done: u64, all: u64) -> u64 {
     let part = u128::from(size).saturating_mul(u128::from(done));
     match part.checked_div(u128::from(all)) {
@@ -112,8 +103,8 @@ fn part_of(size: u64, done: u64, all: u64) -> u64 {
 }
 
 impl<'e, 'c, E: Write, C: Clock> Bar<'e, 'c, E, C> {
-    /// A bar for a file of so many bytes, that nothing was drawn of. Where it is not known how many
-    /// bytes all files of the work have, it shows the file alone.
+    /// Returns an empty bar for a file of `size` bytes. It shows this file alone if the size of all
+    /// is unknown.
     pub(crate) fn new(errors: &'e mut E, clock: &'c C, work: Work, size: u64) -> Bar<'e, 'c, E, C> {
         let started = match work.all {
             Some(_) => work.started,
@@ -135,7 +126,7 @@ impl<'e, 'c, E: Write, C: Clock> Bar<'e, 'c, E, C> {
         }
     }
 
-    // How many milliseconds the work has taken.
+    // Returns the milliseconds since the start.
     fn spent(&self) -> u64 {
         match (self.work.started, self.clock.monotonic()) {
             (Some(started), Ok(now)) => {
@@ -149,7 +140,7 @@ impl<'e, 'c, E: Write, C: Clock> Bar<'e, 'c, E, C> {
         let marks = usize::try_from(part / 5).unwrap_or(0);
         let full = DONE.get(..marks).unwrap_or(DONE);
         let rest = LEFT.get(marks..).unwrap_or("");
-        // What a terminal does not take is no fault of the tables.
+        // A terminal that fails is no fault of the tables.
         let _ = write!(
             self.errors,
             "\r[{full}{rest}] {part}% {done} of {all} bytes"

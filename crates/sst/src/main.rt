@@ -1,10 +1,8 @@
-//! The program `sst`. Without arguments it reads a script from standard input, line by line, and
-//! answers on standard output. With arguments it is a tool for table files.
+//! The program `sst`. Without arguments it reads a script from standard input and answers each
+//! line. With arguments it is a tool for table files.
 #![tactic(auto)]
 
 mod bar;
-mod failure;
-mod lines;
 mod make;
 mod running;
 mod show;
@@ -27,13 +25,13 @@ fn main(rt: HostRuntime) -> ExitCode {
     ExitCode::from(status)
 }
 
-// Whether a word stands behind the program's name.
+// Whether there is an argument.
 fn has_arguments(rt: &HostRuntime) -> bool {
     let mut place = [0; 1];
     !matches!(rt.arg(1, &mut place), Err(FillError::NotPresent))
 }
 
-// Answers the script on standard input.
+// Runs the script on standard input.
 fn answer_script(rt: &HostRuntime) -> u8 {
     match BufWriter::new(rt.alloc(), rt.stdout()) {
         Ok(mut output) => run_script(rt.alloc(), rt.stdin(), &mut output, &mut rt.stderr()),
@@ -42,7 +40,7 @@ fn answer_script(rt: &HostRuntime) -> u8 {
     }
 }
 
-// Does what the words behind the program's name ask for.
+// Runs the command of the arguments.
 fn run_words(rt: &HostRuntime) -> u8 {
     match words(rt) {
         Ok(words) => {
@@ -62,7 +60,7 @@ fn run_words(rt: &HostRuntime) -> u8 {
                     errors,
                     shows_bar,
                 ),
-                // What is printed needs no buffer.
+                // The output needs no buffer.
                 Err(_) => run(
                     system,
                     words.as_slice(),
@@ -74,7 +72,7 @@ fn run_words(rt: &HostRuntime) -> u8 {
             }
         }
         Err(error) => {
-            // A status is all that is left where not even this can be printed.
+            // If even this cannot be printed, only the status is left.
             let _ = writeln!(rt.stderr(), "sst: the words of the command line: {error}");
             if error.kind() == io::ErrorKind::OutOfMemory {
                 1
@@ -85,7 +83,7 @@ fn run_words(rt: &HostRuntime) -> u8 {
     }
 }
 
-// The program's name and the words behind it.
+// Returns the arguments, the program's name first.
 fn words(rt: &HostRuntime) -> io::Result<Vec<String>> {
     Ok(args(rt)?.collect(rt.alloc())?)
 }

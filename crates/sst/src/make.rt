@@ -1,31 +1,29 @@
-//! Tables that are made.
+//! The commands that write tables.
 ghost use Rattle.std.specs.Prelude.{◌≡◌, IfErr, OnOk};
-ghost use Rattle.sst.specs.Making.{DoesCompact, DoesWrite, RefusesCompact, RefusesWrite};
-ghost use Rattle.sst.specs.Options.{compact_by, format_of, write_by};
-ghost use Rattle.sst.specs.Packing.{DoesPack, RefusesPack};
+ghost use Rattle.sst.specs.Words as spec;
 
 use crate::System;
-use crate::failure::Failure;
-use lsm_tables::compaction::Rules;
-use lsm_tables::table::{BloomConstructionPolicy, IndexKind, Timestamp};
+use lsm_sorted::compaction::Rules;
+use lsm_writers::{BloomConstructionPolicy, IndexKind};
+use sst_blocks::Timestamp;
+use sst_tool::files::{Place, ToolError, print_made};
+use sst_tool::lines::Format;
+use sst_tool::make::{
+    CompactOptions, WriteOptions, compact_files, pack_files, print_packed, write_entries,
+};
 use std::alloc::Global;
 use std::io::{Read, Write};
 use std::rt::{Clock, Files};
-use tool_files::{Place, print_made};
-use tool_lines::Format;
-use tool_make::{
-    CompactOptions, WriteOptions, compact_files, pack_files, print_packed, write_entries,
-};
 use tool_options::{CompactTask, PackTask, WriteTask};
 
-/// How a line spells an entry.
+/// Returns the format of lines.
 pub(crate) fn format_of(json: bool) -> Format
-    ensures { result ≡ format_of json }
+    ensures { result ≡ spec.format_of json }
 {
     if json { Format::Json } else { Format::Lines }
 }
 
-// The moment of the clock, and the beginning of 1970 where it has none.
+// Returns the time of the clock, or 1970 if it has none.
 fn now<C: Clock>(clock: &C) -> Timestamp {
     match clock.since_1970() {
         Ok(since) => Timestamp::from(since.as_nanos()),
@@ -33,9 +31,9 @@ fn now<C: Clock>(clock: &C) -> Timestamp {
     }
 }
 
-// How a table is written.
+// Returns the options of a task.
 fn write_options(task: &WriteTask<'_>, created_at: Timestamp) -> WriteOptions
-    ensures { result ≡ write_by task.now result }
+    ensures { result ≡ spec.write_by task.now result }
 {
     WriteOptions {
         index: if task.partitioned {
@@ -53,9 +51,9 @@ fn write_options(task: &WriteTask<'_>, created_at: Timestamp) -> WriteOptions
     }
 }
 
-// How tables are compacted.
+// Returns the options of a task.
 fn compact_options(task: &CompactTask<'_>, created_at: Timestamp) -> CompactOptions
-    ensures { result ≡ compact_by task.now result }
+    ensures { result ≡ spec.compact_by task.now result }
 {
     CompactOptions {
         rules: Rules {
@@ -68,17 +66,18 @@ fn compact_options(task: &CompactTask<'_>, created_at: Timestamp) -> CompactOpti
     }
 }
 
-/// Writes a table of the entries that the input has, and says how many there were.
+/// Writes the entries of the input into tables, and prints how many there are.
 pub(crate) fn write<'a, R: Files, C: Clock, P: Place, I: Read + Drop, W: Write>(
     system: System<'_, R, C>,
     place: &mut P,
     task: &WriteTask<'a>,
     input: I,
     output: &mut W,
-) -> Result<(), Failure<'a>>
-    ensures does { OnOk result (DoesWrite task.now (I.remaining input) (P.there place.old)
-        (P.done place.old) (P.done place.new) (W.contents output.old) (W.contents output.new)) }
-    ensures refused { IfErr result (λ e. RefusesWrite task.now (I.remaining input)
+) -> Result<(), ToolError<'a>>
+    ensures does { OnOk result
+        ((made : spec.MadeTables) × spec.WritesTables task.now (I.remaining input)
+        (P.there place.old) made (P.done place.old) (P.done place.new)) }
+    ensures refused { IfErr result (λ e. spec.RefusesWrite task.now (I.remaining input)
         (P.there place.old) (P.done place.old) e (P.done place.new)) }
 {
     let options = write_options(task, now(system.clock));
@@ -87,16 +86,17 @@ pub(crate) fn write<'a, R: Files, C: Clock, P: Place, I: Read + Drop, W: Write>(
     Ok(())
 }
 
-/// Merges tables into new ones, and says how many there are.
+/// Compacts tables into new ones, and prints how many there are.
 pub(crate) fn compact<'a, R: Files, C: Clock, P: Place, W: Write>(
     system: System<'_, R, C>,
     place: &mut P,
     task: &CompactTask<'a>,
     output: &mut W,
-) -> Result<(), Failure<'a>>
-    ensures does { OnOk result (DoesCompact task.now (P.content place.old) (P.done place.old)
-        (P.done place.new) (W.contents output.old) (W.contents output.new)) }
-    ensures refused { IfErr result (λ e. RefusesCompact task.now (P.content place.old)
+) -> Result<(), ToolError<'a>>
+    ensures does { OnOk result
+        ((made : spec.MadeTables) × spec.CompactsTables task.now (P.content place.old)
+        made (P.done place.old) (P.done place.new)) }
+    ensures refused { IfErr result (λ e. spec.RefusesCompact task.now (P.content place.old)
         (P.there place.old) (P.done place.old) e (P.done place.new)) }
 {
     let options = compact_options(task, now(system.clock));
@@ -106,16 +106,14 @@ pub(crate) fn compact<'a, R: Files, C: Clock, P: Place, W: Write>(
     Ok(())
 }
 
-/// Prints the fewest runs in which tables can stand, and why there are not fewer.
+/// Prints the fewest runs of tables, and a chain of overlaps that shows why.
 pub(crate) fn pack<'a, P: Place, W: Write>(
     alloc: Global,
     place: &P,
     task: &PackTask<'a>,
     output: &mut W,
-) -> Result<(), Failure<'a>>
-    ensures does { OnOk result (DoesPack task.now (P.content place.now) (W.contents output.old)
-        (W.contents output.new)) }
-    ensures refused { IfErr result (RefusesPack task.now (P.content place.now)) }
+) -> Result<(), ToolError<'a>>
+    ensures { IfErr result (spec.RefusesPack task.now (P.content place.now)) }
 {
     let files = task.files.as_slice();
     let packed = pack_files(place, alloc, files)?;

@@ -1,29 +1,39 @@
-//! One command line, done.
-ghost use Rattle.std.specs.Prelude.{◌≡◌, ◌≤◌, IfErr, IfOk, MatchResult, OnOk, map};
-ghost use Rattle.std.specs.Io.KnownBytes.{Appends};
-ghost use Rattle.sst.specs.Statuses.{status_of_answer, status_of_failure};
-ghost use Rattle.sst.specs.Tasks.{DoesTask, EndsTask, RefusesTask, Runs, StopsTask};
+//! Runs a command line.
+ghost use Rattle.std.specs.Prelude.{◌≡◌, ◌≤◌, IfErr, IfOk, MatchResult, map};
+ghost use Rattle.sst.specs.Words as spec;
 
-use crate::failure::Failure;
 use crate::{System, make, show};
+use sst_tool::files::{Place, ToolError};
+use sst_tool::lines::LineError;
 use std::convert::AsStr;
 use std::io;
 use std::io::{Read, Write};
 use std::rt::{Clock, Files};
-use tool_files::Place;
 use tool_options::{Parsed, Task, parse};
 
-// The status of an answer to a question: 0 for yes.
+// The status of a yes or no: 0 for yes.
 fn status_of(yes: bool) -> u8
-    ensures { result ≡ status_of_answer yes }
+    ensures { result ≡ spec.status_of_answer yes }
 {
     if yes { 0 } else { 1 }
 }
 
-/// Does what the words ask for, of which the first is the program's name, and answers the exit
-/// status: 0; 1 where something was refused, is at fault or was not found; 2 where the words are at
-/// fault. What is printed goes to `output`, and the sentence that says why not all was done to
-/// `errors`, with a bar for what takes long if that is wanted.
+// The status of an error: 2 if the command line is wrong, else 1.
+fn status_of_failure(failure: &ToolError<'_>) -> u8
+    ensures { result ≡ spec.status_of_failure failure.now }
+{
+    match failure {
+        ToolError::Key(_, LineError::OutOfMemory) => 1,
+        ToolError::Key(_, _) => 2,
+        _ => 1,
+    }
+}
+
+/// Runs the command of these words, the first of which is the program's name.
+///
+/// Returns the exit status: 0; 1 after an error, for a faulty file, and if a key was not found; 2
+/// if the words are wrong. Results go to `output`. Error messages go to `errors`, and so does a
+/// progress bar if `shows_bar`.
 pub fn run<S: AsStr, R: Files, C: Clock, I: Read + Drop, W: Write, E: Write>(
     system: System<'_, R, C>,
     words: &[S],
@@ -33,8 +43,7 @@ pub fn run<S: AsStr, R: Files, C: Clock, I: Read + Drop, W: Write, E: Write>(
     shows_bar: bool,
 ) -> u8
     ensures small { result ≤ 2 }
-    ensures runs { Runs (map S.text words.now) (I.remaining input) result (W.contents output.old)
-        (W.contents output.new) }
+    ensures runs { spec.Runs (map S.text words.now) (I.remaining input) result }
 {
     match parse(system.alloc, words) {
         Ok(Parsed::Task(task)) => {
@@ -42,44 +51,51 @@ pub fn run<S: AsStr, R: Files, C: Clock, I: Read + Drop, W: Write, E: Write>(
             let done = execute(system, &mut place, &task, input, output, errors, shows_bar);
             report(done, errors)
         }
-        Ok(Parsed::Shown(text)) => report(print(output, text.as_str()), errors),
+        Ok(Parsed::Shown(text)) => print(output, errors, text.as_str()),
         Ok(Parsed::Mistaken(text)) => {
-            // A status is all that is left where not even this can be printed.
+            // If even this cannot be printed, only the status is left.
             let _ = errors.write_all(text.as_str().as_bytes());
             2
         }
-        Err(error) => report(Err(Failure::from(error)), errors),
+        Err(error) => report(Err(ToolError::from(error)), errors),
     }
 }
 
-// Prints a text, whole.
-fn print<'a, W: Write>(output: &mut W, text: &str) -> Result<u8, Failure<'a>>
-    ensures ok { IfOk result (λ status. status ≡ 0) }
-    ensures printed { OnOk result (Appends (W.contents output.old) (W.contents output.new)
-        text.now) }
-    ensures refused { IfErr result (λ e. status_of_failure e ≡ 1) }
+// Prints a whole text. Returns 0, or 1 after an error of the output.
+fn print<W: Write, E: Write>(output: &mut W, errors: &mut E, text: &str) -> u8
+    ensures { result ≤ 1 }
 {
-    output.write_all(text.as_bytes())?;
-    output.flush()?;
-    Ok(0)
+    match print_whole(output, text) {
+        Ok(()) => 0,
+        Err(error) => {
+            let failure = ToolError::Output(error);
+            let _ = writeln!(errors, "sst: {failure}");
+            1
+        }
+    }
 }
 
-// The status of what was done, and the sentence where it failed.
-fn report<E: Write>(done: Result<u8, Failure<'_>>, errors: &mut E) -> u8
+fn print_whole<W: Write>(output: &mut W, text: &str) -> io::Result<()> {
+    output.write_all(text.as_bytes())?;
+    output.flush()
+}
+
+// Returns the status of a command, and prints its error.
+fn report<E: Write>(done: Result<u8, ToolError<'_>>, errors: &mut E) -> u8
     ensures { MatchResult done.entry (λ status. result ≡ status)
-        (λ failure. result ≡ status_of_failure failure) }
+        (λ failure. result ≡ spec.status_of_failure failure) }
 {
     match done {
         Ok(status) => status,
         Err(failure) => {
-            // A status is all that is left where not even this can be printed.
+            // If even this cannot be printed, only the status is left.
             let _ = writeln!(errors, "sst: {failure}");
-            failure.status()
+            status_of_failure(&failure)
         }
     }
 }
 
-// Does a task, and passes on all that it printed.
+// Runs a task and flushes its output.
 fn execute<'a, R: Files, C: Clock, P: Place, I: Read + Drop, W: Write, E: Write>(
     system: System<'_, R, C>,
     place: &mut P,
@@ -88,14 +104,12 @@ fn execute<'a, R: Files, C: Clock, P: Place, I: Read + Drop, W: Write, E: Write>
     output: &mut W,
     errors: &mut E,
     shows_bar: bool,
-) -> Result<u8, Failure<'a>>
+) -> Result<u8, ToolError<'a>>
     ensures small { IfOk result (λ status. status ≤ 1) }
-    ensures does { IfOk result (λ status. EndsTask task.now (I.remaining input)
-        (P.content place.old) (P.there place.old) (P.done place.old) (P.done place.new) status
-        (W.contents output.old) (W.contents output.new)) }
-    ensures refused { IfErr result (λ e. StopsTask task.now (I.remaining input)
-        (P.content place.old) (P.there place.old) (P.done place.old) e (P.done place.new)
-        (W.contents output.old) (W.contents output.new)) }
+    ensures does { IfOk result (λ status. spec.DoesTask task.now (I.remaining input)
+        (P.content place.old) (P.there place.old) (P.done place.old) (P.done place.new) status) }
+    ensures refused { IfErr result (λ e. spec.RefusesTask task.now (I.remaining input)
+        (P.content place.old) (P.there place.old) (P.done place.old) e (P.done place.new)) }
 {
     let done = perform(system, place, task, input, output, errors, shows_bar);
     let flushed: io::Result<()> = output.flush();
@@ -104,7 +118,7 @@ fn execute<'a, R: Files, C: Clock, P: Place, I: Read + Drop, W: Write, E: Write>
     Ok(status)
 }
 
-// Does a task.
+// Runs a task.
 fn perform<'a, R: Files, C: Clock, P: Place, I: Read + Drop, W: Write, E: Write>(
     system: System<'_, R, C>,
     place: &mut P,
@@ -113,14 +127,12 @@ fn perform<'a, R: Files, C: Clock, P: Place, I: Read + Drop, W: Write, E: Write>
     output: &mut W,
     errors: &mut E,
     shows_bar: bool,
-) -> Result<u8, Failure<'a>>
+) -> Result<u8, ToolError<'a>>
     ensures small { IfOk result (λ status. status ≤ 1) }
-    ensures does { IfOk result (λ status. DoesTask task.now (I.remaining input)
-        (P.content place.old) (P.there place.old) (P.done place.old) (P.done place.new) status
-        (W.contents output.old) (W.contents output.new)) }
-    ensures refused { IfErr result (λ e. RefusesTask task.now (I.remaining input)
-        (P.content place.old) (P.there place.old) (P.done place.old) e (P.done place.new)
-        (W.contents output.old) (W.contents output.new)) }
+    ensures does { IfOk result (λ status. spec.DoesTask task.now (I.remaining input)
+        (P.content place.old) (P.there place.old) (P.done place.old) (P.done place.new) status) }
+    ensures refused { IfErr result (λ e. spec.RefusesTask task.now (I.remaining input)
+        (P.content place.old) (P.there place.old) (P.done place.old) e (P.done place.new)) }
 {
     match task {
         Task::Write(task) => make::write(system, place, task, input, output).and(Ok(0)),

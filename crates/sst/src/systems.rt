@@ -1,21 +1,21 @@
-//! What the tool works with.
+//! The system that the tool runs on.
+use sst_tool::files::Disk;
 use std::alloc::Global;
 use std::rt::Files;
-use tool_files::Disk;
 
-/// The system's files and clock, and the memory.
+/// The files, the clock and the allocator.
 #[derive_where(Clone, Copy)]
 pub struct System<'r, R, C> {
     /// The files.
     pub files: &'r R,
-    /// The clock, which tables are dated by.
+    /// The clock, for the creation time of tables.
     pub clock: &'r C,
-    /// Where memory comes from.
+    /// The allocator.
     pub alloc: Global,
 }
 
 impl<'r, R: Files, C> System<'r, R, C> {
-    /// The system's files as a place.
+    /// Returns the system's files.
     pub(crate) fn disk(self) -> Disk<'r, R> {
         Disk { files: self.files }
     }

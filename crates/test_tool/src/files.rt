@@ -1,4 +1,5 @@
-//! Tests of the tool's files over a place in memory, each step of which can be refused.
+//! Tests of the tool's files over a file system in memory, each step of which can fail.
+mod dumped;
 mod memory;
 mod refused;
 mod written;

@@ -1,5 +1,5 @@
-//! Worked examples of the program: scripts, lines that entries are written as, the command line,
-//! and files that are written, compacted and read back. Nothing here is for use.
+//! Tests of the tool: scripts, lines, the command line, and files that are written, compacted and
+//! read back.
 #![tactic(auto)]
 
 #[cfg(test)]

@@ -1,9 +1,9 @@
-//! What words come to.
+//! Command lines and their results.
 use std::alloc::{AllocError, Global};
 use std::test::Fail;
 use tool_options::{Parsed, parse};
 
-/// Lines of words, and how what they come to begins.
+/// Command lines, and the first text of their results.
 const LINES: [(&str, &str); 26] = [
     (
         "sst write f",
@@ -92,13 +92,10 @@ const LINES: [(&str, &str); 26] = [
     ("sst man", "shown .TH SST 1 \"\" \"sst 1.0"),
     ("sst completion bash", "shown "),
     ("sst --version", "shown sst 1.0\n"),
-    (
-        "sst help pack",
-        "shown Prints in which runs tables can stand\n",
-    ),
+    ("sst help pack", "shown Prints the fewest runs of tables\n"),
 ];
 
-// What a line of words comes to, as text.
+// The result of a command line, as text.
 fn shown(alloc: Global, line: &str) -> Result<String, AllocError> {
     let mut words = Vec::new(alloc);
     for word in line.split(' ') {

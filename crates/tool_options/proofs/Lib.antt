@@ -1,3 +1,2 @@
-mod Answering
 mod ProgramLemmas
 mod ReadLemmas

@@ -1,35 +1,31 @@
--- The program's commands, as a parse reads them, and beside them what each value has to be: a
--- number within bounds, or one of some words.
+-- The program's commands, as the parser has them.
 use Rattle.std.specs.Prelude.{◌∷◌, ℕ, List, [], Option, Some, None, true, codes, map}
-use Rattle.clap.specs.declared.builder.value_parser.ValueParser.{ValueParser}
-use Rattle.clap.specs.declared.builder.value_parser.ValueParser.TheVariants as parser
-use Rattle.tool_options.specs.Tasks.{texts_of}
 use Rattle.clap.specs.Lexer.{usize_max}
 use Rattle.clap.specs.Simple.{Shape}
 use Rattle.clap.specs.Words.{App, Rule, Text, new_rule}
 use Rattle.clap.specs.declared.builder.action.ArgAction.TheVariants.{SetTrue}
 
--- an option of this name
+-- An option of this name.
 abbrev pub option : Text → Rule
 option name = record (new_rule name) { long = Some name }
 
--- one that is there or is not
+-- A flag.
 abbrev pub flag : Text → Rule
 flag name = record (option name) { action = Some SetTrue }
 
--- one that takes a value
+-- An option with a value.
 abbrev pub valued : Text → Rule
 valued name = record (option name) { value_names = 1 }
 
--- one that takes a value, and this one where it is left out
+-- An option with a value and a default.
 abbrev pub defaulted : Text → Text → Rule
 defaulted name text = record (valued name) { defaults = text ∷ [] }
 
--- what has to stand in a place of its own
+-- A required positional value.
 abbrev pub placed_one : Text → Rule
 placed_one name = record (new_rule name) { value_names = 1; required = true }
 
--- so many values or more, with so many names
+-- Positional values, at least so many, with so many names.
 abbrev pub placed_some : ℕ → Rule
 placed_some count = record (new_rule (codes "files")) {
   value_names = count;
@@ -37,7 +33,7 @@ placed_some count = record (new_rule (codes "files")) {
   required = true;
 }
 
--- each command and what it takes
+-- Each command with its arguments.
 unfoldable pub commands : List (Text × List Rule)
 commands = (
   codes "write",
@@ -80,40 +76,6 @@ commands = (
     ∷ (codes "man", [])
     ∷ []
 
--- the commands of a program and what each takes, whatever a value has to be
+-- The commands of a program with their arguments, without the types of values.
 abbrev pub commands_in : App → List (Text × List Rule)
 commands_in a = map {A = Shape} (λ s. (s.name, map {A = Rule} (λ r. record r { parser = None }) s.rules)) a.subs
-
--- what a value has to be, where not any text will do: a number within two bounds, or one of words
-abbrev pub choice_of : Option ValueParser → Option (ℕ × ℕ) × List Text
-choice_of (Some (parser.Unsigned least most)) = (Some (least, most), [])
-choice_of (Some (parser.Names names)) = (None, texts_of names.now)
-choice_of _ = (None, [])
-
--- what each value has to be of each command that a program has
-abbrev pub choices_in : App → List (List (Option (ℕ × ℕ) × List Text))
-choices_in a = map {A = Shape} (λ s. map {A = Rule} (λ r. choice_of r.parser) s.rules) a.subs
-
--- any text will do
-abbrev any : Option (ℕ × ℕ) × List Text
-any = (None, [])
-
-abbrev number_within : ℕ → ℕ → Option (ℕ × ℕ) × List Text
-number_within least most = (Some (least, most), [])
-
-abbrev one_of_words : List Text → Option (ℕ × ℕ) × List Text
-one_of_words words = (None, words)
-
--- what each value of the program's commands has to be
-unfoldable pub choices : List (List (Option (ℕ × ℕ) × List Text))
-choices = (any ∷ one_of_words (codes "full" ∷ codes "partitioned" ∷ []) ∷ any ∷ number_within 1 4194304
-    ∷ number_within 1 4194304 ∷ number_within 0 255 ∷ number_within 1 18446744073709551615 ∷ any ∷ any ∷ [])
-    ∷ (any ∷ any ∷ any ∷ any ∷ number_within 0 18446744073709551615 ∷ any ∷ [])
-    ∷ (any ∷ number_within 0 18446744073709551615 ∷ any ∷ any ∷ [])
-    ∷ (any ∷ any ∷ [])
-    ∷ (any ∷ [])
-    ∷ (any ∷ any ∷ number_within 0 18446744073709551615 ∷ any ∷ any ∷ number_within 1 18446744073709551615 ∷ [])
-    ∷ (any ∷ [])
-    ∷ (one_of_words (codes "bash" ∷ []) ∷ [])
-    ∷ []
-    ∷ []

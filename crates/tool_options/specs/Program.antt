@@ -1,4 +1,4 @@
--- What a parse reads of the program's commands, as their texts say it.
+-- The parser of the program, made from its texts.
 use Rattle.std.specs.Prelude.{List, [], Some, true, codes, length}
 use Rattle.std.specs.List.{fold}
 use Rattle.clap.specs.Lexer.{usize_max}
@@ -15,7 +15,7 @@ use Rattle.tool_options.specs.declared.texts.Form.TheVariants as form
 use Rattle.tool_options.specs.declared.texts.Takes.{Takes}
 use Rattle.tool_options.specs.declared.texts.Takes.TheVariants as takes
 
--- what a value has to be
+-- The parser of a value.
 abbrev pub value_of : Takes → ValueParser
 value_of takes.Text = parser.String
 value_of takes.File = parser.String
@@ -28,7 +28,7 @@ parser_of (form.Option takes) = value_of takes
 parser_of (form.Place takes) = value_of takes
 parser_of form.Files = parser.String
 
--- the argument in its form: files are as many words as their values have names, or more
+-- The argument in its form. Files are at least as many words as they have value names.
 abbrev pub formed : Form → Rule → Rule
 formed form.Flag r = record r { long = Some r.id; action = Some SetTrue }
 formed (form.Option takes) r = record r { long = Some r.id }
@@ -37,7 +37,7 @@ formed form.Files r = record r {
   range = Some (record { start_inclusive = r.value_names; end_inclusive = usize_max });
 }
 
--- the argument, but for its form
+-- The argument without its form.
 abbrev pub unformed : ArgumentText → Rule
 unformed t = record (new_rule t.name.now) {
   value_names = length t.values.now;
@@ -52,14 +52,14 @@ argument_rule t = formed t.form (unformed t)
 abbrev pub with_argument : App → ArgumentText → App
 with_argument a t = with_rule a (argument_rule t)
 
--- one command
+-- One command.
 abbrev pub command_app : CommandText → App
 command_app c = fold with_argument (new_app c.name.now) c.arguments.now
 
 abbrev pub with_command : App → CommandText → App
 with_command a c = with_subcommand a (command_app c).top
 
--- the program, without its commands
+-- The program without its commands.
 abbrev pub bare_program : App
 bare_program = record {
   top = record (new_shape (codes "sst")) {
@@ -70,6 +70,6 @@ bare_program = record {
   subs = [];
 }
 
--- the program with these commands
+-- The program with these commands.
 abbrev pub program_of : List CommandText → App
 program_of commands = fold with_command bare_program commands

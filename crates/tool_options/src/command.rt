@@ -1,22 +1,23 @@
 //! The parser of the command line, made from the texts.
 ghost use Rattle.std.specs.Prelude.{◌≡◌, IfOk, false};
-ghost use Rattle.clap.specs.Words.{app_of, new_app, rule_of};
-ghost use Rattle.clap.specs.declared.builder.command.Command.TheViews.{out-Command};
-ghost use Rattle.tool_options.specs.Program.{argument_rule, bare_program, command_app, parser_of};
-ghost use Rattle.tool_options.specs.Program.{program_of, unformed, value_of};
+ghost use Rattle.tool_options.specs.Words as spec;
 
 use crate::texts::{ABOUT, ArgumentText, CommandText, Form, NOTES, PROGRAM, Takes, VERSION};
 use clap::builder::ValueParser;
 use clap::{Arg, ArgAction, Command};
 use std::alloc::{AllocError, Global};
 
-/// The program, with these commands. Refused for want of memory alone.
+/// Returns the parser of the program with these commands.
+///
+/// # Errors
+///
+/// Fails only if memory runs out.
 pub(crate) fn program<'a>(
     alloc: Global,
     commands: &'static [CommandText],
 ) -> Result<Command<'a>, AllocError>
-    ensures app { IfOk result (λ c. app_of c ≡ program_of commands.now) }
-    ensures local { IfOk result (λ c. (out-Command c).has_globals ≡ false) }
+    ensures app { IfOk result (λ c. spec.app_of c ≡ spec.program_of commands.now) }
+    ensures local { IfOk result (λ c. (spec.out-Command c).has_globals ≡ false) }
 {
     let mut program = bare(alloc);
     for text in commands {
@@ -25,10 +26,10 @@ pub(crate) fn program<'a>(
     Ok(program)
 }
 
-// The program, without its commands.
+// Returns the parser of the program without its commands.
 fn bare<'a>(alloc: Global) -> Command<'a>
-    ensures app { app_of result ≡ bare_program }
-    ensures local { (out-Command result).has_globals ≡ false }
+    ensures app { spec.app_of result ≡ spec.bare_program }
+    ensures local { (spec.out-Command result).has_globals ≡ false }
 {
     Command::new(alloc, PROGRAM)
         .about(ABOUT)
@@ -38,10 +39,10 @@ fn bare<'a>(alloc: Global) -> Command<'a>
         .arg_required_else_help(true)
 }
 
-// One command, with what it takes.
+// Returns the parser of a command with its arguments.
 fn command<'a>(alloc: Global, text: &'static CommandText) -> Result<Command<'a>, AllocError>
-    ensures app { IfOk result (λ c. app_of c ≡ command_app text.now) }
-    ensures local { IfOk result (λ c. (out-Command c).has_globals ≡ false) }
+    ensures app { IfOk result (λ c. spec.app_of c ≡ spec.command_app text.now) }
+    ensures local { IfOk result (λ c. (spec.out-Command c).has_globals ≡ false) }
 {
     let mut command = named(alloc, text);
     for taken in text.arguments {
@@ -50,10 +51,10 @@ fn command<'a>(alloc: Global, text: &'static CommandText) -> Result<Command<'a>,
     Ok(command)
 }
 
-// One command, without what it takes.
+// Returns the parser of a command without its arguments.
 fn named<'a>(alloc: Global, text: &CommandText) -> Command<'a>
-    ensures app { app_of result ≡ new_app text.now.name.now }
-    ensures local { (out-Command result).has_globals ≡ false }
+    ensures app { spec.app_of result ≡ spec.new_app text.now.name.now }
+    ensures local { (spec.out-Command result).has_globals ≡ false }
 {
     Command::new(alloc, text.name)
         .about(text.about)
@@ -61,9 +62,9 @@ fn named<'a>(alloc: Global, text: &CommandText) -> Command<'a>
         .after_help(text.notes)
 }
 
-// One argument.
+// Returns the parser of an argument.
 fn argument<'a>(alloc: Global, text: &'static ArgumentText) -> Arg<'a>
-    ensures rule { rule_of result ≡ argument_rule text.now }
+    ensures rule { spec.rule_of result ≡ spec.argument_rule text.now }
     ensures local { result.global ≡ false }
 {
     let argument = unformed(alloc, text);
@@ -75,9 +76,9 @@ fn argument<'a>(alloc: Global, text: &'static ArgumentText) -> Arg<'a>
     }
 }
 
-// One argument, but for its form.
+// Returns the parser of an argument without its form.
 fn unformed<'a>(alloc: Global, text: &'static ArgumentText) -> Arg<'a>
-    ensures rule { rule_of result ≡ unformed text.now }
+    ensures rule { spec.rule_of result ≡ spec.unformed text.now }
     ensures local { result.global ≡ false }
 {
     Arg::new(alloc, text.name)
@@ -89,9 +90,9 @@ fn unformed<'a>(alloc: Global, text: &'static ArgumentText) -> Arg<'a>
         .hide_possible_values(true)
 }
 
-// What each value has to be.
+// Returns the parser of an argument's values.
 fn value_parser<'a>(form: Form) -> ValueParser<'a>
-    ensures { result ≡ parser_of form }
+    ensures { result ≡ spec.parser_of form }
 {
     match form {
         Form::Flag => ValueParser::Bool,
@@ -100,9 +101,9 @@ fn value_parser<'a>(form: Form) -> ValueParser<'a>
     }
 }
 
-// What one value has to be.
+// Returns the parser of a value.
 fn value_of<'a>(takes: Takes) -> ValueParser<'a>
-    ensures { result ≡ value_of takes }
+    ensures { result ≡ spec.value_of takes }
 {
     match takes {
         Takes::Text | Takes::File => ValueParser::String,

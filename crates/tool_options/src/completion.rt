@@ -1,4 +1,4 @@
-//! The completion of the program's commands in bash.
+//! The completion for bash.
 use crate::texts::{CommandText, Form, Takes};
 use std::alloc::{AllocError, Global};
 
@@ -31,15 +31,18 @@ const TAIL: &str = "        esac
 complete -o bashdefault -o default -F _sst sst
 ";
 
-/// A script for bash that completes these commands, their options and what these take. Refused for
-/// want of memory alone.
+/// Returns a script for bash that completes these commands, their options and values.
+///
+/// # Errors
+///
+/// Fails only if memory runs out.
 pub(crate) fn completion(alloc: Global, commands: &[CommandText]) -> Result<String, AllocError> {
     let mut text = String::new(alloc);
     push_script(&mut text, commands)?;
     Ok(text)
 }
 
-/// Some texts, one behind the other.
+/// Appends texts, one after another.
 pub(crate) fn push_all(text: &mut String, parts: &[&str]) -> Result<(), AllocError> {
     for part in parts {
         text.push_str(part)?;
@@ -47,7 +50,7 @@ pub(crate) fn push_all(text: &mut String, parts: &[&str]) -> Result<(), AllocErr
     Ok(())
 }
 
-// The whole script.
+// Appends the whole script.
 fn push_script(text: &mut String, commands: &[CommandText]) -> Result<(), AllocError> {
     text.push_str(HEAD)?;
     for command in commands {
@@ -57,7 +60,7 @@ fn push_script(text: &mut String, commands: &[CommandText]) -> Result<(), AllocE
     text.push_str(TAIL)
 }
 
-// What may stand behind each word, and the options of each command.
+// Appends the values after each word, and the options of each command.
 fn push_cases(text: &mut String, commands: &[CommandText]) -> Result<(), AllocError> {
     text.push_str(VALUES)?;
     for command in commands {
@@ -70,7 +73,7 @@ fn push_cases(text: &mut String, commands: &[CommandText]) -> Result<(), AllocEr
     Ok(())
 }
 
-// What may stand behind the command and behind each of its options.
+// Appends the values of a command and of its options.
 fn push_values(text: &mut String, command: &CommandText) -> Result<(), AllocError> {
     for argument in command.arguments {
         match argument.form {
@@ -82,8 +85,7 @@ fn push_values(text: &mut String, command: &CommandText) -> Result<(), AllocErro
     Ok(())
 }
 
-// What may stand behind one word: some words, nothing that is known, or, where nothing is said, the
-// name of a file.
+// Appends the values after a word: some names, any text, or file names.
 fn push_value(
     text: &mut String,
     command: &str,
@@ -104,7 +106,7 @@ fn push_value(
     }
 }
 
-// Names, each with a space behind it.
+// Appends names, each followed by a space.
 fn push_names(text: &mut String, names: &[&str]) -> Result<(), AllocError> {
     for name in names {
         push_all(text, &[name, " "])?;
@@ -112,7 +114,7 @@ fn push_names(text: &mut String, names: &[&str]) -> Result<(), AllocError> {
     Ok(())
 }
 
-// The options of a command.
+// Appends the options of a command.
 fn push_options(text: &mut String, command: &CommandText) -> Result<(), AllocError> {
     push_all(text, &["        ", command.name, ") words='"])?;
     for argument in command.arguments {

@@ -1,5 +1,5 @@
-//! The command line of the program `sst`: what its words ask for, and its help, completion and
-//! manual, which are made from the same texts.
+//! The command line of the program `sst`: its parser, help, completion and manual, all made from
+//! the same texts.
 #![tactic(auto)]
 
 mod command;

@@ -1,16 +1,20 @@
-//! The manual page of the program.
+//! The manual page.
 use crate::completion::push_all;
 use crate::texts::{ABOUT, ArgumentText, CommandText, NOTES, PROGRAM, VERSION};
 use std::alloc::{AllocError, Global};
 
-/// The manual page of these commands, in the language of `man`. Refused for want of memory alone.
+/// Returns the manual page of these commands, in the language of `man`.
+///
+/// # Errors
+///
+/// Fails only if memory runs out.
 pub(crate) fn manual(alloc: Global, commands: &[CommandText]) -> Result<String, AllocError> {
     let mut page = String::new(alloc);
     push_page(&mut page, commands)?;
     Ok(page)
 }
 
-// The whole page.
+// Appends the whole page.
 fn push_page(page: &mut String, commands: &[CommandText]) -> Result<(), AllocError> {
     push_head(page)?;
     for command in commands {
@@ -23,7 +27,7 @@ fn push_page(page: &mut String, commands: &[CommandText]) -> Result<(), AllocErr
     Ok(())
 }
 
-// The title, the name and the first line of the synopsis.
+// Appends the title, the name and the first line of the synopsis.
 fn push_head(page: &mut String) -> Result<(), AllocError> {
     let release = [".TH SST 1 \"\" \"", PROGRAM, " ", VERSION];
     push_all(page, &release)?;
@@ -34,7 +38,7 @@ fn push_head(page: &mut String) -> Result<(), AllocError> {
     push_between(page, "", ABOUT, "\n.SH SYNOPSIS\n.B sst\n")
 }
 
-// The section of a command.
+// Appends the section of a command.
 fn push_command(page: &mut String, command: &CommandText) -> Result<(), AllocError> {
     push_between(page, ".SS ", command.usage, "\n")?;
     push_between(page, "", command.about, ".\n")?;
@@ -47,7 +51,7 @@ fn push_command(page: &mut String, command: &CommandText) -> Result<(), AllocErr
     Ok(())
 }
 
-// An argument, what it takes and what is taken where it is left out.
+// Appends an argument, its values and its default.
 fn push_argument(page: &mut String, argument: &ArgumentText) -> Result<(), AllocError> {
     page.push_str(".TP\n")?;
     if argument.is_named() {
@@ -60,7 +64,7 @@ fn push_argument(page: &mut String, argument: &ArgumentText) -> Result<(), Alloc
     page.push_str(".\n")
 }
 
-// What its values are called, if it takes any.
+// Appends the names of an argument's values, if it has some.
 fn push_values(page: &mut String, values: &[&str]) -> Result<(), AllocError> {
     let mut before = "\\fI";
     for value in values {
@@ -70,7 +74,7 @@ fn push_values(page: &mut String, values: &[&str]) -> Result<(), AllocError> {
     page.push_str(if values.is_empty() { "" } else { "\\fR" })
 }
 
-// What is taken where it is left out, if anything is.
+// Appends the default of an argument, if it has one.
 fn push_standard(page: &mut String, standard: &[&str]) -> Result<(), AllocError> {
     for text in standard {
         push_all(page, &[" [default: ", text, "]"])?;
@@ -78,7 +82,7 @@ fn push_standard(page: &mut String, standard: &[&str]) -> Result<(), AllocError>
     Ok(())
 }
 
-// A text in which no character means anything to `man`, between two that are for `man`.
+// Appends an escaped text between two texts in the language of `man`.
 fn push_between(
     page: &mut String,
     before: &str,
@@ -90,7 +94,7 @@ fn push_between(
     page.push_str(after)
 }
 
-// A text in which no character means anything to `man`.
+// Appends a text, with the characters escaped that `man` would interpret.
 fn push_text(page: &mut String, text: &str) -> Result<(), AllocError> {
     for character in text.chars() {
         match character {

@@ -1,9 +1,6 @@
-//! What the matches of a command say, as a task.
-ghost use Rattle.std.specs.Prelude.{◌≡◌, ◌↔◌, IfErr, IfOk, IfSome, IfNone, IsTrue, Some, codes, ℕ};
-ghost use Rattle.std.specs.Prelude.{option_map};
-ghost use Rattle.clap.specs.Words.{Text, first_of, found_of, one_of, rows_of};
-ghost use Rattle.tool_options.specs.Tasks.{AsksFor, Has, Misreads, Spells, SpellsBits};
-ghost use Rattle.tool_options.specs.Tasks.{placed, text_in, texts_of};
+//! Reads the matches of a command as a task.
+ghost use Rattle.std.specs.Prelude.{◌≡◌, ◌↔◌, IfOk, IfSome, IsTrue, Some, codes};
+ghost use Rattle.tool_options.specs.Words as spec;
 
 use crate::tasks::{
     CompactTask, DumpTask, GetTask, PackTask, StatTask, Task, VerifyTask, WriteTask,
@@ -11,14 +8,14 @@ use crate::tasks::{
 use clap::ArgMatches;
 use std::alloc::{AllocError, Global};
 
-/// Why the matches of a command are no task.
+/// The error of reading matches as a task.
 #[derive(Clone, Copy)]
 pub(crate) enum Misread {
-    /// Memory did not suffice.
+    /// Memory ran out.
     OutOfMemory,
-    /// The filter's bits are no number from 1 to 100, and not `none`.
+    /// The filter's bits are neither a number from 1 to 100 nor `none`.
     Filter,
-    /// Something that the command needs is not there.
+    /// A required argument is missing.
     Absent,
 }
 
@@ -33,14 +30,14 @@ impl From<AllocError> for Misread {
     }
 }
 
-/// The task of the command `name`, whose matches these are.
+/// Returns the task of the command `name` with these matches.
 pub(crate) fn read_task<'a>(
     alloc: Global,
     name: &str,
     matches: &ArgMatches<'a>,
 ) -> Result<Task<'a>, Misread>
-    ensures asks { IfOk result (λ t. AsksFor name.now (rows_of (found_of matches.now)) t) }
-    ensures refuses { IfErr result (Misreads name.now (rows_of (found_of matches.now))) }
+    ensures { IfOk result (λ t. spec.AsksFor name.now (spec.rows_of (spec.found_of matches.now))
+        t) }
 {
     match name {
         "write" => read_write(matches),
@@ -55,8 +52,8 @@ pub(crate) fn read_task<'a>(
 }
 
 fn read_write<'a>(matches: &ArgMatches<'a>) -> Result<Task<'a>, Misread>
-    ensures asks { IfOk result (λ t. AsksFor (codes "write") (rows_of (found_of matches.now)) t) }
-    ensures refuses { IfErr result (Misreads (codes "write") (rows_of (found_of matches.now))) }
+    ensures { IfOk result (λ t. spec.AsksFor (codes "write")
+        (spec.rows_of (spec.found_of matches.now)) t) }
 {
     Ok(Task::Write(WriteTask {
         file: text(matches, "file").ok_or(Misread::Absent)?,
@@ -72,8 +69,8 @@ fn read_write<'a>(matches: &ArgMatches<'a>) -> Result<Task<'a>, Misread>
 }
 
 fn read_dump<'a>(alloc: Global, matches: &ArgMatches<'a>) -> Result<Task<'a>, Misread>
-    ensures asks { IfOk result (λ t. AsksFor (codes "dump") (rows_of (found_of matches.now)) t) }
-    ensures refuses { IfErr result (Misreads (codes "dump") (rows_of (found_of matches.now))) }
+    ensures { IfOk result (λ t. spec.AsksFor (codes "dump")
+        (spec.rows_of (spec.found_of matches.now)) t) }
 {
     Ok(Task::Dump(DumpTask {
         files: files(alloc, matches)?,
@@ -87,8 +84,8 @@ fn read_dump<'a>(alloc: Global, matches: &ArgMatches<'a>) -> Result<Task<'a>, Mi
 
 // The last word is the key.
 fn read_get<'a>(alloc: Global, matches: &ArgMatches<'a>) -> Result<Task<'a>, Misread>
-    ensures asks { IfOk result (λ t. AsksFor (codes "get") (rows_of (found_of matches.now)) t) }
-    ensures refuses { IfErr result (Misreads (codes "get") (rows_of (found_of matches.now))) }
+    ensures { IfOk result (λ t. spec.AsksFor (codes "get")
+        (spec.rows_of (spec.found_of matches.now)) t) }
 {
     let mut files = files(alloc, matches)?;
     let key = files.pop().ok_or(Misread::Absent)?;
@@ -102,8 +99,8 @@ fn read_get<'a>(alloc: Global, matches: &ArgMatches<'a>) -> Result<Task<'a>, Mis
 }
 
 fn read_stat<'a>(alloc: Global, matches: &ArgMatches<'a>) -> Result<Task<'a>, Misread>
-    ensures asks { IfOk result (λ t. AsksFor (codes "stat") (rows_of (found_of matches.now)) t) }
-    ensures refuses { IfErr result (Misreads (codes "stat") (rows_of (found_of matches.now))) }
+    ensures { IfOk result (λ t. spec.AsksFor (codes "stat")
+        (spec.rows_of (spec.found_of matches.now)) t) }
 {
     Ok(Task::Stat(StatTask {
         files: files(alloc, matches)?,
@@ -112,8 +109,8 @@ fn read_stat<'a>(alloc: Global, matches: &ArgMatches<'a>) -> Result<Task<'a>, Mi
 }
 
 fn read_verify<'a>(alloc: Global, matches: &ArgMatches<'a>) -> Result<Task<'a>, Misread>
-    ensures asks { IfOk result (λ t. AsksFor (codes "verify") (rows_of (found_of matches.now)) t) }
-    ensures refuses { IfErr result (Misreads (codes "verify") (rows_of (found_of matches.now))) }
+    ensures { IfOk result (λ t. spec.AsksFor (codes "verify")
+        (spec.rows_of (spec.found_of matches.now)) t) }
 {
     Ok(Task::Verify(VerifyTask {
         files: files(alloc, matches)?,
@@ -121,8 +118,8 @@ fn read_verify<'a>(alloc: Global, matches: &ArgMatches<'a>) -> Result<Task<'a>, 
 }
 
 fn read_compact<'a>(alloc: Global, matches: &ArgMatches<'a>) -> Result<Task<'a>, Misread>
-    ensures asks { IfOk result (λ t. AsksFor (codes "compact") (rows_of (found_of matches.now)) t) }
-    ensures refuses { IfErr result (Misreads (codes "compact") (rows_of (found_of matches.now))) }
+    ensures { IfOk result (λ t. spec.AsksFor (codes "compact")
+        (spec.rows_of (spec.found_of matches.now)) t) }
 {
     let folder = text(matches, "to").ok_or(Misread::Absent)?;
     let watermark = number(matches, "watermark").ok_or(Misread::Absent)?;
@@ -137,24 +134,26 @@ fn read_compact<'a>(alloc: Global, matches: &ArgMatches<'a>) -> Result<Task<'a>,
 }
 
 fn read_pack<'a>(alloc: Global, matches: &ArgMatches<'a>) -> Result<Task<'a>, Misread>
-    ensures asks { IfOk result (λ t. AsksFor (codes "pack") (rows_of (found_of matches.now)) t) }
-    ensures refuses { IfErr result (Misreads (codes "pack") (rows_of (found_of matches.now))) }
+    ensures { IfOk result (λ t. spec.AsksFor (codes "pack")
+        (spec.rows_of (spec.found_of matches.now)) t) }
 {
     Ok(Task::Pack(PackTask {
         files: files(alloc, matches)?,
     }))
 }
 
-// The text behind an argument.
+// Returns the value of an argument.
 fn text<'a>(matches: &ArgMatches<'a>, name: &str) -> Option<&'a str>
-    ensures { text_in result ≡ first_of name.now (rows_of (found_of matches.now)) }
+    ensures { spec.text_in result
+        ≡ spec.first_of name.now (spec.rows_of (spec.found_of matches.now)) }
 {
     matches.get_str(name)
 }
 
-// Whether a word stands behind an argument.
+// Whether an argument has this value.
 fn says(matches: &ArgMatches<'_>, name: &str, word: &str) -> bool
-    ensures { IsTrue result ↔ (first_of name.now (rows_of (found_of matches.now)) ≡ Some word.now) }
+    ensures { IsTrue result ↔
+        (spec.first_of name.now (spec.rows_of (spec.found_of matches.now)) ≡ Some word.now) }
 {
     match text(matches, name) {
         Some(text) => text == word,
@@ -162,17 +161,17 @@ fn says(matches: &ArgMatches<'_>, name: &str, word: &str) -> bool
     }
 }
 
-// Whether a flag is there.
+// Whether a flag is set.
 fn flag(matches: &ArgMatches<'_>, name: &str) -> bool
-    ensures { IsTrue result ↔ Has (rows_of (found_of matches.now)) name.now }
+    ensures { IsTrue result ↔ spec.Has (spec.rows_of (spec.found_of matches.now)) name.now }
 {
     says(matches, name, "true")
 }
 
-// The words that stand in places of their own.
+// Returns the positional words.
 fn files<'a>(alloc: Global, matches: &ArgMatches<'a>) -> Result<Vec<&'a str>, AllocError>
-    ensures { let rows = rows_of (found_of matches.now) in
-        IfOk result (λ files. texts_of files.items ≡ placed rows) }
+    ensures { let rows = spec.rows_of (spec.found_of matches.now) in
+        IfOk result (λ files. spec.texts_of files.items ≡ spec.named_files rows) }
 {
     match matches.get_strs("files") {
         Some(files) => files.to_vec(alloc),
@@ -180,20 +179,19 @@ fn files<'a>(alloc: Global, matches: &ArgMatches<'a>) -> Result<Vec<&'a str>, Al
     }
 }
 
-// How many bits the filter is to have for a key.
+// Returns the filter's bits for each key.
 fn filter(matches: &ArgMatches<'_>) -> Option<u32>
-    ensures some { let found = first_of (codes "filter") (rows_of (found_of matches.now)) in
-        IfSome result (λ bits. (text : Text) × (found ≡ Some text) × SpellsBits text bits) }
-    ensures none { let found = first_of (codes "filter") (rows_of (found_of matches.now)) in
-        IfNone result ((text : Text) → (bits : ℕ) → found ≡ Some text → SpellsBits text bits → ⊥) }
+    ensures { let found = spec.first_of (codes "filter")
+        (spec.rows_of (spec.found_of matches.now)) in
+        IfSome result (λ bits. (text : spec.Text) × (found ≡ Some text)
+        × spec.SpellsBits text bits) }
 {
     filter_bits(text(matches, "filter")?)
 }
 
-// How many bits a filter has for a key: a number from 1 to 100, or 0 at `none`.
+// Parses the filter's bits for each key: a number from 1 to 100, or 0 for `none`.
 fn filter_bits(text: &str) -> Option<u32>
-    ensures some { IfSome result (SpellsBits text.now) }
-    ensures none { IfNone result ((bits : ℕ) → SpellsBits text.now bits → ⊥) }
+    ensures { IfSome result (spec.SpellsBits text.now) }
 {
     if text == "none" {
         return Some(0);
@@ -203,23 +201,26 @@ fn filter_bits(text: &str) -> Option<u32>
         .filter(|bits| 1 <= *bits && *bits <= 100)
 }
 
-// The number behind an argument.
+// Returns the number of an argument.
 fn number(matches: &ArgMatches<'_>, name: &str) -> Option<u64>
-    ensures { Spells 64 (one_of name.now (rows_of (found_of matches.now))) result }
+    ensures { spec.Spells 64 (spec.one_of name.now (spec.rows_of (spec.found_of matches.now)))
+        result }
 {
     matches.get_one(name)
 }
 
-// The number of 32 bits behind an argument.
+// Returns the `u32` of an argument.
 fn size(matches: &ArgMatches<'_>, name: &str) -> Option<u32>
-    ensures { Spells 32 (one_of name.now (rows_of (found_of matches.now))) result }
+    ensures { spec.Spells 32 (spec.one_of name.now (spec.rows_of (spec.found_of matches.now)))
+        result }
 {
     matches.get_one(name)
 }
 
-// The number of 8 bits behind an argument.
+// Returns the `u8` of an argument.
 fn small(matches: &ArgMatches<'_>, name: &str) -> Option<u8>
-    ensures { Spells 8 (one_of name.now (rows_of (found_of matches.now))) result }
+    ensures { spec.Spells 8 (spec.one_of name.now (spec.rows_of (spec.found_of matches.now)))
+        result }
 {
     matches.get_one(name)
 }

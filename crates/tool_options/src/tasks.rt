@@ -1,116 +1,115 @@
-//! What the command line asks for.
+//! The tasks of the command line.
 
-/// What the command line asks for.
+/// The tasks of the command line.
 #[derive(Debug, Drop)]
 pub enum Task<'a> {
-    /// Writes a table of entries.
+    /// Write entries into tables.
     Write(WriteTask<'a>),
-    /// Prints the entries of tables.
+    /// Print the entries of tables.
     Dump(DumpTask<'a>),
-    /// Prints the version of a key that a reader sees.
+    /// Print the visible version of a key.
     Get(GetTask<'a>),
-    /// Prints what tables say of themselves.
+    /// Print the metadata of tables.
     Stat(StatTask<'a>),
-    /// Reads all of tables and reports what is wrong.
+    /// Verify tables and print their faults.
     Verify(VerifyTask<'a>),
-    /// Merges tables into new ones.
+    /// Compact tables into new ones.
     Compact(CompactTask<'a>),
-    /// Prints in which runs tables can stand.
+    /// Print the fewest runs of tables.
     Pack(PackTask<'a>),
 }
 
-/// A table to write of the entries on standard input. A number that is left out of the command line
-/// and has a standard is the standard.
+/// Write the entries on standard input into tables. Options that are left out have their defaults.
 #[derive(Clone, Copy, Debug, PartialEq, Eq)]
 pub struct WriteTask<'a> {
-    /// The file to write, or with a target what the files' names begin with.
+    /// The file to write, or with a target the prefix of the files' names.
     pub file: &'a str,
-    /// Whether the index is in partitions.
+    /// Whether the index has partitions.
     pub partitioned: bool,
-    /// How many bits the filter has for a key, 1 to 100; 0 for no filter.
+    /// The bits of the filter for each key, 1 to 100, or 0 for no filter.
     pub filter_bits: u32,
-    /// How many bytes of keys and values a data block has when it is cut: 1 to 4,194,304.
+    /// Target size of a data block in bytes of keys and values, 1 to 4,194,304.
     pub block_size: u32,
-    /// How many bytes a partition of the index has when it is cut: 1 to 4,194,304.
+    /// Target size of an index partition in bytes, 1 to 4,194,304.
     pub partition_size: u32,
-    /// The level that the table says of itself.
+    /// The level of the tables.
     pub level: u8,
-    /// After how many bytes a further table begins: 1 or more; `None` for one table.
+    /// Target size of a table in bytes, 1 or more. Without it there is one table.
     pub target: Option<u64>,
     /// Whether the entries are sorted first.
     pub sort: bool,
-    /// Whether entries are objects of JSON.
+    /// Whether lines are JSON objects.
     pub json: bool,
 }
 
-/// Entries to print.
+/// Print entries.
 #[derive(Debug, Drop)]
 pub struct DumpTask<'a> {
-    /// The table files, newest first: one or more.
+    /// The table files, one or more, newest first.
     pub files: Vec<&'a str>,
-    /// The first key that is printed, as it was written; `None` for no bound.
+    /// The first key, as given. Without it there is no lower bound.
     pub from: Option<&'a str>,
-    /// The first key that is not printed any more, as it was written; `None` for no bound.
+    /// The end of the keys, excluded, as given. Without it there is no upper bound.
     pub to: Option<&'a str>,
-    /// Whether the last entry comes first.
+    /// Whether the last entry is printed first.
     pub reverse: bool,
-    /// How many entries are printed at most; `None` for all.
+    /// The most entries to print. Without it all are.
     pub limit: Option<u64>,
-    /// Whether entries are objects of JSON.
+    /// Whether lines are JSON objects.
     pub json: bool,
 }
 
-/// A key to look up.
+/// Look up a key.
 #[derive(Debug, Drop)]
 pub struct GetTask<'a> {
-    /// The table files, newest first: one or more.
+    /// The table files, one or more, newest first.
     pub files: Vec<&'a str>,
-    /// The key, as it was written.
+    /// The key, as given.
     pub key: &'a str,
-    /// The reader sees the versions that are numbered below it; `None` for all.
+    /// The snapshot: versions with a smaller sequence number are visible. Without it all are.
     pub at: Option<u64>,
-    /// Whether it is said what was loaded.
+    /// Whether the loaded blocks are printed.
     pub loads: bool,
-    /// Whether the entry is an object of JSON.
+    /// Whether lines are JSON objects.
     pub json: bool,
 }
 
-/// Tables to describe.
+/// Print the metadata of tables.
 #[derive(Debug, Drop)]
 pub struct StatTask<'a> {
-    /// The table files: one or more.
+    /// The table files, one or more.
     pub files: Vec<&'a str>,
-    /// Whether each table is an object of JSON.
+    /// Whether lines are JSON objects.
     pub json: bool,
 }
 
-/// Tables to read all of.
+/// Verify tables.
 #[derive(Debug, Drop)]
 pub struct VerifyTask<'a> {
-    /// The table files: one or more.
+    /// The table files, one or more.
     pub files: Vec<&'a str>,
 }
 
-/// Tables to merge.
+/// Compact tables.
 #[derive(Debug, Drop)]
 pub struct CompactTask<'a> {
-    /// The table files, newest first: one or more.
+    /// The table files, one or more, newest first.
     pub files: Vec<&'a str>,
-    /// The folder that gets the new tables.
+    /// The folder for the new tables.
     pub folder: &'a str,
-    /// No reader reads below this number.
+    /// The watermark: no reader has a snapshot below this sequence number.
     pub watermark: u64,
-    /// Whether tombstones are left out, as at the last level.
+    /// Whether tombstones are dropped, as at the last level.
     pub evict: bool,
-    /// Whether numbers below the watermark become 0.
+    /// Whether sequence numbers below the watermark become 0.
     pub zero: bool,
-    /// After how many bytes a further table begins: 1 or more; `None` for one table.
+    /// Target size of a table in bytes, 1 or more. Without it there is one table.
     pub target: Option<u64>,
 }
 
-/// Tables to put into the fewest runs.
+/// Pack tables into the fewest runs.
 #[derive(Debug, Drop)]
 pub struct PackTask<'a> {
-    /// The table files, newest first: one or more.
+    /// The table files, one or more, newest first.
     pub files: Vec<&'a str>,
 }

@@ -1,50 +1,49 @@
-//! What the program's commands are called, take and are for: the parse, the help, the completion
-//! and the manual are all made from these texts.
+//! The texts of the program's commands, from which the parser, the help, the completion and the
+//! manual are made.
 
-/// What a value has to be.
+/// The type of a value.
 #[derive(Clone, Copy)]
 pub(crate) enum Takes {
     /// Any text.
     Text,
-    /// The name of a file, or of a folder.
+    /// The name of a file or folder.
     File,
-    /// A number within two bounds, both included.
+    /// A number between two bounds, both included.
     Number(u64, u64),
     /// One of these words.
     Names(&'static [&'static str]),
 }
 
-/// How an argument stands among the words.
+/// The form of an argument.
 #[derive(Clone, Copy)]
 pub(crate) enum Form {
-    /// By its name alone: it is there or is not.
+    /// A flag.
     Flag,
-    /// By its name, with a value behind it.
+    /// An option with a value.
     Option(Takes),
-    /// As a value in a place of its own.
+    /// A positional value.
     Place(Takes),
-    /// As the names of files, and what else stands behind them: one word for each name of a value,
-    /// or more.
+    /// Positional file names, and other values after them: at least one word for each value name.
     Files,
 }
 
-/// An option, or what stands in a place of its own.
+/// An argument of a command.
 #[derive(Clone, Copy)]
 pub(crate) struct ArgumentText {
-    /// The name: `to` of `--to`.
+    /// The name: `to` for `--to`.
     pub(crate) name: &'static str,
     pub(crate) form: Form,
-    /// What its values are called: none where it takes none.
+    /// The names of its values, if it has some.
     pub(crate) values: &'static [&'static str],
-    /// Whether it has to be there.
+    /// Whether it is required.
     pub(crate) required: bool,
-    /// What is taken where it is left out, if anything is.
+    /// The default value, if it has one.
     pub(crate) standard: &'static [&'static str],
     pub(crate) help: &'static str,
 }
 
 impl ArgumentText {
-    /// Whether it stands behind its name, and not in a place of its own.
+    /// Returns whether it is an option or a flag.
     pub(crate) fn is_named(&self) -> bool {
         match self.form {
             Form::Flag | Form::Option(_) => true,
@@ -57,40 +56,40 @@ impl ArgumentText {
 #[derive(Clone, Copy)]
 pub(crate) struct CommandText {
     pub(crate) name: &'static str,
-    /// What it does, in a line.
+    /// Its purpose, in a line.
     pub(crate) about: &'static str,
-    /// How it is called.
+    /// Its usage.
     pub(crate) usage: &'static str,
-    /// What it takes: what stands in a place of its own, if anything does, and then its options.
+    /// Its arguments, the positional ones first.
     pub(crate) arguments: &'static [ArgumentText],
-    /// What else there is to say, in lines of 80 columns at most.
+    /// Further notes, in lines of at most 80 columns.
     pub(crate) notes: &'static str,
 }
 
 /// The name of the program.
 pub(crate) const PROGRAM: &str = "sst";
 
-/// Which form of the command line this is.
+/// The version of the command line.
 pub(crate) const VERSION: &str = "1.0";
 
-/// What the program is.
+/// The purpose of the program.
 pub(crate) const ABOUT: &str = "Writes, reads, checks and compacts files of sorted tables";
 
-/// What else there is to say of the program.
+/// Further notes on the program.
 pub(crate) const NOTES: &str = "\
 Without arguments the program reads a script from standard input.
 
 An entry is a line 'KEY NUMBER KIND VALUE', with one space between, such as
-'alice 7 V red'. Of a key the version with the largest number is the newest.
-Kinds are V value, T tombstone, W weak tombstone and I indirection. A byte that
-is not visible ASCII, and a backslash, is written \\xNN, in lower case; '-' is
-the empty key or value, and \\x2d is a '-' alone. Keys on the command line are
-written the same way. With --json an entry is an object, one on each line:
-{\"key\":\"k\",\"seqno\":7,\"kind\":\"value\",\"value\":\"v\"}, and bytes that are no
-UTF-8 are {\"hex\":\"ff00\"}.
+'alice 7 V red'. NUMBER is the sequence number: the newest version of a key has
+the largest. Kinds are V value, T tombstone, W weak tombstone, I indirection. A
+backslash and each byte that is not visible ASCII are written \\xNN, in lower
+case. '-' is the empty key or value, and \\x2d is a single '-'. Keys on the
+command line are written the same way. With --json each line is an object:
+{\"key\":\"k\",\"seqno\":7,\"kind\":\"value\",\"value\":\"v\"}. Bytes that are not UTF-8
+are {\"hex\":\"ff00\"}.
 
-The exit status is 0, or 1 where something was refused, found at fault or not
-found, or 2 where the command line is at fault.";
+The exit status is 0, or 1 after an error, for a faulty file and for a key that
+is not found, or 2 if the command line is wrong.";
 
 const FILE: ArgumentText = ArgumentText {
     name: "file",
@@ -125,7 +124,7 @@ const JSON: ArgumentText = ArgumentText {
     values: &[],
     required: false,
     standard: &[],
-    help: "Entries as objects of JSON",
+    help: "Entries as JSON objects",
 };
 
 const TARGET: ArgumentText = ArgumentText {
@@ -134,7 +133,7 @@ const TARGET: ArgumentText = ArgumentText {
     values: &["BYTES"],
     required: false,
     standard: &[],
-    help: "Begin a further table after so many bytes",
+    help: "Target size of a table",
 };
 
 const WRITE: [ArgumentText; 9] = [
@@ -145,7 +144,7 @@ const WRITE: [ArgumentText; 9] = [
         values: &["KIND"],
         required: false,
         standard: &["full"],
-        help: "Either full or partitioned",
+        help: "Full or partitioned",
     },
     ArgumentText {
         name: "filter",
@@ -161,7 +160,7 @@ const WRITE: [ArgumentText; 9] = [
         values: &["BYTES"],
         required: false,
         standard: &["4096"],
-        help: "Where a data block is cut",
+        help: "Target size of a data block",
     },
     ArgumentText {
         name: "partition-size",
@@ -169,7 +168,7 @@ const WRITE: [ArgumentText; 9] = [
         values: &["BYTES"],
         required: false,
         standard: &["4096"],
-        help: "Where a partition is cut",
+        help: "Target size of a partition",
     },
     ArgumentText {
         name: "level",
@@ -177,7 +176,7 @@ const WRITE: [ArgumentText; 9] = [
         values: &["N"],
         required: false,
         standard: &["0"],
-        help: "The level the table says of itself",
+        help: "Level of the table",
     },
     TARGET,
     ArgumentText {
@@ -199,7 +198,7 @@ const DUMP: [ArgumentText; 6] = [
         values: &["KEY"],
         required: false,
         standard: &[],
-        help: "Leave out keys before this one",
+        help: "First key",
     },
     ArgumentText {
         name: "to",
@@ -207,7 +206,7 @@ const DUMP: [ArgumentText; 6] = [
         values: &["KEY"],
         required: false,
         standard: &[],
-        help: "Leave out this key and what follows",
+        help: "End of the keys, excluded",
     },
     ArgumentText {
         name: "reverse",
@@ -215,7 +214,7 @@ const DUMP: [ArgumentText; 6] = [
         values: &[],
         required: false,
         standard: &[],
-        help: "From the last entry to the first",
+        help: "Print the last entry first",
     },
     ArgumentText {
         name: "limit",
@@ -223,7 +222,7 @@ const DUMP: [ArgumentText; 6] = [
         values: &["N"],
         required: false,
         standard: &[],
-        help: "So many entries at most",
+        help: "Print at most N entries",
     },
     JSON,
 ];
@@ -236,7 +235,7 @@ const GET: [ArgumentText; 4] = [
         values: &["N"],
         required: false,
         standard: &[],
-        help: "See only numbers below N",
+        help: "Read versions with numbers below N",
     },
     ArgumentText {
         name: "loads",
@@ -244,7 +243,7 @@ const GET: [ArgumentText; 4] = [
         values: &[],
         required: false,
         standard: &[],
-        help: "Say what was loaded",
+        help: "Print the loaded blocks",
     },
     JSON,
 ];
@@ -257,7 +256,7 @@ const STAT: [ArgumentText; 2] = [
         values: &[],
         required: false,
         standard: &[],
-        help: "An object of JSON for each table",
+        help: "Print a JSON object for each table",
     },
 ];
 
@@ -269,7 +268,7 @@ const COMPACT: [ArgumentText; 6] = [
         values: &["FOLDER"],
         required: true,
         standard: &[],
-        help: "A new folder, made for the new tables",
+        help: "New folder for the new tables",
     },
     ArgumentText {
         name: "watermark",
@@ -285,7 +284,7 @@ const COMPACT: [ArgumentText; 6] = [
         values: &[],
         required: false,
         standard: &[],
-        help: "Leave tombstones out, as at the last level",
+        help: "Drop tombstones, as at the last level",
     },
     ArgumentText {
         name: "zero",
@@ -293,7 +292,7 @@ const COMPACT: [ArgumentText; 6] = [
         values: &[],
         required: false,
         standard: &[],
-        help: "Make numbers below the watermark 0",
+        help: "Set numbers below the watermark to 0",
     },
     TARGET,
 ];
@@ -315,14 +314,14 @@ pub(crate) static COMMANDS: [CommandText; 9] = [
         usage: "sst write [OPTIONS] <FILE>",
         arguments: &WRITE,
         notes: "\
-The entries come in order, by key and then from the largest number down. The
-first line out of order is refused, unless --sort is there. A block is cut once
-its keys and values have so many bytes, and a table ends, before the next key,
-once its data blocks have. The file is written beside its name and renamed once
-it is whole and synced: a write that is refused before that leaves what was
-there. With --target the tables are FILE.1, FILE.2 and so on; those that are
-renamed before a refusal stay, and what an earlier write left behind the last
-of them has to be removed first.",
+The entries are in order: ascending keys, then descending sequence numbers. The
+first line out of order is an error, unless --sort is given. A block ends once
+its keys and values have the target size. A table ends before the next key once
+its data blocks have. The file gets a temporary name, and is renamed once it is
+complete and synced; an error before that leaves the old file. With --target the
+tables are FILE.1, FILE.2 and so on. Tables that are renamed before an error
+stay. If a file with the next number is left over from an earlier write, remove
+it first.",
     },
     CommandText {
         name: "dump",
@@ -330,68 +329,68 @@ of them has to be removed first.",
         usage: "sst dump [OPTIONS] <FILE>...",
         arguments: &DUMP,
         notes: "\
-The files come one behind the other, each in its order, or with --reverse from
+Prints the files one after another, each in its order, or with --reverse from
 its end.",
     },
     CommandText {
         name: "get",
-        about: "Prints the version of a key that a reader sees",
+        about: "Prints the visible version of a key",
         usage: "sst get [OPTIONS] <FILE>... <KEY>",
         arguments: &GET,
         notes: "\
-Each file is a run of its own. Options stand before the files or behind the
-key. Prints the version, be it a tombstone; or none, with --json null, and
-exits with 1, where the key has no version below N.",
+Each file is a run of its own. Options are before the files or after the key.
+Prints the version, also a tombstone. If the key has no version below N, prints
+none, or null with --json, and exits with 1.",
     },
     CommandText {
         name: "stat",
-        about: "Prints what tables say of themselves",
+        about: "Prints the metadata of tables",
         usage: "sst stat [OPTIONS] <FILE>...",
         arguments: &STAT,
         notes: "\
-Tells the data blocks, too. Where there are more than 32 they share lines, as
-many on each but for the last; an object of JSON has each by itself.",
+Also lists the data blocks. If there are more than 32 they are grouped into
+lines of as many blocks each; a JSON object has each block.",
     },
     CommandText {
         name: "verify",
-        about: "Reads all of tables and reports what is wrong",
+        about: "Verifies tables and prints their faults",
         usage: "sst verify <FILE>...",
         arguments: &[FILES],
         notes: "\
-Reads every block, the index and the filter, and compares with the entries
-what the table says of its keys, numbers, data blocks, entries and tombstones.
-Prints that a file is sound, or its first fault and behind it each further
-block that does not load. Exits with 1 if there is a fault. What no read needs
-is not compared: the byte of the version, and where the trailer says that it
-and the data blocks lie.",
+Reads every block, the index and the filter. Compares the entries with the
+table's metadata: keys, sequence numbers, data blocks, entries and tombstones.
+Prints that a file is sound, or its first fault and then each further block
+that does not load. Exits with 1 if there is a fault. Bytes that no read needs
+are not compared: the version, and the trailer's positions of the version and
+the data blocks.",
     },
     CommandText {
         name: "compact",
-        about: "Merges tables into new ones",
+        about: "Compacts tables into new ones",
         usage: "sst compact [OPTIONS] --to <FOLDER> <FILE>...",
         arguments: &COMPACT,
         notes: "\
 The new tables are 1.sst, 2.sst and so on in FOLDER, written as write does
-without options. Of each key the versions stay that a reader at the watermark
-or later may see: without a watermark, all. A weak tombstone below it goes with
-the value that it hides; with --evict a tombstone that is the newest below it
-goes too.",
+without options. Keeps the versions that a reader at the watermark or later may
+see: all without a watermark. A weak tombstone below it is dropped with the
+value that it hides. With --evict a tombstone that is the newest version below
+it is dropped too.",
     },
     CommandText {
         name: "pack",
-        about: "Prints in which runs tables can stand",
+        about: "Prints the fewest runs of tables",
         usage: "sst pack <FILE>...",
         arguments: &[FILES],
         notes: "\
-Prints the fewest runs, and a chain of tables that overlap, which shows why
-fewer will not do.",
+Prints the fewest runs, and a chain of overlapping tables, which shows why
+fewer do not suffice.",
     },
     CommandText {
         name: "completion",
-        about: "Prints the script that completes commands in a shell",
+        about: "Prints the completion script for a shell",
         usage: "sst completion <SHELL>",
         arguments: &[SHELL],
-        notes: "For bash alone: source <(sst completion bash)",
+        notes: "For bash only: source <(sst completion bash)",
     },
     CommandText {
         name: "man",

@@ -1,13 +1,6 @@
-//! The words of the command line, parsed.
-ghost use Rattle.std.specs.Prelude.{◌≡◌, ◌≢◌, ◌⊎◌, IfOk, Some, map, true};
-ghost use Rattle.clap.specs.Words.{found_of, is_simple, is_simple_and_free, kind_of, rows_of};
-ghost use Rattle.clap.specs.Words.{subcommand_of, subcommand_rows_of};
-ghost use Rattle.clap.specs.declared.error.kind.ErrorKind.TheVariants.{DisplayHelp, DisplayVersion};
-ghost use Rattle.clap.specs.declared.error.kind.ErrorKind.TheVariants.{OutOfMemory};
-ghost use Rattle.tool_options.specs.Program.{program_of};
-ghost use Rattle.tool_options.specs.Asks.{AnswersBy, AnswersCommand, AsksBy, AsksFrom, IsMistake};
-ghost use Rattle.tool_options.specs.Asks.{IsShown, IsText, MistakesOf, ShowsOf};
-ghost use Rattle.tool_options.specs.declared.read.Misread.TheVariants.{OutOfMemory as wants_memory};
+//! Parses the command line.
+ghost use Rattle.std.specs.Prelude.{◌≡◌, IfOk, List, Option, Some, map, true};
+ghost use Rattle.tool_options.specs.Words as spec;
 
 use crate::command::program;
 use crate::completion::completion;
@@ -20,42 +13,40 @@ use clap::{ArgMatches, Error};
 use std::alloc::{AllocError, Global};
 use std::convert::AsStr;
 
-/// What the words of the command line come to.
+/// The result of parsing the command line.
 #[derive(Debug, Drop)]
 pub enum Parsed<'a> {
-    /// Something to do.
+    /// A task to run.
     Task(Task<'a>),
-    /// A text for standard output, and nothing more to do: help, the version, a completion or the
-    /// manual.
+    /// A text for standard output: help, the version, a completion or the manual.
     Shown(String),
-    /// The words ask for nothing that can be done. A text for standard error says what was
-    /// expected.
+    /// A text for standard error, which says what is wrong with the words.
     Mistaken(String),
 }
 
-/// Parses the words of the command line, of which the first is the program's name. What a task says
-/// is what the words say of the arguments of its names, or what stands for those that are left out.
-/// A text is shown where the words ask for help, the version, a completion or the manual; what else
-/// the parser refuses is a mistake, and so is a command whose arguments ask for no task. No other
-/// words are: a command that asks for a task gets it.
+/// Parses the words of the command line, the first of which is the program's name.
 ///
-/// Refused for want of memory alone.
+/// A task has what the words say for its arguments, or their defaults. Words that ask for help, the
+/// version, a completion or the manual return a text. Other words that the parser rejects are a
+/// mistake, and so is a command whose arguments are no task. All other words return their task.
+///
+/// # Errors
+///
+/// Fails only if memory runs out.
 pub fn parse<'a, S: AsStr>(alloc: Global, words: &'a [S]) -> Result<Parsed<'a>, AllocError>
-    ensures { IfOk result (AsksFrom (map S.text words.now)) }
+    ensures { IfOk result (spec.AsksFrom (map S.text words.now)) }
 {
     parse_by(alloc, COMMANDS.as_slice(), words)
 }
 
-// Parses words by some commands.
+// Parses words with the parser of some commands.
 fn parse_by<'a, S: AsStr>(
     alloc: Global,
     commands: &'static [CommandText],
     words: &'a [S],
 ) -> Result<Parsed<'a>, AllocError>
-    ensures asks { is_simple (program_of commands.now) ≡ true → IfOk result (AsksBy
-        (subcommand_of (program_of commands.now) (map S.text words.now))) }
-    ensures answers { is_simple_and_free (program_of commands.now) ≡ true →
-        IfOk result (AnswersBy (program_of commands.now) (map S.text words.now)) }
+    ensures { spec.is_simple (spec.program_of commands.now) ≡ true → IfOk result (spec.AsksBy
+        (spec.subcommand_of (spec.program_of commands.now) (map S.text words.now))) }
 {
     match program(alloc, commands)?.try_get_matches_from(words) {
         Ok(matches) => answer(alloc, commands, &matches),
@@ -63,14 +54,13 @@ fn parse_by<'a, S: AsStr>(
     }
 }
 
-// What the matches of the program ask for.
+// Returns the result of the program's matches.
 fn answer<'a>(
     alloc: Global,
     commands: &[CommandText],
     matches: &ArgMatches<'a>,
 ) -> Result<Parsed<'a>, AllocError>
-    ensures asks { IfOk result (AsksBy (subcommand_rows_of matches.now)) }
-    ensures answers { IfOk result (AnswersCommand (subcommand_rows_of matches.now)) }
+    ensures { IfOk result (spec.AsksBy (spec.subcommand_rows_of matches.now)) }
 {
     match matches.subcommand() {
         Some((name, matches)) => answer_to(alloc, commands, name, matches),
@@ -78,16 +68,15 @@ fn answer<'a>(
     }
 }
 
-// What the command `name` asks for, whose matches these are.
+// Returns the result of the command `name` with these matches.
 fn answer_to<'a>(
     alloc: Global,
     commands: &[CommandText],
     name: &str,
     matches: &ArgMatches<'a>,
 ) -> Result<Parsed<'a>, AllocError>
-    ensures shows { IfOk result (ShowsOf name.now) }
-    ensures mistakes { IfOk result (MistakesOf name.now (rows_of (found_of matches.now))) }
-    ensures asks { IfOk result (AsksBy (Some (name.now, rows_of (found_of matches.now)))) }
+    ensures { IfOk result
+        (spec.AsksBy (Some (name.now, spec.rows_of (spec.found_of matches.now)))) }
 {
     match name {
         "completion" => Ok(Parsed::Shown(completion(alloc, commands)?)),
@@ -99,14 +88,9 @@ fn answer_to<'a>(
     }
 }
 
-// What the parser says of words that it does not take, or that ask for help or the version.
+// Returns the parser's text: help, the version or its error.
 fn explain<'a>(alloc: Global, error: &Error) -> Result<Parsed<'a>, AllocError>
-    ensures asks { IfOk result IsText }
-    ensures memory { kind_of error.now ≡ OutOfMemory → IfOk result (λ _. ⊥) }
-    ensures mistaken { (kind_of error.now ≢ DisplayHelp) × (kind_of error.now ≢ DisplayVersion) →
-        IfOk result IsMistake }
-    ensures shown { (kind_of error.now ≡ DisplayHelp) ⊎ (kind_of error.now ≡ DisplayVersion) →
-        IfOk result IsShown }
+    ensures { (found : Option (spec.Text × List spec.Row)) → IfOk result (spec.AsksBy found) }
 {
     if error.kind() == ErrorKind::OutOfMemory {
         return Err(AllocError);
@@ -119,11 +103,9 @@ fn explain<'a>(alloc: Global, error: &Error) -> Result<Parsed<'a>, AllocError>
     }
 }
 
-// What was expected of the command `name`, in the parser's own form.
+// Returns the error of the command `name` in the parser's form.
 fn mistake<'a>(alloc: Global, name: &str, misread: Misread) -> Result<Parsed<'a>, AllocError>
-    ensures memory { misread ≡ wants_memory → IfOk result (λ _. ⊥) }
-    ensures asks { IfOk result IsText }
-    ensures mistaken { IfOk result IsMistake }
+    ensures { (found : Option (spec.Text × List spec.Row)) → IfOk result (spec.AsksBy found) }
 {
     let expected = match misread {
         Misread::OutOfMemory => return Err(AllocError),

@@ -1,20 +1,20 @@
-//! A place in memory.
+//! A file system in memory.
 use lsm_tables::block::Slice;
+use sst_tool::files::{FileFault, Place};
 use std::alloc::{AllocError, Allocator, Global};
 use std::fs::{Metadata, Permissions};
 use std::io;
 use std::io::ErrorKind;
-use tool_files::{FileFault, Place};
 
-/// A file, or a folder.
+/// A file or a folder.
 #[derive(Drop)]
 struct File {
     path: String,
-    // none of a folder
+    // none for a folder
     bytes: Option<Vec<u8>>,
 }
 
-/// Files in memory. Each step that a system might refuse is counted, and one of them is refused.
+/// Files in memory. Steps that can fail are counted, and one of them fails.
 #[derive(Drop)]
 pub(crate) struct Memory {
     alloc: Global,
@@ -24,7 +24,7 @@ pub(crate) struct Memory {
 }
 
 impl Memory {
-    /// No files; the step of this number will be refused.
+    /// Returns a file system without files, in which the step of this number fails.
     pub(crate) fn new(alloc: Global, refused: u64) -> Memory {
         Memory {
             alloc,
@@ -34,23 +34,23 @@ impl Memory {
         }
     }
 
-    /// Counts anew, and refuses the step of this number.
+    /// Counts from 0 again, and lets the step of this number fail.
     pub(crate) fn refuse(&mut self, refused: u64) {
         self.steps = 0;
         self.refused = refused;
     }
 
-    /// How many steps were made, the refused one among them.
+    /// Returns the number of steps, the failed one included.
     pub(crate) fn steps(&self) -> u64 {
         self.steps
     }
 
-    /// How many files and folders there are.
+    /// Returns the number of files and folders.
     pub(crate) fn count(&self) -> usize {
         self.files.len()
     }
 
-    /// What a file has.
+    /// Returns the bytes of a file.
     pub(crate) fn bytes_of(&self, path: &str) -> Option<&[u8]> {
         for file in &self.files {
             if file.path.as_str() == path {
@@ -60,7 +60,7 @@ impl Memory {
         None
     }
 
-    /// Puts a file there, or a folder, uncounted.
+    /// Adds a file or a folder, which is no step.
     pub(crate) fn put(&mut self, path: &str, bytes: Option<&[u8]>) -> Result<(), AllocError> {
         let path = String::from_str(self.alloc, path)?;
         let bytes = match bytes {
@@ -71,7 +71,7 @@ impl Memory {
         Ok(())
     }
 
-    /// Whether anything has a path.
+    /// Returns whether a path is taken.
     pub(crate) fn has(&self, path: &str) -> bool {
         for file in &self.files {
             if file.path.as_str() == path {
@@ -81,7 +81,7 @@ impl Memory {
         false
     }
 
-    // Whether anything lies in a folder.
+    // Whether a folder has files.
     fn has_within(&self, folder: &str) -> bool {
         for file in &self.files {
             if file
@@ -96,7 +96,7 @@ impl Memory {
         false
     }
 
-    // What has a path gets another one; what lies in a folder goes with it.
+    // Renames a file, or a folder with its files.
     fn rename_all(&mut self, from: &str, to: &str) -> Result<(), AllocError> {
         for file in &mut self.files {
             let Some(rest) = file.path.as_str().strip_prefix(from) else {
@@ -110,12 +110,12 @@ impl Memory {
         Ok(())
     }
 
-    // Takes what has a path away.
+    // Removes the file or folder at a path.
     fn forget(&mut self, path: &str) {
         self.files.retain(|file| file.path.as_str() != path);
     }
 
-    // One step more.
+    // Counts a step, and fails if it is the one.
     fn step(&mut self) -> io::Result<()> {
         let step = self.steps;
         self.steps = step.saturating_add(1);
@@ -126,7 +126,7 @@ impl Memory {
     }
 }
 
-// A copy of some bytes.
+// A copy of the bytes.
 fn copied(alloc: Global, bytes: &[u8]) -> Result<Vec<u8>, AllocError> {
     let mut copy = Vec::new(alloc);
     copy.extend_from_slice(bytes)?;

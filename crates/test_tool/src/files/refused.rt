@@ -1,19 +1,19 @@
-//! Each step refused in turn: the old file or the whole new one stands.
+//! Each step fails in turn: the old file stays, or the new one is complete.
 use crate::files::memory::Memory;
 use crate::files::written::{
     Asked, LINES, NEVER, compact, entries_of, keep_all, returned, sources, write, write_options,
 };
 use lsm_tables::block::Error;
+use sst_tool::files::FileFault;
 use std::alloc::Global;
-use tool_files::FileFault;
 
-// Whether a file has just these bytes.
+// Whether a file has exactly these bytes.
 fn has(place: &Memory, path: &str, bytes: &[u8]) -> bool {
     place.bytes_of(path) == Some(bytes)
 }
 
-// Writes over an old file with a step refused. Answers whether it was written, whether the old file
-// stands, whether the new one does, and how many files there are.
+// Replaces a file while a step fails. Returns whether it was written, whether the old file is
+// there, whether the new one is, and the number of files.
 fn replaced(alloc: Global, refused: u64) -> (bool, bool, bool, usize) {
     let mut place = Memory::new(alloc, refused);
     let put = place.put("t", Some(b"old")).is_ok();
@@ -26,15 +26,14 @@ fn replaced(alloc: Global, refused: u64) -> (bool, bool, bool, usize) {
 #[test]
 fn old_file_or_the_new_one_stands(rt: HostRuntime) {
     let alloc = rt.alloc();
-    // The file is not written, not renamed, not synced, and nothing is refused.
+    // Writing, renaming and syncing fails, and then nothing.
     assert_eq!(rt; replaced(alloc, 0), (false, true, false, 1));
     assert_eq!(rt; replaced(alloc, 1), (false, true, false, 1));
     assert_eq!(rt; replaced(alloc, 2), (false, false, true, 1));
     assert_eq!(rt; replaced(alloc, NEVER), (true, false, true, 1));
 }
 
-// Writes two tables over old files with a step refused. Answers which of them are new, and how many
-// files there are.
+// Replaces two files while a step fails. Returns which of them are new, and the number of files.
 fn both_replaced(alloc: Global, refused: u64) -> (bool, bool, usize) {
     let mut place = Memory::new(alloc, refused);
     let put = place.put("t.1", Some(b"old")).is_ok() && place.put("t.2", Some(b"old")).is_ok();
@@ -55,8 +54,8 @@ fn first_of_two_stands_renamed(rt: HostRuntime) {
     assert_eq!(rt; both_replaced(alloc, NEVER), (true, true, 2));
 }
 
-// Compacts into three tables with a step refused. Answers whether that was done, whether anything
-// has the folder's name, whether all tables are in it, and how many files and folders there are.
+// Compacts into three tables while a step fails. Returns whether it succeeded, whether the folder's
+// name is taken, whether it has all tables, and the number of files and folders.
 fn compacted(alloc: Global, refused: u64) -> (bool, bool, bool, usize) {
     let mut place = sources(alloc, refused);
     let done = compact(&mut place, alloc, "to", Some(0)).is_some();
@@ -69,17 +68,17 @@ fn compacted(alloc: Global, refused: u64) -> (bool, bool, bool, usize) {
 #[test]
 fn folder_stands_whole_or_is_absent(rt: HostRuntime) {
     let alloc = rt.alloc();
-    // The folder is not made, one of three files is not written, the folder is not synced, and not
-    // renamed: both sources stay, and nothing else is there.
+    // Making the folder, writing its three files, syncing and renaming it fails: both sources stay,
+    // and nothing else is there.
     for refused in 0..6u64 {
         assert_eq!(rt; compacted(alloc, refused), (false, false, false, 2));
     }
-    // The folder's own name is not synced, and nothing is refused.
+    // Syncing the folder's name fails, and then nothing.
     assert_eq!(rt; compacted(alloc, 6), (false, true, true, 6));
     assert_eq!(rt; compacted(alloc, NEVER), (true, true, true, 6));
 }
 
-// Why a compaction is refused, 0 where it is not.
+// The error of a compaction, or 0.
 fn why_not(place: &mut Memory, alloc: Global, paths: &[&str]) -> u8 {
     let asked = Asked::Compact(paths, "to", &keep_all(None));
     returned(place, alloc, asked).err().unwrap_or(0)
@@ -96,7 +95,7 @@ fn taken_folder_is_told_before_any_file(rt: HostRuntime) {
     assert_eq!(rt; place.steps(), 0);
 }
 
-// Why lines are not written, 0 where they are.
+// The error of writing lines, or 0.
 fn why_unwritten(place: &mut Memory, alloc: Global, lines: &str, block_size: u32) -> u8 {
     let mut options = write_options(None);
     options.block_size = block_size;

@@ -1,24 +1,22 @@
-//! Lines that are written into files, compacted and read back.
+//! Lines are written into files, compacted and read back.
 use crate::files::memory::Memory;
 use lsm_tables::compaction::Rules;
 use lsm_tables::table::{BloomConstructionPolicy, IndexKind, Timestamp};
+use sst_tool::files::{FileFault, Place, ToolError, open_table};
+use sst_tool::lines::Format;
+use sst_tool::make::{CompactOptions, WriteOptions, compact_files, write_entries};
 use std::alloc::Global;
-use tool_files::{FileFault, Place, open_table};
-use tool_lines::Format;
-use tool_make::{
-    CompactError, CompactOptions, MakeError, WriteOptions, compact_files, write_entries,
-};
 
-/// A step that is never made, so that none is refused.
+/// The number of a step that is not reached, so that none fails.
 pub(crate) const NEVER: u64 = 1_000;
 
-/// Lines of three entries, of two keys.
+/// Three entries of two keys.
 pub(crate) const LINES: &str = "a 3 V x\na 1 V y\nc 2 V z\n";
 
-/// Lines of two further entries.
+/// Two more entries.
 pub(crate) const MORE: &str = "a 7 V w\nb 4 V v\n";
 
-/// How lines are written: into one table, or with a target into several.
+/// Options for writing one table, or several with a target.
 pub(crate) fn write_options(target: Option<u64>) -> WriteOptions {
     WriteOptions {
         index: IndexKind::Full,
@@ -32,7 +30,7 @@ pub(crate) fn write_options(target: Option<u64>) -> WriteOptions {
     }
 }
 
-/// Compaction that keeps all: into one table, or with a target into several.
+/// Options for a compaction that keeps all, into one table, or several with a target.
 pub(crate) fn keep_all(target: Option<u64>) -> CompactOptions {
     CompactOptions {
         rules: Rules {
@@ -45,33 +43,32 @@ pub(crate) fn keep_all(target: Option<u64>) -> CompactOptions {
     }
 }
 
-/// What is asked of a place.
+/// A call on a file system.
 #[derive(Clone, Copy)]
 pub(crate) enum Asked<'a> {
-    /// Lines are written under a path.
+    /// Write lines as a path.
     Write(&'a str, &'a str, &'a WriteOptions),
-    /// Files are compacted into a folder.
+    /// Compact files into a folder.
     Compact(&'a [&'a str], &'a str, &'a CompactOptions),
-    /// A file is opened.
+    /// Open a file.
     Open(&'a str),
 }
 
-// Why lines are not written: 1 for their sizes, 2 where there is no entry, 3 for a line, 4 for what
-// else.
-fn why_unwritten(error: &MakeError<'_>) -> u8 {
+// The error of writing lines: 1 for sizes, 2 without entries, 3 for a line, 4 for others.
+fn why_unwritten(error: &ToolError<'_>) -> u8 {
     match error {
-        MakeError::SizeTooLarge => 1,
-        MakeError::NoEntries => 2,
-        MakeError::Line { .. } => 3,
+        ToolError::SizeTooLarge => 1,
+        ToolError::NoEntries => 2,
+        ToolError::Line { .. } => 3,
         _ => 4,
     }
 }
 
-// Why a compaction is refused: 1 where its folder's path is taken, 2 for another fault of a file, 3
-// for what else.
-fn why_not(error: &CompactError<'_>) -> u8 {
+// The error of a compaction: 1 if the folder's name is taken, 2 for another error of a file, 3 for
+// others.
+fn why_not(error: &ToolError<'_>) -> u8 {
     match error {
-        CompactError::File(error) => match error.fault {
+        ToolError::File(error) => match error.fault {
             FileFault::Taken => 1,
             _ => 2,
         },
@@ -79,9 +76,8 @@ fn why_not(error: &CompactError<'_>) -> u8 {
     }
 }
 
-// Does what is asked of a place, and answers how many tables and entries came of it, of a table
-// that is opened how many it tells; or why it is refused. It is generic in the place, since each
-// call at a concrete one puts its trait together once more.
+// Makes a call on a file system. Returns the numbers of tables and entries, or the error. Generic
+// in the file system, whose trait is expensive at a concrete type.
 fn perform<P: Place>(place: &mut P, alloc: Global, asked: Asked<'_>) -> Result<(u64, u64), u8> {
     match asked {
         Asked::Write(lines, path, options) => {
@@ -103,7 +99,7 @@ fn perform<P: Place>(place: &mut P, alloc: Global, asked: Asked<'_>) -> Result<(
     }
 }
 
-/// Does what is asked of a place in memory.
+/// Makes a call on a file system in memory.
 pub(crate) fn returned(
     place: &mut Memory,
     alloc: Global,
@@ -112,7 +108,7 @@ pub(crate) fn returned(
     perform(place, alloc, asked)
 }
 
-/// Writes lines, and answers how many tables and entries came of them; none where it is refused.
+/// Writes lines. Returns the numbers of tables and entries, or `None` after an error.
 pub(crate) fn write(
     place: &mut Memory,
     alloc: Global,
@@ -128,8 +124,8 @@ pub(crate) fn write(
     .ok()
 }
 
-/// Compacts the files `a` and `b` into a folder, and answers how many tables and entries came of
-/// them; none where it is refused.
+/// Compacts the files `a` and `b` into a folder. Returns the numbers of tables and entries, or
+/// `None` after an error.
 pub(crate) fn compact(
     place: &mut Memory,
     alloc: Global,
@@ -144,7 +140,7 @@ pub(crate) fn compact(
     .ok()
 }
 
-/// How many entries a file's table tells; none where it does not open.
+/// Returns the number of entries of a file's table, or `None` if it does not open.
 pub(crate) fn entries_of(place: &mut Memory, alloc: Global, path: &str) -> Option<u64> {
     match returned(place, alloc, Asked::Open(path)) {
         Ok((_, entries)) => Some(entries),
@@ -152,7 +148,7 @@ pub(crate) fn entries_of(place: &mut Memory, alloc: Global, path: &str) -> Optio
     }
 }
 
-/// Where `b` and `a` are written, the older one second; a step is refused behind these.
+/// Returns a file system with `b`, and the older `a`, in which a step then fails.
 pub(crate) fn sources(alloc: Global, refused: u64) -> Memory {
     let mut place = Memory::new(alloc, NEVER);
     write(&mut place, alloc, LINES, "a", None);
@@ -167,7 +163,7 @@ fn lines_are_written_and_read_back(rt: HostRuntime) {
     let mut place = Memory::new(alloc, NEVER);
     assert_eq!(rt; write(&mut place, alloc, LINES, "t", None), Some((1, 3)));
     assert_eq!(rt; entries_of(&mut place, alloc, "t"), Some(3));
-    // It was written, renamed and its folder synced.
+    // It was written and renamed, and its folder synced.
     assert_eq!(rt; place.steps(), 3);
     assert_eq!(rt; place.count(), 1);
 }
@@ -199,7 +195,7 @@ fn files_are_compacted_and_read_back(rt: HostRuntime) {
     let mut place = sources(alloc, NEVER);
     assert_eq!(rt; compact(&mut place, alloc, "to", None), Some((1, 5)));
     assert_eq!(rt; entries_of(&mut place, alloc, "to/1.sst"), Some(5));
-    // A folder was made, one file written in it, the folder synced and renamed, then its own name
+    // A folder was made, one file written in it, the folder synced and renamed, and its name
     // synced.
     assert_eq!(rt; place.steps(), 5);
     assert_eq!(rt; place.count(), 4);

@@ -1,5 +1,4 @@
-//! Scripts whose streams fail at each byte in turn: what was printed and reported by then, and the
-//! status.
+//! Scripts whose streams fail at each byte: the output and the report by then, and the status.
 use crate::scripts::streams::{FailingReader, TightWriter};
 use sst_script::run_script;
 use std::alloc::Global;
@@ -9,15 +8,15 @@ const SCRIPT: &[u8] = b"get a 1\n\nentry a 1 V x\ntable\nget a 2\nrange * *\npac
 
 const OUTPUT: &[u8] = b"none\ntables 1\na 1 V x\na 1 V x\nruns 1\n";
 
-// What is reported where a stream fails.
+// The report of a failed stream.
 const INPUT_FAILED: &[u8] = b"sst: input\n";
 
 const OUTPUT_FAILED: &[u8] = b"sst: output\n";
 
-// Once so many bytes of the script are read, so many of the output stand.
+// The bytes of output after so many bytes of the script are read.
 const ANSWERED: &[(usize, usize)] = &[(8, 5), (29, 14), (37, 22), (47, 30), (52, 37)];
 
-// The first bytes, so many as there are.
+// The first bytes, at most all.
 fn front(bytes: &[u8], count: usize) -> &[u8] {
     &bytes[..count.min(bytes.len())]
 }
@@ -32,8 +31,7 @@ fn answered(read: usize) -> &'static [u8] {
     front(OUTPUT, shown)
 }
 
-// Whether input that fails behind so many bytes ends the script, once the lines that ended before
-// are answered.
+// Whether input that fails after so many bytes ends the script, after the lines before it.
 fn ends_at_input(alloc: Global, read: usize) -> bool {
     let mut output = Vec::new(alloc);
     let mut errors = Vec::new(alloc);
@@ -50,7 +48,7 @@ fn input_fails_at_each_byte(rt: HostRuntime) {
     }
 }
 
-// Whether output that fails behind so many bytes, fewer than there are, ends the script there.
+// Whether output that fails after so many bytes ends the script there.
 fn ends_at_output(alloc: Global, room: usize) -> bool {
     let mut output = TightWriter::new(alloc, room);
     let mut errors = Vec::new(alloc);
@@ -58,7 +56,7 @@ fn ends_at_output(alloc: Global, room: usize) -> bool {
     status == 2 && output.taken() == front(OUTPUT, room) && errors.as_slice() == OUTPUT_FAILED
 }
 
-// Whether output that has room for no more than the answers is enough.
+// Whether output with room for exactly the answers suffices.
 fn ends_with_room(alloc: Global) -> bool {
     let mut output = TightWriter::new(alloc, OUTPUT.len());
     let mut errors = Vec::new(alloc);
@@ -75,14 +73,14 @@ fn output_fails_at_each_byte(rt: HostRuntime) {
     assert!(rt; ends_with_room(alloc));
 }
 
-// A script that ends at its second line, what it prints, and what it reports.
+// A script that ends at its second line, with its output and report.
 const AT_FAULT: &[u8] = b"get a 1\nrange\nget a 1\n";
 
 const AT_FAULT_OUTPUT: &[u8] = b"none\n";
 
 const AT_FAULT_ERRORS: &[u8] = b"sst: line 2\n";
 
-// Whether errors that fail behind so many bytes are passed over.
+// Whether a failed error stream is ignored.
 fn ends_where_errors_fail(alloc: Global, room: usize) -> bool {
     let mut output = Vec::new(alloc);
     let mut errors = TightWriter::new(alloc, room);
@@ -100,7 +98,7 @@ fn errors_fail_at_each_byte(rt: HostRuntime) {
     }
 }
 
-// Whether a script ends before its first line where the first request for memory is refused.
+// Whether a script ends before its first line if the first allocation fails.
 fn ends_without_memory(alloc: Global, script: &[u8]) -> bool {
     let heap = Refusing::new(alloc, 1);
     let mut output = Vec::new(alloc);

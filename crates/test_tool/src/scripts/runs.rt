@@ -2,12 +2,12 @@
 use crate::scripts::scripts::gives;
 use std::alloc::Global;
 
-// A script, and what it prints.
+// A script and its output.
 type Worked = (&'static [u8], &'static [u8]);
 
 // Reads of several runs.
 const SEVERAL: &[Worked] = &[
-    // A read finds the greatest number below its bound, in whichever run it stands.
+    // A read finds the largest sequence number below its snapshot, in whichever run it is.
     (
         b"entry a 5 V x\nentry c 2 V x\ntable\nentry a 9 V x\nentry b 1 V x\ntable\nrange * *\n\
           get a 10\nget a 9\nget a 5\nget b 10\nget c 10\nget d 10\n",
@@ -19,7 +19,7 @@ const SEVERAL: &[Worked] = &[
           range * *\n",
         b"tables 1\ntables 1\na 9 V x\na 9 V x\nb 1 V x\nc 2 V x\n",
     ),
-    // The third run is of two tables.
+    // The third run has two tables.
     (
         b"entry d 3 V x\ntable\nentry a 7 V x\nentry c 4 V x\ntable\npack\nentry a 5 V x\n\
           entry c 2 V x\ntable\nentry a 9 V x\nentry b 1 V x\ntable\nrange * *\nget a 10\n\
@@ -27,7 +27,7 @@ const SEVERAL: &[Worked] = &[
         b"tables 1\ntables 1\nruns 1\ntables 1\ntables 1\na 9 V x\nb 1 V x\nc 4 V x\nd 3 V x\n\
           a 9 V x\na 7 V x\na 5 V x\nc 4 V x\nd 3 V x\nnone\n",
     ),
-    // Entries of each kind come whole from one run of two tables, and from two runs of two each.
+    // Entries of each kind come from one run of two tables, and from two runs of two each.
     (
         b"entry c 5 I far\nentry d 3 T gone\nentry d 2 I -\ntable\nentry a 9 V x\n\
           entry a 7 T -\nentry b 8 W -\nentry b 6 V yy\ntable\npack\nget a 10\nget a 8\n\
@@ -44,9 +44,9 @@ const SEVERAL: &[Worked] = &[
     ),
 ];
 
-// What is kept of one run, and of two, at watermark 5: reads that name all that is left.
+// The entries that a compaction keeps of one run, and of two, at watermark 5.
 const KEPT: &[Worked] = &[
-    // A version below the watermark stays that a reader at the watermark sees.
+    // A version below the watermark stays if a reader at the watermark sees it.
     (
         b"entry a 10 V x\nentry a 3 V x\ntable\ncompact 5\nrange * *\n\
           get a 18446744073709551615\nget a 10\nget a 3\n",
@@ -87,12 +87,12 @@ const KEPT: &[Worked] = &[
           get a 18446744073709551615\nget a 10\nget a 3\n",
         b"tables 1\ntables 1\ntables 1\na 10 T -\na 10 T -\na 3 V x\nnone\n",
     ),
-    // A tombstone goes where tombstones are evicted.
+    // A tombstone is dropped if tombstones are evicted.
     (
         b"entry a 4 T -\ntable\ncompact 5 evict\nrange * *\nget a 18446744073709551615\n",
         b"tables 1\ntables 0\nnone\nnone\n",
     ),
-    // What is below the first version below the watermark goes, and that becomes 0.
+    // Versions after the first below the watermark are dropped, and that becomes 0.
     (
         b"entry a 10 V x\nentry a 4 V x\nentry a 3 V x\ntable\ncompact 5 zero\nrange * *\n\
           get a 18446744073709551615\nget a 10\nget a 0\n",
@@ -103,7 +103,7 @@ const KEPT: &[Worked] = &[
           range * *\nget a 18446744073709551615\nget a 10\nget a 0\n",
         b"tables 1\ntables 1\ntables 1\na 10 V x\na 10 V x\na 0 V x\nnone\n",
     ),
-    // A weak tombstone goes with the value that it hides, and stays where that is a tombstone.
+    // A weak tombstone is dropped with the value that it hides, and stays before a tombstone.
     (
         b"entry a 4 W -\nentry a 3 V x\ntable\ncompact 5\nrange * *\n\
           get a 18446744073709551615\n",
@@ -138,7 +138,7 @@ const KEPT: &[Worked] = &[
 
 // Reads before and after all runs are compacted.
 const SEEN: &[Worked] = &[
-    // A reader at the watermark and above sees the same.
+    // A reader at the watermark or above sees the same.
     (
         b"entry a 10 V x\nentry a 3 V y\ntable\nget a 11\nget a 10\nget a 7\nget a 5\n\
           compact 5\nget a 11\nget a 10\nget a 7\nget a 5\n",
@@ -158,7 +158,7 @@ const SEEN: &[Worked] = &[
           none\nb 4 T -\nnone\nc 7 V x\nnone\nd 1 V x\nnone\ntables 1\na 0 V x\nc 0 V x\n\
           d 0 V x\na 0 V x\nnone\nnone\nc 0 V x\nnone\nd 0 V x\nnone\n",
     ),
-    // A tombstone hides what is older in another run, and shows it where it is evicted.
+    // A tombstone hides older versions in another run, which reappear once it is evicted.
     (
         b"entry a 6 T -\ntable\ncompact 7\nentry a 3 V x\ntable\nrange * *\n",
         b"tables 1\ntables 1\ntables 1\na 6 T -\n",
@@ -172,7 +172,7 @@ const SEEN: &[Worked] = &[
 // Reads of two runs, and of two of which one was compacted before the other was written.
 const PARTS: &[Worked] = &[
     // Neither the part nor the rest is newer, and the part has no weak tombstone: a reader at the
-    // watermark and above sees the same values of both where the part is compacted before.
+    // watermark or above sees the same values.
     (
         b"entry a 7 V u\nentry a 3 V v\nentry b 8 T -\nentry c 1 V w\ntable\nentry a 9 V x\n\
           entry a 6 T -\nentry b 4 V y\nentry b 2 V z\nentry c 5 T -\ntable\nget a 7\nget a 8\n\
@@ -195,7 +195,7 @@ const PARTS: &[Worked] = &[
           b 4 V y\nb 8 T -\nb 8 T -\nb 8 T -\nc 5 T -\nc 5 T -\nc 5 T -\nc 5 T -\nc 5 T -\n\
           none\nnone\nnone\nnone\nnone\n",
     ),
-    // Of each key all of the rest is newer than the part.
+    // The rest is newer than the part for each key.
     (
         b"entry a 9 V u\nentry b 8 V v\nentry d 1 V w\ntable\nentry a 5 T -\nentry a 3 V x\n\
           entry b 6 W -\nentry b 4 V y\nentry c 2 V z\ntable\nget a 7\nget a 8\nget a 9\n\
@@ -218,7 +218,7 @@ const PARTS: &[Worked] = &[
           b 8 V v\nb 8 V v\nb 8 V v\nc 0 V z\nc 0 V z\nc 0 V z\nc 0 V z\nc 0 V z\nd 1 V w\n\
           d 1 V w\nd 1 V w\nd 1 V w\nd 1 V w\n",
     ),
-    // Neither is so: what was hidden may be shown.
+    // Neither holds, so hidden versions may appear.
     (
         b"entry a 3 V x\ntable\nentry a 6 T -\ntable\nget a 7\nget a 8\nget a 9\nget a 10\n\
           get a 18446744073709551615\nget b 7\nget b 8\nget b 9\nget b 10\n\
@@ -256,13 +256,13 @@ const PACKED: &[Worked] = &[
         b"tables 1\ntables 1\ntables 1\na 9 V x\nnone\nc 9 V x\na 9 V x\nc 9 V x\nruns 2\n\
           a 9 V x\nnone\nc 9 V x\na 9 V x\nc 9 V x\n",
     ),
-    // No runs are packed as none.
+    // No runs are packed into none.
     (
         b"get a 100\nget b 100\nget c 100\nrange * *\npack\nget a 100\nget b 100\nget c 100\n\
           range * *\n",
         b"none\nnone\nnone\nnone\nruns 0\nnone\nnone\nnone\nnone\n",
     ),
-    // Each table goes behind those that it overlaps, and all is read as before.
+    // Each table goes after those that it overlaps, and reads are the same.
     (
         b"entry a 1 V x\nentry b 1 V x\ntable\nentry a 0 V x\nentry b 0 V x\ntable\n\
           get a 18446744073709551615\nget b 18446744073709551615\nrange * *\npack\n\
@@ -321,7 +321,7 @@ const PACKED: &[Worked] = &[
     ),
 ];
 
-// The place of the first script that prints otherwise.
+// The index of the first script with another output.
 fn wrong_script(alloc: Global, scripts: &[Worked]) -> Option<usize> {
     for (place, (script, output)) in scripts.iter().enumerate() {
         if gives(alloc, script, output) != Ok(true) {

@@ -5,7 +5,7 @@ use std::io::{self, BufWriter};
 use std::test::Fail;
 use test_support::{Refusing, each_refused};
 
-// What a script prints, what it reports, and its status.
+// The output of a script, its report and its status.
 #[derive(Drop)]
 struct Ran<A: Allocator> {
     output: Vec<u8, A>,
@@ -28,7 +28,7 @@ fn run<A: Allocator + Clone, B: Allocator + Clone>(
     })
 }
 
-/// Whether a script prints this, and ends at its last line.
+/// Returns whether a script has this output and ends at its last line.
 pub(crate) fn gives<A: Allocator + Clone>(
     alloc: A,
     script: &[u8],
@@ -55,7 +55,7 @@ const FIRST: &[u8] =
 const FIRST_OUTPUT: &[u8] =
     b"tables 1\na 7 T -\na 9 V x\nnone\na 9 V x\nb 1 V y\ntables 1\na 9 V x\ntables 1\nruns 1\n";
 
-// Scripts, and what they print.
+// Scripts and their output.
 const READ_BACK: &[(&[u8], &[u8])] = &[
     (FIRST, FIRST_OUTPUT),
     (b"", b""),
@@ -74,12 +74,12 @@ const READ_BACK: &[(&[u8], &[u8])] = &[
         b"entry a 9 V x\ntable\nentry a 3 V y\nentry b 1 T -\ntable\nget a 10\nget a 9\nget b 2",
         b"tables 1\ntables 1\na 9 V x\na 3 V y\nb 1 T -\n",
     ),
-    // A number of a key may stand in one run only, and another number of it in another.
+    // A sequence number of a key may be in one run only, and another in another run.
     (
         b"entry a 2 V x\ntable\nentry a 1 V y\ntable\nentry b 2 V z\ntable\nget a 2\nget b 3",
         b"tables 1\ntables 1\ntables 1\na 1 V y\nb 2 V z\n",
     ),
-    // A range has the newest version of each key, a tombstone too.
+    // A range has the newest version of each key, also a tombstone.
     (
         b"entry a 5 V o\nentry c 2 V z\ntable\nentry a 9 V x\nentry b 1 T -\ntable\nrange * *\n\
           get a 9\nget a 10",
@@ -94,7 +94,7 @@ const READ_BACK: &[(&[u8], &[u8])] = &[
         b"entry a 9 V x\ntable\nentry a 5 V o\ntable\nget a 10\nrange =a =a",
         b"tables 1\ntables 1\na 9 V x\na 9 V x\n",
     ),
-    // Bounds that count and that do not, of keys that are there and that are not.
+    // Included and excluded bounds, of keys that exist and that do not.
     (
         b"entry - 1 V -\nentry a 2 V x\nentry b 3 V y\ntable\nrange =a !b\nrange !- =aa\n\
           range =- =-\nrange !b *\nrange =b =a\nrange * !-",
@@ -103,14 +103,14 @@ const READ_BACK: &[(&[u8], &[u8])] = &[
     (b"range * *\nrange =* !*", b"none\nnone\n"),
 ];
 
-// Scripts that compact or pack their runs, and what they print.
+// Scripts that compact or pack their runs, and their output.
 const COMPACTED: &[(&[u8], &[u8])] = &[
     (b"compact 5\npack\nrange * *", b"tables 0\nruns 0\nnone\n"),
     (
         b"entry a 4 T -\ntable\ncompact 5 evict\nrange * *",
         b"tables 1\ntables 0\nnone\n",
     ),
-    // A tombstone stays where none is evicted, and where its number is not below the watermark.
+    // A tombstone stays if none is evicted, and if its sequence number is not below the watermark.
     (
         b"entry a 4 T -\ntable\ncompact 5\nrange * *\ncompact 5 zero\nrange * *",
         b"tables 1\ntables 1\na 4 T -\ntables 1\na 0 T -\n",
@@ -124,31 +124,32 @@ const COMPACTED: &[(&[u8], &[u8])] = &[
           range * *",
         b"tables 1\ntables 1\na 4 V x\nb 2 T -\ntables 1\na 0 V x\n",
     ),
-    // A weak tombstone goes with the value that it hides, and stays where that is a tombstone.
+    // A weak tombstone is dropped with the value that it hides, and stays before a tombstone.
     (
         b"entry a 5 W -\nentry a 3 V x\nentry b 5 W -\nentry b 3 T -\ntable\ncompact 6\nrange * *\n\
           get a 4\nget b 4",
         b"tables 1\ntables 1\nb 5 W -\nnone\nnone\n",
     ),
-    // Versions of a key in several runs meet in one, and what the watermark hides is gone.
+    // Versions of a key in several runs meet in one, and those that the watermark hides are
+    // dropped.
     (
         b"entry a 9 V x\ntable\nentry a 3 V y\nentry b 2 V z\ntable\nentry a 1 V w\ntable\n\
           compact 4\nget a 10\nget a 9\nget a 3\nget b 3\npack",
         b"tables 1\ntables 1\ntables 1\ntables 1\na 9 V x\na 3 V y\nnone\nb 2 V z\nruns 1\n",
     ),
-    // A number that is gone may come again.
+    // A dropped sequence number may be used again.
     (
         b"entry a 9 V x\nentry a 3 V y\ntable\ncompact 10\nentry a 3 V z\ntable\nget a 9\npack\n\
           compact 10\nget a 9",
         b"tables 1\ntables 1\ntables 1\na 3 V z\nruns 2\ntables 1\nnone\n",
     ),
-    // What is pending stays so.
+    // Pending entries stay pending.
     (
         b"entry a 1 V x\ntable\nentry b 1 V y\ncompact 5\npack\nrange * *\nentry c 1 V z\ntable\n\
           range * *",
         b"tables 1\ntables 1\nruns 1\na 1 V x\ntables 1\na 1 V x\nb 1 V y\nc 1 V z\n",
     ),
-    // Tables beside one another go into one run, in the order of their keys.
+    // Adjacent tables go into one run, in the order of their keys.
     (
         b"entry d 1 V x\ntable\nentry a 1 V y\ntable\npack\nrange * *",
         b"tables 1\ntables 1\nruns 1\na 1 V y\nd 1 V x\n",
@@ -167,11 +168,10 @@ const COMPACTED: &[(&[u8], &[u8])] = &[
     ),
 ];
 
-// A script whose keys look like marks: the empty key, `--`, `=` and `a`.
+// A script whose keys look like options: the empty key, `--`, `=` and `a`.
 const MARKED: &[u8] = b"entry - 1 V e\nentry -- 1 V d\nentry = 1 V q\nentry a 1 V x\ntable\n";
 
-// Ranges of them, and what these print. All but the first byte of a bound is its key, or `-` is the
-// empty one.
+// Ranges of them, and their output. A bound is a byte and its key, or `-` for the empty one.
 const MARKED_BOUNDS: &[(&[u8], &[u8])] = &[
     (b"range == ==", b"= 1 V q\n"),
     (b"range == *", b"= 1 V q\na 1 V x\n"),
@@ -183,7 +183,7 @@ const MARKED_BOUNDS: &[(&[u8], &[u8])] = &[
     (b"range !- =--", b"-- 1 V d\n"),
 ];
 
-// Whether a line behind the table prints this.
+// Whether a line after the table has this output.
 fn prints_behind<A: Allocator + Copy>(
     alloc: A,
     line: &[u8],
@@ -203,7 +203,7 @@ fn bounds_of_keys_that_look_like_marks(rt: HostRuntime) {
     }
 }
 
-// A script with entries of a thousand bytes each, which are more than a table takes.
+// A script with entries of a thousand bytes, more than a table takes.
 fn many_entries<A: Allocator>(alloc: A, count: u8) -> Result<Vec<u8, A>, AllocError> {
     let mut script = Vec::new(alloc);
     for number in 0..count {
@@ -325,7 +325,7 @@ fn a_line_of_no_such_form_ends_the_script(rt: HostRuntime) -> Result<(), Fail> {
     Ok(())
 }
 
-// Scripts, what they print, and what they report.
+// Scripts, their output and their report.
 const OUT_OF_ORDER: &[(&[u8], &[u8], &[u8])] = &[
     (b"entry a 1 V x\nentry a 2 V y", b"", b"sst: line 2\n"),
     (b"entry a 1 V x\n\nentry a 1 T -", b"", b"sst: line 3\n"),
@@ -342,7 +342,7 @@ const OUT_OF_ORDER: &[(&[u8], &[u8], &[u8])] = &[
         b"tables 1\nb 7 V x\n",
         b"sst: line 7\n",
     ),
-    // A compacted run holds what it kept, under the number that it has there.
+    // A compacted run has the kept entries, with the sequence numbers that they have there.
     (
         b"entry a 4 V x\ntable\ncompact 5\nentry a 4 V y\ntable\npack",
         b"tables 1\ntables 1\n",
@@ -353,7 +353,7 @@ const OUT_OF_ORDER: &[(&[u8], &[u8], &[u8])] = &[
         b"tables 1\ntables 1\ntables 1\n",
         b"sst: line 7\n",
     ),
-    // A packed run holds what its tables have, under the numbers that it has there.
+    // A packed run has the entries of its tables, with the sequence numbers that they have there.
     (
         b"entry a 4 V x\ntable\nentry b 4 V y\ntable\npack\nentry a 4 V z\ntable",
         b"tables 1\ntables 1\nruns 1\n",
@@ -393,21 +393,21 @@ fn a_key_too_long_is_refused_by_the_table(rt: HostRuntime) -> Result<(), Fail> {
     let alloc = rt.alloc();
     let before = b"entry b 1 V x\ntable\nentry b 0 V x\n";
     let after = b"table\nget b 9\nget b 1\ntable\nget b 9\n";
-    // The refused table gives its entries up, and the runs stay.
+    // The failed table drops its entries, and the runs stay.
     let script = with_long_key(alloc, before, 1_048_577, after)?;
     let output = b"tables 1\nrefused 7\nb 1 V x\nnone\ntables 0\nb 1 V x\n";
     assert!(rt; gives(alloc, &script, output)?);
     let script = with_long_key(alloc, before, 1_048_576, after)?;
     let output = b"tables 1\ntables 1\nb 1 V x\nb 0 V x\ntables 0\nb 1 V x\n";
     assert!(rt; gives(alloc, &script, output)?);
-    // A key and number that a run already holds come first.
+    // A key and sequence number that a run has come first.
     let before = b"entry b 1 V x\ntable\nentry b 1 V x\n";
     let script = with_long_key(alloc, before, 1_048_577, after)?;
     assert!(rt; stops(alloc, &script, b"tables 1\n", b"sst: line 5\n")?);
     Ok(())
 }
 
-// Whether input that fails behind a script ends it there, once that much was shown and told.
+// Whether input that fails after a script ends it there, with this output and report.
 fn ends_where_input_fails(alloc: Global, script: &[u8], shown: &[u8], returned: &[u8]) -> bool {
     let mut output = Vec::new(alloc);
     let mut errors = Vec::new(alloc);
@@ -416,7 +416,7 @@ fn ends_where_input_fails(alloc: Global, script: &[u8], shown: &[u8], returned: 
     status == 2 && output.as_slice() == shown && errors.as_slice() == returned
 }
 
-// Scripts behind which input fails, what is shown, and what is told.
+// Scripts after which input fails, with their output and report.
 const BEFORE_FAILING_INPUT: &[(&[u8], &[u8], &[u8])] = &[
     (b"", b"", b"sst: input\n"),
     (b"get a 1\n\n", b"none\n", b"sst: input\n"),
@@ -433,19 +433,19 @@ fn failing_input_ends_the_script(rt: HostRuntime) -> Result<(), Fail> {
     Ok(())
 }
 
-// Whether output that fails ends a script, and that much is told.
+// Whether output that fails ends a script, with this report.
 fn ends_where_output_fails(alloc: Global, script: &[u8], returned: &[u8]) -> bool {
     let mut errors = Vec::new(alloc);
     let status = run_script(alloc, script, &mut FailingWriter, &mut errors);
     status == 2 && errors.as_slice() == returned
 }
 
-// The status where neither output nor errors can be written.
+// The status if neither output nor errors can be written.
 fn status_untold(alloc: Global, script: &[u8]) -> u8 {
     run_script(alloc, script, &mut FailingWriter, &mut FailingWriter)
 }
 
-// Scripts whose output fails, and what they report.
+// Scripts whose output fails, and their report.
 const WITH_FAILING_OUTPUT: &[(&[u8], &[u8])] = &[
     (b"get a 1\n", b"sst: output\n"),
     (b"entry a 1 V x\ntable\nrange\n", b"sst: output\n"),
@@ -458,23 +458,21 @@ fn failing_output_ends_the_script(rt: HostRuntime) -> Result<(), Fail> {
     let alloc = rt.alloc();
     for &(script, returned) in WITH_FAILING_OUTPUT {
         assert!(rt; ends_where_output_fails(alloc, script, returned));
-        // Where errors cannot be told either, the status is the same.
+        // If errors cannot be written either, the status is the same.
         assert_eq!(rt; status_untold(alloc, script), 2);
     }
     assert_eq!(rt; status_untold(alloc, b"entry a 1 V x\n"), 0);
     Ok(())
 }
 
-// Whether output that takes every byte, and fails where it is flushed, ends a script with this
-// status.
+// Whether output that fails when it is flushed ends a script with this status.
 fn ends_unflushed(alloc: Global, script: &[u8], returned: &[u8], wanted: u8) -> bool {
     let mut errors = Vec::new(alloc);
     let status = run_script(alloc, script, &mut UnflushedWriter, &mut errors);
     status == wanted && errors.as_slice() == returned
 }
 
-// Whether a script ends with this status where its output is kept until it is flushed, and then
-// takes no byte.
+// Whether a script ends with this status if its output is buffered and cannot be flushed.
 fn ends_unkept(alloc: Global, script: &[u8], returned: &[u8], wanted: u8) -> io::Result<bool> {
     let mut errors = Vec::new(alloc);
     let mut output = BufWriter::new(alloc, FailingWriter)?;
@@ -482,7 +480,7 @@ fn ends_unkept(alloc: Global, script: &[u8], returned: &[u8], wanted: u8) -> io:
     Ok(status == wanted && errors.as_slice() == returned)
 }
 
-// Scripts whose output fails only where it is flushed, what they report, and their status.
+// Scripts whose output fails when it is flushed, with their report and status.
 const UNFLUSHED: &[(&[u8], &[u8], u8)] = &[
     (b"", b"", 0),
     (b"\n\n", b"", 0),
@@ -517,7 +515,7 @@ fn each_answer_is_flushed(rt: HostRuntime) -> Result<(), Fail> {
     Ok(())
 }
 
-// What the first script prints where one of its commands is refused for want of memory, or none.
+// The outputs of the first script if one of its commands runs out of memory, or none.
 const REFUSED_OUTPUTS: [&[u8]; 14] = [
     FIRST_OUTPUT,
     b"refused 1\ntables 1\na 7 T -\na 7 T -\nnone\na 7 T -\nb 1 V y\ntables 1\na 7 T -\ntables 1\n\
@@ -539,8 +537,8 @@ const REFUSED_OUTPUTS: [&[u8]; 14] = [
     b"tables 1\na 7 T -\na 9 V x\nnone\na 9 V x\nb 1 V y\ntables 1\na 9 V x\ntables 1\nrefused 1\n",
 ];
 
-// A script that reads two runs, and what it prints: all, and where one of its commands is refused
-// for want of memory.
+// A script that reads two runs, and its outputs: whole, and if one of its commands runs out of
+// memory.
 const OVER_TWO_RUNS: &[u8] =
     b"entry a 5 V o\nentry c 2 V z\ntable\nentry a 9 V x\nentry b 1 V y\ntable\nrange * *\n\
       get a 9\nget a 10\n";
@@ -558,7 +556,7 @@ const OVER_TWO_RUNS_OUTPUTS: [&[u8]; 10] = [
     b"tables 1\ntables 1\na 9 V x\nb 1 V y\nc 2 V z\na 5 V o\nrefused 1\n",
 ];
 
-// A script that packs three runs, the newest of which overlaps both others, and what it prints.
+// A script that packs three runs, the newest of which overlaps both others, and its output.
 const PACKING: &[u8] =
     b"entry a 5 V x\ntable\nentry c 3 V x\ntable\nentry a 9 V x\nentry c 9 V x\ntable\npack\n\
       get a 100\nget c 100\n";
@@ -577,15 +575,15 @@ const PACKING_OUTPUTS: [&[u8]; 11] = [
     b"tables 1\ntables 1\ntables 1\nruns 2\na 9 V x\nrefused 1\n",
 ];
 
-// Whether a run of a script is right, where one request for memory may have been refused; the first
-// output is of none refused.
+// Whether a run of a script is right if one allocation may have failed. The first output is that
+// without a failure.
 fn is_right<A: Allocator>(ran: &Ran<A>, outputs: &[&[u8]], may_fail: bool) -> bool {
     let Some(whole) = outputs.first() else {
         return false;
     };
     let output = ran.output.as_slice();
     if ran.status == 2 {
-        // What was answered before stays.
+        // Answers before it stay.
         return may_fail
             && whole.starts_with(output)
             && ran.errors.as_slice() == b"sst: input\n".as_slice();
@@ -593,8 +591,8 @@ fn is_right<A: Allocator>(ran: &Ran<A>, outputs: &[&[u8]], may_fail: bool) -> bo
     ran.status == 0 && (output == *whole || may_fail && outputs.contains(&output))
 }
 
-// Whether a script is right whichever of its requests for memory is refused, of which there are
-// more than so many.
+// Whether a script is right whichever of its allocations fails, of which there are more than so
+// many.
 fn is_right_in_turn(alloc: Global, script: &[u8], outputs: &[&[u8]], more_than: usize) -> bool {
     let answers = each_refused(alloc, |heap: &Refusing, may_fail: bool| {
         match run(heap, alloc, script) {

@@ -3,7 +3,7 @@
 use std::alloc::Global;
 use std::io::{Error, Read, Result, Write};
 
-/// Gives some bytes, and then fails.
+/// Yields some bytes, and then fails.
 #[derive(Drop)]
 pub(crate) struct FailingReader<'a> {
     rest: &'a [u8],
@@ -38,7 +38,7 @@ impl Write for FailingWriter {
     }
 }
 
-/// Takes and keeps so many bytes, and then fails.
+/// Keeps so many bytes, and then fails.
 #[derive(Drop)]
 pub(crate) struct TightWriter {
     taken: Vec<u8>,
@@ -74,7 +74,7 @@ impl Write for TightWriter {
     }
 }
 
-/// Takes every byte, and fails where it is flushed.
+/// Takes every byte, and fails when it is flushed.
 #[derive(Drop)]
 pub(crate) struct UnflushedWriter;
 

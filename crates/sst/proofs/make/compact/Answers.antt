@@ -1,10 +1,9 @@
 use denote.Ref.{Bor}
-use Rattle.std.proofs.Common.{ℕ, List, subst}
-use Rattle.tool_make.specs.NotCompacted.{RefusesToCompact}
+use Rattle.std.proofs.Common.{ℕ, List, inl, subst}
+use Rattle.sst_tool.specs.make.NotCompacted.{RefusesToCompact}
 use Rattle.std.specs.Global.{Global}
 use Rattle.sst.specs.Making.{RefusesCompact}
-use Rattle.sst.specs.declared.failure.Failure.{Failure}
-use Rattle.sst.specs.declared.failure.Failure.TheVariants as failure
+use Rattle.sst_tool.specs.declared.files.error.ToolError.{ToolError}
 use Rattle.sst.proofs.Failures.{passed_failure}
 use Rattle.sst.proofs.make.compact.Goals as goal
 
@@ -17,11 +16,11 @@ returns-in_err-made-clause-refused g c =
     let new = g.P.Place.done c.compact_files.new.place in
     let options = c.compact_options-options.result in
     let e = c.in_err-made.field-0.0 in
-    passed_failure (λ (f : Failure). RefusesCompact task content there known f new)
-    c.from_residual.result (failure.Compact e) c.from_residual.ensures.1 (
+    passed_failure (λ (f : ToolError). RefusesCompact task content there known f new)
+    c.from_residual.result e c.from_residual.ensures.1 (inl (
       options,
       c.compact_options-options.ensures,
       subst (λ (files : List (Bor (List ℕ))). RefusesToCompact Global options content files
           task.folder.now (there task.folder.now) known e new) c.as_slice-files.ensures.value
           c.in_err-made.ensures.refused,
-    )
+    ))

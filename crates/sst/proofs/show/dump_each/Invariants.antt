@@ -2,8 +2,7 @@ use Rattle.std.proofs.Common.{take}
 use Rattle.sst.specs.Showing.{DumpsEach}
 use Rattle.sst.proofs.show.dump_each.Given as goal
 
--- The files so far are printed, and so many entries more may be.
+-- The files so far are read, and so many entries more may be.
 abbrev pub invariant-loop-name : goal.invariant-loop-name
 invariant-loop-name g l =
-    DumpsEach l.options (g.P.Place.content l.place) (take l.name-index l.names) l.initial.left
-    l.left (g.W.Write.contents l.initial.output) (g.W.Write.contents l.output)
+    DumpsEach l.options (g.P.Place.content l.place) (take l.name-index l.names) l.initial.left l.left

@@ -1,9 +1,8 @@
-use Rattle.tool_files.specs.Files.{is_memory_fault}
+use Rattle.sst_tool.specs.files.Files.{is_memory_fault}
 use Rattle.sst.proofs.Files.{missed}
 use Rattle.sst.proofs.show.verify_file.Goals as goal
 
-pub returns-in-Err-clause-checks : goal.returns-in-Err-clause-checks
-returns-in-Err-clause-checks g c =
-    missed (g.P.Place.content c.args.place.now) c.args.name.now (is_memory_fault c.in-Err.fault)
-    c.print_unread.result _ _ c.in-Err.ensures.known c.print_unread.ensures.count
-    c.print_unread.ensures.memory c.print_unread.ensures.printed
+pub returns-in-Err-clause-faulty : goal.returns-in-Err-clause-faulty
+returns-in-Err-clause-faulty g c =
+    missed (g.P.Place.content c.args.place.now c.args.name.now) (is_memory_fault c.in-Err.fault)
+    c.print_unread.result c.in-Err.ensures.known c.print_unread.ensures.memory

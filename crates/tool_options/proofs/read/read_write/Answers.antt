@@ -1,10 +1,8 @@
 use Rattle.std.proofs.Common.{refl, rules}
-use Rattle.clap.specs.Words.{found_of, rows_of}
-use Rattle.tool_options.proofs.ReadLemmas.{unfiltered}
 use Rattle.tool_options.proofs.read.read_write.Goals as goal
 
-pub returns-clause-asks : goal.returns-clause-asks
-returns-clause-asks c = (
+pub returns : goal.returns
+returns c = (
   refl,
   record {
     file = search rules;
@@ -18,8 +16,3 @@ returns-clause-asks c = (
     json = c.flag-2.ensures;
   },
 )
-
-pub returns-in_err-ok_or-2-clause-refuses : goal.returns-in_err-ok_or-2-clause-refuses
-returns-in_err-ok_or-2-clause-refuses c =
-    let none = unfiltered (rows_of (found_of c.args.matches.now)) in
-    search rules

@@ -1,0 +1,10 @@
+use Rattle.std.proofs.Common.{◌≡◌, take}
+use Rattle.sst_tool.specs.files.Placed.{syncing}
+use Rattle.sst_tool.specs.files.Standing.{standing_in}
+use Rattle.sst_tool.specs.files.Steps.{then_done}
+use Rattle.sst_tool.proofs.files.write.sync_each.Given as goal
+
+abbrev pub invariant-loop-beside : goal.invariant-loop-beside
+invariant-loop-beside g l =
+    g.P.Place.done l.place
+    ≡ then_done (g.P.Place.done l.fn.place) (syncing (standing_in (take l.beside-index l.written)))

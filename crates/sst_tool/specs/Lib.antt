@@ -1,0 +1,4 @@
+pub mod lines
+pub mod files
+pub mod show
+pub mod make

@@ -1,0 +1,13 @@
+pub mod Ended
+pub mod Files
+pub mod Folders
+pub mod NewFolders
+pub mod Modes
+pub mod Numbered
+pub mod Opened
+pub mod Placed
+pub mod Standing
+pub mod Steps
+pub mod Targets
+pub mod There
+pub mod Words

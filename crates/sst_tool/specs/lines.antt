@@ -1,0 +1,5 @@
+pub mod Escapes
+pub mod Faults
+pub mod ObjectLine
+pub mod WordLine
+pub mod Words

@@ -1,0 +1,14 @@
+pub mod Blamed
+pub mod Compacted
+pub mod Entries
+pub mod Faults
+pub mod Filled
+pub mod NotCompacted
+pub mod Packed
+pub mod Refusing
+pub mod Scanned
+pub mod Sorting
+pub mod TableFiles
+pub mod Taken
+pub mod Written
+pub mod Words

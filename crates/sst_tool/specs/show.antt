@@ -1,0 +1,4 @@
+pub mod Failures
+pub mod Files
+pub mod Read
+pub mod Words

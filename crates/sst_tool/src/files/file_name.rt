@@ -1,0 +1,44 @@
+//! The names of files.
+ghost use Rattle.std.specs.Prelude.{◌≡◌};
+ghost use Rattle.sst_tool.specs.files.Words as spec;
+
+use std::fmt;
+
+/// The name of a file, displayed as its path.
+#[derive(Clone, Copy, Debug, PartialEq, Eq)]
+pub enum FileName<'a> {
+    /// The file at this path.
+    Plain(&'a str),
+    /// One of several files, numbered after a dot, as `users.sst.2`.
+    Part(&'a str, u64),
+    /// A numbered table of a folder, as `tables/2.sst`.
+    Within(&'a str, u64),
+}
+
+impl<'a> FileName<'a> {
+    /// Returns the name with another number. A plain name stays the same.
+    pub fn with_number(self, number: u64) -> FileName<'a>
+        ensures { result ≡ spec.with_number self.entry number }
+    {
+        match self {
+            FileName::Plain(path) => FileName::Plain(path),
+            FileName::Part(path, _) => FileName::Part(path, number),
+            FileName::Within(folder, _) => FileName::Within(folder, number),
+        }
+    }
+}
+
+impl<'a> fmt::Display for FileName<'a> {
+    ghost use Rattle.std.specs.Prelude.{Some};
+    ghost use Rattle.sst_tool.specs.files.Files.{path_text};
+
+    ghost output = { λ name. Some (path_text name) };
+
+    fn fmt<W: fmt::Write>(&self, f: &mut fmt::Formatter<W>) -> fmt::Result {
+        match self {
+            FileName::Plain(path) => write!(f, "{path}"),
+            FileName::Part(path, number) => write!(f, "{path}.{number}"),
+            FileName::Within(folder, number) => write!(f, "{folder}/{number}.sst"),
+        }
+    }
+}

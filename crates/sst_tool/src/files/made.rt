@@ -1,0 +1,21 @@
+//! The result of writing tables.
+use crate::lines::word_for;
+use std::io;
+use std::io::Write;
+
+/// The number of tables written, and of their entries.
+#[derive(Clone, Copy, Debug, PartialEq, Eq)]
+pub struct Made {
+    /// The number of tables.
+    pub tables: u64,
+    /// The number of entries in all tables.
+    pub entries: u64,
+}
+
+/// Prints the numbers in one line.
+pub fn print_made<W: Write>(output: &mut W, made: Made) -> io::Result<()> {
+    let (tables, entries) = (made.tables, made.entries);
+    let table_word = word_for(tables, "table", "tables");
+    let entry_word = word_for(entries, "entry", "entries");
+    writeln!(output, "{tables} {table_word}, {entries} {entry_word}")
+}

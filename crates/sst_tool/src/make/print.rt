@@ -1,0 +1,52 @@
+//! Prints runs of files.
+ghost use Rattle.std.specs.Prelude.{◌≡◌};
+ghost use Rattle.sst_tool.specs.make.Words as spec;
+
+use lsm_sorted::{Packed, Ranged};
+use std::alloc::Allocator;
+use std::io;
+use std::io::Write;
+
+/// Returns the path at an index, or a question mark.
+pub(crate) fn path_at<'a>(paths: &[&'a str], place: usize) -> &'a str
+    ensures { result.now ≡ spec.path_or_mark (spec.slice_get paths.now place) }
+{
+    match paths.get(place) {
+        Some(path) => path,
+        None => "?",
+    }
+}
+
+/// Prints packed files: the number of runs, the files of each, and a chain of overlapping files,
+/// which shows that fewer runs do not suffice. `paths` are the paths of the files, by index.
+///
+/// # Errors
+///
+/// Fails with the error of the output.
+pub fn print_packed<W: Write, T: Ranged, A: Allocator>(
+    output: &mut W,
+    paths: &[&str],
+    packed: &Packed<T, A>,
+) -> io::Result<()> {
+    let count = packed.runs.len();
+    writeln!(output, "fewest runs: {count}")?;
+    for (at, run) in packed.runs.iter().enumerate() {
+        let number = at + 1;
+        write!(output, "run {number}:")?;
+        for table in run.as_slice() {
+            print_name(output, paths, table.place)?;
+        }
+        output.write_all(b"\n")?;
+    }
+    output.write_all(b"each overlaps the next:")?;
+    for link in &packed.chain {
+        print_name(output, paths, link.0)?;
+    }
+    output.write_all(b"\n")
+}
+
+// Prints a space and the path at an index.
+fn print_name<W: Write>(output: &mut W, paths: &[&str], place: usize) -> io::Result<()> {
+    let path = path_at(paths, place);
+    write!(output, " {path}")
+}

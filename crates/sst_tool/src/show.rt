@@ -1,0 +1,21 @@
+//! Output about opened table files: entries, the visible version of a key, metadata, and the faults
+//! of a verification.
+
+mod blocks;
+mod checks;
+mod dumps;
+mod facts;
+mod gets;
+mod loads;
+mod members;
+mod named;
+mod picture;
+mod stat_object;
+mod stats;
+
+pub use blocks::refused_at;
+pub use checks::{NoProgress, Progress, verify, verify_unopened};
+pub use dumps::{DumpOptions, dump};
+pub use gets::{GetOptions, get};
+pub use named::NamedTable;
+pub use stats::stat;

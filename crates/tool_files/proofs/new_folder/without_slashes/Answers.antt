@@ -1,6 +1,0 @@
-use Rattle.tool_files.proofs.NewFolders.{stem_is}
-use Rattle.tool_files.proofs.new_folder.without_slashes.Goals as goal
-
-pub returns : goal.returns
-returns c =
-    stem_is c.args.path.now c.trim_end_matches.result.now c.trim_end_matches.ensures.matches

@@ -1,6 +1,0 @@
-pub mod EmptyLine
-mod EscapeLemmas
-mod ObjectBack
-mod ObjectLemmas
-mod OneLine
-mod WordLemmas

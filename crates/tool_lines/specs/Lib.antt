@@ -1,5 +1,0 @@
-pub mod Counts
-pub mod Escapes
-pub mod Faults
-pub mod ObjectLine
-pub mod WordLine

@@ -1,9 +1,0 @@
-use Rattle.std.proofs.Common.{◌≡◌, take}
-use Rattle.std.specs.Prelude.{map}
-use Rattle.std.specs.Arc.{arc_value}
-use Rattle.tool_make.specs.Compacted.{each_alone}
-use Rattle.tool_make.proofs.compact.runs_of.Given as goal
-
-abbrev pub invariant-loop-table : goal.invariant-loop-table
-invariant-loop-table g l =
-    map arc_value l.runs.items ≡ each_alone (take l.table-index l.tables)

@@ -1,8 +1,0 @@
--- The runs so far are those of the files so far.
-use Rattle.std.proofs.Common.{◌≡◌, map, take}
-use Rattle.std.specs.Arc.{arc_value}
-use Rattle.tool_show.specs.Files.{runs_in}
-use Rattle.tool_show.proofs.gets.runs_of.Given as goal
-
-abbrev pub invariant-loop-file : goal.invariant-loop-file
-invariant-loop-file g l = map arc_value l.runs.items ≡ runs_in (take l.file-index l.files)
