@@ -88,7 +88,9 @@ fn push_argument(text: &mut String, argument: &ArgumentText) -> Result<(), Alloc
 
 // Appends the name of an option and its help.
 fn push_named(text: &mut String, argument: &ArgumentText, mark: &str) -> Result<(), AllocError> {
-    push_all(text, &["--", argument.name, mark, "["])?;
+    push_all(text, &["--", argument.name])?;
+    text.push_str(mark)?;
+    text.push_str("[")?;
     push_escaped(text, argument.help)?;
     text.push_str("]")
 }
