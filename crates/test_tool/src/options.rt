@@ -4,7 +4,7 @@ use std::test::Fail;
 use tool_options::{Parsed, parse};
 
 /// Command lines, and the first text of their results.
-const LINES: [(&str, &str); 26] = [
+const LINES: [(&str, &str); 35] = [
     (
         "sst write f",
         "Write(WriteTask { file: \"f\", partitioned: false, filter_bits: 10, block_size: 4096, \
@@ -26,12 +26,29 @@ const LINES: [(&str, &str); 26] = [
         "Get(GetTask { files: [\"a\", \"b\"], key: \"c\", at: Some(7), loads: true, json: true })",
     ),
     (
+        "sst get a --at 7 b --json c --loads",
+        "Get(GetTask { files: [\"a\", \"b\"], key: \"c\", at: Some(7), loads: true, json: true })",
+    ),
+    (
+        "sst get --at 7 a c",
+        "Get(GetTask { files: [\"a\"], key: \"c\", at: Some(7), loads: false, json: false })",
+    ),
+    (
         "sst get -- a -k",
         "Get(GetTask { files: [\"a\"], key: \"-k\", at: None, loads: false, json: false })",
     ),
     (
         "sst stat a b --json",
         "Stat(StatTask { files: [\"a\", \"b\"], json: true })",
+    ),
+    (
+        "sst stat a --json b",
+        "Stat(StatTask { files: [\"a\", \"b\"], json: true })",
+    ),
+    (
+        "sst compact --evict a --to c b",
+        "Compact(CompactTask { files: [\"a\", \"b\"], folder: \"c\", watermark: 0, evict: true, zero: \
+         false, target: None })",
     ),
     ("sst verify a", "Verify(VerifyTask { files: [\"a\"] })"),
     (
@@ -62,7 +79,12 @@ const LINES: [(&str, &str); 26] = [
     ),
     (
         "sst get a",
-        "mistaken error: 2 values required by '<FILE> <KEY>...'; only 1 was provided\n",
+        "mistaken error: the following required arguments were not provided:\n  <KEY>\n\nUsage: sst \
+         get [OPTIONS] <FILE>... <KEY>\n\nFor more information, try 'sst get --help'.\n",
+    ),
+    (
+        "sst get --json",
+        "mistaken error: the following required arguments were not provided:\n  <FILE>...\n",
     ),
     (
         "sst compact a",
@@ -89,10 +111,37 @@ const LINES: [(&str, &str); 26] = [
         "mistaken error: invalid value '0' for '--target <BYTES>'",
     ),
     ("sst", "mistaken "),
-    ("sst man", "shown .TH SST 1 \"\" \"sst 1.0"),
-    ("sst completion bash", "shown "),
-    ("sst --version", "shown sst 1.0\n"),
-    ("sst help pack", "shown Prints the fewest runs of tables\n"),
+    (
+        "sst man",
+        "shown .TH SST 1 2026-11-30 \"sst 1.0.0\" \"User Commands\"\n.SH NAME\nsst \\- Writes, ",
+    ),
+    (
+        "sst completion bash",
+        "shown # Completes the commands of sst in bash: source <(sst completion bash)\n_sst() {\n",
+    ),
+    (
+        "sst completion zsh",
+        "shown #compdef sst\n# Completes the commands of sst in zsh. It is the file _sst in a folder \
+         of $fpath.\n\n_sst_commands() {\n    local -a commands=(\n        'write:Writes a table of \
+         the entries on standard input'\n",
+    ),
+    (
+        "sst completion fish",
+        "shown # Completes the commands of sst in fish: sst completion fish | source\n",
+    ),
+    (
+        "sst completion csh",
+        "mistaken error: invalid value 'csh' for '<SHELL>'\n  [possible values: bash, zsh, fish]\n",
+    ),
+    (
+        "sst completion",
+        "mistaken error: the following required arguments were not provided:\n  <SHELL>\n",
+    ),
+    ("sst --version", "shown sst 1.0.0\n"),
+    (
+        "sst help pack",
+        "shown Prints the fewest runs of tables\n\nUsage: sst pack <FILE>...\n",
+    ),
 ];
 
 // The result of a command line, as text.
@@ -106,6 +155,66 @@ fn shown(alloc: Global, line: &str) -> Result<String, AllocError> {
         Parsed::Shown(text) => format!(in alloc; "shown {text}"),
         Parsed::Mistaken(text) => format!(in alloc; "mistaken {text}"),
     }
+}
+
+/// Command lines, and parts of their texts.
+const PARTS: [(&str, &str); 12] = [
+    (
+        "sst completion bash",
+        "\n    'write --index') words='full partitioned' ;;\n    'write --filter') compopt +o default; \
+         return ;;\n",
+    ),
+    (
+        "sst completion bash",
+        "\n    'completion completion') words='bash zsh fish' ;;\n",
+    ),
+    (
+        "sst completion bash",
+        "\n        get) words='--at --loads --json --help' ;;\n",
+    ),
+    (
+        "sst completion zsh",
+        "\n    get)\n        _arguments -S \\\n            '*:FILE:_files' \\\n            '--at=[Snapshot\\: \
+         read only sequence numbers below N]:N: ' \\\n",
+    ),
+    ("sst completion zsh", ":KIND:(full partitioned)' \\\n"),
+    ("sst completion zsh", ":FOLDER:_files' \\\n"),
+    (
+        "sst completion fish",
+        "\ncomplete -c sst -n '__sst_command write' -l index -r -f -a 'full partitioned' -d 'Kind of \
+         index: full or partitioned'\n",
+    ),
+    (
+        "sst completion fish",
+        "\ncomplete -c sst -n '__sst_command compact' -l to -r -F -d 'New folder for the new tables'\n",
+    ),
+    (
+        "sst completion fish",
+        "\ncomplete -c sst -n '__sst_command get' -l loads -d 'Print the blocks that the read loads'\n",
+    ),
+    (
+        "sst man",
+        "\n.TP\n\\fB\\-\\-level\\fR \\fIN\\fR\nLevel that the table records [default: 0].\n.TP\n",
+    ),
+    (
+        "sst man",
+        "\n.SH EXIT STATUS\n.TP\n.B 0\nSuccess.\n.TP\n.B 1\nAn error, or memory ran out.",
+    ),
+    (
+        "sst man",
+        "\n.SH EXAMPLES\nWrite two tables, the second with later versions of some keys:\n.PP\n.RS 4\n\
+         .nf\nsst write bookworm.sst \\-\\-level 1 < bookworm.txt\n",
+    ),
+];
+
+#[test]
+fn texts_have_these_parts(rt: HostRuntime) -> Result<(), Fail> {
+    let parts = PARTS;
+    for (line, part) in parts.as_slice() {
+        let text = shown(rt.alloc(), line)?;
+        assert!(rt; text.as_str().contains(*part), "{line}: {part}");
+    }
+    Ok(())
 }
 
 #[test]

@@ -1,5 +1,5 @@
 -- The program's commands, as the parser has them.
-use Rattle.std.specs.Prelude.{◌∷◌, ℕ, List, [], Option, Some, None, true, codes, map}
+use Rattle.std.specs.Prelude.{◌∷◌, List, [], Option, Some, None, true, codes, map}
 use Rattle.clap.specs.Lexer.{usize_max}
 use Rattle.clap.specs.Simple.{Shape}
 use Rattle.clap.specs.Words.{App, Rule, Text, new_rule}
@@ -25,11 +25,11 @@ defaulted name text = record (valued name) { defaults = text ∷ [] }
 abbrev pub placed_one : Text → Rule
 placed_one name = record (new_rule name) { value_names = 1; required = true }
 
--- Positional values, at least so many, with so many names.
-abbrev pub placed_some : ℕ → Rule
-placed_some count = record (new_rule (codes "files")) {
-  value_names = count;
-  range = Some (record { start_inclusive = count; end_inclusive = usize_max });
+-- Positional values, one or more.
+abbrev pub placed_some : Rule
+placed_some = record (new_rule (codes "files")) {
+  value_names = 1;
+  range = Some (record { start_inclusive = 1; end_inclusive = usize_max });
   required = true;
 }
 
@@ -50,7 +50,7 @@ commands = (
 )
     ∷ (
       codes "dump",
-      placed_some 1
+      placed_some
           ∷ valued (codes "from")
           ∷ valued (codes "to")
           ∷ flag (codes "reverse")
@@ -58,12 +58,12 @@ commands = (
           ∷ flag (codes "json")
           ∷ [],
     )
-    ∷ (codes "get", placed_some 2 ∷ valued (codes "at") ∷ flag (codes "loads") ∷ flag (codes "json") ∷ [])
-    ∷ (codes "stat", placed_some 1 ∷ flag (codes "json") ∷ [])
-    ∷ (codes "verify", placed_some 1 ∷ [])
+    ∷ (codes "get", placed_some ∷ valued (codes "at") ∷ flag (codes "loads") ∷ flag (codes "json") ∷ [])
+    ∷ (codes "stat", placed_some ∷ flag (codes "json") ∷ [])
+    ∷ (codes "verify", placed_some ∷ [])
     ∷ (
       codes "compact",
-      placed_some 1
+      placed_some
           ∷ record (valued (codes "to")) { required = true }
           ∷ defaulted (codes "watermark") (codes "0")
           ∷ flag (codes "evict")
@@ -71,7 +71,7 @@ commands = (
           ∷ valued (codes "target")
           ∷ [],
     )
-    ∷ (codes "pack", placed_some 1 ∷ [])
+    ∷ (codes "pack", placed_some ∷ [])
     ∷ (codes "completion", placed_one (codes "shell") ∷ [])
     ∷ (codes "man", [])
     ∷ []

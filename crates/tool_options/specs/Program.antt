@@ -28,13 +28,13 @@ parser_of (form.Option takes) = value_of takes
 parser_of (form.Place takes) = value_of takes
 parser_of form.Files = parser.String
 
--- The argument in its form. Files are at least as many words as they have value names.
+-- The argument in its form. Files are one or more words.
 abbrev pub formed : Form → Rule → Rule
 formed form.Flag r = record r { long = Some r.id; action = Some SetTrue }
 formed (form.Option takes) r = record r { long = Some r.id }
 formed (form.Place takes) r = r
 formed form.Files r = record r {
-  range = Some (record { start_inclusive = r.value_names; end_inclusive = usize_max });
+  range = Some (record { start_inclusive = 1; end_inclusive = usize_max });
 }
 
 -- The argument without its form.

@@ -1,6 +1,6 @@
 -- The tasks of a command's arguments.
 use Rattle.std.specs.Prelude.{◌≡◌, ◌⊎◌, ◌↔◌, ◌<◌, ◌≤◌, ◌^◌, ◌++◌, ◌∷◌, ℕ, List, [], Option, Some, None}
-use Rattle.std.specs.Prelude.{IsTrue, codes, map, option_map, unwrap_or}
+use Rattle.std.specs.Prelude.{IsTrue, codes, length, map, option_map, unwrap_or}
 use Rattle.std.specs.Borrow.{Bor}
 use Rattle.std.specs.Option.{SomeIff}
 use Rattle.std.specs.Str.Parse.{IsNumeral, digits_value, without_leading_plus}
@@ -61,9 +61,10 @@ pub record AsksToDump (rows : List Row) (t : DumpTask) : Type 0 where
   pub limit : Spells 64 (one_of (codes "limit") rows) t.limit
   pub json : IsTrue t.json ↔ Has rows (codes "json")
 
--- The key is the last word.
+-- The key is the last word, and the files are those before it, one or more.
 pub record AsksToGet (rows : List Row) (t : GetTask) : Type 0 where
   pub files : texts_of t.files.items ++ t.key.now ∷ [] ≡ named_files rows
+  pub some : 1 ≤ length t.files.items
   pub at : Spells 64 (one_of (codes "at") rows) t.at
   pub loads : IsTrue t.loads ↔ Has rows (codes "loads")
   pub json : IsTrue t.json ↔ Has rows (codes "json")

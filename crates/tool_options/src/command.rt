@@ -72,7 +72,7 @@ fn argument<'a>(alloc: Global, text: &'static ArgumentText) -> Arg<'a>
         Form::Flag => argument.long(text.name).action(ArgAction::SetTrue),
         Form::Option(_) => argument.long(text.name),
         Form::Place(_) => argument,
-        Form::Files => argument.num_args(text.values.len()..),
+        Form::Files => argument.num_args(1..),
     }
 }
 

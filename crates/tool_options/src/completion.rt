@@ -1,45 +1,30 @@
-//! The completion for bash.
-use crate::texts::{CommandText, Form, Takes};
+//! The completion scripts for shells.
+mod bash;
+mod fish;
+mod zsh;
+
+use crate::texts::CommandText;
 use std::alloc::{AllocError, Global};
 
-const HEAD: &str = "\
-# Completes the commands of sst in bash: source <(sst completion bash)
-_sst() {
-    local word=${COMP_WORDS[COMP_CWORD]} before=${COMP_WORDS[COMP_CWORD-1]} words=
-    COMPREPLY=()
-    if ((COMP_CWORD == 1)); then
-        words=\"";
-
-const VALUES: &str = "help --help --version\"
-        COMPREPLY=($(compgen -W \"$words\" -- \"$word\"))
-        return
-    fi
-    case \"${COMP_WORDS[1]} $before\" in
-";
-
-const NO_FILES: &str = "') compopt +o default; return ;;\n";
-
-const OPTIONS: &str = "    esac
-    if [[ -z $words && $word == -* ]]; then
-        case ${COMP_WORDS[1]} in
-";
-
-const TAIL: &str = "        esac
-    fi
-    COMPREPLY=($(compgen -W \"$words\" -- \"$word\"))
-}
-complete -o bashdefault -o default -F _sst sst
-";
-
-/// Returns a script for bash that completes these commands, their options and values.
+/// Returns the script for a shell that completes these commands, their options and values, or
+/// `None` if the shell is unknown.
 ///
 /// # Errors
 ///
 /// Fails only if memory runs out.
-pub(crate) fn completion(alloc: Global, commands: &[CommandText]) -> Result<String, AllocError> {
+pub(crate) fn completion(
+    alloc: Global,
+    shell: &str,
+    commands: &[CommandText],
+) -> Result<Option<String>, AllocError> {
     let mut text = String::new(alloc);
-    push_script(&mut text, commands)?;
-    Ok(text)
+    match shell {
+        "bash" => bash::push_script(&mut text, commands)?,
+        "zsh" => zsh::push_script(&mut text, commands)?,
+        "fish" => fish::push_script(&mut text, commands)?,
+        _ => return Ok(None),
+    }
+    Ok(Some(text))
 }
 
 /// Appends texts, one after another.
@@ -50,77 +35,20 @@ pub(crate) fn push_all(text: &mut String, parts: &[&str]) -> Result<(), AllocErr
     Ok(())
 }
 
-// Appends the whole script.
-fn push_script(text: &mut String, commands: &[CommandText]) -> Result<(), AllocError> {
-    text.push_str(HEAD)?;
+// Appends names, with a separator between them.
+fn push_joined(text: &mut String, names: &[&str], separator: &str) -> Result<(), AllocError> {
+    let mut before = "";
+    for name in names {
+        push_all(text, &[before, name])?;
+        before = separator;
+    }
+    Ok(())
+}
+
+// Appends the names of commands, each followed by a space.
+fn push_commands(text: &mut String, commands: &[CommandText]) -> Result<(), AllocError> {
     for command in commands {
         push_all(text, &[command.name, " "])?;
     }
-    push_cases(text, commands)?;
-    text.push_str(TAIL)
-}
-
-// Appends the values after each word, and the options of each command.
-fn push_cases(text: &mut String, commands: &[CommandText]) -> Result<(), AllocError> {
-    text.push_str(VALUES)?;
-    for command in commands {
-        push_values(text, command)?;
-    }
-    text.push_str(OPTIONS)?;
-    for command in commands {
-        push_options(text, command)?;
-    }
     Ok(())
-}
-
-// Appends the values of a command and of its options.
-fn push_values(text: &mut String, command: &CommandText) -> Result<(), AllocError> {
-    for argument in command.arguments {
-        match argument.form {
-            Form::Option(takes) => push_value(text, command.name, "--", argument.name, takes)?,
-            Form::Place(takes) => push_value(text, command.name, "", command.name, takes)?,
-            Form::Flag | Form::Files => (),
-        }
-    }
-    Ok(())
-}
-
-// Appends the values after a word: some names, any text, or file names.
-fn push_value(
-    text: &mut String,
-    command: &str,
-    dashes: &str,
-    word: &str,
-    takes: Takes,
-) -> Result<(), AllocError> {
-    match takes {
-        Takes::Names(names) => {
-            push_all(text, &["    '", command, " ", dashes, word, "') words='"])?;
-            push_names(text, names)?;
-            text.push_str("' ;;\n")
-        }
-        Takes::Text | Takes::Number(_, _) => {
-            push_all(text, &["    '", command, " ", dashes, word, NO_FILES])
-        }
-        Takes::File => Ok(()),
-    }
-}
-
-// Appends names, each followed by a space.
-fn push_names(text: &mut String, names: &[&str]) -> Result<(), AllocError> {
-    for name in names {
-        push_all(text, &[name, " "])?;
-    }
-    Ok(())
-}
-
-// Appends the options of a command.
-fn push_options(text: &mut String, command: &CommandText) -> Result<(), AllocError> {
-    push_all(text, &["        ", command.name, ") words='"])?;
-    for argument in command.arguments {
-        if argument.is_named() {
-            push_all(text, &["--", argument.name, " "])?;
-        }
-    }
-    text.push_str("--help' ;;\n")
 }

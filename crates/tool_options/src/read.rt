@@ -15,6 +15,8 @@ pub(crate) enum Misread {
     OutOfMemory,
     /// The filter's bits are neither a number from 1 to 100 nor `none`.
     Filter,
+    /// There is no key after the files.
+    Key,
     /// A required argument is missing.
     Absent,
 }
@@ -89,6 +91,9 @@ fn read_get<'a>(alloc: Global, matches: &ArgMatches<'a>) -> Result<Task<'a>, Mis
 {
     let mut files = files(alloc, matches)?;
     let key = files.pop().ok_or(Misread::Absent)?;
+    if files.is_empty() {
+        return Err(Misread::Key);
+    }
     Ok(Task::Get(GetTask {
         files,
         key,

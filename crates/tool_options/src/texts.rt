@@ -23,7 +23,7 @@ pub(crate) enum Form {
     Option(Takes),
     /// A positional value.
     Place(Takes),
-    /// Positional file names, and other values after them: at least one word for each value name.
+    /// Positional file names, one or more. A key may be the last of them.
     Files,
 }
 
@@ -62,34 +62,51 @@ pub(crate) struct CommandText {
     pub(crate) usage: &'static str,
     /// Its arguments, the positional ones first.
     pub(crate) arguments: &'static [ArgumentText],
-    /// Further notes, in lines of at most 80 columns.
+    /// Further notes, in lines of at most 76 columns. An empty line ends a paragraph. Lines that
+    /// begin with four spaces are shown as they are.
     pub(crate) notes: &'static str,
 }
 
 /// The name of the program.
 pub(crate) const PROGRAM: &str = "sst";
 
-/// The version of the command line.
-pub(crate) const VERSION: &str = "1.0";
+/// The version, as in the file `VERSION`.
+pub(crate) const VERSION: &str = "1.0.0";
+
+/// The date of the version, for the manual page.
+pub(crate) const DATE: &str = "2026-11-30";
 
 /// The purpose of the program.
-pub(crate) const ABOUT: &str = "Writes, reads, checks and compacts files of sorted tables";
+pub(crate) const ABOUT: &str = "Writes, reads, verifies and compacts SSTable files";
 
 /// Further notes on the program.
 pub(crate) const NOTES: &str = "\
-Without arguments the program reads a script from standard input.
+An SSTable file has entries in the order of their keys. An entry is a version
+of a key: its sequence number, its kind and its value. Files are given with
+the newest first.
 
-An entry is a line 'KEY NUMBER KIND VALUE', with one space between, such as
-'alice 7 V red'. NUMBER is the sequence number: the newest version of a key has
-the largest. Kinds are V value, T tombstone, W weak tombstone, I indirection. A
-backslash and each byte that is not visible ASCII are written \\xNN, in lower
-case. '-' is the empty key or value, and \\x2d is a single '-'. Keys on the
-command line are written the same way. With --json each line is an object:
-{\"key\":\"k\",\"seqno\":7,\"kind\":\"value\",\"value\":\"v\"}. Bytes that are not UTF-8
-are {\"hex\":\"ff00\"}.
+Entries are lines KEY NUMBER KIND VALUE with one space between, such as:
 
-The exit status is 0, or 1 after an error, for a faulty file and for a key that
-is not found, or 2 if the command line is wrong.";
+    alice 7 V red
+
+NUMBER is the sequence number, and newer versions have larger ones. KIND is V
+for a value, T for a tombstone, W for a weak tombstone or I for an
+indirection. In keys and values, a backslash and each byte that is not visible
+ASCII are written \\xNN in lower case. The word - is the empty key or value,
+and \\x2d is a single hyphen. Keys on the command line are written the same
+way. A key that begins with a hyphen comes after the word --.
+
+With --json each line is an object. Bytes that are not UTF-8 are
+{\"hex\":\"ff00\"}. The kinds are value, tombstone, weak_tombstone and
+indirection:
+
+    {\"key\":\"alice\",\"seqno\":7,\"kind\":\"value\",\"value\":\"red\"}
+
+Options may be before, between and after the files. Without arguments sst runs
+a script from standard input.
+
+The exit status is 0 on success. It is 1 after an error, if a file is faulty,
+and if a key is not found. It is 2 if the command line is wrong.";
 
 const FILE: ArgumentText = ArgumentText {
     name: "file",
@@ -97,7 +114,7 @@ const FILE: ArgumentText = ArgumentText {
     values: &["FILE"],
     required: true,
     standard: &[],
-    help: "The file to write",
+    help: "The table file to write",
 };
 
 const FILES: ArgumentText = ArgumentText {
@@ -110,12 +127,8 @@ const FILES: ArgumentText = ArgumentText {
 };
 
 const FILES_AND_KEY: ArgumentText = ArgumentText {
-    name: "files",
-    form: Form::Files,
-    values: &["FILE", "KEY"],
-    required: true,
-    standard: &[],
-    help: "Table files, newest first, and the key",
+    help: "Table files, newest first, then the key",
+    ..FILES
 };
 
 const JSON: ArgumentText = ArgumentText {
@@ -124,7 +137,7 @@ const JSON: ArgumentText = ArgumentText {
     values: &[],
     required: false,
     standard: &[],
-    help: "Entries as JSON objects",
+    help: "Print JSON objects",
 };
 
 const TARGET: ArgumentText = ArgumentText {
@@ -133,7 +146,7 @@ const TARGET: ArgumentText = ArgumentText {
     values: &["BYTES"],
     required: false,
     standard: &[],
-    help: "Target size of a table",
+    help: "Target size of a table. There may be several",
 };
 
 const WRITE: [ArgumentText; 9] = [
@@ -144,7 +157,7 @@ const WRITE: [ArgumentText; 9] = [
         values: &["KIND"],
         required: false,
         standard: &["full"],
-        help: "Full or partitioned",
+        help: "Kind of index: full or partitioned",
     },
     ArgumentText {
         name: "filter",
@@ -152,7 +165,7 @@ const WRITE: [ArgumentText; 9] = [
         values: &["BITS"],
         required: false,
         standard: &["10"],
-        help: "Bits for a key, 1 to 100, or none",
+        help: "Bloom filter bits for a key, 1 to 100, or none",
     },
     ArgumentText {
         name: "block-size",
@@ -168,7 +181,7 @@ const WRITE: [ArgumentText; 9] = [
         values: &["BYTES"],
         required: false,
         standard: &["4096"],
-        help: "Target size of a partition",
+        help: "Target size of a partition of the index",
     },
     ArgumentText {
         name: "level",
@@ -176,7 +189,7 @@ const WRITE: [ArgumentText; 9] = [
         values: &["N"],
         required: false,
         standard: &["0"],
-        help: "Level of the table",
+        help: "Level that the table records",
     },
     TARGET,
     ArgumentText {
@@ -187,7 +200,10 @@ const WRITE: [ArgumentText; 9] = [
         standard: &[],
         help: "Sort the entries first",
     },
-    JSON,
+    ArgumentText {
+        help: "Read JSON objects",
+        ..JSON
+    },
 ];
 
 const DUMP: [ArgumentText; 6] = [
@@ -198,7 +214,7 @@ const DUMP: [ArgumentText; 6] = [
         values: &["KEY"],
         required: false,
         standard: &[],
-        help: "First key",
+        help: "Start at this key",
     },
     ArgumentText {
         name: "to",
@@ -206,7 +222,7 @@ const DUMP: [ArgumentText; 6] = [
         values: &["KEY"],
         required: false,
         standard: &[],
-        help: "End of the keys, excluded",
+        help: "Stop before this key",
     },
     ArgumentText {
         name: "reverse",
@@ -222,7 +238,7 @@ const DUMP: [ArgumentText; 6] = [
         values: &["N"],
         required: false,
         standard: &[],
-        help: "Print at most N entries",
+        help: "Print at most N entries, of all files together",
     },
     JSON,
 ];
@@ -235,7 +251,7 @@ const GET: [ArgumentText; 4] = [
         values: &["N"],
         required: false,
         standard: &[],
-        help: "Read versions with numbers below N",
+        help: "Snapshot: read only sequence numbers below N",
     },
     ArgumentText {
         name: "loads",
@@ -243,7 +259,7 @@ const GET: [ArgumentText; 4] = [
         values: &[],
         required: false,
         standard: &[],
-        help: "Print the loaded blocks",
+        help: "Print the blocks that the read loads",
     },
     JSON,
 ];
@@ -251,12 +267,8 @@ const GET: [ArgumentText; 4] = [
 const STAT: [ArgumentText; 2] = [
     FILES,
     ArgumentText {
-        name: "json",
-        form: Form::Flag,
-        values: &[],
-        required: false,
-        standard: &[],
         help: "Print a JSON object for each table",
+        ..JSON
     },
 ];
 
@@ -276,7 +288,7 @@ const COMPACT: [ArgumentText; 6] = [
         values: &["N"],
         required: false,
         standard: &["0"],
-        help: "No reader reads below this number",
+        help: "No snapshot is below this sequence number",
     },
     ArgumentText {
         name: "evict",
@@ -292,18 +304,18 @@ const COMPACT: [ArgumentText; 6] = [
         values: &[],
         required: false,
         standard: &[],
-        help: "Set numbers below the watermark to 0",
+        help: "Set sequence numbers below the watermark to 0",
     },
     TARGET,
 ];
 
 const SHELL: ArgumentText = ArgumentText {
     name: "shell",
-    form: Form::Place(Takes::Names(&["bash"])),
+    form: Form::Place(Takes::Names(&["bash", "zsh", "fish"])),
     values: &["SHELL"],
     required: true,
     standard: &[],
-    help: "The shell",
+    help: "The shell: bash, zsh or fish",
 };
 
 /// The commands, in the order of the help.
@@ -314,14 +326,17 @@ pub(crate) static COMMANDS: [CommandText; 9] = [
         usage: "sst write [OPTIONS] <FILE>",
         arguments: &WRITE,
         notes: "\
-The entries are in order: ascending keys, then descending sequence numbers. The
-first line out of order is an error, unless --sort is given. A block ends once
-its keys and values have the target size. A table ends before the next key once
-its data blocks have. The file gets a temporary name, and is renamed once it is
-complete and synced; an error before that leaves the old file. With --target the
-tables are FILE.1, FILE.2 and so on. Tables that are renamed before an error
-stay. If a file with the next number is left over from an earlier write, remove
-it first.",
+The entries are in order: by key, and those of a key by sequence number with
+the largest first. A line out of order is an error, and nothing is written.
+
+A data block ends once its keys and values have the target size. With --target
+a table ends before the next key once its data blocks have that size. The
+files are then FILE.1, FILE.2 and so on. It is an error if the next number has
+a file already, as from an earlier write.
+
+Files are written under temporary names, such as FILE.1.tmp. Once all are
+complete and synced, they are renamed. After an error before that, the old
+files stay. With --target, files that were renamed before the error stay too.",
     },
     CommandText {
         name: "dump",
@@ -329,27 +344,27 @@ it first.",
         usage: "sst dump [OPTIONS] <FILE>...",
         arguments: &DUMP,
         notes: "\
-Prints the files one after another, each in its order, or with --reverse from
-its end.",
+Prints one file after another. Each is in the order of its keys, or with
+--reverse from its last entry on.",
     },
     CommandText {
         name: "get",
-        about: "Prints the visible version of a key",
+        about: "Prints the newest visible version of a key",
         usage: "sst get [OPTIONS] <FILE>... <KEY>",
         arguments: &GET,
         notes: "\
-Each file is a run of its own. Options are before the files or after the key.
-Prints the version, also a tombstone. If the key has no version below N, prints
-none, or null with --json, and exits with 1.",
+Each file is a run of its own, and the last word is the key. The version may
+be a tombstone. If the key has no version below N in any file, prints none, or
+null with --json, and exits with 1.",
     },
     CommandText {
         name: "stat",
-        about: "Prints the metadata of tables",
+        about: "Prints the metadata and sections of tables",
         usage: "sst stat [OPTIONS] <FILE>...",
         arguments: &STAT,
         notes: "\
-Also lists the data blocks. If there are more than 32 they are grouped into
-lines of as many blocks each; a JSON object has each block.",
+Also lists the data blocks. More than 32 share lines, equally many on each. A
+JSON object has each data block by itself.",
     },
     CommandText {
         name: "verify",
@@ -358,11 +373,15 @@ lines of as many blocks each; a JSON object has each block.",
         arguments: &[FILES],
         notes: "\
 Reads every block, the index and the filter. Compares the entries with the
-table's metadata: keys, sequence numbers, data blocks, entries and tombstones.
-Prints that a file is sound, or its first fault and then each further block
-that does not load. Exits with 1 if there is a fault. Bytes that no read needs
-are not compared: the version, and the trailer's positions of the version and
-the data blocks.",
+table's metadata: keys, sequence numbers, and the counts of data blocks,
+entries and tombstones. Prints that a file is sound, or its first fault and
+then each further block that does not load. A file that does not open is
+faulty too. Exits with 1 if a file is.
+
+Bytes that no read needs are not compared. These are the version, and the
+offsets of the version and the data blocks in the trailer.
+
+On a terminal a bar on standard error shows the progress.",
     },
     CommandText {
         name: "compact",
@@ -370,11 +389,15 @@ the data blocks.",
         usage: "sst compact [OPTIONS] --to <FOLDER> <FILE>...",
         arguments: &COMPACT,
         notes: "\
-The new tables are 1.sst, 2.sst and so on in FOLDER, written as write does
-without options. Keeps the versions that a reader at the watermark or later may
-see: all without a watermark. A weak tombstone below it is dropped with the
-value that it hides. With --evict a tombstone that is the newest version below
-it is dropped too.",
+Keeps the versions that a reader at the watermark or later may see. Without a
+watermark it keeps all. A weak tombstone below the watermark is dropped with
+the value that it hides. With --evict a tombstone that is the newest version
+below the watermark is dropped too.
+
+The new tables are 1.sst, 2.sst and so on in FOLDER, with the default options
+of write. The folder has a temporary name first, such as FOLDER.1.tmp. Once
+all files are complete and synced, it is renamed. It is an error if FOLDER
+exists already.",
     },
     CommandText {
         name: "pack",
@@ -382,21 +405,36 @@ it is dropped too.",
         usage: "sst pack <FILE>...",
         arguments: &[FILES],
         notes: "\
-Prints the fewest runs, and a chain of overlapping tables, which shows why
-fewer do not suffice.",
+The tables of a run do not overlap. Prints the files of each run, and a chain
+of tables that each overlap the next, so that fewer runs do not suffice.",
     },
     CommandText {
         name: "completion",
         about: "Prints the completion script for a shell",
         usage: "sst completion <SHELL>",
         arguments: &[SHELL],
-        notes: "For bash only: source <(sst completion bash)",
+        notes: "\
+For bash, a line of ~/.bashrc:
+
+    source <(sst completion bash)
+
+For zsh, in a folder of $fpath that is set before compinit runs:
+
+    sst completion zsh > ~/.zsh/completions/_sst
+
+For fish:
+
+    sst completion fish > ~/.config/fish/completions/sst.fish",
     },
     CommandText {
         name: "man",
         about: "Prints the manual page",
         usage: "sst man",
         arguments: &[],
-        notes: "sst man > sst.1; man ./sst.1",
+        notes: "\
+To read the page:
+
+    sst man > sst.1
+    man ./sst.1",
     },
 ];

@@ -79,12 +79,27 @@ fn answer_to<'a>(
         (spec.AsksBy (Some (name.now, spec.rows_of (spec.found_of matches.now)))) }
 {
     match name {
-        "completion" => Ok(Parsed::Shown(completion(alloc, commands)?)),
+        "completion" => complete(alloc, commands, matches),
         "man" => Ok(Parsed::Shown(manual(alloc, commands)?)),
         _ => match read_task(alloc, name, matches) {
             Ok(task) => Ok(Parsed::Task(task)),
             Err(misread) => mistake(alloc, name, misread),
         },
+    }
+}
+
+// Returns the completion script for the shell of these matches.
+fn complete<'a>(
+    alloc: Global,
+    commands: &[CommandText],
+    matches: &ArgMatches<'a>,
+) -> Result<Parsed<'a>, AllocError>
+    ensures { (found : Option (spec.Text × List spec.Row)) → IfOk result (spec.AsksBy found) }
+{
+    let shell = matches.get_str("shell").unwrap_or("");
+    match completion(alloc, shell, commands)? {
+        Some(script) => Ok(Parsed::Shown(script)),
+        None => mistake(alloc, "completion", Misread::Absent),
     }
 }
 
@@ -103,6 +118,12 @@ fn explain<'a>(alloc: Global, error: &Error) -> Result<Parsed<'a>, AllocError>
     }
 }
 
+const KEY_MISSING: &str = "\
+the following required arguments were not provided:
+  <KEY>
+
+Usage: sst get [OPTIONS] <FILE>... <KEY>";
+
 // Returns the error of the command `name` in the parser's form.
 fn mistake<'a>(alloc: Global, name: &str, misread: Misread) -> Result<Parsed<'a>, AllocError>
     ensures { (found : Option (spec.Text × List spec.Row)) → IfOk result (spec.AsksBy found) }
@@ -110,6 +131,7 @@ fn mistake<'a>(alloc: Global, name: &str, misread: Misread) -> Result<Parsed<'a>
     let expected = match misread {
         Misread::OutOfMemory => return Err(AllocError),
         Misread::Filter => "invalid value for '--filter <BITS>': neither 1 to 100 nor none",
+        Misread::Key => KEY_MISSING,
         Misread::Absent => "a required argument was not provided",
     };
     let text = format!(in alloc;
