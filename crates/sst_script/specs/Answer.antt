@@ -3,9 +3,10 @@ use Rattle.std.specs.Prelude.{ℕ, List, [], ◌∷◌, ◌++◌, Some, None, co
 use Rattle.std.specs.Fmt.{decimal}
 use Rattle.std.specs.List.{flat_map, join_with_byte}
 use Rattle.sst_entries.specs.Entry.{Entry}
+use Rattle.sst_entries.specs.Lending.{entry_of_ref}
 use Rattle.sst_script.specs.declared.print.Answer.{Answer}
 use Rattle.sst_script.specs.declared.print.Answer.TheVariants.{Silent, Tables, Runs, Found}
-use Rattle.sst_script.specs.declared.print.Answer.TheVariants.{Entries}
+use Rattle.sst_script.specs.declared.print.Answer.TheVariants.{Lines}
 use Rattle.sst_script.specs.Text.{letter_of, printed}
 
 -- an entry's line: its key, seqno, kind and value
@@ -30,8 +31,8 @@ answer_lines Silent = []
 answer_lines (Tables n) = codes "tables " ++ decimal n ++ 10 ∷ []
 answer_lines (Runs n) = codes "runs " ++ decimal n ++ 10 ∷ []
 answer_lines (Found None) = none_line
-answer_lines (Found (Some e)) = entry_line e
-answer_lines (Entries v) = entry_lines v.items
+answer_lines (Found (Some e)) = entry_line (entry_of_ref e)
+answer_lines (Lines v) = v.items
 
 abbrev pub refusal_line : ℕ → List ℕ
 refusal_line n = codes "refused " ++ decimal n ++ 10 ∷ []

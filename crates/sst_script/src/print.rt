@@ -5,27 +5,27 @@ ghost use Rattle.sst_script.specs.Words as spec;
 use crate::stop::Stop;
 use crate::write::write_text;
 use itoa::Buffer;
-use sst_entries::{InternalValue, ValueType};
+use sst_entries::{EntryRef, ValueType};
 use std::alloc::Allocator;
 use std::io::{Result, Write};
 
 /// The result of a command.
 #[derive(Drop)]
-pub enum Answer<A: Allocator> {
+pub enum Answer<'a, A: Allocator> {
     /// Nothing is printed.
     Silent,
     /// The number of tables written.
     Tables(u64),
     /// The number of runs into which the tables were packed.
     Runs(u64),
-    /// The entry that was found.
-    Found(Option<InternalValue<A>>),
-    /// The entries that were read.
-    Entries(Vec<InternalValue<A>, A>),
+    /// The entry that was found, borrowed from its table.
+    Found(Option<EntryRef<'a>>),
+    /// The lines of the entries that were read.
+    Lines(Vec<u8, A>),
 }
 
 /// Prints a result; if writing fails, a prefix of it.
-pub fn print_answer<W: Write, A: Allocator>(output: &mut W, answer: &Answer<A>) -> Result<()>
+pub fn print_answer<W: Write, A: Allocator>(output: &mut W, answer: &Answer<'_, A>) -> Result<()>
     ensures { spec.ShowsText (W.contents output.old) (W.contents output.new) result
         (spec.answer_lines answer.now) }
 {
@@ -33,13 +33,14 @@ pub fn print_answer<W: Write, A: Allocator>(output: &mut W, answer: &Answer<A>) 
         Answer::Silent => Ok(()),
         Answer::Tables(count) => print_counted(output, b"tables ", *count),
         Answer::Runs(count) => print_counted(output, b"runs ", *count),
-        Answer::Found(Some(item)) => print_entry(output, item),
+        Answer::Found(Some(entry)) => print_entry(output, entry),
         Answer::Found(None) => print_none(output),
-        Answer::Entries(items) => print_entries(output, items),
+        Answer::Lines(text) => write_text(output, text),
     }
 }
 
-fn print_none<W: Write>(output: &mut W) -> Result<()>
+/// Prints the line for no entry; if writing fails, a prefix of it.
+pub(crate) fn print_none<W: Write>(output: &mut W) -> Result<()>
     ensures { spec.ShowsText (W.contents output.old) (W.contents output.new) result spec.none_line }
 {
     write_text(output, b"none\n")
@@ -53,20 +54,6 @@ fn print_counted<W: Write>(output: &mut W, word: &[u8], count: u64) -> Result<()
     write_text(output, word)?;
     write_text(output, Buffer::new().format(count).as_bytes())?;
     write_text(output, b"\n")
-}
-
-// Prints each entry on a line of its own.
-fn print_entries<W: Write, A: Allocator>(output: &mut W, items: &[InternalValue<A>]) -> Result<()>
-    ensures { spec.ShowsText (W.contents output.old) (W.contents output.new) result
-        (spec.entry_lines items.now) }
-{
-    if items.is_empty() {
-        return print_none(output);
-    }
-    for item in items {
-        print_entry(output, item)?;
-    }
-    Ok(())
 }
 
 /// Prints the line of an error code; if writing fails, a prefix of it.
@@ -89,16 +76,16 @@ pub fn print_stop<W: Write>(errors: &mut W, stop: Stop) -> Result<()>
     }
 }
 
-// Prints a key, a seqno, a kind and a value.
-fn print_entry<W: Write, A: Allocator>(output: &mut W, item: &InternalValue<A>) -> Result<()>
+/// Prints the line of an entry: its key, seqno, kind and value. If writing fails, a prefix of it.
+pub(crate) fn print_entry<W: Write>(output: &mut W, entry: &EntryRef<'_>) -> Result<()>
     ensures { spec.ShowsText (W.contents output.old) (W.contents output.new) result
-        (spec.entry_line item.now) }
+        (spec.entry_line (spec.entry_of_ref entry.now)) }
 {
-    write_text(output, printed(item.key.user_key.as_slice()))?;
+    write_text(output, printed(entry.user_key))?;
     write_text(output, b" ")?;
-    write_text(output, Buffer::new().format(item.key.seqno).as_bytes())?;
-    write_text(output, &[b' ', letter_of(item.key.value_type), b' '])?;
-    write_text(output, printed(item.value.as_slice()))?;
+    write_text(output, Buffer::new().format(entry.seqno).as_bytes())?;
+    write_text(output, &[b' ', letter_of(entry.value_type), b' '])?;
+    write_text(output, printed(entry.value))?;
     write_text(output, b"\n")
 }
 

@@ -1,6 +1,7 @@
 use Rattle.std.proofs.Common.{◌≡◌, ◌∙◌, refl, [], ◌∷◌, ◌++◌, rules}
 use Rattle.std.proofs.KnownBytes.{Appends-trans}
 use Rattle.std.specs.Fmt.{decimal}
+use Rattle.sst_entries.specs.Lending.{entry_of_ref}
 use Rattle.sst_script.specs.Answer.{entry_line}
 use Rattle.sst_script.specs.Text.{letter_of, printed}
 use Rattle.sst_script.proofs.PrintLemmas.{line_is}
@@ -9,7 +10,7 @@ use Rattle.sst_script.proofs.print.print_entry.Goals as goal
 
 pub returns-in_err-write_text : goal.returns-in_err-write_text
 returns-in_err-write_text g c =
-    let e = c.args.item.now in
+    let e = entry_of_ref c.args.entry.now in
     let s0 = g.W.Write.contents c.args.output.now in
     let s1 = g.W.Write.contents c.write_text.new.output in
     let key = c.printed.result.now in
@@ -25,7 +26,7 @@ returns-in_err-write_text g c =
 
 pub returns-in_err-write_text-2 : goal.returns-in_err-write_text-2
 returns-in_err-write_text-2 g c =
-    let e = c.args.item.now in
+    let e = entry_of_ref c.args.entry.now in
     let s0 = g.W.Write.contents c.args.output.now in
     let s1 = g.W.Write.contents c.write_text.new.output in
     let s2 = g.W.Write.contents c.write_text-2.new.output in
@@ -42,7 +43,7 @@ returns-in_err-write_text-2 g c =
 
 pub returns-in_err-write_text-3 : goal.returns-in_err-write_text-3
 returns-in_err-write_text-3 g c =
-    let e = c.args.item.now in
+    let e = entry_of_ref c.args.entry.now in
     let s0 = g.W.Write.contents c.args.output.now in
     let s1 = g.W.Write.contents c.write_text.new.output in
     let s2 = g.W.Write.contents c.write_text-2.new.output in
@@ -50,7 +51,7 @@ returns-in_err-write_text-3 g c =
     let key = c.printed.result.now in
     let key_is : key ≡ printed e.user_key = search rules in
     let number = c.as_bytes.result.now in
-    let number_is : number ≡ decimal e.seqno = rw (← c.item.view_is) (c.as_bytes.ensures.value ∙ c.format.ensures.text) in
+    let number_is : number ≡ decimal e.seqno = c.as_bytes.ensures.value ∙ c.format.ensures.text in
     let letter = letter_of e.kind in
     let letter_is : letter ≡ letter_of e.kind = refl in
     let value = printed e.value in
@@ -60,7 +61,7 @@ returns-in_err-write_text-3 g c =
 
 pub returns-in_err-write_text-4 : goal.returns-in_err-write_text-4
 returns-in_err-write_text-4 g c =
-    let e = c.args.item.now in
+    let e = entry_of_ref c.args.entry.now in
     let s0 = g.W.Write.contents c.args.output.now in
     let s1 = g.W.Write.contents c.write_text.new.output in
     let s2 = g.W.Write.contents c.write_text-2.new.output in
@@ -69,7 +70,7 @@ returns-in_err-write_text-4 g c =
     let key = c.printed.result.now in
     let key_is : key ≡ printed e.user_key = search rules in
     let number = c.as_bytes.result.now in
-    let number_is : number ≡ decimal e.seqno = rw (← c.item.view_is) (c.as_bytes.ensures.value ∙ c.format.ensures.text) in
+    let number_is : number ≡ decimal e.seqno = c.as_bytes.ensures.value ∙ c.format.ensures.text in
     let letter = c.letter_of.result in
     let letter_is : letter ≡ letter_of e.kind = search rules in
     let value = printed e.value in
@@ -79,7 +80,7 @@ returns-in_err-write_text-4 g c =
 
 pub returns-in_err-write_text-5 : goal.returns-in_err-write_text-5
 returns-in_err-write_text-5 g c =
-    let e = c.args.item.now in
+    let e = entry_of_ref c.args.entry.now in
     let s0 = g.W.Write.contents c.args.output.now in
     let s1 = g.W.Write.contents c.write_text.new.output in
     let s2 = g.W.Write.contents c.write_text-2.new.output in
@@ -89,7 +90,7 @@ returns-in_err-write_text-5 g c =
     let key = c.printed.result.now in
     let key_is : key ≡ printed e.user_key = search rules in
     let number = c.as_bytes.result.now in
-    let number_is : number ≡ decimal e.seqno = rw (← c.item.view_is) (c.as_bytes.ensures.value ∙ c.format.ensures.text) in
+    let number_is : number ≡ decimal e.seqno = c.as_bytes.ensures.value ∙ c.format.ensures.text in
     let letter = c.letter_of.result in
     let letter_is : letter ≡ letter_of e.kind = search rules in
     let value = c.printed-2.result.now in
@@ -99,7 +100,7 @@ returns-in_err-write_text-5 g c =
 
 pub returns : goal.returns
 returns g c =
-    let e = c.args.item.now in
+    let e = entry_of_ref c.args.entry.now in
     let s0 = g.W.Write.contents c.args.output.now in
     let s1 = g.W.Write.contents c.write_text.new.output in
     let s2 = g.W.Write.contents c.write_text-2.new.output in
@@ -110,7 +111,7 @@ returns g c =
     let key = c.printed.result.now in
     let key_is : key ≡ printed e.user_key = search rules in
     let number = c.as_bytes.result.now in
-    let number_is : number ≡ decimal e.seqno = rw (← c.item.view_is) (c.as_bytes.ensures.value ∙ c.format.ensures.text) in
+    let number_is : number ≡ decimal e.seqno = c.as_bytes.ensures.value ∙ c.format.ensures.text in
     let letter = c.letter_of.result in
     let letter_is : letter ≡ letter_of e.kind = search rules in
     let value = c.printed-2.result.now in
