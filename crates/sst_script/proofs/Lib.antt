@@ -1,5 +1,4 @@
 pub mod CommandLemmas
-pub mod PrintLemmas
 pub mod LineLemmas
 pub mod ShownLemmas
 pub mod CompactLemmas

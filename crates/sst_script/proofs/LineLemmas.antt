@@ -1,6 +1,6 @@
--- The lines of the entries that a lending iterator has yielded.
+-- The line of an entry, and the lines of the entries that a lending iterator has yielded.
 use Rattle.std.proofs.Common.{◌≡◌, refl, sym, ◌∙◌, ap, subst, ◌<◌, inl, inr, true, false, List, []}
-use Rattle.std.proofs.Common.{◌∷◌, ◌++◌, ℕ, Bool, length, append_assoc, append-nil, arith}
+use Rattle.std.proofs.Common.{◌∷◌, ◌++◌, ℕ, length, append_assoc, append-nil, arith}
 use Rattle.std.proofs.Common.{length-append}
 use Rattle.std.specs.Prelude.{Option, Some, None, Result, Ok, Err, IfErr, is_some, ◌==◌}
 use Rattle.std.specs.Fmt.{decimal}
@@ -20,6 +20,23 @@ use Rattle.sst_script.specs.Answer.{entry_line, entry_lines, none_line}
 use Rattle.sst_script.specs.Text.{letter_of, printed}
 use Rattle.lsm_runs.specs.RunLists.{YieldsList}
 use Rattle.sst_script.proofs.YieldedLemmas.{end_yielded, error_yielded, next_yielded}
+
+-- ---- the line of an entry, part by part
+
+line_parts : (before key number value : List ℕ) (letter : ℕ)
+    → (((((before ++ key) ++ 32 ∷ []) ++ number) ++ 32 ∷ letter ∷ 32 ∷ []) ++ value) ++ 10 ∷ []
+    ≡ before ++ ((key ++ 32 ∷ (number ++ 32 ∷ (letter ∷ 32 ∷ value))) ++ 10 ∷ [])
+line_parts before key number value letter = simp append_assoc
+
+pub line_is : (e : Entry) (before key number value : List ℕ) (letter : ℕ)
+    → key ≡ printed e.user_key → number ≡ decimal e.seqno → letter ≡ letter_of e.kind
+    → value ≡ printed e.value
+    → (((((before ++ key) ++ 32 ∷ []) ++ number) ++ 32 ∷ letter ∷ 32 ∷ []) ++ value) ++ 10 ∷ []
+    ≡ before ++ entry_line e
+line_is e before key number value letter k n l v = rw (k, n, l, v)
+    (line_parts before (printed e.user_key) (decimal e.seqno) (printed e.value) (letter_of e.kind))
+
+-- ---- the lines of a source
 
 -- an entry that was yielded
 abbrev pub item : Entry → Result Entry Error

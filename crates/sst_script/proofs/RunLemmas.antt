@@ -18,6 +18,7 @@ use Rattle.lsm_readers.specs.point.Table.{OpenTable}
 use Rattle.lsm_runs.specs.RunLists.{YieldsList, RunsHoldLists}
 use Rattle.lsm_runs.specs.SeveralRuns.{union_in}
 use Rattle.lsm_runs.proofs.CompactedBack.{lift_zero}
+use Rattle.sst_script.specs.Answer.{found_line}
 use Rattle.sst_script.specs.Runs.{Run, has_entry, repeats, run_tables, union}
 use Rattle.sst_script.proofs.EntryLemmas.{has_entry_found, has_number}
 
@@ -76,6 +77,15 @@ module _ (rs : List Run) (ts : List (List OpenTable)) (same : run_tables rs ≡ 
       (subst (λ (h : Bound (List ℕ)). Yield (union rs) low h) high_is all)
 
 -- ---- results, except for `OutOfMemory`
+
+-- the line of an entry that a read found
+pub found_is : {X : Type 0} (view : X → List ℕ) (result : Result X Error) (first found : Option Entry)
+    → Gives (λ (x : Option Entry). x) (Ok found) (Ok first)
+    → Gives view result (Ok (found_line found))
+    → Gives view result (Ok (found_line first))
+found_is view result first found returned gives =
+    let is : first ≡ found = cc in
+    subst (λ (e : Option Entry). Gives view result (Ok (found_line e))) (sym is) gives
 
 -- a key has an entry of a seqno if its newest version visible at the next seqno has it
 pub number_gives : (rs : List Run) (key : List ℕ) (n : ℕ) (found : Option Entry) (b : Bool)

@@ -18,7 +18,7 @@ front_all a b text all = record {
 }
 
 -- a part after one that was written
-pub front_then : (a b c : Option (List ℕ)) (done text : List ℕ) → Appends a b done
+front_then : (a b c : Option (List ℕ)) (done text : List ℕ) → Appends a b done
     → AppendsFront b c text → AppendsFront a c (done ++ text)
 front_then a b c done text whole shown = record {
   front = done ++ shown.front;
@@ -28,7 +28,7 @@ front_then a b c done text whole shown = record {
 }
 
 -- a prefix of a text is one of a longer text
-pub front_before : (a b : Option (List ℕ)) (text after : List ℕ) → AppendsFront a b text
+front_before : (a b : Option (List ℕ)) (text after : List ℕ) → AppendsFront a b text
     → AppendsFront a b (text ++ after)
 front_before a b text after shown = record {
   front = shown.front;
@@ -61,9 +61,3 @@ kept_behind None b c bs p q = tt
 kept_behind (Some x) None c bs p q = absurd p
 kept_behind (Some x) (Some y) None bs p q = absurd q
 kept_behind (Some x) (Some y) (Some z) bs p q = q ∙ p
-
--- a call that failed after a prefix of a text
-pub failed_behind : {X E : Type 0} (a c : Option (List ℕ)) (all text : List ℕ) (r : Result X E)
-    (e : E) → IsErrAnd r (λ y. y ≡ e) → all ≡ text → AppendsFront a c text → ShowsText a c r all
-failed_behind a c all text (Ok x) e is same shown = absurd is
-failed_behind a c all text (Err y) e is same shown = subst (AppendsFront a c) (sym same) shown

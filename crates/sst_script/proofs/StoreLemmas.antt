@@ -1,21 +1,18 @@
--- The effect of the commands on the runs.
+-- The result of writing the pending entries, and of the commands that replace the runs.
 use Rattle.std.proofs.Common.{◌≡◌, refl, sym, ◌∙◌, ap, subst, inr, ℕ, Bool, false}
 use Rattle.std.proofs.Common.{List, [], ◌∷◌, length}
-use Rattle.std.specs.Prelude.{Option, None, Result, Ok}
+use Rattle.std.specs.Prelude.{Option, None, Ok}
 use Rattle.sst_entries.specs.Entry.{Entry}
 use Rattle.sst_entries.specs.Error.{Gives}
 use Rattle.lsm_readers.specs.point.Table.{OpenTable}
 use Rattle.lsm_runs.specs.compaction.Chain.{AreCutOf, IsRunOfList, ids_behind, run_label}
 use Rattle.lsm_runs.specs.compaction.Chain.{tables_fault}
 use Rattle.sst_script.specs.declared.command.Command.{Command}
-use Rattle.sst_script.specs.declared.print.Answer.{Answer}
-use Rattle.sst_script.specs.declared.print.Answer.TheVariants.{Tables}
-use Rattle.sst_script.specs.declared.stop.Failure.{Failure}
-use Rattle.sst_script.specs.declared.stop.Stop.{Stop}
-use Rattle.sst_script.specs.Answering.{ExecuteEnds, PrintEnds, outcome_text}
+use Rattle.sst_script.specs.declared.command.Command.TheVariants.{Compact, Pack, Table}
+use Rattle.sst_script.specs.declared.print.Answer.TheVariants.{Runs, Tables}
 use Rattle.sst_script.specs.Runs.{repeats, run_tables, HasRuns, Run}
-use Rattle.sst_script.specs.Script.{Store, pending_fault, store, adding_fault, target_size}
-use Rattle.sst_script.specs.Script.{Executes, Writes, WritesTables}
+use Rattle.sst_script.specs.Script.{Store, kept_by, pending_fault, store, adding_fault, target_size}
+use Rattle.sst_script.specs.Script.{CompactsTo, Executes, Packs, Writes}
 
 nothing_refused : (next : Option ℕ) (es : List Entry) → tables_fault next target_size 0 es ≡ None
     → pending_fault next es ≡ None
@@ -64,35 +61,45 @@ wrote rs ts new es next following tables count same new_is count_is fresh writte
       ),
     )
 
--- it was, and the pending entries were cleared
-pub table_written : (A : Type 0) (rs : List Run) (es left : List Entry)
-    (next following : Option ℕ) (count : ℕ) (new : List (List OpenTable)) → left ≡ []
+-- a command that writes a table
+pub executed : (A : Type 0) (command : Command) (rs : List Run) (es left : List Entry)
+    (next following : Option ℕ) (count : ℕ) (new : List (List OpenTable)) → command ≡ Table
+    → left ≡ []
     → HasRuns new (λ after. Writes (store es rs next) count (store [] after following))
-    → HasRuns new (λ after. WritesTables {A = A} (store es rs next) (Ok (Tables count))
-    (store left after following))
-table_written A rs es left next following count new none done =
-    let table : WritesTables {A = A} (store es rs next) (Ok (Tables count))
+    → HasRuns new (λ after.
+    Executes {A = A} command (store es rs next) (Ok (Tables count)) (store left after following))
+executed A command rs es left next following count new is none done =
+    let table : Executes {A = A} Table (store es rs next) (Ok (Tables count))
     (store [] done.0 following) = (count, refl, done.2) in (
       done.0,
       done.1,
-      subst (λ (xs : List Entry). WritesTables {A = A} (store es rs next) (Ok (Tables count))
-          (store xs done.0 following)) (sym none) table,
+      subst (λ (c : Command). Executes {A = A} c (store es rs next) (Ok (Tables count))
+          (store left done.0 following)) (sym is)
+          (subst (λ (xs : List Entry). Executes {A = A} Table (store es rs next) (Ok (Tables count))
+          (store xs done.0 following)) (sym none) table),
     )
 
--- ---- a command whose result was printed
-
-pub command_ended : {X A : Type 0} (number : ℕ) (command is : Command) (old : Store)
-    (r : Result (Answer A) Failure) (new : List (List OpenTable)) (after : List Run → Store)
-    (before shown : Option (List ℕ)) (result : Result X Stop) → command ≡ is
-    → HasRuns new (λ rs. Executes is old r (after rs))
-    → PrintEnds number (outcome_text r) before shown result
-    → HasRuns new (λ rs. ExecuteEnds A number command old (after rs) before shown result)
-command_ended {X} {A} number command is old r new after before shown result same done ends = (
+-- a command that compacts the runs
+pub compact_executed : (A : Type 0) (command : Command) (old : Store) (watermark : ℕ)
+    (evict zero : Bool) (count : ℕ) (new : List (List OpenTable)) (after : List Run → Store)
+    → command ≡ Compact watermark evict zero
+    → HasRuns new (λ rs. CompactsTo old (kept_by watermark evict zero old.runs) count (after rs))
+    → HasRuns new (λ rs. Executes {A = A} command old (Ok (Tables count)) (after rs))
+compact_executed A command old watermark evict zero count new after is done = (
   done.0,
   done.1,
-  (
-    r,
-    subst (λ (c : Command). Executes c old r (after done.0)) (sym same) done.2,
-    ends,
-  ),
+  subst (λ (c : Command). Executes {A = A} c old (Ok (Tables count)) (after done.0)) (sym is)
+      (count, refl, done.2),
+)
+
+-- a command that packs them
+pub pack_executed : (A : Type 0) (command : Command) (old : Store) (count : ℕ)
+    (new : List (List OpenTable)) (after : List Run → Store) → command ≡ Pack
+    → HasRuns new (λ rs. Packs old count (after rs))
+    → HasRuns new (λ rs. Executes {A = A} command old (Ok (Runs count)) (after rs))
+pack_executed A command old count new after is done = (
+  done.0,
+  done.1,
+  subst (λ (c : Command). Executes {A = A} c old (Ok (Runs count)) (after done.0)) (sym is)
+      (count, refl, done.2),
 )

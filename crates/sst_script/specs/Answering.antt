@@ -31,13 +31,6 @@ PrintEnds number (Some text) before after r =
     MatchResult r (λ _. Appends before after text)
     (λ stop. (stop ≡ Output) × AppendsFront before after text)
 
--- a command was executed, and its result printed, or not all of it, or the line is at fault
-abbrev pub ExecuteEnds : {X : Type 0} → (A : Type 0) → ℕ → Command → Store → Store
-    → Option (List ℕ) → Option (List ℕ) → Result X Stop → Type 0
-ExecuteEnds A number command old new before after r =
-    (outcome : Result (Answer A) Failure) × Executes command old outcome new
-    × PrintEnds number (outcome_text outcome) before after r
-
 -- a line is a command, and this is its execution
 abbrev pub Does : (A : Type 0) → List ℕ → Store → Result (Answer A) Failure → Store → Type 0
 Does A line old r new =

@@ -3,10 +3,8 @@ use Rattle.std.specs.Prelude.{◌≡◌, ℕ, Bool, IsTrue, List, [], ◌∷◌,
 use Rattle.std.specs.Prelude.{Result, MatchResult, ◌⊎◌, if◌then◌else◌}
 use Rattle.std.specs.Option.{option_map}
 use Rattle.sst_entries.specs.declared.error.Error.{Error}
-use Rattle.sst_entries.specs.declared.value_type.ValueType.{ValueType}
 use Rattle.sst_entries.specs.declared.error.Error.TheVariants.{OutOfMemory}
 use Rattle.sst_entries.specs.Entry.{Entry, entry}
-use Rattle.sst_entries.specs.Lending.{entry_of_ref}
 use Rattle.sst_entries.specs.Point.{point, within}
 use Rattle.lsm_sorted.specs.merge.Union.{newest}
 use Rattle.lsm_sorted.specs.version.KeyRange.{key_bound}
@@ -21,10 +19,10 @@ use Rattle.sst_script.specs.declared.command.Command.TheVariants.{Entry as Add, 
 use Rattle.sst_script.specs.declared.command.Command.TheVariants.{Compact, Pack}
 use Rattle.sst_script.specs.declared.print.Answer.{Answer}
 use Rattle.sst_script.specs.declared.print.Answer.TheVariants.{Silent, Tables, Runs as PackedInto}
-use Rattle.sst_script.specs.declared.print.Answer.TheVariants.{Found, Lines}
+use Rattle.sst_script.specs.declared.print.Answer.TheVariants.{Lines}
 use Rattle.sst_script.specs.declared.stop.Failure.{Failure}
 use Rattle.sst_script.specs.declared.stop.Failure.TheVariants.{BadLine, Refused}
-use Rattle.sst_script.specs.Answer.{entry_lines}
+use Rattle.sst_script.specs.Answer.{entry_lines, found_line}
 use Rattle.sst_script.specs.Runs.{Run, repeats, run_tables, union}
 
 -- the state of a script: the entries of the next run, the runs, newest first, and the next id
@@ -134,60 +132,30 @@ PacksRuns old r new =
 abbrev pub entry_failure : List Entry → List ℕ → ℕ → Failure
 entry_failure es key seqno = if may_be_written es key seqno then Refused OutOfMemory else BadLine
 
--- an entry was added to the pending ones; or it was not, and nothing changed
-abbrev pub AddsPending : {A : Type 0} → List ℕ → ℕ → ValueType → List ℕ → Store
-    → Result (Answer A) Failure → Store → Type 0
-AddsPending key seqno kind value old r new = MatchResult r
-    (λ a. (a ≡ Silent) × IsTrue (may_be_written old.pending key seqno)
-    × (new ≡ record old { pending = old.pending ++ entry key value seqno kind ∷ [] }))
-    (λ e. (e ≡ entry_failure old.pending key seqno) × (new ≡ old))
-
--- the pending entries were written, and the result is the number of tables; or they were dropped
-abbrev pub WritesTables : {A : Type 0} → Store → Result (Answer A) Failure → Store → Type 0
-WritesTables old r new = MatchResult r
-    (λ a. (count : ℕ) × (a ≡ Tables count) × Writes old count new)
-    (λ e. GivesUp old e new)
-
--- the runs were compacted to kept entries, and the result is the number of tables; or nothing
--- changed
-abbrev pub CompactsTables : {A : Type 0} → Store → List Entry → Result (Answer A) Failure → Store
-    → Type 0
-CompactsTables old left r new = MatchResult r
-    (λ a. (count : ℕ) × (a ≡ Tables count) × CompactsTo old left count new)
-    (λ e. FailsToCompact old left e new)
-
--- the runs were packed, and the result is their number; or nothing changed
-abbrev pub PacksTables : {A : Type 0} → Store → Result (Answer A) Failure → Store → Type 0
-PacksTables old r new = MatchResult r
-    (λ a. (count : ℕ) × (a ≡ PackedInto count) × Packs old count new)
-    (λ e. WantsMemory old e new)
-
--- a result is this entry, or none
-abbrev pub IsFound : {A : Type 0} → Option Entry → Answer A → Type 0
-IsFound found (Found e) = option_map entry_of_ref e ≡ found
-IsFound found answer = ⊥
-
--- a result is the lines of these entries
-abbrev pub AreListed : {A : Type 0} → List Entry → Answer A → Type 0
-AreListed es (Lines text) = text.items ≡ entry_lines es
-AreListed es answer = ⊥
-
--- a read found an entry or none; or it ran out of memory
-abbrev pub Finds : {A : Type 0} → Option Entry → Result (Answer A) Failure → Type 0
-Finds found r = MatchResult r (IsFound found) (λ e. e ≡ Refused OutOfMemory)
-
--- a read listed these entries; or it ran out of memory
-abbrev pub Lists : {A : Type 0} → List Entry → Result (Answer A) Failure → Type 0
-Lists es r = MatchResult r (AreListed es) (λ e. e ≡ Refused OutOfMemory)
+-- a result is this text
+abbrev pub IsText : {A : Type 0} → List ℕ → Answer A → Type 0
+IsText text (Lines v) = v.items ≡ text
+IsText text answer = ⊥
 
 -- a command's result, and the state after it
 abbrev pub Executes : {A : Type 0} → Command → Store → Result (Answer A) Failure → Store → Type 0
-Executes (Add key seqno kind value) old r new = AddsPending key.now seqno kind value.now old r new
-Executes Table old r new = WritesTables old r new
-Executes (Get key bound) old r new =
-    (new ≡ old) × Finds (point (union old.runs) key.now bound) r
-Executes (Range low high) old r new = (new ≡ old)
-    × Lists (newest (within (key_bound low) (key_bound high) (union old.runs))) r
+Executes (Add key seqno kind value) old r new = MatchResult r
+    (λ a. (a ≡ Silent) × IsTrue (may_be_written old.pending key.now seqno)
+    × (new ≡ record old { pending = old.pending ++ entry key.now value.now seqno kind ∷ [] }))
+    (λ e. (e ≡ entry_failure old.pending key.now seqno) × (new ≡ old))
+Executes Table old r new = MatchResult r
+    (λ a. (count : ℕ) × (a ≡ Tables count) × Writes old count new)
+    (λ e. GivesUp old e new)
+Executes (Get key bound) old r new = (new ≡ old) × MatchResult r
+    (λ a. IsText (found_line (point (union old.runs) key.now bound)) a)
+    (λ e. e ≡ Refused OutOfMemory)
+Executes (Range low high) old r new =
+    let found = newest (within (key_bound low) (key_bound high) (union old.runs)) in
+    (new ≡ old) × MatchResult r (λ a. IsText (entry_lines found) a) (λ e. e ≡ Refused OutOfMemory)
 Executes (Compact watermark evict zero) old r new =
-    CompactsTables old (kept_by watermark evict zero old.runs) r new
-Executes Pack old r new = PacksTables old r new
+    let left = kept_by watermark evict zero old.runs in MatchResult r
+    (λ a. (count : ℕ) × (a ≡ Tables count) × CompactsTo old left count new)
+    (λ e. FailsToCompact old left e new)
+Executes Pack old r new = MatchResult r
+    (λ a. (count : ℕ) × (a ≡ PackedInto count) × Packs old count new)
+    (λ e. WantsMemory old e new)

@@ -5,27 +5,24 @@ ghost use Rattle.sst_script.specs.Words as spec;
 use crate::stop::Stop;
 use crate::write::write_text;
 use itoa::Buffer;
-use sst_entries::{EntryRef, ValueType};
 use std::alloc::Allocator;
 use std::io::{Result, Write};
 
 /// The result of a command.
 #[derive(Drop)]
-pub enum Answer<'a, A: Allocator> {
+pub enum Answer<A: Allocator> {
     /// Nothing is printed.
     Silent,
     /// The number of tables written.
     Tables(u64),
     /// The number of runs into which the tables were packed.
     Runs(u64),
-    /// The entry that was found, borrowed from its table.
-    Found(Option<EntryRef<'a>>),
-    /// The lines of the entries that were read.
+    /// The lines of the entries that were read, or the line for none.
     Lines(Vec<u8, A>),
 }
 
 /// Prints a result; if writing fails, a prefix of it.
-pub fn print_answer<W: Write, A: Allocator>(output: &mut W, answer: &Answer<'_, A>) -> Result<()>
+pub fn print_answer<W: Write, A: Allocator>(output: &mut W, answer: &Answer<A>) -> Result<()>
     ensures { spec.ShowsText (W.contents output.old) (W.contents output.new) result
         (spec.answer_lines answer.now) }
 {
@@ -33,17 +30,8 @@ pub fn print_answer<W: Write, A: Allocator>(output: &mut W, answer: &Answer<'_, 
         Answer::Silent => Ok(()),
         Answer::Tables(count) => print_counted(output, b"tables ", *count),
         Answer::Runs(count) => print_counted(output, b"runs ", *count),
-        Answer::Found(Some(entry)) => print_entry(output, entry),
-        Answer::Found(None) => print_none(output),
         Answer::Lines(text) => write_text(output, text),
     }
-}
-
-/// Prints the line for no entry; if writing fails, a prefix of it.
-pub(crate) fn print_none<W: Write>(output: &mut W) -> Result<()>
-    ensures { spec.ShowsText (W.contents output.old) (W.contents output.new) result spec.none_line }
-{
-    write_text(output, b"none\n")
 }
 
 // Prints a line of a word and a number.
@@ -73,37 +61,5 @@ pub fn print_stop<W: Write>(errors: &mut W, stop: Stop) -> Result<()>
         Stop::Line(number) => print_counted(errors, b"sst: line ", number),
         Stop::Input => write_text(errors, b"sst: input\n"),
         Stop::Output => write_text(errors, b"sst: output\n"),
-    }
-}
-
-/// Prints the line of an entry: its key, seqno, kind and value. If writing fails, a prefix of it.
-pub(crate) fn print_entry<W: Write>(output: &mut W, entry: &EntryRef<'_>) -> Result<()>
-    ensures { spec.ShowsText (W.contents output.old) (W.contents output.new) result
-        (spec.entry_line (spec.entry_of_ref entry.now)) }
-{
-    write_text(output, printed(entry.user_key))?;
-    write_text(output, b" ")?;
-    write_text(output, Buffer::new().format(entry.seqno).as_bytes())?;
-    write_text(output, &[b' ', letter_of(entry.value_type), b' '])?;
-    write_text(output, printed(entry.value))?;
-    write_text(output, b"\n")
-}
-
-// The printed form of bytes: `-` for none.
-fn printed(bytes: &[u8]) -> &[u8]
-    ensures { result.now ≡ spec.printed bytes.now }
-{
-    if bytes.is_empty() { b"-" } else { bytes }
-}
-
-// The letter of a kind.
-fn letter_of(kind: ValueType) -> u8
-    ensures { result ≡ spec.letter_of kind }
-{
-    match kind {
-        ValueType::Value => b'V',
-        ValueType::Tombstone => b'T',
-        ValueType::WeakTombstone => b'W',
-        ValueType::Indirection => b'I',
     }
 }

@@ -3,27 +3,28 @@ ghost use Rattle.std.specs.Prelude.{◌≡◌, ◌+◌, ◌-◌, ◌<◌, ◌^�
 ghost use Rattle.std.specs.Prelude.{◌∷◌, [], map};
 ghost use Rattle.sst_script.specs.Words as spec;
 
-use crate::lines::lines_of_newest;
+use crate::lines::{line_of_found, lines_of_newest};
 use lsm_readers::Table;
 use lsm_runs::{get_runs_ref, lend_runs_at};
 use lsm_sorted::Run;
-use sst_blocks::{EntryRef, Error, InternalValue, SeqNo, Slice, UserKey};
+use sst_blocks::{Error, InternalValue, SeqNo, Slice, UserKey};
 use std::alloc::Allocator;
 use std::ops::Bound;
 use std::sync::Arc;
 
-/// Returns the newest version in the runs of a key visible at a seqno, borrowed from its table.
-/// Fails with `OutOfMemory` only.
-pub(crate) fn newest_entry<'a, A: Allocator + Clone>(
-    runs: &'a [Arc<Run<Table<A>, A>, A>],
+/// Returns the line of the newest version in the runs of a key visible at a seqno, or the line for
+/// none. Fails with `OutOfMemory` only.
+pub(crate) fn newest_line<A: Allocator + Clone>(
+    alloc: &A,
+    runs: &[Arc<Run<Table<A>, A>, A>],
     key: &[u8],
     bound: SeqNo,
-) -> Result<Option<EntryRef<'a>>, Error>
-    ensures { spec.ForRuns (map spec.arc_value runs.now) (λ rs.
-        spec.Gives (spec.option_map spec.entry_of_ref) result
-        (Ok (spec.point (spec.union rs) key.now bound))) }
+) -> Result<Vec<u8, A>, Error>
+    ensures { spec.ForRuns (map spec.arc_value runs.now) (λ rs. spec.Gives spec.vec_items result
+        (Ok (spec.found_line (spec.point (spec.union rs) key.now bound)))) }
 {
-    get_runs_ref(runs, key, bound)
+    let found = get_runs_ref(runs, key, bound)?;
+    line_of_found(alloc.clone()?, found)
 }
 
 /// Returns the lines of the newest version in the runs of each key within two bounds, or the line

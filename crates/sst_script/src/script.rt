@@ -4,7 +4,7 @@ ghost use Rattle.std.specs.Prelude.{map};
 ghost use Rattle.sst_script.specs.Words as spec;
 
 use crate::pending::{Pending, TARGET_SIZE};
-use crate::runs::{is_repeated, newest_entry, newest_lines, share, share_all, share_one};
+use crate::runs::{is_repeated, newest_line, newest_lines, share, share_all, share_one};
 use crate::{
     Answer, Command, Failure, Stop, parse_command, print_answer, print_refusal, print_stop,
 };
@@ -13,10 +13,9 @@ use lsm_runs::{compact_to_run, pack_runs};
 use lsm_sorted::Run;
 use lsm_sorted::compaction::Rules;
 use lsm_writers::TableIds;
-use sst_blocks::{SeqNo, Timestamp, ValueType};
+use sst_blocks::{SeqNo, Timestamp};
 use std::alloc::{AllocError, Allocator};
 use std::io::{BufRead, BufReader, Read, Write};
-use std::ops::Bound;
 use std::sync::Arc;
 use std::{io, mem};
 
@@ -102,7 +101,7 @@ fn strip_end<A: Allocator>(line: &mut Vec<u8, A>)
 fn print_outcome<W: Write, A: Allocator>(
     output: &mut W,
     number: u64,
-    outcome: &Result<Answer<'_, A>, Failure>,
+    outcome: &Result<Answer<A>, Failure>,
 ) -> Result<(), Stop>
     ensures { spec.PrintEnds number (spec.outcome_text outcome.now)
         (W.contents output.old) (W.contents output.new) result }
@@ -171,25 +170,19 @@ impl<A: Allocator + Clone> Script<A> {
             return Ok(());
         }
         let command = parse_command(line).ok_or(Stop::Line(number))?;
-        self.execute(command, number, output)
+        print_outcome(output, number, &self.execute(command))
     }
 
-    // Executes a command and prints its result.
-    fn execute<W: Write>(
-        &mut self,
-        command: Command<'_>,
-        number: u64,
-        output: &mut W,
-    ) -> Result<(), Stop>
+    // Executes a command. The lines of a read are collected first, so that a command that fails
+    // prints no entry.
+    fn execute(&mut self, command: Command<'_>) -> Result<Answer<A>, Failure>
         requires { spec.AreCompactable (map spec.arc_value self.old.runs.items) }
         ensures able { spec.AreCompactable (map spec.arc_value self.new.runs.items) }
-        ensures stops { IfErr result (λ stop. (stop ≡ spec.Line number) ⊎ (stop ≡ spec.Output)) }
         ensures done { spec.ForRuns (map spec.arc_value self.old.runs.items) (λ before.
             spec.HasRuns (map spec.arc_value self.new.runs.items) (λ after.
-            spec.ExecuteEnds A number command.entry
-            (spec.store self.old.pending before self.old.ids)
-            (spec.store self.new.pending after self.new.ids)
-            (W.contents output.old) (W.contents output.new) result)) }
+            spec.Executes command.entry
+            (spec.store self.old.pending before self.old.ids) result
+            (spec.store self.new.pending after self.new.ids))) }
     {
         match command {
             Command::Entry {
@@ -197,104 +190,30 @@ impl<A: Allocator + Clone> Script<A> {
                 seqno,
                 kind,
                 value,
-            } => print_outcome(output, number, &self.add(key, seqno, kind, value)),
-            Command::Table => print_outcome(output, number, &self.table()),
-            Command::Get { key, bound } => print_outcome(output, number, &self.get(key, bound)),
-            Command::Range { low, high } => print_outcome(output, number, &self.range(low, high)),
+            } => {
+                self.pending.add(key, seqno, kind, value)?;
+                Ok(Answer::Silent)
+            }
+            Command::Table => {
+                let written = self.write_table();
+                self.pending.clear();
+                Ok(Answer::Tables(written?))
+            }
+            Command::Get { key, bound } => {
+                let text = newest_line(&self.alloc, &self.runs, key, bound)?;
+                Ok(Answer::Lines(text))
+            }
+            Command::Range { low, high } => {
+                let text = newest_lines(&self.alloc, &self.runs, low, high)?;
+                Ok(Answer::Lines(text))
+            }
             Command::Compact {
                 watermark,
                 evict,
                 zero,
-            } => print_outcome(output, number, &self.compact(watermark, evict, zero)),
-            Command::Pack => print_outcome(output, number, &self.pack()),
+            } => Ok(Answer::Tables(self.compact(watermark, evict, zero)?)),
+            Command::Pack => Ok(Answer::Runs(self.pack()?)),
         }
-    }
-
-    // Reads the newest version of a key visible at a seqno, borrowed from its table.
-    fn get(&self, key: &[u8], bound: SeqNo) -> Result<Answer<'_, A>, Failure>
-        ensures { spec.ForRuns (map spec.arc_value self.now.runs.items) (λ runs.
-            spec.Finds (spec.point (spec.union runs) key.now bound) result) }
-    {
-        let found = newest_entry(&self.runs, key, bound)?;
-        Ok(Answer::Found(found))
-    }
-
-    // Lists the newest version of each key within two bounds.
-    fn range(&self, low: Bound<&[u8]>, high: Bound<&[u8]>) -> Result<Answer<'static, A>, Failure>
-        requires { spec.AreCompactable (map spec.arc_value self.now.runs.items) }
-        ensures { let from = spec.key_bound low.entry in let to = spec.key_bound high.entry in
-            spec.ForRuns (map spec.arc_value self.now.runs.items) (λ runs.
-            spec.Lists (spec.newest (spec.within from to (spec.union runs))) result) }
-    {
-        let text = newest_lines(&self.alloc, &self.runs, low, high)?;
-        Ok(Answer::Lines(text))
-    }
-
-    // Adds a pending entry.
-    fn add(
-        &mut self,
-        key: &[u8],
-        seqno: SeqNo,
-        kind: ValueType,
-        value: &[u8],
-    ) -> Result<Answer<'static, A>, Failure>
-        requires { spec.AreCompactable (map spec.arc_value self.old.runs.items) }
-        ensures able { spec.AreCompactable (map spec.arc_value self.new.runs.items) }
-        ensures done { spec.ForRuns (map spec.arc_value self.old.runs.items) (λ before.
-            spec.HasRuns (map spec.arc_value self.new.runs.items) (λ after.
-            spec.AddsPending key.now seqno kind value.now
-            (spec.store self.old.pending before self.old.ids) result
-            (spec.store self.new.pending after self.new.ids))) }
-    {
-        self.pending.add(key, seqno, kind, value)?;
-        Ok(Answer::Silent)
-    }
-
-    // Writes the pending entries as a run and clears them, also after an error.
-    fn table(&mut self) -> Result<Answer<'static, A>, Failure>
-        requires { spec.AreCompactable (map spec.arc_value self.old.runs.items) }
-        ensures able { spec.AreCompactable (map spec.arc_value self.new.runs.items) }
-        ensures done { spec.ForRuns (map spec.arc_value self.old.runs.items) (λ before.
-            spec.HasRuns (map spec.arc_value self.new.runs.items) (λ after.
-            spec.WritesTables
-            (spec.store self.old.pending before self.old.ids) result
-            (spec.store self.new.pending after self.new.ids))) }
-    {
-        let written = self.write_table();
-        self.pending.clear();
-        Ok(Answer::Tables(written?))
-    }
-
-    // Compacts the runs.
-    fn compact(
-        &mut self,
-        watermark: SeqNo,
-        evict: bool,
-        zero: bool,
-    ) -> Result<Answer<'static, A>, Failure>
-        requires { spec.AreCompactable (map spec.arc_value self.old.runs.items) }
-        ensures able { spec.AreCompactable (map spec.arc_value self.new.runs.items) }
-        ensures done { spec.ForRuns (map spec.arc_value self.old.runs.items) (λ before.
-            spec.HasRuns (map spec.arc_value self.new.runs.items) (λ after.
-            spec.CompactsTables
-            (spec.store self.old.pending before self.old.ids)
-            (spec.kept_by watermark evict zero before) result
-            (spec.store self.new.pending after self.new.ids))) }
-    {
-        Ok(Answer::Tables(self.compact_runs(watermark, evict, zero)?))
-    }
-
-    // Packs the runs.
-    fn pack(&mut self) -> Result<Answer<'static, A>, Failure>
-        requires { spec.AreCompactable (map spec.arc_value self.old.runs.items) }
-        ensures able { spec.AreCompactable (map spec.arc_value self.new.runs.items) }
-        ensures done { spec.ForRuns (map spec.arc_value self.old.runs.items) (λ before.
-            spec.HasRuns (map spec.arc_value self.new.runs.items) (λ after.
-            spec.PacksTables
-            (spec.store self.old.pending before self.old.ids) result
-            (spec.store self.new.pending after self.new.ids))) }
-    {
-        Ok(Answer::Runs(self.pack_all()?))
     }
 
     // Writes the pending entries as a run, and returns the number of its tables. After an error the
@@ -328,7 +247,7 @@ impl<A: Allocator + Clone> Script<A> {
 
     // Replaces all runs by the run of what is kept of them, none if nothing is kept, and returns
     // the number of its tables. After an error the runs and the next id are unchanged.
-    fn compact_runs(&mut self, watermark: SeqNo, evict: bool, zero: bool) -> Result<u64, Failure>
+    fn compact(&mut self, watermark: SeqNo, evict: bool, zero: bool) -> Result<u64, Failure>
         requires { spec.AreCompactable (map spec.arc_value self.old.runs.items) }
         ensures able { spec.AreCompactable (map spec.arc_value self.new.runs.items) }
         ensures done { spec.ForRuns (map spec.arc_value self.old.runs.items) (λ before.
@@ -364,7 +283,7 @@ impl<A: Allocator + Clone> Script<A> {
 
     // Puts the tables of all runs in as few runs as possible, and returns their number. Fails with
     // `OutOfMemory` only; the runs are unchanged then.
-    fn pack_all(&mut self) -> Result<u64, Failure>
+    fn pack(&mut self) -> Result<u64, Failure>
         requires { spec.AreCompactable (map spec.arc_value self.old.runs.items) }
         ensures able { spec.AreCompactable (map spec.arc_value self.new.runs.items) }
         ensures done { spec.ForRuns (map spec.arc_value self.old.runs.items) (λ before.

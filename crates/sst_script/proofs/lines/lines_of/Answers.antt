@@ -13,7 +13,7 @@ returns-then-not-is_empty g c es yields =
 
 pub returns : goal.returns
 returns g c es yields =
-    ap (λ (text : List ℕ). Ok text) (sym (none_are es c.add_lines.new.text.items c.add_none.new.text.items
+    ap (λ (text : List ℕ). Ok text) (sym (none_are es c.add_lines.new.text.items c.extend_from_slice.new.self.items
     (c.in_ok-add_lines.ensures.lines es yields ∙ ap (λ (text : List ℕ). text ++ flat_map entry_line es) c.new-text.ensures.items)
     (ap (λ (n : ℕ). n == 0) (sym c.add_lines.new.text.ok.0) ∙ sym c.if-not-is_empty.ensures)
-    c.in_ok-add_none.ensures.line))
+    c.in_ok-extend_from_slice.ensures.items))
