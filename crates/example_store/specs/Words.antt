@@ -9,7 +9,8 @@ pub use Rattle.lsm_tables.specs.Words.{YieldsList, Entry, Gives, HasList, HaveAl
 pub use Rattle.lsm_tables.specs.Words.{HoldLists, HoldUnion, IsInOrder, IsLeastSize, IsStrict}
 pub use Rattle.lsm_tables.specs.Words.{IsWritable, OpenTable, Refuses, RunsHoldLists, SameTables}
 pub use Rattle.lsm_tables.specs.Words.{StoresList, Tombstone, Value, all_shown, entry, entry_of_ref}
-pub use Rattle.lsm_tables.specs.Words.{front_length, ids_behind, is_before, is_from, is_memory, is_to, is_weak}
+pub use Rattle.lsm_tables.specs.Words.{front_length, ids_behind, is_before, is_from, is_memory}
+pub use Rattle.lsm_tables.specs.Words.{is_to, is_weak}
 pub use Rattle.lsm_tables.specs.Words.{is_weak_kind, joined, kept_in, newest, nowhere}
 pub use Rattle.lsm_tables.specs.Words.{numbered_below, ok_results, range_of, read_place}
 pub use Rattle.lsm_tables.specs.Words.{recovered_result, rules_by, run_label, shown, single}

@@ -15,7 +15,7 @@ mod range;
 use crate::memtable::Memtable;
 pub use close::Closed;
 use lsm_tables::block::{EntryRef, Error, InternalValue, SeqNo, Slice, ValueType};
-use lsm_tables::run::{Run, get_runs_ref, write_run};
+use lsm_tables::run::{Run, get_runs_ref_by_age, write_run};
 use lsm_tables::table::{Table, TableIds, Timestamp};
 pub use open::{FileFault, OpenError};
 pub use range::Range;
@@ -444,7 +444,7 @@ fn find_in<'a, A: Allocator + Clone>(
     if let Some(entry) = memtable.get(key, seqno) {
         return Ok(Some(entry));
     }
-    get_runs_ref(runs, key, seqno)
+    get_runs_ref_by_age(runs, key, seqno)
 }
 
 // The value of an entry that is no tombstone.

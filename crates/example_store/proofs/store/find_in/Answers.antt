@@ -14,7 +14,7 @@ returns-in-Some g c lists hold =
 pub returns : goal.returns
 returns g c lists hold =
     let key = c.args.key.now in
-    subst (λ (o : Option Entry). Gives (option_map entry_of_ref) c.get_runs_ref.result (Ok o))
+    subst (λ (o : Option Entry). Gives (option_map entry_of_ref) c.get_runs_ref_by_age.result (Ok o))
     (sym (point_behind key c.args.seqno c.args.memtable.now (union_in lists)
     ∙ ap (λ (o : Option Entry). option_or o (point (union_in lists) key c.args.seqno)) (sym c.get.ensures ∙ ap (option_map entry_of_ref) c.in_default.is)))
-    (c.get_runs_ref.ensures.list lists hold)
+    (c.get_runs_ref_by_age.ensures.list lists hold)
