@@ -450,7 +450,7 @@ fn find_in<'a, A: Allocator + Clone>(
 // The value of an entry that is no tombstone.
 fn value_of<'a>(found: Option<EntryRef<'a>>) -> Option<&'a [u8]>
     ensures { spec.option_copied result
-        ≡ spec.option_map (λ v. v.1) (spec.shown (spec.option_map spec.entry_of_ref found)) }
+        ≡ spec.option_map (λ v. v.1) (spec.shown (spec.option_map spec.entry_of_ref found.entry)) }
 {
     let Some(entry) = found else {
         return None;
