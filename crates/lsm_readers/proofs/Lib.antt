@@ -9,7 +9,6 @@ pub mod AskedReads
 pub mod ReadViews
 pub mod ManyReads
 pub mod BatchReads
-pub mod PlaceReads
 pub mod ChunkReads
 pub mod PartReads
 pub mod FilterReads
@@ -42,7 +41,6 @@ pub mod StoredParts
 pub mod StoredOne
 pub mod FileStored
 pub mod TableRanges
-pub mod Sizes
 pub mod ManyOfList
 pub mod ByKey
 pub mod LentReads

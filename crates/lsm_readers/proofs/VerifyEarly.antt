@@ -1,16 +1,15 @@
 -- What a verification finds before memory is taken.
-use Rattle.std.proofs.Common.{◌≡◌, ℕ, zero, suc, ◌+◌, ◌<◌, ◌≤◌, Bool, true, false, cond, List, []}
-use Rattle.std.proofs.Common.{◌∷◌, length, map, refl, sym, ap, ◌∙◌, arith}
+use Rattle.std.proofs.Common.{◌≡◌, ℕ, ◌+◌, Bool, true, false, cond, List, [], ◌∷◌, length, refl}
+use Rattle.std.proofs.Common.{sym, ap, ◌∙◌}
 use Rattle.std.specs.Prelude.{◌==◌, ◌||◌, not, nat_lt, Option, Some, None, Result, Ok, Err}
 use Rattle.std.specs.Prelude.{IfErr}
 use Rattle.std.specs.Prelude.{slice_index, slice_range}
-use Rattle.std.specs.List.{slice_get}
-use Rattle.std.specs.Option.{option_map, option_or}
+use Rattle.std.specs.Option.{option_or}
 use Rattle.std.specs.Result.{IsErrAnd}
 use Rattle.sst_blocks.specs.Fnv.{fnv1a}
 use Rattle.sst_blocks.specs.declared.section.SectionName.{SectionName}
-use Rattle.sst_blocks.specs.declared.section.SectionName.TheVariants.{Filter as FilterSection}
 use Rattle.sst_blocks.specs.declared.section.SectionName.TheVariants.{Index as IndexSection}
+use Rattle.sst_blocks.specs.declared.section.SectionName.TheVariants.{Tli as TopSection}
 use Rattle.sst_entries.specs.declared.error.Error.{Error}
 use Rattle.sst_entries.specs.declared.error.Error.TheVariants.{ChecksumMismatch, InvalidBlock}
 use Rattle.sst_entries.specs.declared.error.Error.TheVariants.{InvalidHeader, InvalidTag}
@@ -19,7 +18,7 @@ use Rattle.sst_entries.specs.declared.error.Error.TheVariants.{Truncated, Unsupp
 use Rattle.sst_entries.specs.declared.error.TagName.TheVariants.{BlockType as BlockTypeTag}
 use Rattle.sst_entries.specs.Error.{is_memory}
 use Rattle.sst_blocks.specs.declared.block_type.BlockType.{BlockType}
-use Rattle.sst_blocks.specs.declared.block_type.BlockType.TheVariants.{Filter, Index}
+use Rattle.sst_blocks.specs.declared.block_type.BlockType.TheVariants.{Index}
 use Rattle.sst_blocks.specs.Block.{data_len, has_room, header_fault, header_len, place_fault}
 use Rattle.sst_blocks.specs.Block.{position_fault, stored_checksum, uncompressed_len, version_in}
 use Rattle.sst_blocks.specs.Handle.{Handle}
@@ -28,11 +27,11 @@ use Rattle.lsm_readers.specs.declared.verify.Fault.TheVariants.{Unloaded}
 use Rattle.lsm_readers.specs.declared.verify.Finding.{Finding}
 use Rattle.lsm_readers.specs.declared.verify.VerifyError.{VerifyError}
 use Rattle.lsm_readers.specs.declared.verify.VerifyError.TheVariants.{Found, OutOfMemory}
-use Rattle.lsm_readers.specs.Verify.{FindsFirst, early_at, early_filters, early_from}
+use Rattle.lsm_readers.specs.Verify.{FindsFirst, early_at, early_filters, early_from, table_early}
 use Rattle.lsm_readers.specs.point.Parts.{Parts}
 use Rattle.lsm_readers.specs.Verify.{Finds, Misses, Unread, finding, is_found, load_refusal}
-use Rattle.lsm_readers.specs.Verification.{StepsCalmly, chunk_early, found_or, in_index}
-use Rattle.lsm_readers.specs.Verification.{step_early}
+use Rattle.lsm_readers.specs.Verification.{StepsCalmly, before_index, chunk_early, found_or}
+use Rattle.lsm_readers.specs.Verification.{in_index, places_in, step_early}
 
 -- ---- what a load finds before memory is taken is no want of memory
 
@@ -150,70 +149,6 @@ pub passes_first : {X : Type 0} (r : Result X VerifyError) (e : VerifyError)
 passes_first (Ok x) e early is first = absurd is
 passes_first (Err d) e early is first = λ f h. is ∙ first f h
 
--- ---- the filter's blocks
-
--- the first of them, where there is one, or what is behind them
-pub filters_first : (body : List ℕ) (places : List Place) (behind : Option Finding)
-    (e : VerifyError) → ((f : Finding) → early_filters body places None ≡ Some f → e ≡ Found f)
-    → (places ≡ [] → false ≡ true)
-    → (f : Finding) → early_filters body places behind ≡ Some f → e ≡ Found f
-filters_first body [] behind e first some f h =
-    absurd (let no : false ≡ true = some refl in cc)
-filters_first body (place ∷ places) behind e first some f h = first f h
-
-pub filters_behind : (body : List ℕ) (places : List Place) (behind : Option Finding)
-    (P : Finding → Type 0) → ((f : Finding) → early_filters body places None ≡ Some f → ⊥)
-    → ((f : Finding) → behind ≡ Some f → P f)
-    → (f : Finding) → early_filters body places behind ≡ Some f → P f
-filters_behind body [] behind P none next f h = next f h
-filters_behind body (place ∷ places) behind P none next f h = absurd (none f h)
-
--- by the handles of a top level, one after another
-module _ (body : List ℕ) where
-  abbrev early_tops : List Handle → Option Finding
-  early_tops tops = early_filters body (map place_of tops) None
-
-  at_first : (tops : List Handle) (place : Place)
-      → option_map place_of (slice_get tops 0) ≡ Some place
-      → early_tops tops ≡ early_at body FilterSection place Filter
-  at_first [] place here = absurd cc
-  at_first (top ∷ tops) place here =
-      let same : place_of top ≡ place = cc in
-      ap (λ (p : Place). early_at body FilterSection p Filter) same
-
-  -- nothing is found so where some of them were read
-  abbrev pub Passed : List Handle → ℕ → Type 0
-  Passed tops i = 0 < i → (f : Finding) → early_tops tops ≡ Some f → ⊥
-
-  pub passed_none : (tops : List Handle) → Passed tops 0
-  passed_none tops some = absurd (omega (arith, some))
-
-  pub passed_more : (tops : List Handle) (i : ℕ) (place : Place)
-      → option_map place_of (slice_get tops i) ≡ Some place → Passed tops i
-      → ((f : Finding) → early_at body FilterSection place Filter ≡ Some f → ⊥)
-      → Passed tops (i + 1)
-  passed_more tops zero place here before none some f h =
-      none f (sym (at_first tops place here) ∙ h)
-  passed_more tops (suc i) place here before none some f h = before (omega arith) f h
-
-  pub passed_err : (tops : List Handle) (i : ℕ) (place : Place) (e : VerifyError)
-      → option_map place_of (slice_get tops i) ≡ Some place → Passed tops i
-      → ((f : Finding) → early_at body FilterSection place Filter ≡ Some f → e ≡ Found f)
-      → (f : Finding) → early_tops tops ≡ Some f → e ≡ Found f
-  passed_err tops zero place e here before first f h =
-      first f (sym (at_first tops place here) ∙ h)
-  passed_err tops (suc i) place e here before first f h = absurd (before (omega arith) f h)
-
-  pub passed_all : (tops : List Handle) (i : ℕ) → length tops ≤ i → Passed tops i
-      → (f : Finding) → early_tops tops ≡ Some f → ⊥
-  passed_all [] i far before f h = absurd cc
-  passed_all (top ∷ tops) i far before f h = before (omega (arith, far)) f h
-
-pub some_place : (tops : List Handle) (i : ℕ) (place : Place)
-    → option_map place_of (slice_get tops i) ≡ Some place → map place_of tops ≡ [] → ⊥
-some_place [] i place here none = absurd cc
-some_place (top ∷ tops) i place here none = absurd cc
-
 -- ---- tests that take no memory
 
 -- a test that found something
@@ -241,6 +176,16 @@ or_last view (Ok x) returned states calm = λ f h.
 or_last view (Err e) returned states calm = or_first returned None e states calm
 
 -- ---- a step
+
+-- the first step finds what is found of the whole table
+pub first_step : (body : List ℕ) (parts : Parts) (left : Unread)
+    → step_early body parts (before_index (places_in parts)) left ≡ table_early body parts
+first_step body parts left = go (places_in parts)
+  where
+    go : (places : List Place) → step_early body parts (before_index places) left
+        ≡ early_filters body places (early_at body TopSection parts.regions.tli Index)
+    go [] = refl
+    go (place ∷ places) = refl
 
 module _ (body : List ℕ) (parts : Parts) (left : Unread) where
   -- at a data block,

@@ -1,9 +1,8 @@
--- Steps that are taken one after another over a list, by their places: what is found in the whole
--- of it is found in what is left of it.
+-- Entries that are read one after another, by their places: what is found in all of them is found
+-- in those that are left.
 use Rattle.std.proofs.Common.{◌≡◌, ℕ, zero, suc, ◌+◌, ◌<◌, ◌≤◌, List, [], ◌∷◌, length, map, drop}
 use Rattle.std.proofs.Common.{Bool, true, false, cond, refl, sym, ap, ◌∙◌, arith}
 use Rattle.std.specs.Prelude.{Option, None, Some, Result, Ok, Err}
-use Rattle.std.specs.Option.{option_map}
 use Rattle.std.specs.List.{slice_get}
 use Rattle.std.specs.Result.{IsErrAnd}
 use Rattle.std.proofs.lemmas.List.{drop_all, drop_more}
@@ -20,12 +19,10 @@ use Rattle.sst_entries.specs.Entry.{Entry}
 use Rattle.sst_entries.specs.Strict.{last_of}
 use Rattle.sst_blocks.specs.Handle.{Handle}
 use Rattle.sst_blocks.specs.Handles.{end_of}
-use Rattle.sst_blocks.specs.Place.{Place, place_of}
 use Rattle.lsm_readers.specs.point.Parts.{Parts}
-use Rattle.lsm_readers.specs.Verify.{◌>>=◌, Finds, Unread, Misses, block_found, load_refusal}
-use Rattle.lsm_readers.specs.Verify.{blocks_found, end_named, entries_found, entry_found}
-use Rattle.lsm_readers.specs.Verify.{filter_found, finding, last_named, located, part_found}
-use Rattle.lsm_readers.specs.Verify.{parts_found, top_named, tops_found}
+use Rattle.lsm_readers.specs.Verify.{◌>>=◌, Finds, Unread, Misses, load_refusal}
+use Rattle.lsm_readers.specs.Verify.{end_named, entries_found, entry_found}
+use Rattle.lsm_readers.specs.Verify.{finding, last_named, located, top_named}
 use Rattle.lsm_readers.specs.declared.verify.Fault.TheVariants.{Hollow, Unloaded}
 
 -- the list from a place on
@@ -84,132 +81,33 @@ misses_at {X} section offset error e returned is fails = go (is_memory error) re
         (located section offset returned) (is ∙ ap (fault_by section offset error) memory)
         (ap (λ (r : Result X Error). located section offset r) (fails memory))
 
--- ---- one step after another
+-- ---- one entry after another
 
-module _ {S X : Type 0} (step : S → X → Result S Finding) (all : S → List X → Result S Finding)
-    (none : (s : S) → all s [] ≡ Ok s)
-    (more : (s : S) (x : X) (xs : List X) → all s (x ∷ xs) ≡ (step s x >>= λ t. all t xs)) where
-  from_place : (s : S) (xs : List X) (i : ℕ) (x : X) → slice_get xs i ≡ Some x
-      → all s (drop i xs) ≡ (step s x >>= λ t. all t (drop (i + 1) xs))
-  from_place s xs i x here = ap (all s) (drop_at xs i x here) ∙ more s x (drop (i + 1) xs)
+module _ (body : List ℕ) (parts : Parts) (at : ℕ) (left : Unread) (es : List Entry) where
+  abbrev behind : ℕ → Result Unread Finding → Result Unread Finding
+  behind i r = r >>= λ left. entries_found body parts at left (drop (i + 1) es)
 
-  pub next_place : (s : S) (xs : List X) (i : ℕ) (x : X) (t : S) → slice_get xs i ≡ Some x
-      → step s x ≡ Ok t → all s (drop i xs) ≡ all t (drop (i + 1) xs)
-  next_place s xs i x t here is = from_place s xs i x here
-      ∙ ap (λ (r : Result S Finding). r >>= λ u. all u (drop (i + 1) xs)) is
+  from_place : (i : ℕ) (e : Entry) → slice_get es i ≡ Some e
+      → entries_found body parts at left (drop i es)
+      ≡ behind i (entry_found body parts at left e)
+  unfolding entries_found
+  from_place i e here = ap (entries_found body parts at left) (drop_at es i e here)
 
-  pub miss_place : (s : S) (xs : List X) (i : ℕ) (x : X) (e : VerifyError)
-      → slice_get xs i ≡ Some x → Misses e (step s x) → Misses e (all s (drop i xs))
-  miss_place s xs i x e here misses = λ f found. from_place s xs i x here
-      ∙ ap (λ (r : Result S Finding). r >>= λ u. all u (drop (i + 1) xs)) (misses f found)
+  pub entries_next : (i : ℕ) (e : Entry) (next : Unread) → slice_get es i ≡ Some e
+      → entry_found body parts at left e ≡ Ok next
+      → entries_found body parts at left (drop i es)
+      ≡ entries_found body parts at next (drop (i + 1) es)
+  entries_next i e next here is = from_place i e here ∙ ap (behind i) is
 
-  pub last_place : (s : S) (xs : List X) (i : ℕ) → length xs ≤ i → all s (drop i xs) ≡ Ok s
-  last_place s xs i far = ap (all s) (drop_all i xs far) ∙ none s
+  pub entries_miss : (i : ℕ) (e : Entry) (v : VerifyError) → slice_get es i ≡ Some e
+      → Misses v (entry_found body parts at left e)
+      → Misses v (entries_found body parts at left (drop i es))
+  entries_miss i e v here misses = λ f found. from_place i e here ∙ ap (behind i) (misses f found)
 
--- ---- entries, data blocks and partitions
-
-module _ (body : List ℕ) (parts : Parts) where
-  module _ (at : ℕ) (left : Unread) (es : List Entry) where
-    pub entries_next : (i : ℕ) (e : Entry) (next : Unread) → slice_get es i ≡ Some e
-        → entry_found body parts at left e ≡ Ok next
-        → entries_found body parts at left (drop i es)
-        ≡ entries_found body parts at next (drop (i + 1) es)
-    unfolding entries_found
-    entries_next = next_place (entry_found body parts at) (entries_found body parts at)
-        (λ s. refl) (λ s x xs. refl) left es
-
-    pub entries_miss : (i : ℕ) (e : Entry) (v : VerifyError) → slice_get es i ≡ Some e
-        → Misses v (entry_found body parts at left e)
-        → Misses v (entries_found body parts at left (drop i es))
-    unfolding entries_found
-    entries_miss = miss_place (entry_found body parts at) (entries_found body parts at)
-        (λ s. refl) (λ s x xs. refl) left es
-
-    pub entries_last : (i : ℕ) → length es ≤ i
-        → entries_found body parts at left (drop i es) ≡ Ok left
-    unfolding entries_found
-    entries_last = last_place (entry_found body parts at) (entries_found body parts at)
-        (λ s. refl) (λ s x xs. refl) left es
-
-  module _ (left : Unread) (hs : List Handle) where
-    pub blocks_next : (i : ℕ) (h : Handle) (next : Unread) → slice_get hs i ≡ Some h
-        → block_found body parts left h ≡ Ok next
-        → blocks_found body parts left (drop i hs)
-        ≡ blocks_found body parts next (drop (i + 1) hs)
-    unfolding blocks_found
-    blocks_next = next_place (block_found body parts) (blocks_found body parts)
-        (λ s. refl) (λ s x xs. refl) left hs
-
-    pub blocks_miss : (i : ℕ) (h : Handle) (v : VerifyError) → slice_get hs i ≡ Some h
-        → Misses v (block_found body parts left h)
-        → Misses v (blocks_found body parts left (drop i hs))
-    unfolding blocks_found
-    blocks_miss = miss_place (block_found body parts) (blocks_found body parts)
-        (λ s. refl) (λ s x xs. refl) left hs
-
-    pub blocks_last : (i : ℕ) → length hs ≤ i
-        → blocks_found body parts left (drop i hs) ≡ Ok left
-    unfolding blocks_found
-    blocks_last = last_place (block_found body parts) (blocks_found body parts)
-        (λ s. refl) (λ s x xs. refl) left hs
-
-    pub parts_next : (i : ℕ) (h : Handle) (next : Unread) → slice_get hs i ≡ Some h
-        → part_found body parts left h ≡ Ok next
-        → parts_found body parts left (drop i hs)
-        ≡ parts_found body parts next (drop (i + 1) hs)
-    unfolding parts_found
-    parts_next = next_place (part_found body parts) (parts_found body parts)
-        (λ s. refl) (λ s x xs. refl) left hs
-
-    pub parts_miss : (i : ℕ) (h : Handle) (v : VerifyError) → slice_get hs i ≡ Some h
-        → Misses v (part_found body parts left h)
-        → Misses v (parts_found body parts left (drop i hs))
-    unfolding parts_found
-    parts_miss = miss_place (part_found body parts) (parts_found body parts)
-        (λ s. refl) (λ s x xs. refl) left hs
-
-    pub parts_last : (i : ℕ) → length hs ≤ i
-        → parts_found body parts left (drop i hs) ≡ Ok left
-    unfolding parts_found
-    parts_last = last_place (part_found body parts) (parts_found body parts)
-        (λ s. refl) (λ s x xs. refl) left hs
-
--- ---- the filters of a top level
-
-placed : (o : Option Handle) (place : Place) → option_map place_of o ≡ Some place
-    → (top : Handle) × (o ≡ Some top) × (place_of top ≡ place)
-placed None place is = absurd cc
-placed (Some top) place is = (top, refl, cc)
-
-module _ (body : List ℕ) (tops : List Handle) (i : ℕ) (place : Place)
-    (here : option_map place_of (slice_get tops i) ≡ Some place) where
-  abbrev step : Unit {0} → Handle → Result (Unit {0}) Finding
-  step u top = filter_found body (place_of top)
-
-  abbrev all : Unit {0} → List Handle → Result (Unit {0}) Finding
-  all u hs = tops_found body hs
-
-  pub tops_next : (u : Unit {0}) → filter_found body place ≡ Ok u
-      → tops_found body (drop i tops) ≡ tops_found body (drop (i + 1) tops)
-  unfolding tops_found
-  tops_next u is =
-      let top = placed (slice_get tops i) place here in
-      next_place step all (λ s. refl) (λ s x xs. refl) tt tops i top.0 u top.1
-      (ap (filter_found body) top.2 ∙ is)
-
-  pub tops_miss : (v : VerifyError) → Misses v (filter_found body place)
-      → Misses v (tops_found body (drop i tops))
-  unfolding tops_found
-  tops_miss v misses =
-      let top = placed (slice_get tops i) place here in
-      miss_place step all (λ s. refl) (λ s x xs. refl) tt tops i top.0 v top.1
-      (λ f found. ap (filter_found body) top.2 ∙ misses f found)
-
-pub tops_last : (body : List ℕ) (tops : List Handle) (i : ℕ) → length tops ≤ i
-    → tops_found body (drop i tops) ≡ Ok tt
-unfolding tops_found
-tops_last body tops = last_place (λ (u : Unit {0}) (top : Handle). filter_found body (place_of top))
-    (λ (u : Unit {0}) (hs : List Handle). tops_found body hs) (λ s. refl) (λ s x xs. refl) tt tops
+  pub entries_last : (i : ℕ) → length es ≤ i
+      → entries_found body parts at left (drop i es) ≡ Ok left
+  unfolding entries_found
+  entries_last i far = ap (entries_found body parts at left) (drop_all i es far)
 
 -- ---- the last handle of a partition
 

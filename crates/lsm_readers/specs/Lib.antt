@@ -4,7 +4,6 @@ pub mod Stored
 pub mod BlockIndexes
 pub mod Scan
 pub mod Ranges
-pub mod Sizes
 pub mod Words
 pub mod Verify
 pub mod Findings

@@ -42,7 +42,6 @@ pub use Rattle.lsm_readers.specs.point.Table.{pinned_of}
 pub use Rattle.lsm_iters.specs.block_index.Yielded.{YieldsEnding}
 pub use Rattle.lsm_readers.specs.Ranges.{IsRangeOf, LoadsAtMost, YieldsAll, YieldsWithin}
 pub use Rattle.lsm_readers.specs.Ranges.{blocks_within, index_within, range_results}
-pub use Rattle.lsm_readers.specs.Sizes.{size_of, size_result, size_within, sizes_result}
 pub use Rattle.std.specs.Arc.{arc_value}
 pub use Rattle.std.specs.Iterator.{IsFinite, at_most}
 pub use Rattle.std.specs.List.{All, slice_get}
@@ -59,7 +58,6 @@ pub use Rattle.sst_blocks.specs.EntryPlace.{IsPlacedIn, entry_placed, placed_in}
 pub use Rattle.sst_blocks.specs.Fnv.{fnv1a}
 pub use Rattle.sst_blocks.specs.Starts.{HoldsEntries}
 pub use Rattle.sst_blocks.specs.declared.block_type.BlockType.TheVariants.{Data, Index, Meta}
-pub use Rattle.sst_blocks.specs.declared.section.SectionName.TheVariants.{Tli}
 pub use Rattle.sst_blocks.specs.table.Facts.{is_reclaimable, is_weak, starts_key}
 pub use Rattle.lsm_iters.specs.Bounds.{lower_edge, upper_edge}
 pub use Rattle.lsm_iters.specs.block_index.Index.{on_demand, two_level}
@@ -73,25 +71,24 @@ pub use Rattle.lsm_readers.specs.Verification.{next_size, places_in, step_early,
 pub use Rattle.lsm_readers.specs.Verification.{verifying}
 unfoldable pub use Rattle.lsm_readers.specs.Verification.{partition_found, rest_found}
 pub use Rattle.lsm_readers.specs.Verify.{Finds, FindsFirst, Misses, Unread as UnreadLeft, admitted}
-pub use Rattle.lsm_readers.specs.Verify.{chunk_found, early_at, early_filters, end_named}
-pub use Rattle.lsm_readers.specs.Verify.{filter_found, filter_places, filters_found, finding}
+pub use Rattle.lsm_readers.specs.Verify.{chunk_found, early_at, end_named}
+pub use Rattle.lsm_readers.specs.Verify.{filter_found, finding}
 pub use Rattle.lsm_readers.specs.Verify.{first_found, handles_found, is_found, key_found, key_same}
 pub use Rattle.lsm_readers.specs.Verify.{last_named, load_refusal, order_found, other_checksum}
 pub use Rattle.lsm_readers.specs.Verify.{passed, place_found, same_found, spent, table_early}
 pub use Rattle.lsm_readers.specs.Verify.{top_named, unnamed_found, unread_of, verified_of}
-unfoldable pub use Rattle.lsm_readers.specs.Verify.{all_found, block_found, block_spent}
+unfoldable pub use Rattle.lsm_readers.specs.Verify.{block_found, block_spent}
 unfoldable pub use Rattle.lsm_readers.specs.Verify.{blocks_found, contents_found, counted_found}
 unfoldable pub use Rattle.lsm_readers.specs.Verify.{counts_found, end_found, entries_found}
 unfoldable pub use Rattle.lsm_readers.specs.Verify.{entry_found, entry_spent, entry_tested}
-unfoldable pub use Rattle.lsm_readers.specs.Verify.{index_found, part_found, parts_found}
-unfoldable pub use Rattle.lsm_readers.specs.Verify.{table_found, tops_found}
+unfoldable pub use Rattle.lsm_readers.specs.Verify.{table_found}
 pub use Rattle.lsm_readers.specs.declared.meta.Numbers.{Numbers}
 pub use Rattle.lsm_readers.specs.declared.verify.Counts.{Counts as CountsLeft}
 pub use Rattle.lsm_readers.specs.declared.verify.Finding.{Finding}
 pub use Rattle.lsm_readers.specs.declared.verify.Verified.{Verified as Verification}
 pub use Rattle.lsm_readers.specs.declared.verify.VerifyError.TheVariants.{Found}
-pub use Rattle.lsm_readers.specs.point.Batch.{AreFound, ArePlaced, IsLookup, entries_placed}
-pub use Rattle.lsm_readers.specs.point.Batch.{query_result}
+pub use Rattle.lsm_readers.specs.point.Batch.{AreFound, IsLookup, entries_by}
+pub use Rattle.lsm_readers.specs.point.Batch.{entries_placed, query_result}
 pub use Rattle.lsm_readers.specs.point.Keeping.{IsLoaded, KeepsOf}
 pub use Rattle.lsm_readers.specs.point.Many.{answers_to, many_results}
 unfoldable pub use Rattle.lsm_readers.specs.point.Meta.{byte_result, compressions_result}

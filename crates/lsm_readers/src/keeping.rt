@@ -3,6 +3,8 @@ ghost use Rattle.std.specs.Prelude.{◌≡◌, List, ℕ, IfErr, IfOk, IfSome};
 ghost use Rattle.lsm_readers.specs.Words as spec;
 ghost use Rattle.sst_entries.specs.declared.error.Error.TheVariants.{OutOfMemory};
 
+use crate::batch::Finder;
+use crate::point::read_in;
 use sst_blocks::{
     Block, BlockHandle, BlockSource, BlockType, DataBlock, Error, InternalValue, LoadBlocks,
     Opened, SeqNo,
@@ -92,6 +94,37 @@ impl<A: Allocator + Clone> LoadBlocks for Keeping<'_, A> {
             }
             None => self.source.point_read(handle, key, seqno, &mut self.opened),
         }
+    }
+}
+
+/// Finds entries. A block that several keys need is loaded once.
+impl<A: Allocator + Clone> Finder<A> for Keeping<'_, A> {
+    ghost use Rattle.std.specs.Prelude.{◌≡◌};
+    ghost use Rattle.sst_blocks.specs.Sections.{body_of};
+
+    type Found = InternalValue<A>;
+
+    ghost is_over = { λ k bytes. body_of k.0 ≡ body_of bytes };
+
+    ghost entry = { λ _ e. e };
+
+    ghost is_within = { λ _ _. Unit {0} };
+
+    fn find_in(
+        &mut self,
+        _blocks: &BlockSource<A>,
+        handle: &BlockHandle,
+        global_seqno: SeqNo,
+        key: &[u8],
+        seqno: SeqNo,
+    ) -> Result<Option<InternalValue<A>>, Error> {
+        read_in(self, *handle, global_seqno, key, seqno)
+    }
+
+    // Errors are ignored: the first of the reads reports a fault of the block. If memory for the
+    // entry offsets is missing, each read searches the block entry by entry.
+    fn expect(&mut self, _blocks: &BlockSource<A>, handle: &BlockHandle) {
+        drop(self.load(handle, BlockType::Data));
     }
 }
 

@@ -5,7 +5,6 @@ ghost use Rattle.std.specs.Prelude.{is_some};
 ghost use Rattle.lsm_readers.specs.Words as spec;
 ghost use Rattle.sst_entries.specs.declared.error.Error.TheVariants.{OutOfMemory};
 
-mod approximate_size;
 mod by_key;
 mod file;
 mod lent;

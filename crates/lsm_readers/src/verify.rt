@@ -8,9 +8,7 @@ mod entries;
 mod steps;
 
 use crate::Inner;
-use blocks::read_index;
-use end::{test_filters, test_left};
-use sst_blocks::{BlockSource, Checksum, Error, InternalValue, ItemName, SectionName, SeqNo, hash};
+use sst_blocks::{Checksum, Error, InternalValue, ItemName, SectionName, SeqNo, hash};
 use std::alloc::{Allocator, Global};
 use std::marker::Model;
 pub(crate) use steps::{Stage, step_stage};
@@ -159,42 +157,4 @@ pub(crate) fn unread_table<A: Allocator>(inner: &Inner<A>) -> Unread<A>
             highest: 0,
         },
     }
-}
-
-/// Reads the index and the data blocks, then checks the counts that are left.
-#[tactic(auto, unfolding(crate::specs::Verify::all_found))]
-fn read_all<A: Allocator + Clone>(
-    source: &BlockSource<A>,
-    inner: &Inner<A>,
-) -> Result<(), VerifyError>
-    ensures returned { spec.Finds (λ (_ : _). tt) result
-        (spec.all_found (spec.body_of source.now) (spec.parts_of inner.now)) }
-    // A fault that is found before any allocation takes precedence over `OutOfMemory`.
-    ensures early { let tli = (spec.parts_of inner.now).regions.tli in
-        spec.FindsFirst result (spec.early_at (spec.body_of source.now) spec.Tli tli spec.Index) }
-{
-    let mut left = unread_table(inner);
-    read_index(source, inner, &mut left)?;
-    test_left(source, inner, &left)
-}
-
-/// Reads a whole table: the filter blocks, then the index blocks, and after each handle its data
-/// block. Fails with the first fault, or with `OutOfMemory`.
-#[tactic(auto, unfolding(crate::specs::Verify::table_found))]
-pub(crate) fn verify_table<A: Allocator + Clone>(
-    source: &BlockSource<A>,
-    inner: &Inner<A>,
-) -> Result<Verified, VerifyError>
-    ensures returned { spec.Finds (λ (v : spec.Verification). v) result
-        (spec.table_found (spec.body_of source.now) (spec.parts_of inner.now)) }
-    // A fault that is found before any allocation takes precedence over `OutOfMemory`.
-    ensures early { spec.FindsFirst result
-        (spec.table_early (spec.body_of source.now) (spec.parts_of inner.now)) }
-{
-    test_filters(source, inner)?;
-    read_all(source, inner)?;
-    Ok(Verified {
-        data_block_count: inner.metadata.data_block_count,
-        item_count: inner.metadata.item_count,
-    })
 }

@@ -130,6 +130,52 @@ fn leading_place<A: Allocator + Clone>(
     }
 }
 
+// Whether every seqno of a table is below that of the entry found.
+fn is_older_than<A: Allocator>(table: &Table<A>, found: &Option<RunPlace>) -> bool
+    ensures { (runs : List (List spec.OpenTable)) → IfSome found.now (spec.IsThere runs) →
+        result ≡ spec.is_older (spec.option_and_then (spec.placed_in_runs runs) found.now)
+        table.now }
+{
+    match found {
+        Some(found) => table.get_highest_seqno() < found.place.seqno,
+        None => false,
+    }
+}
+
+// The position of the first match in a run, as in [`place_in_run`]; nothing if the table is older
+// than the entry found.
+fn place_in_run_behind<A: Allocator + Clone>(
+    run: &Run<Table<A>, A>,
+    number: usize,
+    key: &[u8],
+    seqno: SeqNo,
+    key_hash: u64,
+    found: &Option<RunPlace>,
+) -> (Result<Option<RunPlace>, Error>, Opened)
+    requires { key_hash ≡ spec.hash_of key.now }
+    ensures read { (runs : List (List spec.OpenTable)) → IfSome found.now (spec.IsThere runs) →
+        spec.IsInOrder spec.range_of run.now →
+        let before = spec.option_and_then (spec.placed_in_runs runs) found.now in
+        spec.DoesRead (spec.result_map (spec.option_and_then (spec.placed_in_run run.now)) result.0)
+        (spec.run_read_behind key.now seqno before run.now) spec.none_opened result.1 }
+    ensures number { IfOk result.0 (λ next. IfSome next (λ p. p.run ≡ number)) }
+    ensures there { IfOk result.0 (λ next. IfSome next (λ p.
+        is_some (spec.placed_in_run run.now p) ≡ true)) }
+    ensures few { spec.LoadsEach 1 result.1 }
+{
+    let Some(index) = index_of_key(run, key) else {
+        return (Ok(None), Opened::none());
+    };
+    let Some(table) = run.as_slice().get(index) else {
+        return (Ok(None), Opened::none());
+    };
+    if is_older_than(table, found) {
+        return (Ok(None), Opened::none());
+    }
+    let (next, opened) = table.get_place(key, seqno, key_hash);
+    (found_in(number, index, next), opened)
+}
+
 /// Returns the position of the entry that [`get_runs_ref`] returns, and the number of blocks loaded
 /// for it.
 ///
@@ -327,4 +373,108 @@ pub fn get_runs_ref<'a, A: Allocator + Clone>(
         (spec.runs_read key.now seqno None (map spec.arc_value runs.now)).loads ≡ [] → IsOk result }
 {
     get_runs_ref_counted(runs, key, seqno).0
+}
+
+/// Returns the position of the entry that [`get_runs_ref_by_age`] returns, and the number of blocks
+/// loaded for it.
+///
+/// # Errors
+///
+/// Those of [`get_runs_ref_by_age`].
+pub fn place_in_runs_by_age_counted<A: Allocator + Clone>(
+    runs: &[Arc<Run<Table<A>, A>, A>],
+    key: &[u8],
+    seqno: SeqNo,
+) -> (Result<Option<RunPlace>, Error>, Opened)
+    // For runs in order, it is the result of reading the tables that are not skipped, whatever
+    // their bytes, except for `OutOfMemory`.
+    ensures returned { spec.AllByRecursion (spec.IsInOrder spec.range_of)
+        (map spec.arc_value runs.now) →
+        let read = spec.runs_read_by_age key.now seqno None (map spec.arc_value runs.now) in
+        spec.Gives (spec.option_and_then (spec.placed_in_runs (map spec.arc_value runs.now)))
+        result.0 read.returned }
+    // For tables of lists, it is the first match in the sorted entries of all lists, global seqnos
+    // applied.
+    ensures list { (lists : List (List (List spec.Entry))) →
+        spec.RunsHoldLists (map spec.arc_value runs.now) lists →
+        spec.Gives (spec.option_and_then (spec.placed_in_runs (map spec.arc_value runs.now)))
+        result.0 (Ok (spec.point (spec.union_in lists) key.now seqno)) }
+    // The blocks loaded are those of reading the tables that are not skipped, up to the first
+    // error.
+    ensures opened { spec.AllByRecursion (spec.IsInOrder spec.range_of)
+        (map spec.arc_value runs.now) →
+        let read = spec.runs_read_by_age key.now seqno None (map spec.arc_value runs.now) in
+        spec.Opens result.0 read.loads spec.none_opened result.1 }
+    // An error of the first block loaded that is found before any allocation takes precedence over
+    // `OutOfMemory`.
+    ensures early { spec.AllByRecursion (spec.IsInOrder spec.range_of)
+        (map spec.arc_value runs.now) →
+        let read = spec.runs_read_by_age key.now seqno None (map spec.arc_value runs.now) in
+        spec.FaultsFirst result.0 read.early }
+    // It does not fail if it loads no block, as when there are no runs.
+    ensures calm { spec.AllByRecursion (spec.IsInOrder spec.range_of)
+        (map spec.arc_value runs.now) →
+        let read = spec.runs_read_by_age key.now seqno None (map spec.arc_value runs.now) in
+        read.loads ≡ [] → IsOk result.0 }
+    // For any runs and any bytes, also on an error: at most one data block, one index block and one
+    // filter block a run.
+    ensures few { spec.LoadsEach (length runs.now) result.1 }
+    // If a position was found, an entry is stored there.
+    ensures there { IfOk result.0
+        (λ found. IfSome found (spec.IsThere (map spec.arc_value runs.now))) }
+{
+    let mut found = None;
+    let mut opened = Opened::none();
+    let key_hash = Table::<A>::key_hash(key);
+    for (number, run) in runs.iter().enumerate() {
+        let (returned, loads) = place_in_run_behind(run, number, key, seqno, key_hash, &found);
+        opened = together(opened, loads);
+        match returned {
+            Ok(next) => found = leading_place(runs, found, next),
+            Err(error) => return (Err(error), opened),
+        }
+    }
+    (Ok(found), opened)
+}
+
+/// Returns the newest version of a key visible at `seqno` in several runs, borrowed from its table,
+/// and skips older tables.
+///
+/// It returns what [`crate::get_runs_by_age`] returns, without taking a reference count. It skips
+/// the same tables. A tombstone is returned as an entry.
+///
+/// # Errors
+///
+/// The first error of these reads, in the order of the runs. A skipped table causes no error.
+pub fn get_runs_ref_by_age<'a, A: Allocator + Clone>(
+    runs: &'a [Arc<Run<Table<A>, A>, A>],
+    key: &[u8],
+    seqno: SeqNo,
+) -> Result<Option<EntryRef<'a>>, Error>
+    // For runs in order, it is the result of reading the tables that are not skipped, whatever
+    // their bytes, except for `OutOfMemory`.
+    ensures returned { spec.AllByRecursion (spec.IsInOrder spec.range_of)
+        (map spec.arc_value runs.now) →
+        let read = spec.runs_read_by_age key.now seqno None (map spec.arc_value runs.now) in
+        spec.Gives (spec.option_map spec.entry_of_ref) result read.returned }
+    // For tables of lists, it is the first match in the sorted entries of all lists, global seqnos
+    // applied.
+    ensures list { (lists : List (List (List spec.Entry))) →
+        spec.RunsHoldLists (map spec.arc_value runs.now) lists →
+        spec.Gives (spec.option_map spec.entry_of_ref) result
+        (Ok (spec.point (spec.union_in lists) key.now seqno)) }
+    // An error of the first block loaded that is found before any allocation takes precedence over
+    // `OutOfMemory`.
+    ensures early { spec.AllByRecursion (spec.IsInOrder spec.range_of)
+        (map spec.arc_value runs.now) →
+        let read = spec.runs_read_by_age key.now seqno None (map spec.arc_value runs.now) in
+        spec.FaultsFirst result read.early }
+    // It does not fail if it loads no block, as when there are no runs.
+    ensures calm { spec.AllByRecursion (spec.IsInOrder spec.range_of)
+        (map spec.arc_value runs.now) →
+        let read = spec.runs_read_by_age key.now seqno None (map spec.arc_value runs.now) in
+        read.loads ≡ [] → IsOk result }
+{
+    let (found, _) = place_in_runs_by_age_counted(runs, key, seqno);
+    borrowed(runs, found)
 }

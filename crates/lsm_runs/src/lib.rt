@@ -17,8 +17,8 @@ pub use compaction::{
     compaction_law, pack_runs, packing_law, write_run, write_run_with,
 };
 pub use lent_gets::{
-    RunPlace, entry_in_runs, get_runs_ref, get_runs_ref_counted, place_in_runs,
-    place_in_runs_counted,
+    RunPlace, entry_in_runs, get_runs_ref, get_runs_ref_by_age, get_runs_ref_counted,
+    place_in_runs, place_in_runs_by_age_counted, place_in_runs_counted,
 };
 pub use lent_runs::{LentNewestOf, LentNewestOfRunsAt, lend_runs_at};
 pub use lsm_run_parts::share;

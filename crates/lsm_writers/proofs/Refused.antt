@@ -1,6 +1,6 @@
 -- Calls that nothing but want of memory refuses.
 use Rattle.std.proofs.Common.{◌≡◌, refl, sym, subst, ◌∙◌, Bool, true, false}
-use Rattle.std.specs.Prelude.{Option, Some, None, Result, Ok, Err, IfErr, OnErr}
+use Rattle.std.specs.Prelude.{Option, Some, None, Result, Ok, Err, IfErr, IsErrAnd, OnErr}
 use Rattle.sst_entries.specs.Error.{Faults, is_memory}
 use Rattle.sst_entries.specs.declared.error.Error.{Error}
 use Rattle.sst_entries.specs.declared.error.Error.TheVariants.{OutOfMemory}
@@ -28,6 +28,12 @@ pub err_then : {X E P Q R : Type 0} (r : Result X E) → OnErr r P → OnErr r Q
     → OnErr r R
 err_then (Ok x) p q f = tt
 err_then (Err e) p q f = f p q
+
+-- what holds of an error that is passed on
+pub if_err : {X E : Type 0} (r : Result X E) (e : E) (P : E → Type 0) → IsErrAnd r (λ y. y ≡ e)
+    → P e → IfErr r P
+if_err (Ok x) e P is p = tt
+if_err (Err y) e P is p = subst P (sym is) p
 
 -- no fault is another
 pub none_some : (x : Error) → ◌≡◌ {A = Option Error} None (Some x) → ⊥

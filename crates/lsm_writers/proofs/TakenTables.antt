@@ -1,30 +1,36 @@
 -- Finished tables that are taken while the writer goes on.
 use Rattle.std.proofs.Common.{◌≡◌, refl, sym, ◌∙◌, ap, subst, ℕ, suc, ◌+◌, ◌-◌, ◌<◌, ◌≤◌, Bool}
 use Rattle.std.proofs.Common.{true, false, List, [], ◌∷◌, ◌++◌, length, append_assoc, append-nil}
-use Rattle.std.proofs.Common.{arith, length-append}
+use Rattle.std.proofs.Common.{◌^◌, arith, length-append, IsTrue}
 use Rattle.std.specs.Prelude.{Option, Some, None, drop, slice_index_or, take, if◌then◌else◌}
+use Rattle.std.specs.Prelude.{◌&&◌, nat_lt}
 use Rattle.std.specs.Option.{option_or, option_to_list}
 use Rattle.std.proofs.Math.Seq.{take-add}
 use Rattle.std.proofs.lemmas.Bool.{cases_Bool}
 use Rattle.std.proofs.lemmas.List.{drop-append-le, drop-drop, drop_all, length-drop, length-map}
 use Rattle.std.proofs.lemmas.List.{length-take-le, take-append-drop, take-append-le}
 use Rattle.sst_entries.specs.declared.error.Error.TheVariants.{WriterFailed}
-use Rattle.sst_entries.specs.Entry.{Entry}
-use Rattle.sst_entries.specs.Strict.{IsStrict, last_of}
+use Rattle.sst_entries.specs.declared.value_type.ValueType.TheVariants.{Value}
+use Rattle.sst_entries.specs.Entry.{Entry, entry}
+use Rattle.sst_entries.specs.Strict.{IsStrict, IsStrictAfter, last_of, may_follow}
 use Rattle.sst_entries.proofs.Strictness.{strict_alone, strict_back}
 use Rattle.sst_blocks.specs.declared.table.label.Label.{Label}
 use Rattle.sst_blocks.specs.declared.table.options.Options.{Options}
 use Rattle.sst_blocks.specs.table.Chunks.{joined}
 use Rattle.lsm_writers.specs.declared.writer.FinishedTable.{FinishedTable}
 use Rattle.lsm_writers.specs.Cut.{rest_chunk}
-use Rattle.lsm_writers.specs.Taken.{AreTakenFrom, FinishedLaw, TakenLaw, WrittenLaw, taken}
+use Rattle.lsm_writers.specs.Taken.{AreTakenFrom, BegunLaw, FinishedLaw, IsOpen, TakenLaw}
+use Rattle.lsm_writers.specs.Taken.{WrittenLaw, taken}
 use Rattle.lsm_writers.specs.Tables.{AreFinished, AreHeld, GoesOn, TablesWriting, all_written}
 use Rattle.lsm_writers.specs.Tables.{first_label, ids_fault, is_due, label_before, list_in, lists_in}
 use Rattle.lsm_writers.specs.Tables.{next_label, next_writing, rotated, standing, tables_of, took}
-use Rattle.lsm_writers.specs.Tables.{rotation_fault, took_fault, turn_fault}
-use Rattle.lsm_writers.specs.Writing.{IsTableWith, Writing, gained, write_fault, written}
+use Rattle.lsm_writers.specs.Tables.{new_tables, rotation_fault, took_fault, turn_fault}
+use Rattle.lsm_writers.specs.Tables.{with_options}
+use Rattle.lsm_writers.specs.Writing.{IsTableWith, Writing, gained, may_be_written, write_fault}
+use Rattle.lsm_writers.specs.Writing.{written}
 use Rattle.lsm_writers.proofs.ListWriting.{same_label}
-use Rattle.lsm_writers.proofs.Rotating.{few_lists, first_stands, last_all, next_is, same_end}
+use Rattle.lsm_writers.proofs.Rotating.{few_lists, first_stands, goes_on_next, goes_on_still}
+use Rattle.lsm_writers.proofs.Rotating.{last_all, next_is, same_end}
 use Rattle.lsm_writers.proofs.Turning.{ids_left, state_of}
 
 -- ---- the oldest one
@@ -354,12 +360,54 @@ module _ (m : TablesWriting) (e : Entry) (h : GoesOn m.target m.ids m.tables m.p
     ids = few_by (is_due m.target m.present e) refl;
   }
 
+  failed_by : (due : Bool) → (if due then rotated m else m).failed ≡ false
+  failed_by false = works
+  failed_by true = works
+
+  goes_by : (due : Bool) → is_due m.target m.present e ≡ due
+      → IsTrue (may_be_written (joined m.tables ++ written m.present) e.user_key e.seqno)
+      → (let x : TablesWriting = if due then rotated m else m in
+      GoesOn x.target x.ids x.tables (gained x.present e))
+  goes_by false is next = goes_on_still m.target m.ids m.tables m.present e h next is
+  goes_by true is next = goes_on_next m.target m.ids m.tables m.present e h next is
+      (id_left m e works is fine)
+
+  open_still : (n : TablesWriting) → last_of None (all_written n) ≡ last_of None (all_written m)
+      → IsTrue (may_be_written (all_written n) e.user_key e.seqno) → IsOpen (took m e)
+  open_still n same next =
+      let all : all_written m ≡ joined m.tables ++ written m.present = rw works refl in
+      let same' : last_of None (all_written n) ≡ last_of None (joined m.tables ++ written m.present)
+      = same ∙ ap (last_of None) all in
+      let next' : IsTrue (may_be_written (joined m.tables ++ written m.present) e.user_key e.seqno)
+      = subst (λ (o : Option Entry). IsTrue (nat_lt e.seqno (2 ^ 64 - 1)
+      && may_follow o (entry e.user_key [] e.seqno Value))) same' next in
+      record {
+        works = failed_by (is_due m.target m.present e);
+        goes_on = goes_by (is_due m.target m.present e) refl next';
+      }
+
 pub written_law : (A : Type 0) → WrittenLaw A
-written_law A m n gs e h goes works =
-    let at : AreTakenFrom m gs (taken (length gs) m) = subst (AreTakenFrom m gs) h.left h in (
-      ap (λ (x : TablesWriting). last_of None (all_written x)) h.left
-          ∙ last_same m (length gs) e goes works,
+written_law A m n gs e h open_m =
+    let goes = open_m.goes_on in
+    let works = open_m.works in
+    let at : AreTakenFrom m gs (taken (length gs) m) = subst (AreTakenFrom m gs) h.left h in
+    let same : last_of None (all_written n) ≡ last_of None (all_written m) =
+    ap (λ (x : TablesWriting). last_of None (all_written x)) h.left
+    ∙ last_same m (length gs) e goes works in (
+      same,
       ap (λ (x : TablesWriting). took_fault x e) h.left ∙ fault_same m (length gs) e,
       λ fine. subst (λ (x : TablesWriting). AreTakenFrom (took m e) gs (took x e)) (sym h.left)
           (taken_still m e goes works fine h.ids gs at),
+      λ fine next. open_still m e goes works fine h.ids n same next,
+    )
+
+pub begun_law : (A : Type 0) → BegunLaw A
+unfolding IsStrictAfter
+begun_law A first target level moment options =
+    let m = with_options (new_tables (Some first) target level moment) options in (
+      record {
+        works = refl;
+        goes_on = record { present = refl; strict = tt; cuts = tt; next = refl; begun = λ _. refl };
+      },
+      record { finished = tt; left = refl; ids = omega arith },
     )

@@ -2,20 +2,22 @@
 use Rattle.std.proofs.Common.{◌≡◌, refl, sym, ◌∙◌, ap, subst, ℕ, ◌-◌, ◌^◌, Bool, true, false, List}
 use Rattle.std.proofs.Common.{[], ◌∷◌, ◌++◌, append_assoc, arith, IsTrue, inl, inr, length}
 use Rattle.std.specs.Prelude.{Option, Some, None, Result, Ok, Err, IsErrAnd, nat_lt, if◌then◌else◌}
+use Rattle.std.specs.Prelude.{◌⊎◌}
 use Rattle.sst_entries.specs.declared.error.Error.{Error}
 use Rattle.sst_entries.specs.declared.error.Error.TheVariants.{OutOfMemory, TableIdsSpent}
 use Rattle.sst_entries.specs.declared.error.Error.TheVariants.{WriterFailed}
 use Rattle.sst_entries.specs.Entry.{Entry}
-use Rattle.sst_entries.specs.Error.{Refuses}
+use Rattle.sst_entries.specs.Error.{Refuses, is_memory}
 use Rattle.sst_entries.specs.Strict.{IsStrictAfter}
 use Rattle.sst_blocks.specs.declared.table.label.Label.{Label}
 use Rattle.sst_blocks.specs.declared.table.options.Options.{Options}
 use Rattle.sst_blocks.specs.table.Options.{label_of}
 use Rattle.sst_entries.proofs.Booleans.{and_parts}
+use Rattle.sst_entries.proofs.Refusals.{memory_is}
 use Rattle.sst_blocks.specs.table.Chunks.{joined}
 use Rattle.lsm_writers.specs.declared.writer.FinishedTable.{FinishedTable}
 use Rattle.lsm_writers.specs.Cut.{rest_chunk}
-use Rattle.lsm_writers.specs.Taken.{IsLeft, StayHeld}
+use Rattle.lsm_writers.specs.Taken.{IsLeft, StayHeld, tables_left}
 use Rattle.lsm_writers.specs.Tables.{AreHeld, GoesOn, IsFreshRun, IsStanding, TablesWriting}
 use Rattle.lsm_writers.specs.Tables.{all_written, drawn, early_refusal, gained_all, ids_after, ids_fault, is_due, label_before}
 use Rattle.lsm_writers.specs.Tables.{lists_in, new_tables, next_id, next_writing, rotated}
@@ -224,11 +226,26 @@ module _ {A : Type 0} (target : ℕ) (ids ids' : Option ℕ) (fs fs' : List (Fin
 
 module _ {A : Type 0} (target : ℕ) (ids ids' : Option ℕ) (fs fs' : List (FinishedTable A))
     (w w' : Writing) (e : Entry) (failed now : Bool) where
+  abbrev TablesLeft : Error → Type 0
+  TablesLeft x = (lists_in fs' ≡ tables_left (state_of target ids fs w failed) e)
+      ⊎ ((x ≡ OutOfMemory) × (lists_in fs' ≡ lists_in fs))
+
+  -- the next table was not begun
+  still_by : failed ≡ false → lists_in fs' ≡ lists_in fs → (x : Error) (memory : Bool)
+      → is_memory x ≡ memory → (fault : Option Error) → turn_fault target ids w e ≡ fault
+      → (is_memory x ≡ false → turn_fault target ids w e ≡ Some x) → TablesLeft x
+  still_by works same x memory is (Some y) at refused = inl (rw (works, at) same)
+  still_by works same x true is None at refused = inr (memory_is x is, same)
+  still_by works same x false is None at refused =
+      absurd (none_some x (sym at ∙ refused is))
+
   -- where no table was finished
-  pub left_still : StayHeld fs w fs' w' → IsLeft (state_of target ids fs w failed) e
-      (state_of target ids' fs' w' now)
-  left_still s = record {
-    tables = inl (ap (λ (x : List (FinishedTable A)). lists_in x) s.0);
+  pub left_still : failed ≡ false → StayHeld fs w fs' w' → (x : Error)
+      → (is_memory x ≡ false → turn_fault target ids w e ≡ Some x)
+      → IsLeft (state_of target ids fs w failed) e x (state_of target ids' fs' w' now)
+  left_still works s x refused = record {
+    tables = still_by works (ap (λ (x : List (FinishedTable A)). lists_in x) s.0) x _ refl _ refl
+        refused;
     first = λ some. ap (λ (x : List (FinishedTable A)). label_before (length (lists_in x)) w'.label)
         s.0
         ∙ ap (λ (l : Label). label_before (length (lists_in fs)) l) s.1;
@@ -256,15 +273,22 @@ module _ {A : Type 0} (target : ℕ) (ids ids' : Option ℕ) (fs fs' : List (Fin
   options_by false s = ap (λ (v : Writing). v.options) s.2
   options_by true s = ap (λ (v : Writing). v.options) s.2
 
+  standing_left : failed ≡ false → turn_fault target ids w e ≡ None
+      → (standing (state_of target ids fs w failed) e).tables
+      ≡ tables_left (state_of target ids fs w failed) e
+  standing_left works fine = rw (works, fine) refl
+
   -- where the table that was due stands in its place, and the entry failed
-  pub left_standing : IsStanding (is_due target w e) ids fs w ids' fs' w'
+  pub left_standing : failed ≡ false → (x : Error)
+      → IsStanding (is_due target w e) ids fs w ids' fs' w'
       → turn_fault target ids w e ≡ None → AreHeld w.options w.label fs
       → GoesOn target ids (lists_in fs) w → (v : Writing) → v.label ≡ w'.label
       → v.options ≡ w'.options
-      → IsLeft (state_of target ids fs w failed) e (state_of target ids' fs' v now)
-  left_standing stands fine held old v label options = record {
-    tables = inr (sym (ap (λ (n : TablesWriting). n.tables)
-        (stands_by target ids ids' fs fs' w w' e failed _ refl stands)));
+      → IsLeft (state_of target ids fs w failed) e x (state_of target ids' fs' v now)
+  left_standing works x stands fine held old v label options = record {
+    tables = inl (sym (ap (λ (n : TablesWriting). n.tables)
+        (stands_by target ids ids' fs fs' w w' e failed _ refl stands))
+        ∙ standing_left works fine);
     first = λ some. ap (λ (l : Label). label_before (length (lists_in fs')) l) label
         ∙ label_by _ refl stands fine held old some;
     options = options ∙ options_by _ stands;
@@ -326,3 +350,7 @@ module _ {A : Type 0} (target : ℕ) (ids : Option ℕ) (fs : List (FinishedTabl
 
   pub spent_ids : ids ≡ ids_after (state_of target ids fs w failed) e
   spent_ids = rw spent refl
+
+  pub spent_left : (x : Error) → IsLeft (state_of target ids fs w failed) e x
+      (state_of target ids fs w failed)
+  spent_left x = record { tables = inl (rw spent refl); first = λ some. refl; options = refl }

@@ -195,6 +195,10 @@ first_label m = label_before (length m.tables) m.present.label
 abbrev pub with_options : TablesWriting → Options → TablesWriting
 with_options m options = record m { present = record m.present { options = options } }
 
+-- the second state has these options changed for all tables, and all else is the same
+abbrev pub SetsOptionOfAll : TablesWriting → TablesWriting → (Options → Options) → Type 0
+SetsOptionOfAll m n set = n ≡ with_options m (set m.present.options)
+
 -- the next table is due: the entry is the first of its key, and the cut data blocks reach the
 -- target
 abbrev pub is_due : ℕ → Writing → Entry → Bool

@@ -1,11 +1,16 @@
 -- Finished tables that are taken from a writer of many tables while it goes on.
-use Rattle.std.specs.Prelude.{◌≡◌, ◌⊎◌, ℕ, ◌≤◌, false, List, [], ◌++◌, length, take, drop, None}
+use Rattle.std.specs.Prelude.{◌≡◌, ◌⊎◌, ℕ, ◌≤◌, ◌||◌, false, List, [], ◌++◌, length, take, drop}
+use Rattle.std.specs.Prelude.{Some, None, is_some, IsTrue, if◌then◌else◌}
+use Rattle.sst_entries.specs.declared.error.Error.{Error}
+use Rattle.sst_entries.specs.declared.error.Error.TheVariants.{OutOfMemory}
 use Rattle.sst_entries.specs.Entry.{Entry}
 use Rattle.sst_entries.specs.Strict.{last_of}
+use Rattle.sst_blocks.specs.declared.table.options.Options.{Options}
 use Rattle.lsm_writers.specs.declared.writer.FinishedTable.{FinishedTable}
 use Rattle.lsm_writers.specs.Tables.{AreFinished, GoesOn, TablesWriting, all_written, first_label}
-use Rattle.lsm_writers.specs.Tables.{standing, tables_of, took, took_fault}
-use Rattle.lsm_writers.specs.Writing.{Writing}
+use Rattle.lsm_writers.specs.Tables.{new_tables, standing, tables_of, took, took_fault, turn_fault}
+use Rattle.lsm_writers.specs.Tables.{with_options}
+use Rattle.lsm_writers.specs.Writing.{Writing, may_be_written}
 
 -- the state after the n oldest finished tables are taken
 abbrev pub taken : ℕ → TablesWriting → TablesWriting
@@ -30,22 +35,44 @@ FinishedLaw A = (m n : TablesWriting) (gs fs : List (FinishedTable A)) → AreTa
     AreFinished n.present.options (first_label n) (tables_of n) fs →
     AreFinished m.present.options (first_label m) (tables_of m) (gs ++ fs)
 
--- whatever was taken, a write has the same bound and the same fault, and does the same
+-- an unfailed writer between its calls
+pub record IsOpen (m : TablesWriting) : Type 0 where
+  pub works : m.failed ≡ false
+  pub goes_on : GoesOn m.target m.ids m.tables m.present
+
+-- a writer without entries is open, and no table was taken from it
+abbrev pub BegunLaw : Type 0 → Type 0
+BegunLaw A = (first target level moment : ℕ) (options : Options) →
+    let m = with_options (new_tables (Some first) target level moment) options in
+    IsOpen m × AreTakenFrom {A = A} m [] m
+
+-- Whatever was taken, a write has the same bound and the same fault, and does the same. Both premises
+-- hold again after it.
 abbrev pub WrittenLaw : Type 0 → Type 0
 WrittenLaw A = (m n : TablesWriting) (gs : List (FinishedTable A)) (e : Entry) →
-    AreTakenFrom m gs n → GoesOn m.target m.ids m.tables m.present → m.failed ≡ false →
+    AreTakenFrom m gs n → IsOpen m →
     (last_of None (all_written n) ≡ last_of None (all_written m))
     × (took_fault n e ≡ took_fault m e)
     × (took_fault m e ≡ None → AreTakenFrom (took m e) gs (took n e))
+    × (took_fault m e ≡ None → IsTrue (may_be_written (all_written n) e.user_key e.seqno) →
+    IsOpen (took m e))
 
 -- ---- after an error
 
--- the state after a failed write: the finished tables are those before, or also the current one if
--- a table was due
-pub record IsLeft (m : TablesWriting) (e : Entry) (n : TablesWriting) : Type 0 where
-  pub tables : (n.tables ≡ m.tables) ⊎ (n.tables ≡ (standing m e).tables)
-  pub first : (n.tables ≡ [] → ⊥) → first_label n ≡ first_label m
-  pub options : n.present.options ≡ m.present.options
+-- the finished tables if writing an entry fails with an error other than `OutOfMemory`: the current
+-- one is among them if the next table was due and could be begun
+abbrev pub tables_left : TablesWriting → Entry → List (List Entry)
+tables_left m e =
+    if m.failed || is_some (turn_fault m.target m.ids m.present e) then m.tables
+    else (standing m e).tables
+
+-- the state after writing an entry failed
+pub record IsLeft (m : TablesWriting) (e : Entry) (error : Error) (n : TablesWriting) : Type 0
+  where
+    -- `OutOfMemory` can also come before the current table is finished
+    pub tables : (n.tables ≡ tables_left m e) ⊎ ((error ≡ OutOfMemory) × (n.tables ≡ m.tables))
+    pub first : (n.tables ≡ [] → ⊥) → first_label n ≡ first_label m
+    pub options : n.present.options ≡ m.present.options
 
 -- after an error the finished tables stay, and the table info and options of the current one
 abbrev pub StayHeld : {A : Type 0} → List (FinishedTable A) → Writing → List (FinishedTable A)

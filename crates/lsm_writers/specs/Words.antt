@@ -31,6 +31,7 @@ pub use Rattle.lsm_writers.specs.Filtering.{Registers, registered_key}
 pub use Rattle.lsm_writers.specs.Held.{AreTableParts, HaveParts, IsTaken}
 pub use Rattle.sst_blocks.specs.table.Facts.{is_reclaimable, is_value_kind, starts_key}
 pub use Rattle.lsm_writers.specs.Writing.{IsFinished, IsFresh, IsSmallIndex, IsTableOf, IsWritable}
+pub use Rattle.lsm_writers.specs.Writing.{SetsOption}
 pub use Rattle.lsm_writers.specs.Writing.{WritesTable, cut_writing, finish_fault, fresh_writing}
 pub use Rattle.lsm_writers.specs.Writing.{gained, item_fault, list_fault, may_be_written}
 pub use Rattle.lsm_writers.specs.Writing.{new_writing, sections_fault, spilled, write_fault}
@@ -65,11 +66,13 @@ pub use Rattle.lsm_writers.specs.Buffered.{IsMark, MarksFront}
 unfoldable pub use Rattle.lsm_writers.specs.Counts.{counted_items}
 pub use Rattle.lsm_writers.specs.Tables.{AddsTable, AreFinished, AreInKeyOrder, AreTables, CutLaw}
 pub use Rattle.lsm_writers.specs.Tables.{HasRoomFor, IsFreshRun, IsStanding, OneCutLaw, OneKeyLaw}
+pub use Rattle.lsm_writers.specs.Tables.{SetsOptionOfAll}
 pub use Rattle.lsm_writers.specs.Tables.{TakesLaw, all_written, drawn, early_refusal, first_label}
 pub use Rattle.lsm_writers.specs.Tables.{ids_after, ids_fault, is_due, new_tables, next_writing}
 pub use Rattle.lsm_writers.specs.Tables.{rotation_fault, run_fault, table_fault, tables_of, took}
 pub use Rattle.lsm_writers.specs.Tables.{took_fault, turn_fault, with_options}
-pub use Rattle.lsm_writers.specs.Taken.{FinishedLaw, IsLeft, StayHeld, TakenLaw, WrittenLaw, taken}
+pub use Rattle.lsm_writers.specs.Taken.{BegunLaw, FinishedLaw, IsLeft, StayHeld, TakenLaw, WrittenLaw}
+pub use Rattle.lsm_writers.specs.Taken.{taken}
 pub use Rattle.lsm_writers.specs.section.Answering.{IsAdmitted, was_given}
 pub use Rattle.lsm_writers.specs.section.Given.{GivenKeys, all_keys, given_by, no_keys, rest_keys}
 pub use Rattle.lsm_writers.specs.section.Given.{with_key}

@@ -1,15 +1,14 @@
 -- The state of a writer, and the effects of its calls.
-use Rattle.std.specs.Prelude.{◌≡◌, ℕ, ◌+◌, ◌-◌, ◌^◌, ◌<◌, ◌≤◌, Bool, false, ◌&&◌, nat_lt, nat_le}
+use Rattle.std.specs.Prelude.{◌≡◌, ℕ, ◌+◌, ◌-◌, ◌^◌, ◌<◌, ◌≤◌, Bool, false, ◌&&◌, nat_lt}
 use Rattle.std.specs.Prelude.{List, [], ◌∷◌, ◌++◌, length, Option, Some, None, if◌then◌else◌}
 use Rattle.std.specs.List.{AllByRecursion}
 use Rattle.std.specs.Option.{option_or}
 use Rattle.sst_blocks.specs.declared.version.TableVersion.TheVariants.{V4}
 use Rattle.sst_entries.specs.declared.value_type.ValueType.TheVariants.{Value}
 use Rattle.sst_entries.specs.declared.error.Error.{Error}
-use Rattle.sst_entries.specs.declared.error.Error.TheVariants.{KeyTooLong, ValueTooLong}
 use Rattle.sst_entries.specs.declared.error.Error.TheVariants.{WriterFailed}
 use Rattle.sst_blocks.specs.Bounds.{data_block_bound_of}
-use Rattle.sst_blocks.specs.Encoding.{is_long_key, large_fault}
+use Rattle.sst_blocks.specs.Encoding.{entry_fault_or, large_fault}
 use Rattle.sst_entries.specs.Entry.{Entry, entry}
 use Rattle.sst_entries.specs.Strict.{IsStrict, may_follow, last_of}
 use Rattle.sst_blocks.specs.table.Chunks.{joined, is_full}
@@ -51,6 +50,10 @@ written w = joined w.cut ++ w.pending
 abbrev pub IsFresh : Writing → Type 0
 IsFresh w = (w.cut ≡ []) × (w.pending ≡ []) × (w.failed ≡ false)
 
+-- the second state has these options changed, and all else is the same
+abbrev pub SetsOption : Writing → Writing → (Options → Options) → Type 0
+SetsOption w v set = v ≡ record w { options = set w.options }
+
 -- the partition size of an index is at most 4,194,304 bytes
 abbrev pub IsSmallIndex : IndexKind → Type 0
 IsSmallIndex FullIndex = Unit {0}
@@ -64,10 +67,7 @@ may_be_written es key seqno =
 
 -- the first fault of an entry that is appended to the pending ones
 abbrev pub item_fault : List Entry → Entry → Option Error
-item_fault pending e =
-    if is_long_key e.user_key then Some KeyTooLong
-    else (if nat_le (2 ^ 32) (length e.value) then Some ValueTooLong
-    else large_fault (data_block_bound_of (pending ++ e ∷ [])))
+item_fault pending e = entry_fault_or e (large_fault (data_block_bound_of (pending ++ e ∷ [])))
 
 -- the first fault of writing an entry
 abbrev pub write_fault : Writing → Entry → Option Error

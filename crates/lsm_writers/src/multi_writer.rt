@@ -143,9 +143,10 @@ impl<A: Allocator + Clone> MultiWriter<A> {
     ///   [`Writer::finish`] for the current table;
     /// - the errors of [`Writer::write`].
     ///
-    /// After an error the list is lost, but for the finished tables: these can still be taken. Each
-    /// later call fails with [`Error::WriterFailed`] and changes nothing. An id that was drawn stays
-    /// drawn, even if the call fails later.
+    /// After an error the list is lost, but for the finished tables: these can still be taken. If the
+    /// call began the next table before it failed, the table before that is one of them. Each later
+    /// call fails with [`Error::WriterFailed`] and changes nothing. An id that was drawn stays drawn,
+    /// even if the call fails later.
     pub fn write(&mut self, item: InternalValue<A>) -> Result<(), Error>
         requires { IsTrue (spec.may_be_written (spec.all_written self.old) item.user_key
             item.seqno) }
@@ -163,7 +164,7 @@ impl<A: Allocator + Clone> MultiWriter<A> {
         // Whatever the result, an unfailed writer draws an id exactly if a table is due.
         ensures ids { self.new.ids ≡ spec.ids_after self.old item }
         ensures kept { self.old.failed ≡ true → self.new ≡ self.old }
-        ensures left { OnErr result (spec.IsLeft self.old item self.new) }
+        ensures left { IfErr result (λ error. spec.IsLeft self.old item error self.new) }
     {
         let outcome = self.write_ref(&item.as_entry_ref());
         drop(item);
@@ -194,7 +195,8 @@ impl<A: Allocator + Clone> MultiWriter<A> {
         // Whatever the result, an unfailed writer draws an id exactly if a table is due.
         ensures ids { self.new.ids ≡ spec.ids_after self.old (spec.entry_of_ref entry.now) }
         ensures kept { self.old.failed ≡ true → self.new ≡ self.old }
-        ensures left { OnErr result (spec.IsLeft self.old (spec.entry_of_ref entry.now) self.new) }
+        ensures left { IfErr result
+            (λ error. spec.IsLeft self.old (spec.entry_of_ref entry.now) error self.new) }
     {
         if self.failed {
             return Err(Error::WriterFailed);
@@ -214,8 +216,9 @@ impl<A: Allocator + Clone> MultiWriter<A> {
 
     /// Returns the oldest finished table that was not taken, or `None` if there is none.
     ///
-    /// Tables can be taken between any two calls, also after an error. The tables that were taken,
-    /// then those that [`MultiWriter::finish`] returns, are those that it returns if none is taken.
+    /// Tables can be taken between any two calls, also after an error. Taking a table changes no other
+    /// one: the taken tables, followed by those that [`MultiWriter::finish`] returns, are exactly the
+    /// tables that `finish` returns if none is taken.
     pub fn take_finished(&mut self) -> Option<FinishedTable<A>>
         ensures table { spec.AreFinished self.old.present.options (spec.first_label self.old)
             (take 1 self.old.tables) (spec.option_to_list result) }
@@ -306,9 +309,8 @@ impl<A: Allocator + Clone> MultiWriter<A> {
     pub fn use_data_block_restart_interval(self, interval: u8) -> MultiWriter<A>
         requires fresh { spec.IsFreshRun self }
         requires some { 0 < interval }
-        ensures { result ≡
-            spec.with_options self
-            (record self.present.options { data_block_restart_interval = interval }) }
+        ensures { spec.SetsOptionOfAll self result
+            (λ o. record o { data_block_restart_interval = interval }) }
     {
         let options = Options {
             data_block_restart_interval: interval,
@@ -323,9 +325,8 @@ impl<A: Allocator + Clone> MultiWriter<A> {
     /// is 1.
     pub fn use_index_block_restart_interval(self, interval: u8) -> MultiWriter<A>
         requires { spec.IsFreshRun self }
-        ensures { result ≡
-            spec.with_options self
-            (record self.present.options { index_block_restart_interval = interval }) }
+        ensures { spec.SetsOptionOfAll self result
+            (λ o. record o { index_block_restart_interval = interval }) }
     {
         let options = Options {
             index_block_restart_interval: interval,
@@ -339,8 +340,8 @@ impl<A: Allocator + Clone> MultiWriter<A> {
     /// It is stored in the meta block and changes nothing else.
     pub fn use_data_block_hash_ratio(self, ratio: u32) -> MultiWriter<A>
         requires { spec.IsFreshRun self }
-        ensures { result ≡
-            spec.with_options self (record self.present.options { data_block_hash_ratio = ratio }) }
+        ensures { spec.SetsOptionOfAll self result
+            (λ o. record o { data_block_hash_ratio = ratio }) }
     {
         let options = Options {
             data_block_hash_ratio: ratio,
@@ -355,8 +356,7 @@ impl<A: Allocator + Clone> MultiWriter<A> {
     pub fn use_data_block_size(self, size: u32) -> MultiWriter<A>
         requires fresh { spec.IsFreshRun self }
         requires small { size ≤ 4194304 }
-        ensures { result ≡
-            spec.with_options self (record self.present.options { data_block_size = size }) }
+        ensures { spec.SetsOptionOfAll self result (λ o. record o { data_block_size = size }) }
     {
         let options = Options {
             data_block_size: size,
@@ -370,9 +370,8 @@ impl<A: Allocator + Clone> MultiWriter<A> {
     /// It replaces a partition size set before.
     pub fn use_partitioned_filter(self) -> MultiWriter<A>
         requires { spec.IsFreshRun self }
-        ensures { result ≡
-            spec.with_options self
-            (record self.present.options { filter_kind = spec.PartitionedFilter 4096 }) }
+        ensures { spec.SetsOptionOfAll self result
+            (λ o. record o { filter_kind = spec.PartitionedFilter 4096 }) }
     {
         let options = Options {
             filter_kind: FilterKind::Partitioned(4_096),
@@ -386,9 +385,8 @@ impl<A: Allocator + Clone> MultiWriter<A> {
     /// It replaces a partition size set before.
     pub fn use_partitioned_index(self) -> MultiWriter<A>
         requires { spec.IsFreshRun self }
-        ensures { result ≡
-            spec.with_options self
-            (record self.present.options { index_kind = spec.PartitionedIndex 4096 }) }
+        ensures { spec.SetsOptionOfAll self result
+            (λ o. record o { index_kind = spec.PartitionedIndex 4096 }) }
     {
         let options = Options {
             index_kind: IndexKind::Partitioned(4_096),
@@ -404,12 +402,10 @@ impl<A: Allocator + Clone> MultiWriter<A> {
     pub fn use_meta_partition_size(self, size: u32) -> MultiWriter<A>
         requires fresh { spec.IsFreshRun self }
         requires small { size ≤ 4194304 }
-        ensures { result ≡
-            spec.with_options self
-            (record self.present.options {
-              index_kind = spec.index_with_size size self.present.options.index_kind;
-              filter_kind = spec.filter_with_size size self.present.options.filter_kind;
-            }) }
+        ensures { spec.SetsOptionOfAll self result (λ o. record o {
+          index_kind = spec.index_with_size size o.index_kind;
+          filter_kind = spec.filter_with_size size o.filter_kind;
+        }) }
     {
         let before = self.writer.options();
         let options = Options {
@@ -425,8 +421,7 @@ impl<A: Allocator + Clone> MultiWriter<A> {
     /// With 0 bits no filter is written.
     pub fn use_bloom_policy(self, policy: BloomConstructionPolicy) -> MultiWriter<A>
         requires { spec.IsFreshRun self }
-        ensures { result ≡
-            spec.with_options self (record self.present.options { bloom_policy = policy }) }
+        ensures { spec.SetsOptionOfAll self result (λ o. record o { bloom_policy = policy }) }
     {
         let options = Options {
             bloom_policy: policy,
@@ -557,11 +552,15 @@ pub fn tables_law()
 
 /// Laws of [`MultiWriter::take_finished`]. The call does nothing.
 ///
+/// They compare a writer from which tables are taken with one from which none is taken.
+///
+/// - A new writer meets the premises of the other laws.
 /// - Tables that are taken one after another are the oldest ones.
-/// - The taken tables, then those that [`MultiWriter::finish`] returns, are those that it returns
-///   if none is taken.
-/// - Writing is the same, whatever was taken.
+/// - The taken tables, followed by those that [`MultiWriter::finish`] returns, are the tables that it
+///   returns if none is taken.
+/// - Writing an entry is the same, whatever was taken, and the premises hold again after it.
 pub fn taking_law<A: Allocator>()
+    ensures begun { spec.BegunLaw A }
     ensures taken { spec.TakenLaw A }
     ensures finished { spec.FinishedLaw A }
     ensures written { spec.WrittenLaw A }

@@ -5,7 +5,6 @@ mod filter_either;
 mod filter_full;
 mod filter_partitioned;
 mod filter_writer;
-mod held;
 mod index_either;
 mod index_full;
 mod index_partitioned;

@@ -19,7 +19,7 @@ use meta_block::{BlockCounts, write_meta};
 use sst_blocks::{
     BloomConstructionPolicy, Checksum, CompressionType, EMPTY_LEN, ENTRY_HEAD_LEN, Error,
     FilterKind, IndexKind, InternalKey, InternalValue, Label, Options, SectionName, SectionWriter,
-    SeqNo, Slice, TableVersion,
+    SeqNo, Slice, check_entry,
 };
 use sst_entries::{EntryRef, compare_versions};
 use std::alloc::{Allocator, Global};
@@ -412,11 +412,8 @@ impl<A: Allocator + Clone> Writer<A> {
     pub fn use_data_block_restart_interval(mut self, interval: u8) -> Writer<A>
         requires fresh { spec.IsFresh self }
         requires some { 0 < interval }
-        ensures { result ≡ record self {
-          options = record self.options {
-            data_block_restart_interval = interval;
-          };
-        } }
+        ensures { spec.SetsOption self result
+            (λ o. record o { data_block_restart_interval = interval }) }
     {
         self.options.data_block_restart_interval = interval;
         self
@@ -428,11 +425,8 @@ impl<A: Allocator + Clone> Writer<A> {
     /// is 1.
     pub fn use_index_block_restart_interval(mut self, interval: u8) -> Writer<A>
         requires { spec.IsFresh self }
-        ensures { result ≡ record self {
-          options = record self.options {
-            index_block_restart_interval = interval;
-          };
-        } }
+        ensures { spec.SetsOption self result
+            (λ o. record o { index_block_restart_interval = interval }) }
     {
         self.options.index_block_restart_interval = interval;
         self
@@ -443,11 +437,7 @@ impl<A: Allocator + Clone> Writer<A> {
     /// It is stored in the meta block and changes nothing else.
     pub fn use_data_block_hash_ratio(mut self, ratio: u32) -> Writer<A>
         requires { spec.IsFresh self }
-        ensures { result ≡ record self {
-          options = record self.options {
-            data_block_hash_ratio = ratio;
-          };
-        } }
+        ensures { spec.SetsOption self result (λ o. record o { data_block_hash_ratio = ratio }) }
     {
         self.options.data_block_hash_ratio = ratio;
         self
@@ -459,11 +449,7 @@ impl<A: Allocator + Clone> Writer<A> {
     pub fn use_data_block_size(mut self, size: u32) -> Writer<A>
         requires fresh { spec.IsFresh self }
         requires small { size ≤ 4194304 }
-        ensures { result ≡ record self {
-          options = record self.options {
-            data_block_size = size;
-          };
-        } }
+        ensures { spec.SetsOption self result (λ o. record o { data_block_size = size }) }
     {
         self.options.data_block_size = size;
         self
@@ -474,9 +460,8 @@ impl<A: Allocator + Clone> Writer<A> {
     /// It replaces a partition size set before.
     pub fn use_partitioned_filter(mut self) -> Writer<A>
         requires { spec.IsFresh self }
-        ensures { result ≡ record self {
-          options = record self.options { filter_kind = spec.PartitionedFilter 4096 };
-        } }
+        ensures { spec.SetsOption self result
+            (λ o. record o { filter_kind = spec.PartitionedFilter 4096 }) }
     {
         self.options.filter_kind = FilterKind::Partitioned(4_096);
         self
@@ -487,9 +472,8 @@ impl<A: Allocator + Clone> Writer<A> {
     /// It replaces a partition size set before.
     pub fn use_partitioned_index(mut self) -> Writer<A>
         requires { spec.IsFresh self }
-        ensures { result ≡ record self {
-          options = record self.options { index_kind = spec.PartitionedIndex 4096 };
-        } }
+        ensures { spec.SetsOption self result
+            (λ o. record o { index_kind = spec.PartitionedIndex 4096 }) }
     {
         self.options.index_kind = IndexKind::Partitioned(4_096);
         self
@@ -501,12 +485,10 @@ impl<A: Allocator + Clone> Writer<A> {
     pub fn use_meta_partition_size(mut self, size: u32) -> Writer<A>
         requires fresh { spec.IsFresh self }
         requires small { size ≤ 4194304 }
-        ensures { result ≡ record self {
-          options = record self.options {
-            index_kind = spec.index_with_size size self.options.index_kind;
-            filter_kind = spec.filter_with_size size self.options.filter_kind;
-          };
-        } }
+        ensures { spec.SetsOption self result (λ o. record o {
+          index_kind = spec.index_with_size size o.index_kind;
+          filter_kind = spec.filter_with_size size o.filter_kind;
+        }) }
     {
         self.options.index_kind = self.options.index_kind.with_size(size);
         self.options.filter_kind = self.options.filter_kind.with_size(size);
@@ -518,9 +500,7 @@ impl<A: Allocator + Clone> Writer<A> {
     /// With 0 bits no filter is written.
     pub fn use_bloom_policy(mut self, policy: BloomConstructionPolicy) -> Writer<A>
         requires { spec.IsFresh self }
-        ensures { result ≡ record self {
-          options = record self.options { bloom_policy = policy };
-        } }
+        ensures { spec.SetsOption self result (λ o. record o { bloom_policy = policy }) }
     {
         self.options.bloom_policy = policy;
         self
@@ -629,7 +609,7 @@ fn admit<A: Allocator + Clone>(
     ensures first { spec.FaultsFirst result
         (spec.item_fault chunk.now (spec.entry_of_ref entry.now)) }
 {
-    check_entry(chunk, chunk_size, entry)?;
+    check_room(chunk, chunk_size, entry)?;
     let tally = meta.tally(chunk.allocator(), before, entry)?;
     register_key(
         filter_writer,
@@ -713,8 +693,8 @@ fn write_sections<A: Allocator + Clone>(
     write_meta(file_writer, buffer, label, options, counts, meta)
 }
 
-/// Returns an error if the key or value is too long, or the block of the pending entries too large.
-fn check_entry<A: Allocator>(
+/// Returns an error if the entry is too long, or the block of the pending entries too large with it.
+fn check_room<A: Allocator>(
     chunk: &BlockBuffer<A>,
     chunk_size: usize,
     entry: &EntryRef<'_>,
@@ -724,15 +704,9 @@ fn check_entry<A: Allocator>(
     ensures { MatchResult result (λ _. spec.item_fault chunk.now (spec.entry_of_ref entry.now)
         ≡ None) (λ e. spec.item_fault chunk.now (spec.entry_of_ref entry.now) ≡ Some e) }
 {
-    if entry.user_key.len() > TableVersion::WRITTEN.longest_key() {
-        return Err(Error::KeyTooLong);
-    }
-    let value_len = entry.value.len() as u64;
-    if value_len >= 1 << 32 {
-        return Err(Error::ValueTooLong);
-    }
+    check_entry(entry)?;
     let entries = chunk.len() as u64 + 1;
-    let bytes = chunk_size as u64 + entry.user_key.len() as u64 + value_len;
+    let bytes = chunk_size as u64 + entry.user_key.len() as u64 + entry.value.len() as u64;
     if EMPTY_LEN + ENTRY_HEAD_LEN * entries + bytes >= 1 << 32 {
         return Err(Error::BlockTooLarge);
     }

@@ -1,6 +1,6 @@
 -- A payload that has its checksum may be marked.
-use Rattle.std.specs.Prelude.{None}
-use Rattle.std.proofs.Common.{◌≡◌, ◌≤◌, ℕ, zero, suc, ◌+◌, ◌-◌, true, List, [], ◌∷◌, ◌++◌, length}
+use Rattle.std.specs.Prelude.{None, Bool, IsTrue}
+use Rattle.std.proofs.Common.{◌≡◌, ◌≤◌, ◌<◌, ◌^◌, ℕ, zero, suc, ◌+◌, ◌-◌, true, List, [], ◌∷◌, ◌++◌, length}
 use Rattle.std.proofs.Common.{replicate, take, slice_index, slice_set, slice_range, refl, subst}
 use Rattle.std.proofs.Common.{sym, ap, ◌∙◌, arith}
 use Rattle.std.specs.List.{All}
@@ -11,7 +11,11 @@ use Rattle.sst_blocks.specs.declared.block_type.BlockType.{BlockType}
 use Rattle.sst_blocks.specs.declared.block_type.BlockType.TheVariants.{Data, Index, Filter, Meta}
 use Rattle.sst_blocks.specs.Block.{data_len, header_fault, in_grammar, kind_tag, stored_checksum}
 use Rattle.sst_blocks.specs.Block.{version_in}
-use Rattle.sst_blocks.specs.Marks.{HasItems, HasSum, IsHeaded, IsSaid, Says, head_before}
+use Rattle.sst_blocks.specs.Marks.{HasItems, HasSum, Holds, Says, head_before}
+use Rattle.sst_blocks.specs.Placed.{IsHeaded, IsPlaced, payload_in}
+use Rattle.sst_blocks.specs.declared.block.header.Header.{Header}
+use Rattle.sst_blocks.specs.declared.marks.Verified.TheVariants.{Grammar}
+use Rattle.sst_blocks.specs.declared.source.payload.Payload.{Payload}
 use Rattle.sst_blocks.specs.Fnv.{fnv1a}
 use Rattle.sst_blocks.specs.Sections.{body_of}
 
@@ -23,18 +27,6 @@ marked bytes v says (w ∷ ws) zero h zero = says
 marked bytes v says (w ∷ ws) zero h (suc j) = h (suc j)
 marked bytes v says (w ∷ ws) (suc i) h zero = h zero
 marked bytes v says (w ∷ ws) (suc i) h (suc j) = marked bytes v says ws i (λ k. h (suc k)) j
-
-module _ (bytes : List ℕ) (start end checksum : ℕ) (said : IsSaid bytes start end checksum) where
-  -- the payload that a header says has the checksum that it says
-  pub said_sum : HasSum bytes start → fnv1a (slice_range bytes start end) ≡ checksum
-  unfolding HasSum
-  said_sum has = subst (λ (e : ℕ). fnv1a (slice_range bytes start e) ≡ checksum) said.len
-      (has ∙ said.sum)
-
-  pub sum_said : fnv1a (slice_range bytes start end) ≡ checksum → HasSum bytes start
-  unfolding HasSum
-  sum_said is = subst (λ (e : ℕ). fnv1a (slice_range bytes start e) ≡ checksum) (sym said.len) is
-      ∙ sym said.sum
 
 -- kinds of one tag are the same
 tag_only : (a b : BlockType) → kind_tag a ≡ kind_tag b → a ≡ b
@@ -55,30 +47,6 @@ tag_only Meta Index same = absurd cc
 tag_only Meta Filter same = absurd cc
 tag_only Meta Meta same = refl
 
-module _ (bytes : List ℕ) (start end : ℕ) (v : TableVersion) (kind : BlockType) (checksum : ℕ)
-    (headed : IsHeaded bytes start end v kind checksum) where
-  -- the payload behind a header is in the grammar that the header says, and so of its version and
-  -- kind
-  pub items_tested : HasItems bytes start → in_grammar v kind (slice_range bytes start end) ≡ true
-  unfolding HasItems
-  items_tested has =
-      let returned = subst (λ (w : TableVersion). in_grammar w kind
-      (slice_range bytes start (start + data_len (head_before bytes start))) ≡ true)
-      headed.version (has kind headed.kind_is) in
-      subst (λ (e : ℕ). in_grammar v kind (slice_range bytes start e) ≡ true) headed.said.len returned
-
-  pub tested_items : in_grammar v kind (slice_range bytes start end) ≡ true → HasItems bytes start
-  unfolding HasItems
-  tested_items is = λ other tag.
-      let head = head_before bytes start in
-      let whole = subst (λ (e : ℕ). in_grammar v kind (slice_range bytes start e) ≡ true)
-      (sym headed.said.len) is in
-      let of_head = subst (λ (w : TableVersion). in_grammar w kind
-      (slice_range bytes start (start + data_len head)) ≡ true) (sym headed.version) whole in
-      subst (λ (k : BlockType). in_grammar (version_in head) k
-      (slice_range bytes start (start + data_len head)) ≡ true)
-      (tag_only kind other (sym headed.kind_is ∙ tag)) of_head
-
 -- a part of the body is one of the bytes
 pub body_part : (bytes : List ℕ) (start end : ℕ) → end ≤ length (body_of bytes)
     → slice_range (body_of bytes) start end ≡ slice_range bytes start end
@@ -93,67 +61,85 @@ head_part bytes at within =
     let from : at + 24 - 24 ≡ at = omega arith in
     ap (λ (n : ℕ). slice_range bytes n (at + 24)) from ∙ sym (body_part bytes at (at + 24) within)
 
-pub said_there : (bytes : List ℕ) (at checksum len : ℕ) → at + 24 + len ≤ length (body_of bytes)
-    → checksum ≡ stored_checksum (slice_range (body_of bytes) at (at + 24))
-    → len ≡ data_len (slice_range (body_of bytes) at (at + 24))
-    → IsSaid bytes (at + 24) (at + 24 + len) checksum
-said_there bytes at checksum len within sum size =
-    let head = head_part bytes at (omega (arith, within)) in
-    record {
-      ordered = omega arith;
-      within = omega (arith, within, length-take (length bytes - 120) bytes);
-      sum = ap stored_checksum head ∙ sym sum;
-      len = ap (λ (n : ℕ). at + 24 + n) (ap data_len head ∙ sym size);
-    }
-
 -- a header without a fault is of the kind
 decode_kind : (kind : BlockType) (head : List ℕ) → header_fault kind head ≡ None
     → slice_index head 4 ≡ kind_tag kind
 decode_kind kind head none = grind arith
 
-pub headed_there : (bytes : List ℕ) (at : ℕ) (v : TableVersion) (kind : BlockType)
-    (checksum len : ℕ) → at + 24 + len ≤ length (body_of bytes)
+-- a payload behind a header has the checksum that the header stores where the cache says so, and the
+-- other way round
+module _ (bytes : List ℕ) (p : Payload) (headed : IsHeaded bytes p) where
+  part : payload_in (body_of bytes) p ≡ slice_range bytes p.start p.end
+  part = body_part bytes p.start p.end headed.within
+
+  pub sum_there : HasSum bytes p.start → fnv1a (payload_in (body_of bytes) p) ≡ p.header.checksum
+  unfolding HasSum
+  sum_there has = ap fnv1a part
+      ∙ subst (λ (e : ℕ). fnv1a (slice_range bytes p.start e) ≡ p.header.checksum) headed.len
+      (has ∙ headed.sum)
+
+  pub there_sum : fnv1a (payload_in (body_of bytes) p) ≡ p.header.checksum → HasSum bytes p.start
+  unfolding HasSum
+  there_sum is =
+      subst (λ (e : ℕ). fnv1a (slice_range bytes p.start e) ≡ p.header.checksum) (sym headed.len)
+      (ap fnv1a (sym part) ∙ is)
+      ∙ sym headed.sum
+
+-- so with the grammar, of its version and kind
+module _ (bytes : List ℕ) (kind : BlockType) (p : Payload) (placed : IsPlaced bytes kind p) where
+  part_is : payload_in (body_of bytes) p ≡ slice_range bytes p.start p.end
+  part_is = part bytes p placed.headed
+
+  pub items_there : HasItems bytes p.start
+      → in_grammar p.header.version kind (payload_in (body_of bytes) p) ≡ true
+  unfolding HasItems
+  items_there has =
+      let returned = subst (λ (w : TableVersion). in_grammar w kind
+      (slice_range bytes p.start (p.start + data_len (head_before bytes p.start))) ≡ true)
+      placed.version (has kind placed.kind_is) in
+      subst (λ (b : List ℕ). in_grammar p.header.version kind b ≡ true) (sym part_is)
+      (subst (λ (e : ℕ). in_grammar p.header.version kind (slice_range bytes p.start e) ≡ true)
+      placed.headed.len returned)
+
+  pub there_items : in_grammar p.header.version kind (payload_in (body_of bytes) p) ≡ true
+      → HasItems bytes p.start
+  unfolding HasItems
+  there_items is = λ other tag.
+      let head = head_before bytes p.start in
+      let here = subst (λ (b : List ℕ). in_grammar p.header.version kind b ≡ true) part_is is in
+      let whole = subst (λ (e : ℕ). in_grammar p.header.version kind (slice_range bytes p.start e)
+      ≡ true) (sym placed.headed.len) here in
+      let of_head = subst (λ (w : TableVersion). in_grammar w kind
+      (slice_range bytes p.start (p.start + data_len head)) ≡ true) (sym placed.version) whole in
+      subst (λ (k : BlockType). in_grammar (version_in head) k
+      (slice_range bytes p.start (p.start + data_len head)) ≡ true)
+      (tag_only kind other (sym placed.kind_is ∙ tag)) of_head
+
+-- what is read from a header without a fault
+pub placed_there : (bytes : List ℕ) (at end : ℕ) (kind : BlockType) (h : Header) (verified : Bool)
+    → at + 24 + h.data_len ≡ end → end ≤ length (body_of bytes) → h.data_len < 2 ^ 32
     → header_fault kind (slice_range (body_of bytes) at (at + 24)) ≡ None
-    → v ≡ version_in (slice_range (body_of bytes) at (at + 24))
-    → checksum ≡ stored_checksum (slice_range (body_of bytes) at (at + 24))
-    → len ≡ data_len (slice_range (body_of bytes) at (at + 24))
-    → IsHeaded bytes (at + 24) (at + 24 + len) v kind checksum
-headed_there bytes at v kind checksum len within none version sum size =
-    let head = head_part bytes at (omega (arith, within)) in
+    → h.version ≡ version_in (slice_range (body_of bytes) at (at + 24))
+    → h.checksum ≡ stored_checksum (slice_range (body_of bytes) at (at + 24))
+    → h.data_len ≡ data_len (slice_range (body_of bytes) at (at + 24))
+    → (IsTrue verified → Holds Grammar bytes (at + 24))
+    → IsPlaced bytes kind
+    (record { header = h; start = at + 24; end = end; is_verified = verified })
+placed_there bytes at end kind h verified len within short none version sum size cached =
+    let head = head_part bytes at (omega (arith, within, len)) in
     record {
-      said = said_there bytes at checksum len within sum size;
+      headed = record {
+        ordered = omega (arith, len);
+        within = within;
+        short = omega (arith, short, len);
+        sum = ap stored_checksum head ∙ sym sum;
+        len = ap (λ (n : ℕ). at + 24 + n) (ap data_len head ∙ sym size) ∙ len;
+      };
       version = ap version_in head ∙ sym version;
-      kind_is = ap (λ (h : List ℕ). slice_index h 4) head
+      kind_is = ap (λ (b : List ℕ). slice_index b 4) head
           ∙ decode_kind kind (slice_range (body_of bytes) at (at + 24)) none;
+      verified = cached;
     }
-
--- a payload that has the checksum that its header says
-pub sum_there : (bytes : List ℕ) (start end checksum : ℕ) → IsSaid bytes start end checksum
-    → end ≤ length (body_of bytes) → HasSum bytes start
-    → fnv1a (slice_range (body_of bytes) start end) ≡ checksum
-sum_there bytes start end checksum said within has =
-    ap fnv1a (body_part bytes start end within) ∙ said_sum bytes start end checksum said has
-
-pub there_sum : (bytes : List ℕ) (start end checksum : ℕ) → IsSaid bytes start end checksum
-    → end ≤ length (body_of bytes) → fnv1a (slice_range (body_of bytes) start end) ≡ checksum
-    → HasSum bytes start
-there_sum bytes start end checksum said within is =
-    sum_said bytes start end checksum said (ap fnv1a (sym (body_part bytes start end within)) ∙ is)
-
--- and is in the grammar that its header says
-pub items_there : (bytes : List ℕ) (start end : ℕ) (v : TableVersion) (kind : BlockType)
-    (checksum : ℕ) → IsHeaded bytes start end v kind checksum → end ≤ length (body_of bytes)
-    → HasItems bytes start → in_grammar v kind (slice_range (body_of bytes) start end) ≡ true
-items_there bytes start end v kind checksum headed within has =
-    subst (λ (p : List ℕ). in_grammar v kind p ≡ true) (sym (body_part bytes start end within))
-    (items_tested bytes start end v kind checksum headed has)
-
-pub there_items : (bytes : List ℕ) (start end : ℕ) (v : TableVersion) (kind : BlockType)
-    (checksum : ℕ) → IsHeaded bytes start end v kind checksum → end ≤ length (body_of bytes)
-    → in_grammar v kind (slice_range (body_of bytes) start end) ≡ true → HasItems bytes start
-there_items bytes start end v kind checksum headed within is =
-    tested_items bytes start end v kind checksum headed
-    (subst (λ (p : List ℕ). in_grammar v kind p ≡ true) (body_part bytes start end within) is)
 
 -- a word that is 0 says nothing
 none_says : (bytes : List ℕ) → Says bytes 0

@@ -1,8 +1,8 @@
 -- Payloads with a verified checksum or a verified grammar, and the verified-block cache.
-use Rattle.std.specs.Prelude.{◌≡◌, ◌≤◌, ℕ, ◌+◌, ◌-◌, ◌*◌, true, List, length, slice_index}
-use Rattle.std.specs.Prelude.{slice_range}
-use Rattle.sst_blocks.specs.declared.version.TableVersion.{TableVersion}
+use Rattle.std.specs.Prelude.{◌≡◌, ℕ, ◌+◌, ◌-◌, ◌*◌, true, List, slice_index, slice_range}
 use Rattle.sst_blocks.specs.declared.block_type.BlockType.{BlockType}
+use Rattle.sst_blocks.specs.declared.marks.Verified.{Verified}
+use Rattle.sst_blocks.specs.declared.marks.Verified.TheVariants.{Checksum, Grammar}
 use Rattle.sst_blocks.specs.Block.{data_len, header_len, in_grammar, kind_tag, stored_checksum}
 use Rattle.sst_blocks.specs.Block.{version_in}
 use Rattle.sst_blocks.specs.Fnv.{fnv1a}
@@ -24,6 +24,11 @@ HasItems bytes start =
     (kind : BlockType) → slice_index head 4 ≡ kind_tag kind →
     in_grammar (version_in head) kind (slice_range bytes start (start + data_len head)) ≡ true
 
+-- what the cache can say of the payload at an offset
+abbrev pub Holds : Verified → List ℕ → ℕ → Type 0
+Holds Checksum bytes start = HasSum bytes start
+Holds Grammar bytes start = HasSum bytes start × HasItems bytes start
+
 -- a cache entry is 0, or encodes an offset whose payload has a verified checksum, or also a
 -- verified grammar
 pub record Says (bytes : List ℕ) (word : ℕ) : Type 0 where
@@ -32,18 +37,3 @@ pub record Says (bytes : List ℕ) (word : ℕ) : Type 0 where
 
 abbrev pub AllSay : List ℕ → List ℕ → Type 0
 AllSay bytes words = (i : ℕ) → Says bytes (slice_index words i)
-
--- the header before an offset describes a payload up to an end, with this checksum
-pub record IsSaid (bytes : List ℕ) (start end checksum : ℕ) : Type 0 where
-  pub ordered : start ≤ end
-  pub within : end ≤ length bytes
-  pub sum : stored_checksum (head_before bytes start) ≡ checksum
-  pub len : start + data_len (head_before bytes start) ≡ end
-
--- the same, and the header has this version and block type
-pub record IsHeaded (bytes : List ℕ) (start end : ℕ) (v : TableVersion) (kind : BlockType)
-    (checksum : ℕ) : Type 0
-  where
-    pub said : IsSaid bytes start end checksum
-    pub version : version_in (head_before bytes start) ≡ v
-    pub kind_is : slice_index (head_before bytes start) 4 ≡ kind_tag kind

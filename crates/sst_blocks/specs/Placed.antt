@@ -1,45 +1,51 @@
--- The range of a block's payload, and which checks it has passed.
-use Rattle.std.specs.Prelude.{◌≡◌, ◌≤◌, ◌<◌, ◌+◌, ◌^◌, ℕ, true, List, length, slice_range, IsTrue}
-use Rattle.std.specs.Prelude.{None}
+-- A payload in a table's bytes, and which checks it has passed.
+use Rattle.std.specs.Prelude.{◌≡◌, ◌≤◌, ◌<◌, ◌+◌, ◌^◌, ℕ, true, List, length, slice_index}
+use Rattle.std.specs.Prelude.{slice_range, IsTrue, Option, Result}
 use Rattle.std.specs.Option.{option_or}
+use Rattle.sst_entries.specs.declared.error.Error.{Error}
 use Rattle.sst_blocks.specs.declared.block_type.BlockType.{BlockType}
-use Rattle.sst_blocks.specs.declared.source.Placed.{Placed}
-use Rattle.sst_blocks.specs.declared.source.reads.Valid.{Valid}
-use Rattle.sst_blocks.specs.Block.{checked_payload, checksum_fault, has_room, in_grammar, load_result}
-use Rattle.sst_blocks.specs.Block.{place_fault, room_fault}
-use Rattle.sst_blocks.specs.Marks.{IsHeaded}
+use Rattle.sst_blocks.specs.declared.marks.Verified.TheVariants.{Grammar}
+use Rattle.sst_blocks.specs.declared.source.payload.Payload.{Payload}
+use Rattle.sst_blocks.specs.Block.{Loaded, checked_payload, checksum_fault, data_len, has_room}
+use Rattle.sst_blocks.specs.Block.{in_grammar, kind_tag, room_fault, stored_checksum, version_in}
+use Rattle.sst_blocks.specs.Marks.{Holds, head_before}
 use Rattle.sst_blocks.specs.Fnv.{fnv1a}
+use Rattle.sst_blocks.specs.Sections.{body_of}
 
--- the payload is within the bytes before the trailer, and loading its block checks exactly this
--- payload
-pub record IsPlaced (body : List ℕ) (offset size : ℕ) (kind : BlockType) (p : Placed) : Type 0 where
+-- the bytes of the payload
+abbrev pub payload_in : List ℕ → Payload → List ℕ
+payload_in body p = slice_range body p.start p.end
+
+-- the block of the payload, or the first fault
+abbrev pub checked_in : List ℕ → BlockType → Payload → Result Loaded Error
+checked_in body kind p = checked_payload p.header.version p.header.checksum kind (payload_in body p)
+
+-- the first fault that is found before allocating
+abbrev pub fault_in : List ℕ → BlockType → Payload → Option Error
+fault_in body kind p =
+    option_or (checksum_fault p.header.checksum (payload_in body p))
+    (room_fault p.header.version kind (payload_in body p))
+
+-- the payload is within the bytes before the trailer, and the header before it has its checksum and
+-- length
+pub record IsHeaded (bytes : List ℕ) (p : Payload) : Type 0 where
   pub ordered : p.start ≤ p.end
-  pub within : p.end ≤ length body
+  pub within : p.end ≤ length (body_of bytes)
   pub short : p.end < p.start + 2 ^ 32
-  pub returned : load_result body offset size kind ≡
-      checked_payload p.header.version p.header.checksum kind (slice_range body p.start p.end)
-  pub first : place_fault body offset size kind ≡
-      option_or (checksum_fault p.header.checksum (slice_range body p.start p.end))
-      (room_fault p.header.version kind (slice_range body p.start p.end))
+  pub sum : stored_checksum (head_before bytes p.start) ≡ p.header.checksum
+  pub len : p.start + data_len (head_before bytes p.start) ≡ p.end
 
--- the payload matches its checksum and has room for the items it counts; once tested, it follows
+-- the header also has its version and type, and what the cache says of it holds
+pub record IsPlaced (bytes : List ℕ) (kind : BlockType) (p : Payload) : Type 0 where
+  pub headed : IsHeaded bytes p
+  pub version : version_in (head_before bytes p.start) ≡ p.header.version
+  pub kind_is : slice_index (head_before bytes p.start) 4 ≡ kind_tag kind
+  pub verified : IsTrue p.is_verified → Holds Grammar bytes p.start
+
+-- the payload matches its checksum and has room for the items it counts; once verified, it follows
 -- its grammar
-pub record IsValid (body : List ℕ) (kind : BlockType) (s : Valid) : Type 0 where
-  pub ordered : s.start ≤ s.end
-  pub within : s.end ≤ length body
-  pub short : s.end < s.start + 2 ^ 32
-  pub sum : fnv1a (slice_range body s.start s.end) ≡ s.header.checksum
-  pub room : has_room s.header.version kind (slice_range body s.start s.end) ≡ true
-  pub tested : IsTrue s.is_tested →
-      in_grammar s.header.version kind (slice_range body s.start s.end) ≡ true
-
--- the header before the payload has its version, type, checksum and length
-abbrev pub IsValidHeaded : List ℕ → BlockType → Valid → Type 0
-IsValidHeaded bytes kind s = IsHeaded bytes s.start s.end s.header.version kind s.header.checksum
-
--- loading the block checks exactly this payload, and no fault is found before allocating
-pub record IsValidAt (body : List ℕ) (offset size : ℕ) (kind : BlockType) (s : Valid) : Type 0 where
-  pub sound : IsValid body kind s
-  pub returned : load_result body offset size kind ≡
-      checked_payload s.header.version s.header.checksum kind (slice_range body s.start s.end)
-  pub first : place_fault body offset size kind ≡ None
+pub record IsValid (body : List ℕ) (kind : BlockType) (p : Payload) : Type 0 where
+  pub sum : fnv1a (payload_in body p) ≡ p.header.checksum
+  pub room : has_room p.header.version kind (payload_in body p) ≡ true
+  pub verified : IsTrue p.is_verified →
+      in_grammar p.header.version kind (payload_in body p) ≡ true

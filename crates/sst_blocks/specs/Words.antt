@@ -3,6 +3,7 @@
 pub use Rattle.sst_entries.specs.Entry.{Entry}
 pub use Rattle.sst_entries.specs.Error.{Faults, FaultsFirst, Gives, Refuses, is_memory, unless}
 pub use Rattle.sst_entries.specs.Key.{key_lt}
+pub use Rattle.sst_entries.specs.Kind.{tag_of}
 pub use Rattle.sst_entries.specs.Lending.{entry_of_ref}
 pub use Rattle.sst_entries.specs.Point.{lower_place, point, read_place, upper_place, within}
 pub use Rattle.sst_entries.specs.Span.{SpanGives, front_length, rest_in}
@@ -17,11 +18,13 @@ pub use Rattle.sst_blocks.specs.Block.{uncompressed_len, version_in}
 pub use Rattle.sst_blocks.specs.Bounds.{bound_of, data_block_bound_of, index_block_bound_of}
 pub use Rattle.sst_blocks.specs.Cursor.{Cursor, advanced, cursor_of, over_cursor, retreated, unlent}
 pub use Rattle.sst_blocks.specs.EntryPlace.{IsPlacedIn, entry_placed, placed_in}
-pub use Rattle.sst_blocks.specs.Encoding.{entries_fault, handles_fault, items_fault}
+pub use Rattle.sst_blocks.specs.Encoding.{IsShortEntry, entries_fault, entry_fault_or, handles_fault}
+pub use Rattle.sst_blocks.specs.Encoding.{items_fault}
 pub use Rattle.sst_blocks.specs.Handle.{Handle}
 pub use Rattle.sst_blocks.specs.Handles.{AreSpellableHandles, AreStrictHandles, end_of, handles_in}
 pub use Rattle.sst_blocks.specs.Handles.{handles_payload, is_above, reaches, window}
-pub use Rattle.sst_blocks.specs.Payload.{AreFit, AreSpellable, items_payload, payload}
+pub use Rattle.sst_blocks.specs.Payload.{AreFit, AreSpellable, IsSpellable, items_payload, payload}
+unfoldable pub use Rattle.sst_blocks.specs.Payload.{spelled}
 pub use Rattle.sst_blocks.specs.Place.{place_of}
 pub use Rattle.sst_blocks.specs.Reading.{entries_in, key_and_number}
 pub use Rattle.sst_blocks.specs.Seeking.{KeepsLower, KeepsLowerEdge, KeepsUpper, KeepsUpperEdge}
@@ -46,11 +49,11 @@ unfoldable pub use Rattle.sst_blocks.specs.Block.{place_fault, position_fault}
 pub use Rattle.sst_blocks.specs.Fnv.{fnv1a, fnv_back, fnv_basis, fnv_step}
 unfoldable pub use Rattle.sst_blocks.specs.Fnv.{fnv_from}
 pub use Rattle.sst_blocks.specs.Format.{items_in, items_of}
-pub use Rattle.sst_blocks.specs.Marks.{IsHeaded, IsSaid, Says}
-unfoldable pub use Rattle.sst_blocks.specs.Marks.{HasItems, HasSum}
+pub use Rattle.sst_blocks.specs.Marks.{Holds, Says}
 unfoldable pub use Rattle.sst_blocks.specs.Number.{le4, le8, num2, num4, num8}
 pub use Rattle.sst_blocks.specs.Opened.{none_opened, with_load}
-pub use Rattle.sst_blocks.specs.Placed.{IsPlaced, IsValid, IsValidAt, IsValidHeaded}
+pub use Rattle.sst_blocks.specs.Placed.{IsHeaded, IsPlaced, IsValid, checked_in, fault_in}
+pub use Rattle.sst_blocks.specs.Placed.{payload_in}
 unfoldable pub use Rattle.sst_blocks.specs.Reading.{entry_at, parts_at}
 pub use Rattle.sst_blocks.specs.Sections.{AreAscending, ReadsBack, Written, body_of, finished}
 pub use Rattle.sst_blocks.specs.Sections.{is_past, section_at, section_names, section_of, slot}

@@ -16,6 +16,7 @@ use crate::reading::{front_len, item_at, key_at};
 use crate::starts::Starts;
 use crate::{Block, EntryRef, Error, InternalValue, SeqNo, Slice, TableVersion};
 pub use cursor::Cursor;
+pub use encode::{check_entry, put_entry};
 use entry_ref::head_len;
 pub(crate) use entry_ref::head_len as entry_head_len;
 pub(crate) use find::find_entry;

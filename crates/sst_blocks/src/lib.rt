@@ -30,7 +30,8 @@ pub use block_type::BlockType;
 pub use checksum::Checksum;
 pub use compression::CompressionType;
 pub use data_block::{
-    Cursor as DataBlockCursor, DataBlock, ENTRY_HEAD_LEN, Iter as DataBlockIter, data_block_bound,
+    Cursor as DataBlockCursor, DataBlock, ENTRY_HEAD_LEN, Iter as DataBlockIter, check_entry,
+    data_block_bound, put_entry,
 };
 pub use entry_place::EntryPlace;
 pub use filter::{BloomConstructionPolicy, Builder, contains_hash, filter_bound};

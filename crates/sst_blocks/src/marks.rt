@@ -13,6 +13,15 @@ pub(crate) const SPAN: u64 = 2048;
 // Payloads from here on are not cached, so that twice a start fits a slot with room to spare.
 const END: u64 = 1 << 62;
 
+/// What is verified of a payload.
+#[derive(Clone, Copy)]
+pub(crate) enum Verified {
+    /// It has the checksum in its header.
+    Checksum,
+    /// It has that checksum, and follows its grammar.
+    Grammar,
+}
+
 // A slot is 0 if empty. Else it is twice the start of a payload, plus 1 for a valid checksum, or
 // plus 2 for a valid grammar as well.
 struct Compared;
@@ -118,38 +127,26 @@ impl<A: Allocator + Clone> Marks<A> {
         }
     }
 
-    /// Returns whether the payload starting here is known to have a valid checksum.
-    pub(crate) fn has_sum(&self, start: u64) -> bool
-        ensures { IsTrue result → spec.HasSum self.now start }
+    /// Returns whether this is known of the payload starting here.
+    pub(crate) fn has(&self, start: u64, verified: Verified) -> bool
+        ensures { IsTrue result → spec.Holds verified self.now start }
     {
         let word = self.word(start);
-        0 < word && (word - 1) / 2 == start
-    }
-
-    /// Returns whether the payload starting here is known to have a valid checksum and grammar.
-    pub(crate) fn is_tested(&self, start: u64) -> bool
-        ensures sum { IsTrue result → spec.HasSum self.now start }
-        ensures items { IsTrue result → spec.HasItems self.now start }
-    {
-        start < END && self.word(start) == 2 * start + 2
-    }
-
-    /// Remembers that the payload starting here has a valid checksum.
-    pub(crate) fn mark_sum(&self, start: u64)
-        requires { spec.HasSum self.now start }
-    {
-        if start < END {
-            self.set_word(start, 2 * start + 1);
+        match verified {
+            Verified::Checksum => 0 < word && (word - 1) / 2 == start,
+            Verified::Grammar => start < END && word == 2 * start + 2,
         }
     }
 
-    /// Remembers that the payload starting here has a valid checksum and grammar.
-    pub(crate) fn mark_tested(&self, start: u64)
-        requires sum { spec.HasSum self.now start }
-        requires items { spec.HasItems self.now start }
+    /// Remembers this of the payload starting here.
+    pub(crate) fn add(&self, start: u64, verified: Verified)
+        requires { spec.Holds verified self.now start }
     {
         if start < END {
-            self.set_word(start, 2 * start + 2);
+            match verified {
+                Verified::Checksum => self.set_word(start, 2 * start + 1),
+                Verified::Grammar => self.set_word(start, 2 * start + 2),
+            }
         }
     }
 }

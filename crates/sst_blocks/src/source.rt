@@ -1,19 +1,19 @@
 //! The only access to the blocks of a table's bytes.
-ghost use Rattle.std.specs.Prelude.{◌≡◌, ◌↔◌, ◌+◌, ◌*◌, ◌/◌, ◌⊎◌, ◌<◌, ◌≤◌, ◌^◌, List, ℕ, length};
-ghost use Rattle.std.specs.Prelude.{map};
-ghost use Rattle.std.specs.Prelude.{slice_range};
-ghost use Rattle.std.specs.Prelude.{IfErr, IfOk, IfSome, IsTrue, OnOk, MatchOption, Err, None};
-ghost use Rattle.std.specs.Prelude.{Some, true};
+ghost use Rattle.std.specs.Prelude.{◌≡◌, ◌↔◌, ◌+◌, ◌*◌, ◌/◌, ◌⊎◌, ◌<◌, ◌^◌, List, ℕ, length, map};
+ghost use Rattle.std.specs.Prelude.{IfErr, IfOk, IfSome, IsTrue, OnOk, MatchOption, MatchResult};
+ghost use Rattle.std.specs.Prelude.{Err, None, Some, true};
 ghost use Rattle.sst_blocks.specs.Words as spec;
 
+mod payload;
 mod reads;
 
 use crate::block::{Header, has_room};
-use crate::marks::{Marks, SPAN};
+use crate::marks::{Marks, SPAN, Verified};
 use crate::{
     Block, BlockHandle, BlockType, Error, Opened, Slice, TRAILER_LEN, Toc, has_hash, hash_four,
     have_hashes,
 };
+use payload::Payload;
 use std::alloc::{AllocError, Allocator, Global};
 use std::marker::Model;
 use std::sync::Arc;
@@ -195,8 +195,8 @@ impl<A: Allocator + Clone> BlockSource<A> {
         ensures counted { opened.new ≡ spec.with_load kind opened.old }
     {
         opened.count(kind);
-        let placed = self.place(handle, kind)?;
-        self.block(placed.header, kind, placed.start, placed.end)
+        let payload = self.payload_of(handle, kind)?;
+        self.block(&payload, kind)
     }
 
     /// Loads the block of a kind at a position, with the size that its header stores.
@@ -222,42 +222,23 @@ impl<A: Allocator + Clone> BlockSource<A> {
         ensures counted { opened.new ≡ spec.with_load kind opened.old }
     {
         opened.count(kind);
-        let body = self.body();
-        if body.len() < HEADER_LEN || ((body.len() - HEADER_LEN) as u64) < position {
-            // No header ends within the body.
-            return Err(Error::Truncated);
-        }
-        let header_start = position as usize;
-        let start = header_start + HEADER_LEN;
-        let header = Header::decode(&body[header_start..start], kind)?;
-        if header.data_len != header.uncompressed_len {
-            // The two lengths disagree.
-            return Err(Error::InvalidHeader);
-        }
-        let len = header.data_len as usize;
-        if body.len() - start < len {
-            // The payload reaches past the body.
-            return Err(Error::Truncated);
-        }
-        self.block(header, kind, start, start + len)
+        let payload = self.payload_at(position, kind)?;
+        self.block(&payload, kind)
     }
 
-    /// Returns the header and the payload range of the block of a kind that a handle describes.
+    /// Returns the payload of the block of a kind that a handle describes.
     ///
     /// # Errors
     ///
     /// Fails with the first fault in the handle, the header or its lengths.
-    fn place(&self, handle: &BlockHandle, kind: BlockType) -> Result<Placed, Error>
-        ensures placed { IfOk result (λ p.
-            spec.IsPlaced (spec.body_of self.now) handle.now.offset handle.now.size kind p) }
-        ensures headed { IfOk result (λ p.
-            spec.IsHeaded self.now p.start p.end p.header.version kind p.header.checksum) }
+    fn payload_of(&self, handle: &BlockHandle, kind: BlockType) -> Result<Payload, Error>
+        ensures placed { IfOk result (spec.IsPlaced self.now kind) }
         ensures returned { let body = spec.body_of self.now in
-            IfErr result (λ e. spec.load_result body handle.now.offset handle.now.size kind
-            ≡ Err e) }
+            let loaded = spec.load_result body handle.now.offset handle.now.size kind in
+            MatchResult result (λ p. loaded ≡ spec.checked_in body kind p) (λ e. loaded ≡ Err e) }
         ensures first { let body = spec.body_of self.now in
-            IfErr result (λ e. spec.place_fault body handle.now.offset handle.now.size kind
-            ≡ Some e) }
+            let fault = spec.place_fault body handle.now.offset handle.now.size kind in
+            MatchResult result (λ p. fault ≡ spec.fault_in body kind p) (λ e. fault ≡ Some e) }
     {
         let body = self.body();
         let size = handle.size() as usize;
@@ -276,10 +257,54 @@ impl<A: Allocator + Clone> BlockSource<A> {
             // The two lengths disagree, or differ from the handle's.
             return Err(Error::InvalidHeader);
         }
-        Ok(Placed {
+        Ok(Payload {
             header,
             start: start + HEADER_LEN,
             end: start + size,
+            is_verified: self.is_cached(start + HEADER_LEN, Verified::Grammar),
+        })
+    }
+
+    /// Returns the payload of the block of a kind at a position, with the size that its header
+    /// stores.
+    ///
+    /// # Errors
+    ///
+    /// Fails with the first fault in the position, the header or its lengths.
+    fn payload_at(&self, position: u64, kind: BlockType) -> Result<Payload, Error>
+        ensures placed { IfOk result (spec.IsPlaced self.now kind) }
+        ensures within { let body = spec.body_of self.now in
+            IfOk result (λ p.
+            position + spec.header_len + length (spec.payload_in body p) < 2 ^ 63) }
+        ensures returned { let body = spec.body_of self.now in
+            let loaded = spec.load_at_result body position kind in
+            MatchResult result (λ p. loaded ≡ spec.checked_in body kind p) (λ e. loaded ≡ Err e) }
+        ensures first { let body = spec.body_of self.now in
+            let fault = spec.position_fault body position kind in
+            MatchResult result (λ p. fault ≡ spec.fault_in body kind p) (λ e. fault ≡ Some e) }
+    {
+        let body = self.body();
+        if body.len() < HEADER_LEN || ((body.len() - HEADER_LEN) as u64) < position {
+            // No header ends within the body.
+            return Err(Error::Truncated);
+        }
+        let header_start = position as usize;
+        let start = header_start + HEADER_LEN;
+        let header = Header::decode(&body[header_start..start], kind)?;
+        if header.data_len != header.uncompressed_len {
+            // The two lengths disagree.
+            return Err(Error::InvalidHeader);
+        }
+        let len = header.data_len as usize;
+        if body.len() - start < len {
+            // The payload reaches past the body.
+            return Err(Error::Truncated);
+        }
+        Ok(Payload {
+            header,
+            start,
+            end: start + len,
+            is_verified: self.is_cached(start, Verified::Grammar),
         })
     }
 
@@ -291,164 +316,113 @@ impl<A: Allocator + Clone> BlockSource<A> {
         &self.bytes.as_slice()[..self.bytes.len() - TRAILER_LEN]
     }
 
-    /// Loads the block whose header was read and whose payload is from `start` up to `end`.
-    fn block(
-        &self,
-        header: Header,
-        kind: BlockType,
-        start: usize,
-        end: usize,
-    ) -> Result<Block<A>, Error>
-        requires ordered { start ≤ end }
-        requires within { end ≤ length (spec.body_of self.now) }
-        requires short { end < start + 2 ^ 32 }
-        requires headed { spec.IsHeaded self.now start end header.version kind header.checksum }
-        ensures returned { let payload = slice_range (spec.body_of self.now) start end in
-            spec.Gives (λ (b : spec.Loaded). b) result
-            (spec.checked_payload header.version header.checksum kind payload) }
-        ensures first { let payload = slice_range (spec.body_of self.now) start end in
-            spec.FaultsFirst result (spec.option_or (spec.checksum_fault header.checksum payload)
-            (spec.room_fault header.version kind payload)) }
+    /// Loads the block of a payload.
+    fn block(&self, payload: &Payload, kind: BlockType) -> Result<Block<A>, Error>
+        requires { spec.IsPlaced self.now kind payload.now }
+        ensures returned { spec.Gives (λ (b : spec.Loaded). b) result
+            (spec.checked_in (spec.body_of self.now) kind payload.now) }
+        ensures first { spec.FaultsFirst result
+            (spec.fault_in (spec.body_of self.now) kind payload.now) }
     {
-        let is_tested = self.test(&header, kind, start, end)?;
-        let block = self.open(&header, kind, start, end, is_tested)?;
-        if !is_tested {
-            self.remember_test(start);
-        }
+        self.test(payload, kind)?;
+        let block = self.open(payload, kind)?;
+        self.cache_grammar(payload, kind);
         Ok(block)
     }
 
     /// Checks the checksum and the count of a payload, unless the cache has it.
     ///
-    /// Returns whether the cache says that its grammar was checked.
-    ///
     /// # Errors
     ///
     /// Fails with [`Error::ChecksumMismatch`] or [`Error::InvalidBlock`].
-    fn test(
-        &self,
-        header: &Header,
-        kind: BlockType,
-        start: usize,
-        end: usize,
-    ) -> Result<bool, Error>
-        requires ordered { start ≤ end }
-        requires within { end ≤ length (spec.body_of self.now) }
-        requires headed { spec.IsHeaded self.now start end header.now.version kind
-            header.now.checksum }
-        ensures sum { let payload = slice_range (spec.body_of self.now) start end in
-            OnOk result (spec.fnv1a payload ≡ header.now.checksum) }
-        ensures room { let payload = slice_range (spec.body_of self.now) start end in
-            OnOk result (spec.has_room header.now.version kind payload ≡ true) }
-        ensures tested { let payload = slice_range (spec.body_of self.now) start end in
-            IfOk result (λ is_tested.
-            IsTrue is_tested → spec.in_grammar header.now.version kind payload ≡ true) }
-        ensures returned { let payload = slice_range (spec.body_of self.now) start end in
-            IfErr result (λ e.
-            spec.checked_payload header.now.version header.now.checksum kind payload ≡ Err e) }
-        ensures first { let payload = slice_range (spec.body_of self.now) start end in
-            IfErr result (λ e. spec.option_or (spec.checksum_fault header.now.checksum payload)
-            (spec.room_fault header.now.version kind payload) ≡ Some e) }
+    fn test(&self, payload: &Payload, kind: BlockType) -> Result<(), Error>
+        requires { spec.IsPlaced self.now kind payload.now }
+        ensures valid { OnOk result (spec.IsValid (spec.body_of self.now) kind payload.now) }
+        ensures returned { let body = spec.body_of self.now in
+            IfErr result (λ e. spec.checked_in body kind payload.now ≡ Err e) }
+        ensures first { let body = spec.body_of self.now in
+            IfErr result (λ e. spec.fault_in body kind payload.now ≡ Some e) }
     {
-        if self.was_tested(start) {
-            return Ok(true);
+        if payload.is_verified {
+            return Ok(());
         }
-        if !self.has_sum(header.checksum, start, end) {
+        if !self.has_sum(payload) {
             return Err(Error::ChecksumMismatch);
         }
-        if !has_room(header.version, kind, &self.body()[start..end]) {
+        if !has_room(
+            payload.header.version,
+            kind,
+            &self.body()[payload.start..payload.end],
+        ) {
             return Err(Error::InvalidBlock);
         }
-        Ok(false)
+        Ok(())
     }
 
     /// Opens the block of a payload with a valid checksum and room for its count.
-    fn open(
-        &self,
-        header: &Header,
-        kind: BlockType,
-        start: usize,
-        end: usize,
-        is_tested: bool,
-    ) -> Result<Block<A>, Error>
-        requires ordered { start ≤ end }
-        requires within { end ≤ length (spec.body_of self.now) }
-        requires short { end < start + 2 ^ 32 }
-        requires sum { spec.fnv1a (slice_range (spec.body_of self.now) start end)
-            ≡ header.now.checksum }
-        requires room { let payload = slice_range (spec.body_of self.now) start end in
-            spec.has_room header.now.version kind payload ≡ true }
-        requires tested { let payload = slice_range (spec.body_of self.now) start end in
-            IsTrue is_tested → spec.in_grammar header.now.version kind payload ≡ true }
-        ensures returned { let payload = slice_range (spec.body_of self.now) start end in
-            spec.Gives (λ (b : spec.Loaded). b) result
-            (spec.checked_payload header.now.version header.now.checksum kind payload) }
+    fn open(&self, payload: &Payload, kind: BlockType) -> Result<Block<A>, Error>
+        requires placed { spec.IsPlaced self.now kind payload.now }
+        requires valid { spec.IsValid (spec.body_of self.now) kind payload.now }
+        ensures returned { spec.Gives (λ (b : spec.Loaded). b) result
+            (spec.checked_in (spec.body_of self.now) kind payload.now) }
     {
-        let payload = self.bytes.slice(start, end)?;
+        let bytes = self.bytes.slice(payload.start, payload.end)?;
         Block::open(
             self.alloc.clone()?,
-            header.version,
+            payload.header.version,
             kind,
-            payload,
-            is_tested,
+            bytes,
+            payload.is_verified,
         )
     }
 
-    /// Returns whether the cache says that the payload starting here has a valid checksum and
-    /// grammar.
-    fn was_tested(&self, start: usize) -> bool
-        ensures sum { IsTrue result → spec.HasSum self.now start }
-        ensures items { IsTrue result → spec.HasItems self.now start }
-    {
-        match &self.marks {
-            Some(marks) => marks.is_tested(start as u64),
-            None => false,
-        }
-    }
-
-    /// Caches that the payload starting here has a valid checksum and grammar.
-    fn remember_test(&self, start: usize)
-        requires sum { spec.HasSum self.now start }
-        requires items { spec.HasItems self.now start }
-    {
-        if let Some(marks) = &self.marks {
-            marks.mark_tested(start as u64);
-        }
-    }
-
     /// Returns whether a payload has its header's checksum; a cached one is not hashed again.
-    fn has_sum(&self, checksum: u64, start: usize, end: usize) -> bool
-        requires said { spec.IsSaid self.now start end checksum }
-        requires within { end ≤ length (spec.body_of self.now) }
-        ensures { let payload = slice_range (spec.body_of self.now) start end in
-            IsTrue result ↔ (spec.fnv1a payload ≡ checksum) }
+    fn has_sum(&self, payload: &Payload) -> bool
+        requires { spec.IsHeaded self.now payload.now }
+        ensures { let bytes = spec.payload_in (spec.body_of self.now) payload.now in
+            IsTrue result ↔ (spec.fnv1a bytes ≡ payload.now.header.checksum) }
     {
-        if self.remembers(start) {
+        if self.is_cached(payload.start, Verified::Checksum) {
             return true;
         }
-        let same = has_hash(&self.body()[start..end], checksum);
+        let same = has_hash(
+            &self.body()[payload.start..payload.end],
+            payload.header.checksum,
+        );
         if same {
-            self.remember(start);
+            self.cache(payload.start, Verified::Checksum);
         }
         same
     }
 
-    /// Returns whether the cache says that the payload starting here has a valid checksum.
-    fn remembers(&self, start: usize) -> bool
-        ensures { IsTrue result → spec.HasSum self.now start }
+    /// Caches that a payload's grammar was checked, unless the cache says so already.
+    fn cache_grammar(&self, payload: &Payload, kind: BlockType)
+        requires placed { spec.IsPlaced self.now kind payload.now }
+        requires valid { spec.IsValid (spec.body_of self.now) kind payload.now }
+        requires items { let bytes = spec.payload_in (spec.body_of self.now) payload.now in
+            spec.in_grammar payload.now.header.version kind bytes ≡ true }
+    {
+        if !payload.is_verified {
+            self.cache(payload.start, Verified::Grammar);
+        }
+    }
+
+    /// Returns whether the cache says this of the payload starting here.
+    fn is_cached(&self, start: usize, verified: Verified) -> bool
+        ensures { IsTrue result → spec.Holds verified self.now start }
     {
         match &self.marks {
-            Some(marks) => marks.has_sum(start as u64),
+            Some(marks) => marks.has(start as u64, verified),
             None => false,
         }
     }
 
-    /// Caches that the payload starting here has a valid checksum.
-    fn remember(&self, start: usize)
-        requires { spec.HasSum self.now start }
+    /// Caches this of the payload starting here.
+    fn cache(&self, start: usize, verified: Verified)
+        requires { spec.Holds verified self.now start }
     {
         if let Some(marks) = &self.marks {
-            marks.mark_sum(start as u64);
+            marks.add(start as u64, verified);
         }
     }
 
@@ -460,24 +434,22 @@ impl<A: Allocator + Clone> BlockSource<A> {
     /// It stops before a block in the cache. It also stops after a block whose payload ends in the
     /// 2,048 bytes in which it starts. Later loads return the same with or without this call.
     pub fn compare_ahead(&self, position: u64, most: usize) {
-        let Some(marks) = &self.marks else {
+        let start = position.wrapping_add(HEADER_LEN as u64) as usize;
+        if self.marks.is_none() || most < 2 || self.is_cached(start, Verified::Checksum) {
+            return;
+        }
+        let Ok(first) = self.payload_at(position, BlockType::Data) else {
             return;
         };
-        if most < 2 || marks.has_sum(position.wrapping_add(HEADER_LEN as u64)) {
-            return;
-        }
-        let first = self.said_at(position, BlockType::Data);
-        if first.is_none() {
-            return;
-        }
-        let second = self.said_behind(marks, first);
+        let first = Some(first);
+        let second = self.next_payload(first);
         if most < 4 {
-            self.compare_both(marks, first, second);
+            self.compare_both(first, second);
             return;
         }
-        let third = self.said_behind(marks, second);
-        let fourth = self.said_behind(marks, third);
-        self.compare_four(marks, first, second, third, fourth);
+        let third = self.next_payload(second);
+        let fourth = self.next_payload(third);
+        self.compare_four(first, second, third, fourth);
     }
 
     /// Verifies the checksums of these blocks, four at a time in one loop, the rest in pairs.
@@ -490,131 +462,96 @@ impl<A: Allocator + Clone> BlockSource<A> {
     ///
     /// Later loads return the same with or without this call.
     pub fn compare_together(&self, blocks: &[(BlockHandle, BlockType)]) {
-        let Some(marks) = &self.marks else {
+        if self.marks.is_none() {
             return;
-        };
+        }
         let mut first = None;
         let mut second = None;
         let mut third = None;
         for (handle, kind) in blocks {
-            let Some(said) = self.said_of(marks, handle, *kind) else {
+            let Some(payload) = self.unverified_payload(handle, *kind) else {
                 continue;
             };
             if third.is_some() {
-                self.compare_four(marks, first, second, third, Some(said));
+                self.compare_four(first, second, third, Some(payload));
                 first = None;
                 second = None;
                 third = None;
             } else {
                 third = second;
                 second = first;
-                first = Some(said);
+                first = Some(payload);
             }
         }
-        self.compare_four(marks, first, second, third, None);
+        self.compare_four(first, second, third, None);
     }
 
     /// Verifies four payloads in one loop and caches the matches; fewer are verified in pairs.
     fn compare_four(
         &self,
-        marks: &Marks<A>,
-        first: Option<Said>,
-        second: Option<Said>,
-        third: Option<Said>,
-        fourth: Option<Said>,
+        first: Option<Payload>,
+        second: Option<Payload>,
+        third: Option<Payload>,
+        fourth: Option<Payload>,
     )
-        requires of { marks.now ≡ self.now }
-        requires first { IfSome first (λ s. spec.IsSaid self.now s.start s.end s.checksum) }
-        requires second { IfSome second (λ s. spec.IsSaid self.now s.start s.end s.checksum) }
-        requires third { IfSome third (λ s. spec.IsSaid self.now s.start s.end s.checksum) }
-        requires fourth { IfSome fourth (λ s. spec.IsSaid self.now s.start s.end s.checksum) }
+        requires first { IfSome first (λ p. spec.IsHeaded self.now p) }
+        requires second { IfSome second (λ p. spec.IsHeaded self.now p) }
+        requires third { IfSome third (λ p. spec.IsHeaded self.now p) }
+        requires fourth { IfSome fourth (λ p. spec.IsHeaded self.now p) }
     {
         if first.is_none() || second.is_none() || third.is_none() || fourth.is_none() {
-            self.compare_both(marks, first, second);
-            self.compare_both(marks, third, fourth);
+            self.compare_both(first, second);
+            self.compare_both(third, fourth);
             return;
         }
         let sums = hash_four(
-            self.payload(first),
-            self.payload(second),
-            self.payload(third),
-            self.payload(fourth),
+            self.bytes_of(first),
+            self.bytes_of(second),
+            self.bytes_of(third),
+            self.bytes_of(fourth),
         );
-        self.mark_said(marks, first, sums.0 == sum_of(first));
-        self.mark_said(marks, second, sums.1 == sum_of(second));
-        self.mark_said(marks, third, sums.2 == sum_of(third));
-        self.mark_said(marks, fourth, sums.3 == sum_of(fourth));
+        self.cache_sum(first, sums.0 == sum_of(first));
+        self.cache_sum(second, sums.1 == sum_of(second));
+        self.cache_sum(third, sums.2 == sum_of(third));
+        self.cache_sum(fourth, sums.3 == sum_of(fourth));
     }
 
     /// Verifies two payloads in one loop, each from both ends, and caches the matches.
-    fn compare_both(&self, marks: &Marks<A>, first: Option<Said>, second: Option<Said>)
-        requires of { marks.now ≡ self.now }
-        requires first { IfSome first (λ s. spec.IsSaid self.now s.start s.end s.checksum) }
-        requires second { IfSome second (λ s. spec.IsSaid self.now s.start s.end s.checksum) }
+    fn compare_both(&self, first: Option<Payload>, second: Option<Payload>)
+        requires first { IfSome first (λ p. spec.IsHeaded self.now p) }
+        requires second { IfSome second (λ p. spec.IsHeaded self.now p) }
     {
         let (is_first, is_second) = have_hashes(
-            self.payload(first),
+            self.bytes_of(first),
             sum_of(first),
-            self.payload(second),
+            self.bytes_of(second),
             sum_of(second),
         );
-        self.mark_said(marks, first, is_first);
-        self.mark_said(marks, second, is_second);
+        self.cache_sum(first, is_first);
+        self.cache_sum(second, is_second);
     }
 
-    /// Reads the payload range and checksum of a block that is worth verifying ahead.
+    /// Returns the payload of a block that is worth verifying ahead.
     ///
     /// The handle's size must agree. The block must not be in the cache, and must leave the 2,048
     /// bytes in which its payload starts.
-    fn said_of(&self, marks: &Marks<A>, handle: &BlockHandle, kind: BlockType) -> Option<Said>
-        ensures { IfSome result (λ said. spec.IsSaid self.now said.start said.end said.checksum) }
+    fn unverified_payload(&self, handle: &BlockHandle, kind: BlockType) -> Option<Payload>
+        ensures { IfSome result (λ p. spec.IsHeaded self.now p) }
     {
-        let said = self.said_at(handle.offset().0, kind)?;
-        if said.end - said.start != (handle.size() as usize).wrapping_sub(HEADER_LEN)
-            || said.start as u64 / SPAN == said.end as u64 / SPAN
-            || marks.has_sum(said.start as u64)
+        let Ok(payload) = self.payload_of(handle, kind) else {
+            return None;
+        };
+        if payload.start as u64 / SPAN == payload.end as u64 / SPAN
+            || self.is_cached(payload.start, Verified::Checksum)
         {
             return None;
         }
-        Some(said)
+        Some(payload)
     }
 
-    /// Reads the payload range and checksum from the header at a position.
-    ///
-    /// Returns `None` if a load would fail before it compares the checksum.
-    fn said_at(&self, position: u64, kind: BlockType) -> Option<Said>
-        ensures said { IfSome result
-            (λ said. spec.IsSaid self.now said.start said.end said.checksum) }
-        ensures tested { IfSome result (λ said.
-            let payload = slice_range (spec.body_of self.now) said.start said.end in
-            let head = slice_range (spec.body_of self.now) position (position + spec.header_len) in
-            spec.position_fault (spec.body_of self.now) position kind
-            ≡ spec.option_or (spec.checksum_fault said.checksum payload)
-            (spec.room_fault (spec.version_in head) kind payload)) }
-    {
-        let body = self.body();
-        if body.len() < HEADER_LEN || ((body.len() - HEADER_LEN) as u64) < position {
-            return None;
-        }
-        let header_start = position as usize;
-        let start = header_start + HEADER_LEN;
-        let Ok(header) = Header::decode(&body[header_start..start], kind) else {
-            return None;
-        };
-        let len = header.data_len as usize;
-        if header.data_len != header.uncompressed_len || body.len() - start < len {
-            return None;
-        }
-        Some(Said {
-            start,
-            end: start + len,
-            checksum: header.checksum,
-        })
-    }
-
-    /// Reads the payload range and checksum of the block after another, unless it is in the cache.
-    fn said_behind(&self, marks: &Marks<A>, before: Option<Said>) -> Option<Said>
-        ensures { IfSome result (λ said. spec.IsSaid self.now said.start said.end said.checksum) }
+    /// Returns the payload of the block after another, unless it is in the cache.
+    fn next_payload(&self, before: Option<Payload>) -> Option<Payload>
+        ensures { IfSome result (λ p. spec.IsHeaded self.now p) }
     {
         let before = before?;
         // The cache keeps only the last payload that starts in a span, so hashing the next one
@@ -622,62 +559,48 @@ impl<A: Allocator + Clone> BlockSource<A> {
         if before.start as u64 / SPAN == before.end as u64 / SPAN {
             return None;
         }
-        let said = self.said_at(before.end as u64, BlockType::Data)?;
+        let Ok(payload) = self.payload_at(before.end as u64, BlockType::Data) else {
+            return None;
+        };
         // Its cache entry stays: it may also say that the grammar was checked.
-        if marks.has_sum(said.start as u64) {
+        if self.is_cached(payload.start, Verified::Checksum) {
             return None;
         }
-        Some(said)
+        Some(payload)
     }
 
     /// The bytes of the payload; none for `None`.
-    fn payload(&self, said: Option<Said>) -> &[u8]
-        requires { IfSome said (λ s. spec.IsSaid self.now s.start s.end s.checksum) }
-        ensures { IfSome said (λ s. result.now ≡ slice_range self.now s.start s.end) }
+    fn bytes_of(&self, payload: Option<Payload>) -> &[u8]
+        requires { IfSome payload (λ p. spec.IsHeaded self.now p) }
+        ensures { IfSome payload (λ p. result.now ≡ spec.payload_in (spec.body_of self.now) p) }
     {
-        match said {
-            Some(said) => &self.bytes.as_slice()[said.start..said.end],
+        match payload {
+            Some(payload) => &self.body()[payload.start..payload.end],
             None => &[],
         }
     }
 
     /// Caches a payload whose checksum matched.
-    fn mark_said(&self, marks: &Marks<A>, said: Option<Said>, has_sum: bool)
-        requires of { marks.now ≡ self.now }
-        requires said { IfSome said (λ s. spec.IsSaid self.now s.start s.end s.checksum) }
-        requires sum { IfSome said (λ s.
-            IsTrue has_sum → spec.fnv1a (slice_range self.now s.start s.end) ≡ s.checksum) }
+    fn cache_sum(&self, payload: Option<Payload>, has_sum: bool)
+        requires headed { IfSome payload (λ p. spec.IsHeaded self.now p) }
+        requires sum { let body = spec.body_of self.now in
+            IfSome payload (λ p.
+            IsTrue has_sum → spec.fnv1a (spec.payload_in body p) ≡ p.header.checksum) }
     {
-        if let Some(said) = said {
+        if let Some(payload) = payload {
             if has_sum {
-                marks.mark_sum(said.start as u64);
+                self.cache(payload.start, Verified::Checksum);
             }
         }
     }
 }
 
 // The stored checksum, or 0 for `None`.
-fn sum_of(said: Option<Said>) -> u64
-    ensures { IfSome said (λ s. result ≡ s.checksum) }
+fn sum_of(payload: Option<Payload>) -> u64
+    ensures { IfSome payload (λ p. result ≡ p.header.checksum) }
 {
-    match said {
-        Some(said) => said.checksum,
+    match payload {
+        Some(payload) => payload.header.checksum,
         None => 0,
     }
-}
-
-/// The range of a payload, and its header.
-#[derive(Clone, Copy)]
-struct Placed {
-    header: Header,
-    start: usize,
-    end: usize,
-}
-
-/// The range of a payload, and the checksum in its header.
-#[derive(Clone, Copy)]
-struct Said {
-    start: usize,
-    end: usize,
-    checksum: u64,
 }

@@ -18,7 +18,6 @@ pub mod queries;
 pub mod reads;
 pub mod refusals;
 mod sections;
-mod sizes;
 mod verified;
 mod walks;
 

@@ -4,7 +4,7 @@ use Rattle.std.specs.Prelude.{slice_index_or, IfSome, Option, None, Result, Ok}
 use Rattle.std.specs.List.{All}
 use Rattle.std.specs.Option.{option_map}
 use Rattle.sst_blocks.specs.declared.entry_place.EntryPlace.{EntryPlace}
-use Rattle.sst_blocks.specs.EntryPlace.{IsPlacedIn, entry_placed}
+use Rattle.sst_blocks.specs.EntryPlace.{entry_placed}
 use Rattle.sst_entries.specs.declared.error.Error.{Error}
 use Rattle.sst_entries.specs.Entry.{Entry}
 use Rattle.lsm_readers.specs.declared.batch.Lookup.{Lookup}
@@ -23,20 +23,21 @@ pub record IsLookup {A : Type 0} (body : List ℕ) (g : ℕ) (parts : Parts) (qu
   pub returned : (q : Query A) → q ≡ slice_index_or queries l.at q →
       (admitted_handle body parts q.key (q.seqno - g)).returned ≡ Ok l.handle
 
--- The queries flagged as done were answered: each has its function's result.
-pub record AreFound {X Y : Type 0} (f : X → Result (Option Y) Error) (queries : List X)
-    (found : List (Option Y)) (done : List Bool) : Type 0 where
-  pub found_len : length found ≡ length queries
-  pub done_len : length done ≡ length queries
-  pub returned : (k : ℕ) (q : X) → slice_index_or done k false ≡ true →
-      q ≡ slice_index_or queries k q → f q ≡ Ok (slice_index_or found k None)
+-- The entries of what was found.
+abbrev pub entries_by : {Y : Type 0} → (Y → Entry) → List (Option Y) → List (Option Entry)
+entries_by entry found = map (option_map entry) found
 
 -- The entries at some positions in a table's bytes.
 abbrev pub entries_placed : List ℕ → List (Option EntryPlace) → List (Option Entry)
-entries_placed bytes places = map (option_map (entry_placed bytes)) places
+entries_placed bytes places = entries_by (entry_placed bytes) places
 
--- The same of positions: the entries there are the results, and are within the bytes.
-pub record ArePlaced {X : Type 0} (bytes : List ℕ) (f : X → Result (Option Entry) Error)
-    (queries : List X) (places : List (Option EntryPlace)) (done : List Bool) : Type 0 where
-  pub found : AreFound f queries (entries_placed bytes places) done
-  pub within : All (λ place. IfSome place (IsPlacedIn bytes)) places
+-- The queries flagged as done were answered: the entries of what was found are their results, and
+-- are within the bytes.
+pub record AreFound {X Y : Type 0} (entry : Y → Entry) (is_within : Y → Type 0)
+    (f : X → Result (Option Entry) Error) (queries : List X) (found : List (Option Y))
+    (done : List Bool) : Type 0 where
+  pub found_len : length found ≡ length queries
+  pub done_len : length done ≡ length queries
+  pub returned : (k : ℕ) (q : X) → slice_index_or done k false ≡ true →
+      q ≡ slice_index_or queries k q → f q ≡ Ok (option_map entry (slice_index_or found k None))
+  pub within : All (λ one. IfSome one is_within) found

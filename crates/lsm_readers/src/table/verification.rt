@@ -119,6 +119,23 @@ impl<A: Allocator + Clone> Table<A> {
         let inner: &Inner<A> = &self.inner;
         step_stage(&self.source, inner, stage, left)
     }
+
+    /// Takes all steps. Fails with the first fault, or with `OutOfMemory`.
+    pub(super) fn read_all(&self) -> Result<Verified, VerifyError>
+        ensures open { spec.IsOpen self.now }
+        ensures returned { spec.Finds (λ (v : spec.Verification). v) result
+            (spec.table_found (spec.body_of self.now.bytes) self.now.parts) }
+        ensures early { spec.FindsFirst result
+            (spec.table_early (spec.body_of self.now.bytes) self.now.parts) }
+    {
+        let mut stage = Stage::start();
+        let mut left = self.unread();
+        loop {
+            if self.read_next(&mut stage, &mut left)? {
+                return Ok(self.says());
+            }
+        }
+    }
 }
 
 impl<A: Allocator + Clone> Verification<A> {

@@ -3,8 +3,8 @@ ghost use Rattle.std.specs.Prelude.{◌≡◌, ◌≢◌, List, length, IfErr, I
 ghost use Rattle.lsm_readers.specs.Words as spec;
 ghost use Rattle.lsm_readers.specs.declared.verify.VerifyError.TheVariants.{OutOfMemory};
 
-use crate::verify::{test_checksum, verify_table};
-use crate::{Inner, Table, Verified, VerifyError};
+use crate::verify::test_checksum;
+use crate::{Table, Verified, VerifyError};
 use sst_blocks::Checksum;
 use std::alloc::Allocator;
 
@@ -38,8 +38,7 @@ impl<A: Allocator + Clone> Table<A> {
         ensures complete { (es : List spec.Entry) → spec.StoresList self.now.bytes es →
             IfErr result (λ e. e ≡ OutOfMemory) }
     {
-        let inner: &Inner<A> = &self.inner;
-        verify_table(&self.source, inner)
+        self.read_all()
     }
 
     /// Compares the checksum of the table's bytes, then verifies it as [`Table::verify`] does.

@@ -1,4 +1,4 @@
-//! Reading index blocks, and the data blocks of their handles.
+//! Reading an index block, and the data block of a handle.
 ghost use Rattle.std.specs.Prelude.{◌≡◌, ◌<◌, List, IfErr, IfOk, Some, length, true};
 ghost use Rattle.lsm_readers.specs.Words as spec;
 ghost use Rattle.lsm_readers.specs.declared.verify.VerifyError.TheVariants.{OutOfMemory};
@@ -159,24 +159,6 @@ pub(super) fn read_contents<A: Allocator + Clone>(
     Ok(())
 }
 
-/// Reads a data block, and checks that it starts where the one before it ended.
-#[tactic(auto, unfolding(crate::specs::Verify::block_found))]
-fn read_block<A: Allocator + Clone>(
-    source: &BlockSource<A>,
-    inner: &Inner<A>,
-    left: &mut Unread<A>,
-    handle: &KeyedBlockHandle<A>,
-) -> Result<(), VerifyError>
-    ensures { spec.Finds (λ (_ : _). left.new) result
-        (spec.block_found (spec.body_of source.now) (spec.parts_of inner.now) left.old handle.now) }
-{
-    let place = BlockHandle::new(handle.offset(), handle.size());
-    let counts = count_at(inner, left.counts, &place)?;
-    let block = load_chunk(source, &place)?;
-    left.counts = counts;
-    read_contents(source, inner, left, handle, &block)
-}
-
 /// The handle at an index in a block. Fails with `OutOfMemory` only.
 pub(super) fn handle_at<A: Allocator>(
     handles: &IndexBlock<A>,
@@ -190,24 +172,6 @@ pub(super) fn handle_at<A: Allocator>(
         Ok(handle) => Ok(handle),
         Err(_) => Err(VerifyError::OutOfMemory),
     }
-}
-
-/// Reads the data blocks of some handles, in order.
-fn read_blocks<A: Allocator + Clone>(
-    source: &BlockSource<A>,
-    inner: &Inner<A>,
-    left: &mut Unread<A>,
-    handles: &IndexBlock<A>,
-) -> Result<(), VerifyError>
-    ensures { spec.Finds (λ (_ : _). left.new) result
-        (spec.blocks_found (spec.body_of source.now) (spec.parts_of inner.now) left.old
-        handles.now) }
-{
-    for index in 0..handles.len() {
-        let handle = handle_at(handles, index)?;
-        read_block(source, inner, left, &handle)?;
-    }
-    Ok(())
 }
 
 /// Checks a handle of a top level against the last handle of its partition.
@@ -228,59 +192,4 @@ pub(super) fn test_top<A: Allocator>(
         last.end_key().as_slice(),
         last.seqno(),
     )
-}
-
-/// Reads an index partition by its handle in the top level, and the data blocks of its handles.
-#[tactic(auto, unfolding(crate::specs::Verify::part_found))]
-fn read_part<A: Allocator + Clone>(
-    source: &BlockSource<A>,
-    inner: &Inner<A>,
-    left: &mut Unread<A>,
-    top: &KeyedBlockHandle<A>,
-) -> Result<(), VerifyError>
-    ensures { spec.Finds (λ (_ : _). left.new) result
-        (spec.part_found (spec.body_of source.now) (spec.parts_of inner.now) left.old top.now) }
-{
-    let place = BlockHandle::new(top.offset(), top.size());
-    let handles = load_part(source, SectionName::Index, &place)?;
-    test_top(top, &handles)?;
-    read_blocks(source, inner, left, &handles)
-}
-
-/// Reads the index partitions of a top level, in order.
-fn read_parts<A: Allocator + Clone>(
-    source: &BlockSource<A>,
-    inner: &Inner<A>,
-    left: &mut Unread<A>,
-    tops: &IndexBlock<A>,
-) -> Result<(), VerifyError>
-    ensures { spec.Finds (λ (_ : _). left.new) result
-        (spec.parts_found (spec.body_of source.now) (spec.parts_of inner.now) left.old tops.now) }
-{
-    for index in 0..tops.len() {
-        let top = handle_at(tops, index)?;
-        read_part(source, inner, left, &top)?;
-    }
-    Ok(())
-}
-
-/// Reads the index and the data blocks of its handles. The index is read from the table's bytes
-/// even if it is pinned.
-#[tactic(auto, unfolding(crate::specs::Verify::index_found))]
-pub(super) fn read_index<A: Allocator + Clone>(
-    source: &BlockSource<A>,
-    inner: &Inner<A>,
-    left: &mut Unread<A>,
-) -> Result<(), VerifyError>
-    ensures returned { spec.Finds (λ (_ : _). left.new) result
-        (spec.index_found (spec.body_of source.now) (spec.parts_of inner.now) left.old) }
-    ensures early { let tli = (spec.parts_of inner.now).regions.tli in
-        spec.FindsFirst result
-        (spec.early_at (spec.body_of source.now) section.Tli tli block.Index) }
-{
-    let handles = load_part(source, SectionName::Tli, &inner.regions.tli)?;
-    match inner.regions.index {
-        None => read_blocks(source, inner, left, &handles),
-        Some(_) => read_parts(source, inner, left, &handles),
-    }
 }

@@ -1,14 +1,12 @@
-//! Checking the filter blocks, and the totals after all blocks are read.
-ghost use Rattle.std.specs.Prelude.{◌≡◌, IfErr, IsOk, [], None, Some, map, true};
+//! Checking a filter block, and the totals after all blocks are read.
+ghost use Rattle.std.specs.Prelude.{◌≡◌, IfErr, IsOk, Some, true};
 ghost use Rattle.lsm_readers.specs.Words as spec;
 ghost use Rattle.sst_blocks.specs.declared.block_type.BlockType.TheVariants as block;
 ghost use Rattle.sst_blocks.specs.declared.section.SectionName.TheVariants as section;
 
 use super::{Counts, Fault, Unread, VerifyError, found, unloaded};
 use crate::Inner;
-use sst_blocks::{
-    BlockHandle, BlockSource, BlockType, Error, IndexBlock, ItemName, Opened, SectionName,
-};
+use sst_blocks::{BlockHandle, BlockSource, BlockType, Error, ItemName, Opened, SectionName};
 use std::alloc::Allocator;
 
 /// Checks that a filter block loads.
@@ -28,46 +26,6 @@ pub(super) fn test_filter<A: Allocator + Clone>(
             Ok(())
         }
         Err(error) => Err(unloaded(SectionName::Filter, place.offset().0, error)),
-    }
-}
-
-/// Checks that the filter partitions of a top level load, in order.
-fn test_parts<A: Allocator + Clone>(
-    source: &BlockSource<A>,
-    tops: &IndexBlock<A>,
-) -> Result<(), VerifyError>
-    ensures returned { spec.Finds (λ (_ : _). tt) result
-        (spec.tops_found (spec.body_of source.now) tops.now) }
-    ensures early { let places = map spec.place_of tops.now in
-        spec.FindsFirst result (spec.early_filters (spec.body_of source.now) places None) }
-    ensures calm { map spec.place_of tops.now ≡ [] → IsOk result }
-{
-    for index in 0..tops.len() {
-        test_filter(source, &tops.place_at(index))?;
-    }
-    Ok(())
-}
-
-/// Checks that each block of the filter loads.
-pub(super) fn test_filters<A: Allocator + Clone>(
-    source: &BlockSource<A>,
-    inner: &Inner<A>,
-) -> Result<(), VerifyError>
-    ensures returned { spec.Finds (λ (_ : _). tt) result
-        (spec.filters_found (spec.body_of source.now) (spec.parts_of inner.now)) }
-    ensures early { let parts = spec.parts_of inner.now in
-        let places = spec.filter_places parts.pinned.filter_tops parts.regions.filter in
-        spec.FindsFirst result (spec.early_filters (spec.body_of source.now) places None) }
-    // Without a filter block it does not fail.
-    ensures calm { let parts = spec.parts_of inner.now in
-        spec.filter_places parts.pinned.filter_tops parts.regions.filter ≡ [] → IsOk result }
-{
-    if let Some(tops) = &inner.pinned_filter_index {
-        return test_parts(source, tops);
-    }
-    match &inner.regions.filter {
-        Some(place) => test_filter(source, place),
-        None => Ok(()),
     }
 }
 

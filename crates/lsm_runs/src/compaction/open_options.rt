@@ -1,5 +1,5 @@
 //! Opening tables with named options.
-ghost use Rattle.std.specs.Prelude.{◌≡◌, IfOk, List, tt};
+ghost use Rattle.std.specs.Prelude.{◌≡◌, IfOk, List};
 ghost use Rattle.lsm_readers.specs.Words as table;
 ghost use Rattle.lsm_runs.specs.compaction.Words as spec;
 

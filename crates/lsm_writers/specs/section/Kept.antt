@@ -1,9 +1,14 @@
 -- Handles whose end keys are stored one after another in one buffer.
-use Rattle.std.specs.Prelude.{ℕ, ◌≤◌, List, length, map, slice_range}
+use Rattle.std.specs.Prelude.{ℕ, ◌≤◌, Bool, List, length, map, slice_range}
 use Rattle.std.specs.List.{AllByRecursion}
 use Rattle.sst_blocks.specs.Handle.{Handle}
 use Rattle.sst_blocks.specs.Place.{Place}
 use Rattle.lsm_writers.specs.declared.section.kept.HandlePlace.{HandlePlace}
+
+-- the registered handles, and whether a call failed
+pub record Kept : Type 0 where
+  pub handles : List Handle
+  pub failed : Bool
 
 -- the handle of a block with this end key and seqno
 abbrev pub handle_with : List ℕ → ℕ → Place → Handle

@@ -2,10 +2,10 @@
 ghost use Rattle.std.specs.Prelude.{◌≡◌};
 ghost use Rattle.lsm_writers.specs.Words as spec;
 
-use crate::section::held::HeldHandles;
 use crate::section::index_full::FullIndexWriter;
 use crate::section::index_partitioned::PartitionedIndexWriter;
 use crate::section::index_writer::BlockIndexWriter;
+use crate::section::kept::KeptHandles;
 use sst_blocks::{BlockHandle, CompressionType, Error, IndexKind, SectionWriter, SeqNo};
 use std::alloc::{Allocator, Global};
 
@@ -23,16 +23,16 @@ impl<A: Allocator> IndexWriterImpl<A> {
     pub(crate) fn of(
         kind: IndexKind,
         compression: CompressionType,
-        held: HeldHandles<A>,
+        kept: KeptHandles<A>,
     ) -> IndexWriterImpl<A>
-        requires { spec.AreStrictHandles held.handles }
+        requires { spec.AreStrictHandles kept.handles }
         ensures { spec.registered_by result ≡
-            record { handles = held.handles; kind = kind; failed = held.failed } }
+            record { handles = kept.handles; kind = kind; failed = kept.failed } }
     {
         match kind {
-            IndexKind::Full => IndexWriterImpl::Full(FullIndexWriter::of(compression, held)),
+            IndexKind::Full => IndexWriterImpl::Full(FullIndexWriter::of(compression, kept)),
             IndexKind::Partitioned(size) => {
-                IndexWriterImpl::Partitioned(PartitionedIndexWriter::of(compression, size, held))
+                IndexWriterImpl::Partitioned(PartitionedIndexWriter::of(compression, size, kept))
             }
         }
     }

@@ -4,7 +4,6 @@ ghost use Rattle.lsm_writers.specs.Words as spec;
 ghost use Rattle.sst_blocks.specs.declared.table.options.IndexKind.TheVariants.{Full};
 
 use crate::section::block::{write_empty_top_level, write_top_level};
-use crate::section::held::HeldHandles;
 use crate::section::index_either::IndexWriterImpl;
 use crate::section::index_writer::BlockIndexWriter;
 use crate::section::kept::KeptHandles;
@@ -18,7 +17,7 @@ use std::marker::Model;
 #[derive(Drop)]
 pub struct FullIndexWriter<A: Allocator = Global> {
     compression: CompressionType,
-    held: HeldHandles<A>,
+    kept: KeptHandles<A>,
 }
 
 impl<A: Allocator> Model for FullIndexWriter<A> {
@@ -29,12 +28,12 @@ impl<A: Allocator> Model for FullIndexWriter<A> {
     ghost Value = { Registered };
 
     ghost view = { λ w. record {
-      handles = w.held.handles;
+      handles = w.kept.handles;
       kind = Full;
-      failed = w.held.failed;
+      failed = w.kept.failed;
     } };
 
-    ghost invariant = { λ w. AreStrictHandles w.held.handles };
+    ghost invariant = { λ w. AreStrictHandles w.kept.handles };
 }
 
 impl<A: Allocator> FullIndexWriter<A> {
@@ -42,16 +41,16 @@ impl<A: Allocator> FullIndexWriter<A> {
     pub fn new(alloc: A) -> FullIndexWriter<A>
         ensures { result ≡ record { handles = []; kind = Full; failed = false } }
     {
-        FullIndexWriter::of(CompressionType::None, HeldHandles::new(alloc))
+        FullIndexWriter::of(CompressionType::None, KeptHandles::new(alloc))
     }
 
     /// Creates a writer of these handles.
-    pub(crate) fn of(compression: CompressionType, held: HeldHandles<A>) -> FullIndexWriter<A>
-        requires { spec.AreStrictHandles held.handles }
+    pub(crate) fn of(compression: CompressionType, kept: KeptHandles<A>) -> FullIndexWriter<A>
+        requires { spec.AreStrictHandles kept.handles }
         ensures { result ≡
-            record { handles = held.handles; kind = Full; failed = held.failed } }
+            record { handles = kept.handles; kind = Full; failed = kept.failed } }
     {
-        FullIndexWriter { compression, held }
+        FullIndexWriter { compression, kept }
     }
 
     /// Converts the writer into one of an index of this kind, with the same handles.
@@ -60,7 +59,7 @@ impl<A: Allocator> FullIndexWriter<A> {
     pub fn into_kind(self, kind: IndexKind) -> IndexWriterImpl<A>
         ensures { spec.registered_by result ≡ record self { kind = kind } }
     {
-        IndexWriterImpl::of(kind, self.compression, self.held)
+        IndexWriterImpl::of(kind, self.compression, self.kept)
     }
 }
 
@@ -77,18 +76,18 @@ impl<A: Allocator + Clone> BlockIndexWriter<A> for FullIndexWriter<A> {
         seqno: SeqNo,
         block: BlockHandle,
     ) -> Result<(), Error> {
-        self.held.register_ref(end_key, seqno, block)
+        self.kept.register(end_key, seqno, block)
     }
 
     fn finish(self, writer: &mut SectionWriter<A>) -> Result<usize, Error> {
-        if self.held.failed {
+        if self.kept.has_failed() {
             return Err(Error::WriterFailed); // nothing is written
         }
-        if self.held.handles.is_empty() {
+        if self.kept.is_empty() {
             write_empty_top_level(writer, self.compression)?;
             return Ok(1);
         }
-        write_section(writer, self.held.handles, self.compression)
+        write_section(writer, self.kept, self.compression)
     }
 
     fn use_compression(mut self, compression: CompressionType) -> FullIndexWriter<A> {
@@ -109,13 +108,13 @@ fn write_section<A: Allocator + Clone>(
     compression: CompressionType,
 ) -> Result<usize, Error>
     requires unwritten { spec.HasNoIndex writer.old }
-    requires strict { spec.AreStrictHandles kept }
+    requires strict { spec.AreStrictHandles kept.handles }
     ensures ok { OnOk result (writer.new ≡
-        spec.appended writer.old ((spec.Tli, spec.handles_block spec.V4 kept) ∷ [])) }
+        spec.appended writer.old ((spec.Tli, spec.handles_block spec.V4 kept.handles) ∷ [])) }
     ensures count { IfOk result (λ n. n ≡ 1) }
-    ensures fits { OnOk result (spec.SectionFits (spec.Tli, spec.handles_block spec.V4 kept)) }
+    ensures fits { OnOk result (spec.SectionFits (spec.Tli, spec.handles_block spec.V4 kept.handles)) }
     ensures before { take (length writer.old.bytes) writer.new.bytes ≡ writer.old.bytes }
-    ensures refused { spec.Faults result (spec.handles_fault kept) }
+    ensures refused { spec.Faults result (spec.handles_fault kept.handles) }
 {
     let handles = kept.into_handles()?;
     let mut buffer = Vec::new(handles.allocator().clone()?);

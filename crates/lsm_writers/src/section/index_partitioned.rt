@@ -6,7 +6,6 @@ ghost use Rattle.lsm_writers.specs.Words as spec;
 ghost use Rattle.sst_blocks.specs.declared.table.options.IndexKind.TheVariants.{Partitioned};
 
 use crate::section::block::{write_block, write_empty_top_level, write_top_level};
-use crate::section::held::HeldHandles;
 use crate::section::index_writer::BlockIndexWriter;
 use crate::section::kept::KeptHandles;
 use sst_blocks::{
@@ -27,7 +26,7 @@ const HANDLE_SIZE: u64 = 48;
 pub struct PartitionedIndexWriter<A: Allocator = Global> {
     compression: CompressionType,
     partition_size: u32,
-    held: HeldHandles<A>,
+    kept: KeptHandles<A>,
 }
 
 impl<A: Allocator> Model for PartitionedIndexWriter<A> {
@@ -38,12 +37,12 @@ impl<A: Allocator> Model for PartitionedIndexWriter<A> {
     ghost Value = { Registered };
 
     ghost view = { λ w. record {
-      handles = w.held.handles;
+      handles = w.kept.handles;
       kind = Partitioned w.partition_size;
-      failed = w.held.failed;
+      failed = w.kept.failed;
     } };
 
-    ghost invariant = { λ w. AreStrictHandles w.held.handles };
+    ghost invariant = { λ w. AreStrictHandles w.kept.handles };
 }
 
 impl<A: Allocator> PartitionedIndexWriter<A> {
@@ -51,26 +50,26 @@ impl<A: Allocator> PartitionedIndexWriter<A> {
     pub fn new(alloc: A) -> PartitionedIndexWriter<A>
         ensures { result ≡ record { handles = []; kind = Partitioned 4096; failed = false } }
     {
-        PartitionedIndexWriter::of(CompressionType::None, 4_096, HeldHandles::new(alloc))
+        PartitionedIndexWriter::of(CompressionType::None, 4_096, KeptHandles::new(alloc))
     }
 
     /// Creates a writer of these handles, with partitions of `partition_size` bytes.
     pub(crate) fn of(
         compression: CompressionType,
         partition_size: u32,
-        held: HeldHandles<A>,
+        kept: KeptHandles<A>,
     ) -> PartitionedIndexWriter<A>
-        requires { spec.AreStrictHandles held.handles }
+        requires { spec.AreStrictHandles kept.handles }
         ensures { result ≡ record {
-          handles = held.handles;
+          handles = kept.handles;
           kind = Partitioned partition_size;
-          failed = held.failed;
+          failed = kept.failed;
         } }
     {
         PartitionedIndexWriter {
             compression,
             partition_size,
-            held,
+            kept,
         }
     }
 }
@@ -88,23 +87,18 @@ impl<A: Allocator + Clone> BlockIndexWriter<A> for PartitionedIndexWriter<A> {
         seqno: SeqNo,
         block: BlockHandle,
     ) -> Result<(), Error> {
-        self.held.register_ref(end_key, seqno, block)
+        self.kept.register(end_key, seqno, block)
     }
 
     fn finish(self, writer: &mut SectionWriter<A>) -> Result<usize, Error> {
-        if self.held.failed {
+        if self.kept.has_failed() {
             return Err(Error::WriterFailed); // nothing is written
         }
-        if self.held.handles.is_empty() {
+        if self.kept.is_empty() {
             write_no_partitions(writer, self.compression)?;
             return Ok(0);
         }
-        write_sections(
-            writer,
-            self.held.handles,
-            self.partition_size,
-            self.compression,
-        )
+        write_sections(writer, self.kept, self.partition_size, self.compression)
     }
 
     fn use_compression(mut self, compression: CompressionType) -> PartitionedIndexWriter<A> {
@@ -143,19 +137,19 @@ fn write_sections<A: Allocator + Clone>(
     compression: CompressionType,
 ) -> Result<usize, Error>
     requires unwritten { spec.HasNoIndex writer.old }
-    requires strict { spec.AreStrictHandles kept }
-    ensures ok { let parts = spec.parts_by (spec.is_full_index partition_size) kept in
+    requires strict { spec.AreStrictHandles kept.handles }
+    ensures ok { let parts = spec.parts_by (spec.is_full_index partition_size) kept.handles in
         let at = length writer.old.bytes in
         OnOk result (writer.new
         ≡ spec.appended writer.old (spec.partitioned_index spec.V4 at parts)) }
-    ensures count { let parts = spec.parts_by (spec.is_full_index partition_size) kept in
+    ensures count { let parts = spec.parts_by (spec.is_full_index partition_size) kept.handles in
         IfOk result (λ n. n ≡ length parts) }
-    ensures fits { let parts = spec.parts_by (spec.is_full_index partition_size) kept in
+    ensures fits { let parts = spec.parts_by (spec.is_full_index partition_size) kept.handles in
         let at = length writer.old.bytes in
         OnOk result (spec.AllByRecursion spec.SectionFits
         (spec.partitioned_index spec.V4 at parts)) }
     ensures before { take (length writer.old.bytes) writer.new.bytes ≡ writer.old.bytes }
-    ensures refused { spec.Faults result (spec.kind_fault (Partitioned partition_size) kept) }
+    ensures refused { spec.Faults result (spec.kind_fault (Partitioned partition_size) kept.handles) }
 {
     let handles = kept.into_handles()?;
     writer.start(SectionName::Index)?;

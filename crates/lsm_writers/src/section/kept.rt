@@ -1,5 +1,5 @@
 //! Storage of handles until all of them are written.
-ghost use Rattle.std.specs.Prelude.{◌≡◌, ◌↔◌, ◌++◌, ◌∷◌, [], length, unwrap_or, IsTrue};
+ghost use Rattle.std.specs.Prelude.{◌≡◌, ◌↔◌, ◌++◌, ◌∷◌, [], true, false, length, unwrap_or, IsTrue};
 ghost use Rattle.std.specs.Prelude.{IfOk, IfErr, OnOk, OnErr};
 ghost use Rattle.lsm_writers.specs.Words as spec;
 
@@ -18,23 +18,27 @@ pub(crate) struct HandlePlace {
     block: BlockHandle,
 }
 
-/// Handles in the order of registration. Their end keys share one buffer, so a handle needs no
-/// allocation of its own. Contracts see the handles.
+/// The registered handles, in order. Their end keys share one buffer, so a handle needs no
+/// allocation of its own. Contracts see the handles, and whether a call failed.
 #[derive(Drop)]
 pub(crate) struct KeptHandles<A: Allocator = Global> {
     // `None` before the first handle
     keys: Option<KeyBuffer<A>>,
     places: Vec<HandlePlace, A>,
+    // set while a call runs, so it stays set after an error
+    failed: bool,
 }
 
 impl<A: Allocator> Model for KeptHandles<A> {
-    ghost use Rattle.std.specs.Prelude.{List, [], unwrap_or};
-    ghost use Rattle.sst_blocks.specs.Handle.{Handle};
-    ghost use Rattle.lsm_writers.specs.section.Kept.{AreAmong, handles_among};
+    ghost use Rattle.std.specs.Prelude.{[], unwrap_or};
+    ghost use Rattle.lsm_writers.specs.section.Kept.{AreAmong, Kept, handles_among};
 
-    ghost Value = { List Handle };
+    ghost Value = { Kept };
 
-    ghost view = { λ h. handles_among (unwrap_or h.keys []) h.places.items };
+    ghost view = { λ h. record {
+      handles = handles_among (unwrap_or h.keys []) h.places.items;
+      failed = h.failed;
+    } };
 
     ghost invariant = { λ h. AreAmong (unwrap_or h.keys []) h.places.items };
 }
@@ -42,36 +46,52 @@ impl<A: Allocator> Model for KeptHandles<A> {
 impl<A: Allocator> KeptHandles<A> {
     /// Creates a value without handles.
     pub(crate) fn new(alloc: A) -> KeptHandles<A>
-        ensures { result ≡ [] }
+        ensures handles { result.handles ≡ [] }
+        ensures failed { result.failed ≡ false }
     {
         KeptHandles {
             keys: None,
             places: Vec::new(alloc),
+            failed: false,
         }
     }
 
     /// Returns whether there are no handles.
     pub(crate) fn is_empty(&self) -> bool
-        ensures { IsTrue result ↔ (self.now ≡ []) }
+        ensures { IsTrue result ↔ (self.now.handles ≡ []) }
     {
         self.places.is_empty()
+    }
+
+    /// Returns whether a call failed.
+    pub(crate) fn has_failed(&self) -> bool
+        ensures { result ≡ self.now.failed }
+    {
+        self.failed
     }
 }
 
 impl<A: Allocator + Clone> KeptHandles<A> {
-    /// Appends a handle of these parts. Fails only with [`Error::OutOfMemory`]; nothing changes
-    /// then.
-    pub(crate) fn push(
+    /// Appends a handle of these parts. Fails with [`Error::WriterFailed`] if an earlier call
+    /// failed, or with [`Error::OutOfMemory`].
+    pub(crate) fn register(
         &mut self,
         end_key: &[u8],
         seqno: SeqNo,
         block: BlockHandle,
     ) -> Result<(), Error>
-        ensures ok { OnOk result (self.new ≡ self.old ++ spec.handle_with end_key.now seqno block
-            ∷ []) }
-        ensures left { OnErr result (self.new ≡ self.old) }
-        ensures err { IfErr result (λ e. e ≡ spec.OutOfMemory) }
+        ensures ok { OnOk result (
+            self.new.handles ≡ self.old.handles ++ spec.handle_with end_key.now seqno block ∷ []) }
+        ensures works { OnOk result (self.new.failed ≡ false) }
+        ensures unchanged { OnErr result (self.new.handles ≡ self.old.handles) }
+        ensures failed { OnErr result (self.new.failed ≡ true) }
+        ensures refused { spec.Faults result (spec.failed_fault self.old.failed) }
+        ensures first { spec.FaultsFirst result (spec.failed_fault self.old.failed) }
     {
+        if self.failed {
+            return Err(Error::WriterFailed); // nothing is registered
+        }
+        self.failed = true;
         let (start, end) = put_key(&mut self.keys, self.places.allocator(), end_key)?;
         self.places.push(HandlePlace {
             start,
@@ -79,16 +99,17 @@ impl<A: Allocator + Clone> KeptHandles<A> {
             seqno,
             block,
         })?;
+        self.failed = false;
         Ok(())
     }
 
     /// Returns the handles; their end keys share the buffer. Fails only with
     /// [`Error::OutOfMemory`].
     pub(crate) fn into_handles(self) -> Result<Vec<KeyedBlockHandle<A>, A>, Error>
-        ensures ok { IfOk result (λ hs. hs.items ≡ self) }
+        ensures ok { IfOk result (λ hs. hs.items ≡ self.handles) }
         ensures err { IfErr result (λ e. e ≡ spec.OutOfMemory) }
     {
-        let KeptHandles { keys, places } = self;
+        let KeptHandles { keys, places, .. } = self;
         let alloc = places.allocator().clone()?;
         let shared = match keys {
             Some(keys) => keys.into_key()?,

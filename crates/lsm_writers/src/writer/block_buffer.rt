@@ -7,7 +7,7 @@ ghost use Rattle.lsm_writers.specs.Words as spec;
 use sst_blocks::number::put_u32;
 use sst_blocks::{
     Block, BlockHandle, BlockType, CompressionType, ENTRY_HEAD_LEN, Error, SectionWriter, SeqNo,
-    ValueType,
+    ValueType, put_entry,
 };
 use sst_entries::EntryRef;
 use std::alloc::{Allocator, Global};
@@ -217,39 +217,4 @@ fn put_count<A: Allocator>(payload: &mut Vec<u8, A>, count: u32)
     payload[1] = second;
     payload[2] = third;
     payload[3] = fourth;
-}
-
-/// Returns the bytes before an entry's key: kind, sequence number, length of key and of value.
-#[tactic(auto, unfolding(sst_blocks::specs::Number::le4, sst_blocks::specs::Number::le8))]
-fn entry_head(value_type: ValueType, seqno: SeqNo, key_len: u32, value_len: u32) -> [u8; 17]
-    ensures { result ≡ (spec.tag_of value_type ∷ []) ++ spec.le8 seqno ++ spec.le4 key_len
-        ++ spec.le4 value_len }
-{
-    let tag = value_type.tag();
-    let [n1, n2, n3, n4, n5, n6, n7, n8] = seqno.to_le_bytes();
-    let [k1, k2, k3, k4] = key_len.to_le_bytes();
-    let [v1, v2, v3, v4] = value_len.to_le_bytes();
-    [
-        tag, n1, n2, n3, n4, n5, n6, n7, n8, k1, k2, k3, k4, v1, v2, v3, v4,
-    ]
-}
-
-/// Appends an entry to `buf`. Fails only with [`Error::OutOfMemory`]. The bytes that `buf` had stay
-/// at its front.
-#[tactic(auto, unfolding(sst_blocks::specs::Payload::spelled))]
-fn put_entry<A: Allocator>(buf: &mut Vec<u8, A>, entry: &EntryRef<'_>) -> Result<(), Error>
-    requires { spec.IsShortEntry (spec.entry_of_ref entry.now) }
-    ensures ok { OnOk result (buf.new.items ≡
-        buf.old.items ++ spec.spelled spec.V4 (spec.entry_of_ref entry.now)) }
-    ensures fits { OnOk result (spec.IsSpellable spec.V4 (spec.entry_of_ref entry.now)) }
-    ensures front { take (vec_len buf.old) buf.new.items ≡ buf.old.items }
-    ensures err { IfErr result (λ e. e ≡ spec.OutOfMemory) }
-{
-    let key_len = entry.user_key.len() as u32;
-    let value_len = entry.value.len() as u32;
-    let head = entry_head(entry.value_type, entry.seqno, key_len, value_len);
-    buf.extend_from_slice(&head)?;
-    buf.extend_from_slice(entry.user_key)?;
-    buf.extend_from_slice(entry.value)?;
-    Ok(())
 }

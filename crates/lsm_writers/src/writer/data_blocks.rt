@@ -175,8 +175,6 @@ fn register_block<A: Allocator + Clone>(
     ensures failed { OnErr result (index_writer.new.failed ≡ true) }
     ensures err { IfErr result (λ e. e ≡ spec.OutOfMemory) }
 {
-    match entries.last() {
-        Some(last) => index_writer.register_ref(last.user_key, last.seqno, block),
-        None => Ok(()), // there is an entry
-    }
+    let last = entries.last().unwrap(); // there is an entry
+    index_writer.register_ref(last.user_key, last.seqno, block)
 }

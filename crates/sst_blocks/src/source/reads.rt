@@ -1,10 +1,9 @@
 //! Queries of one block that need no memory for the offsets of its items.
-ghost use Rattle.std.specs.Prelude.{◌≡◌, Option, Ok, Err, Some, true, slice_range, IfOk, IfErr};
-ghost use Rattle.std.specs.Prelude.{IfSome};
+ghost use Rattle.std.specs.Prelude.{◌≡◌, Option, None, Ok, Err, Some, IfOk, IfSome, MatchResult};
 ghost use Rattle.sst_blocks.specs.Words as spec;
 
 use super::BlockSource;
-use crate::block::Header;
+use super::payload::Payload;
 use crate::data_block::{entry_head_len, find_entry};
 use crate::index_block::find_handle;
 use crate::{
@@ -12,15 +11,6 @@ use crate::{
     contains_hash,
 };
 use std::alloc::Allocator;
-
-/// A payload with a valid checksum and count, its header, and whether its grammar was checked.
-#[derive(Clone, Copy)]
-struct Valid {
-    header: Header,
-    start: usize,
-    end: usize,
-    is_tested: bool,
-}
 
 impl<A: Allocator + Clone> BlockSource<A> {
     /// Finds the first entry of a key with a sequence number below `seqno`, in the data block of a
@@ -49,8 +39,8 @@ impl<A: Allocator + Clone> BlockSource<A> {
         ensures counted { opened.new ≡ spec.with_load spec.Data opened.old }
     {
         opened.count(BlockType::Data);
-        let sound = self.sound(handle, BlockType::Data)?;
-        self.place_of_entry(&sound, key, seqno)
+        let payload = self.verified_payload(handle, BlockType::Data)?;
+        self.place_of_entry(&payload, key, seqno)
     }
 
     /// Borrows the entry at a position, or returns `None` if the bytes end before it.
@@ -121,8 +111,8 @@ impl<A: Allocator + Clone> BlockSource<A> {
         ensures counted { opened.new ≡ spec.with_load spec.Index opened.old }
     {
         opened.count(BlockType::Index);
-        let sound = self.sound(handle, BlockType::Index)?;
-        self.handle_in(&sound, key, seqno)
+        let payload = self.verified_payload(handle, BlockType::Index)?;
+        self.handle_in(&payload, key, seqno)
     }
 
     /// Returns whether the filter in the filter block of a handle may contain a hash.
@@ -146,81 +136,72 @@ impl<A: Allocator + Clone> BlockSource<A> {
         ensures counted { opened.new ≡ spec.with_load spec.Filter opened.old }
     {
         opened.count(BlockType::Filter);
-        let sound = self.sound(handle, BlockType::Filter)?;
-        Ok(self.has_hash_in(&sound, hash))
+        let payload = self.verified_payload(handle, BlockType::Filter)?;
+        Ok(self.has_hash_in(&payload, hash))
     }
 
     /// Returns the payload of the block of a kind, with its checksum and count verified.
-    fn sound(&self, handle: &BlockHandle, kind: BlockType) -> Result<Valid, Error>
-        ensures sound { IfOk result (λ s.
-            spec.IsValidAt (spec.body_of self.now) handle.now.offset handle.now.size kind s) }
-        ensures headed { IfOk result (spec.IsValidHeaded self.now kind) }
+    fn verified_payload(&self, handle: &BlockHandle, kind: BlockType) -> Result<Payload, Error>
+        ensures placed { IfOk result (spec.IsPlaced self.now kind) }
+        ensures valid { IfOk result (spec.IsValid (spec.body_of self.now) kind) }
         ensures returned { let body = spec.body_of self.now in
-            IfErr result (λ e. spec.load_result body handle.now.offset handle.now.size kind
-            ≡ Err e) }
+            let loaded = spec.load_result body handle.now.offset handle.now.size kind in
+            MatchResult result (λ p. loaded ≡ spec.checked_in body kind p) (λ e. loaded ≡ Err e) }
         ensures first { let body = spec.body_of self.now in
-            IfErr result (λ e. spec.place_fault body handle.now.offset handle.now.size kind
-            ≡ Some e) }
+            let fault = spec.place_fault body handle.now.offset handle.now.size kind in
+            MatchResult result (λ _. fault ≡ None) (λ e. fault ≡ Some e) }
     {
-        let placed = self.place(handle, kind)?;
-        let is_tested = self.test(&placed.header, kind, placed.start, placed.end)?;
-        Ok(Valid {
-            header: placed.header,
-            start: placed.start,
-            end: placed.end,
-            is_tested,
-        })
+        let payload = self.payload_of(handle, kind)?;
+        self.test(&payload, kind)?;
+        Ok(payload)
     }
 
     /// Finds the first entry of a key below `seqno` in a payload of entries.
     fn place_of_entry(
         &self,
-        sound: &Valid,
+        payload: &Payload,
         key: &[u8],
         seqno: SeqNo,
     ) -> Result<Option<EntryPlace>, Error>
-        requires sound { spec.IsValid (spec.body_of self.now) spec.Data sound.now }
-        requires headed { spec.IsValidHeaded self.now spec.Data sound.now }
+        requires placed { spec.IsPlaced self.now spec.Data payload.now }
+        requires valid { spec.IsValid (spec.body_of self.now) spec.Data payload.now }
         ensures returned { let body = spec.body_of self.now in
-            let payload = slice_range body sound.now.start sound.now.end in
-            let header = sound.now.header in
             spec.result_map (spec.option_map (spec.entry_placed self.now)) result
             ≡ spec.result_map (spec.point_of key.now seqno)
-            (spec.checked_payload header.version header.checksum spec.Data payload) }
+            (spec.checked_in body spec.Data payload.now) }
         ensures placed { IfOk result (λ found. IfSome found (spec.IsPlacedIn self.now)) }
     {
-        let version = sound.header.version;
-        let payload = &self.body()[sound.start..sound.end];
-        let first = find_entry(version, payload, key, seqno, sound.is_tested)?;
-        self.remember_walk(sound, BlockType::Data);
+        let version = payload.header.version;
+        let bytes = &self.body()[payload.start..payload.end];
+        let first = find_entry(version, bytes, key, seqno, payload.is_verified)?;
+        self.cache_grammar(payload, BlockType::Data);
         let Some((at, entry)) = first else {
             return Ok(None);
         };
         if entry.user_key != key {
             return Ok(None);
         }
-        let key_at = sound.start + at + entry_head_len(version);
+        let key_at = payload.start + at + entry_head_len(version);
         Ok(Some(EntryPlace::of(key_at, &entry)))
     }
 
     /// Finds the first handle that reaches a key at `seqno` in a payload of handles.
     fn handle_in(
         &self,
-        sound: &Valid,
+        payload: &Payload,
         key: &[u8],
         seqno: SeqNo,
     ) -> Result<Option<BlockHandle>, Error>
-        requires sound { spec.IsValid (spec.body_of self.now) spec.Index sound.now }
-        requires headed { spec.IsValidHeaded self.now spec.Index sound.now }
+        requires placed { spec.IsPlaced self.now spec.Index payload.now }
+        requires valid { spec.IsValid (spec.body_of self.now) spec.Index payload.now }
         ensures returned { let body = spec.body_of self.now in
-            let payload = slice_range body sound.now.start sound.now.end in
-            let header = sound.now.header in
             result ≡ spec.result_map (spec.place_for key.now seqno)
-            (spec.checked_payload header.version header.checksum spec.Index payload) }
+            (spec.checked_in body spec.Index payload.now) }
     {
-        let payload = &self.body()[sound.start..sound.end];
-        let first = find_handle(sound.header.version, payload, key, seqno, sound.is_tested)?;
-        self.remember_walk(sound, BlockType::Index);
+        let version = payload.header.version;
+        let bytes = &self.body()[payload.start..payload.end];
+        let first = find_handle(version, bytes, key, seqno, payload.is_verified)?;
+        self.cache_grammar(payload, BlockType::Index);
         match first {
             Some(found) => Ok(Some(BlockHandle::new(BlockOffset(found.offset), found.size))),
             None => Ok(None),
@@ -228,30 +209,15 @@ impl<A: Allocator + Clone> BlockSource<A> {
     }
 
     /// Returns whether the filter of a payload may contain a hash.
-    fn has_hash_in(&self, sound: &Valid, hash: u64) -> bool
-        requires sound { spec.IsValid (spec.body_of self.now) spec.Filter sound.now }
-        requires headed { spec.IsValidHeaded self.now spec.Filter sound.now }
+    fn has_hash_in(&self, payload: &Payload, hash: u64) -> bool
+        requires placed { spec.IsPlaced self.now spec.Filter payload.now }
+        requires valid { spec.IsValid (spec.body_of self.now) spec.Filter payload.now }
         ensures returned { let body = spec.body_of self.now in
-            let payload = slice_range body sound.now.start sound.now.end in
-            let header = sound.now.header in
             Ok result ≡ spec.result_map (spec.maybe_in hash)
-            (spec.checked_payload header.version header.checksum spec.Filter payload) }
+            (spec.checked_in body spec.Filter payload.now) }
     {
         // A filter's grammar is the check that `test` has made already.
-        self.remember_walk(sound, BlockType::Filter);
-        contains_hash(&self.body()[sound.start..sound.end], hash)
-    }
-
-    /// Caches that a payload's grammar was checked, unless the cache says so already.
-    fn remember_walk(&self, sound: &Valid, kind: BlockType)
-        requires sound { spec.IsValid (spec.body_of self.now) kind sound.now }
-        requires headed { spec.IsValidHeaded self.now kind sound.now }
-        requires items { let body = spec.body_of self.now in
-            let payload = slice_range body sound.now.start sound.now.end in
-            spec.in_grammar sound.now.header.version kind payload ≡ true }
-    {
-        if !sound.is_tested {
-            self.remember_test(sound.start);
-        }
+        self.cache_grammar(payload, BlockType::Filter);
+        contains_hash(&self.body()[payload.start..payload.end], hash)
     }
 }

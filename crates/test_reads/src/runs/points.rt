@@ -8,7 +8,7 @@ use lsm_runs::{get_runs_ref_counted, place_in_runs_counted};
 use lsm_sorted::Run;
 use lsm_tables::run::{
     RunPlace, entry_in_runs, get_runs, get_runs_by_age, get_runs_by_age_counted, get_runs_counted,
-    get_runs_ref, place_in_runs,
+    get_runs_ref, get_runs_ref_by_age, place_in_runs, place_in_runs_by_age_counted,
 };
 use lsm_tables::table::Table;
 use sst_blocks::{Error, InternalValue, Opened, SeqNo, ValueType};
@@ -82,13 +82,24 @@ fn is_found_each_way(runs: &[Tables<Global>], key: &[u8], bound: SeqNo, wanted: 
         && number_of(found) == *wanted
 }
 
+// Whether a read of runs by age has this result by value, borrowed and by handle, with the loads
+// counted and without.
+fn is_found_by_age(runs: &[Tables<Global>], key: &[u8], bound: SeqNo, wanted: &Read) -> bool {
+    let (found, opened) = get_runs_by_age_counted(runs, key, bound);
+    let (place, place_opened) = place_in_runs_by_age_counted(runs, key, bound);
+    place_opened == opened
+        && is_placed(runs, place, &found)
+        && lends_same(&found, &get_runs_ref_by_age(runs, key, bound))
+        && number_of(get_runs_by_age(runs, key, bound)) == wanted.0
+        && is_so((found, opened), wanted)
+}
+
 // Whether reads of runs have the results of a case, with the loads counted and without.
 fn is_read(runs: &[Tables<Global>], case: &Case) -> bool {
     let (key, bound, of_all, by_age) = (case.0, case.1, &case.2, &case.3);
     is_so(get_runs_counted(runs, key, bound), of_all)
-        && is_so(get_runs_by_age_counted(runs, key, bound), by_age)
         && is_found_each_way(runs, key, bound, &of_all.0)
-        && number_of(get_runs_by_age(runs, key, bound)) == by_age.0
+        && is_found_by_age(runs, key, bound, by_age)
 }
 
 // Whether reads of runs have the results of some cases.

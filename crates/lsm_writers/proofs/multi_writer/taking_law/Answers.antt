@@ -1,5 +1,8 @@
-use Rattle.lsm_writers.proofs.TakenTables.{finished_law, taken_law, written_law}
+use Rattle.lsm_writers.proofs.TakenTables.{begun_law, finished_law, taken_law, written_law}
 use Rattle.lsm_writers.proofs.multi_writer.taking_law.Goals as goal
+
+pub returns-clause-begun : goal.returns-clause-begun
+returns-clause-begun g c = begun_law _
 
 pub returns-clause-taken : goal.returns-clause-taken
 returns-clause-taken g c = taken_law _

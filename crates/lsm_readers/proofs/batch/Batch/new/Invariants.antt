@@ -1,5 +1,6 @@
-use Rattle.std.proofs.Common.{◌≡◌, length}
+use Rattle.std.proofs.Common.{◌≡◌, replicate}
+use Rattle.std.specs.Prelude.{None}
 use Rattle.lsm_readers.proofs.batch.Batch.new.Given as goal
 
 abbrev pub invariant-loop : goal.invariant-loop
-invariant-loop g l = length l.found.items ≡ l.counter
+invariant-loop g l = l.found.items ≡ replicate l.counter None

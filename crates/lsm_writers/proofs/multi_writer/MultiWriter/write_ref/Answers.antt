@@ -1,14 +1,13 @@
 use Rattle.std.proofs.Common.{◌≡◌, ◌∙◌, None, ap, true}
 use Rattle.sst_entries.proofs.Refusals.{faults_refusal}
-use Rattle.sst_entries.proofs.StreamLemmas.{on_err}
 use Rattle.sst_entries.specs.Lending.{entry_of_ref}
 use Rattle.lsm_writers.specs.Tables.{took_fault, turn_fault}
 use Rattle.lsm_writers.specs.Tables.{HasRoomFor}
 use Rattle.lsm_writers.specs.Writing.{Writing}
 use Rattle.lsm_writers.proofs.Fitting.{room_fault, room_turn}
 use Rattle.lsm_writers.proofs.ListWriting.{same_label}
-use Rattle.lsm_writers.proofs.Refused.{memory_alone}
-use Rattle.lsm_writers.proofs.Turning.{early_due, early_is, fault_is, fault_turned, held_standing, ids_are, left_standing, listed_is, next_follows, refuses_passed, spent_fault, spent_first, spent_ids, spent_memory, still_goes_on, took_is}
+use Rattle.lsm_writers.proofs.Refused.{if_err, memory_alone}
+use Rattle.lsm_writers.proofs.Turning.{early_due, early_is, fault_is, fault_turned, held_standing, ids_are, left_standing, left_still, listed_is, next_follows, refuses_passed, spent_fault, spent_first, spent_ids, spent_left, spent_memory, still_goes_on, took_is}
 use Rattle.lsm_writers.proofs.multi_writer.MultiWriter.write_ref.Goals as goal
 
 pub returns-in_err-make_ready-clause-first : goal.returns-in_err-make_ready-clause-first
@@ -66,13 +65,21 @@ invariant_of-self-in_err-write_ref g c =
       λ works. absurd cc,
     )
 
+pub returns-in_err-make_ready-clause-left : goal.returns-in_err-make_ready-clause-left
+returns-in_err-make_ready-clause-left g c =
+    let i = c.self.inside in
+    let n = c.make_ready.new in
+    let x = c.in_err-make_ready.field-0.0 in
+    rw (← c.self.view_is) (if_err c.from_residual.result x _ c.from_residual.ensures.1 (left_still i.target_size i.ids n.ids i.finished.items n.finished.items i.writer n.writer (entry_of_ref c.args.entry.now) i.failed true c.if-self.false c.in_err-make_ready.ensures.left x c.in_err-make_ready.ensures.refused))
+
 pub returns-in_err-write_ref-clause-left : goal.returns-in_err-write_ref-clause-left
 returns-in_err-write_ref-clause-left g c =
     let i = c.self.inside in
     let n = c.make_ready.new in
     let v = c.write_ref.new.self in
+    let x = c.in_err-write_ref.field-0.0 in
     let spent = c.in_err-write_ref.ensures.failed in
-    rw (← c.self.view_is) (on_err c.from_residual-in_err-write_ref.result (left_standing i.target_size i.ids n.ids i.finished.items n.finished.items i.writer n.writer (entry_of_ref c.args.entry.now) i.failed true c.in_ok-make_ready.ensures.ok c.in_ok-make_ready.ensures.refused c.self.invariant.0 (c.self.invariant.1 c.if-self.false) v (ap (λ (w : Writing). w.label) spent) (ap (λ (w : Writing). w.options) spent)))
+    rw (← c.self.view_is) (if_err c.from_residual-in_err-write_ref.result x _ c.from_residual-in_err-write_ref.ensures.1 (left_standing i.target_size i.ids n.ids i.finished.items n.finished.items i.writer n.writer (entry_of_ref c.args.entry.now) i.failed true c.if-self.false x c.in_ok-make_ready.ensures.ok c.in_ok-make_ready.ensures.refused c.self.invariant.0 (c.self.invariant.1 c.if-self.false) v (ap (λ (w : Writing). w.label) spent) (ap (λ (w : Writing). w.options) spent)))
 
 pub returns-clause-ok : goal.returns-clause-ok
 returns-clause-ok g c =
@@ -149,3 +156,8 @@ pub returns-then-self-clause-ids : goal.returns-then-self-clause-ids
 returns-then-self-clause-ids g c =
     let i = c.self.inside in
     rw (← c.self.view_is) (spent_ids i.target_size i.ids i.finished.items i.writer (entry_of_ref c.args.entry.now) i.failed c.if-self.true)
+
+pub returns-then-self-clause-left : goal.returns-then-self-clause-left
+returns-then-self-clause-left g c =
+    let i = c.self.inside in
+    rw (← c.self.view_is) (spent_left i.target_size i.ids i.finished.items i.writer (entry_of_ref c.args.entry.now) i.failed c.if-self.true _)

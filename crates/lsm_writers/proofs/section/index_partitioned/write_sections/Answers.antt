@@ -21,12 +21,12 @@ returns-in_err-write_partitions-clause-before g c =
 
 pub returns-in_err-write_partitions-clause-refused : goal.returns-in_err-write_partitions-clause-refused
 returns-in_err-write_partitions-clause-refused g c =
-    parts_refused c.args.kept c.deref.result.now c.args.partition_size (c.deref.ensures.value ∙ c.in_ok-handles.ensures.ok) c.from_residual-in_err-write_partitions.result c.in_err-write_partitions.field-0.0
+    parts_refused c.args.kept.handles c.deref.result.now c.args.partition_size (c.deref.ensures.value ∙ c.in_ok-handles.ensures.ok) c.from_residual-in_err-write_partitions.result c.in_err-write_partitions.field-0.0
     c.from_residual-in_err-write_partitions.ensures.1 c.in_err-write_partitions.ensures.refused
 
 pub write_top_level-requires-clause-strict : goal.write_top_level-requires-clause-strict
 write_top_level-requires-clause-strict g c =
-    top_strict c.args.kept c.deref.result.now c.args.partition_size (c.deref.ensures.value ∙ c.in_ok-handles.ensures.ok)
+    top_strict c.args.kept.handles c.deref.result.now c.args.partition_size (c.deref.ensures.value ∙ c.in_ok-handles.ensures.ok)
     c.args.writer.now c.start.new.self c.write_partitions.new.writer c.write_partitions.new.tops.items c.deref-2.result.now c.in_ok-start.ensures.ok c.in_ok-write_partitions.ensures.tops c.deref-2.ensures.value
     c.requires.strict
 
@@ -41,25 +41,25 @@ pub returns-in_err-write_top_level-clause-refused :
     goal.returns-in_err-write_top_level-clause-refused
 returns-in_err-write_top_level-clause-refused g c =
     faults_refusal c.from_residual-in_err-write_top_level.result c.in_err-write_top_level.field-0.0 _ c.from_residual-in_err-write_top_level.ensures.1
-    (λ m. top_fault c.args.kept c.deref.result.now c.args.partition_size (c.deref.ensures.value ∙ c.in_ok-handles.ensures.ok)
+    (λ m. top_fault c.args.kept.handles c.deref.result.now c.args.partition_size (c.deref.ensures.value ∙ c.in_ok-handles.ensures.ok)
     c.args.writer.now c.start.new.self c.write_partitions.new.writer c.write_partitions.new.tops.items c.deref-2.result.now c.in_ok-start.ensures.ok c.in_ok-write_partitions.ensures.tops c.deref-2.ensures.value
     c.in_ok-write_partitions.ensures.refused ∙ c.in_err-write_top_level.ensures.refused m)
 
 pub returns-clause-ok : goal.returns-clause-ok
 returns-clause-ok g c =
-    all_behind c.args.kept c.deref.result.now c.args.partition_size (c.deref.ensures.value ∙ c.in_ok-handles.ensures.ok)
+    all_behind c.args.kept.handles c.deref.result.now c.args.partition_size (c.deref.ensures.value ∙ c.in_ok-handles.ensures.ok)
     c.args.writer.now c.start.new.self c.write_partitions.new.writer c.write_partitions.new.tops.items c.deref-2.result.now c.in_ok-start.ensures.ok c.in_ok-write_partitions.ensures.tops c.deref-2.ensures.value
     c.write_top_level.new.writer c.in_ok-write_partitions.ensures.ok c.in_ok-write_top_level.ensures.ok
 
 pub returns-clause-count : goal.returns-clause-count
 returns-clause-count g c =
     c.len.ensures ∙ c.write_partitions.new.tops.ok.0
-    ∙ top_count c.args.kept c.deref.result.now c.args.partition_size (c.deref.ensures.value ∙ c.in_ok-handles.ensures.ok)
+    ∙ top_count c.args.kept.handles c.deref.result.now c.args.partition_size (c.deref.ensures.value ∙ c.in_ok-handles.ensures.ok)
     c.args.writer.now c.start.new.self c.write_partitions.new.writer c.write_partitions.new.tops.items c.deref-2.result.now c.in_ok-start.ensures.ok c.in_ok-write_partitions.ensures.tops c.deref-2.ensures.value
 
 pub returns-clause-fits : goal.returns-clause-fits
 returns-clause-fits g c =
-    all_fit c.args.kept c.deref.result.now c.args.partition_size (c.deref.ensures.value ∙ c.in_ok-handles.ensures.ok)
+    all_fit c.args.kept.handles c.deref.result.now c.args.partition_size (c.deref.ensures.value ∙ c.in_ok-handles.ensures.ok)
     c.args.writer.now c.start.new.self c.write_partitions.new.writer c.write_partitions.new.tops.items c.deref-2.result.now c.in_ok-start.ensures.ok c.in_ok-write_partitions.ensures.tops c.deref-2.ensures.value
     c.in_ok-write_partitions.ensures.short c.in_ok-write_top_level.ensures.short
 
@@ -72,7 +72,7 @@ returns-clause-before g c =
 
 pub returns-clause-refused : goal.returns-clause-refused
 returns-clause-refused g c =
-    top_fault c.args.kept c.deref.result.now c.args.partition_size (c.deref.ensures.value ∙ c.in_ok-handles.ensures.ok)
+    top_fault c.args.kept.handles c.deref.result.now c.args.partition_size (c.deref.ensures.value ∙ c.in_ok-handles.ensures.ok)
     c.args.writer.now c.start.new.self c.write_partitions.new.writer c.write_partitions.new.tops.items c.deref-2.result.now c.in_ok-start.ensures.ok c.in_ok-write_partitions.ensures.tops c.deref-2.ensures.value
     c.in_ok-write_partitions.ensures.refused ∙ c.in_ok-write_top_level.ensures.refused
 

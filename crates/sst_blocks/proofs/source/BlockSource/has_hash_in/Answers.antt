@@ -9,7 +9,7 @@ use Rattle.sst_blocks.proofs.source.BlockSource.has_hash_in.Goals as goal
 
 pub returns : goal.returns
 returns g c =
-    let s = c.args.sound.now in
+    let s = c.args.payload.now in
     let part = ap (λ (b : List ℕ). admits (filter_in (slice_range b s.start s.end)) c.args.hash) c.body.ensures.body in
-    let returned = asked_right (maybe_in c.args.hash) s.header.version s.header.checksum Filter (slice_range (body_of c.args.self.now) s.start s.end) c.requires.sound.sum c.requires.sound.room in
+    let returned = asked_right (maybe_in c.args.hash) s.header.version s.header.checksum Filter (slice_range (body_of c.args.self.now) s.start s.end) c.requires.valid.sum c.requires.valid.room in
     record { returned = ap (λ x. Ok x) (c.contains_hash.ensures.admits ∙ part) ∙ sym returned }

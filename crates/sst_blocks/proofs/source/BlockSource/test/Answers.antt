@@ -1,31 +1,41 @@
 use Rattle.std.proofs.Common.{◌≡◌, ℕ, List, true, false, slice_range, refl, sym, ap, ◌∙◌}
 use Rattle.sst_blocks.specs.Block.{has_room}
+use Rattle.sst_blocks.specs.Placed.{payload_in}
 use Rattle.sst_blocks.specs.Sections.{body_of}
 use Rattle.sst_blocks.proofs.LoadLemmas.{checksum_wrong}
 use Rattle.sst_blocks.proofs.MarkLemmas.{items_there, sum_there}
 use Rattle.sst_blocks.proofs.Room.{grammar_room, room_wrong}
 use Rattle.sst_blocks.proofs.source.BlockSource.test.Goals as goal
 
-pub returns-then-was_tested-clause-room : goal.returns-then-was_tested-clause-room
-returns-then-was_tested-clause-room g c =
-    grammar_room c.args.header.now.version c.args.kind (slice_range (body_of c.args.self.now) c.args.start c.args.end)
-    (items_there c.args.self.now c.args.start c.args.end c.args.header.now.version c.args.kind c.args.header.now.checksum c.requires.headed c.requires.within (c.if-was_tested.ensures.items refl))
-
-pub returns-then-was_tested-clause-sum : goal.returns-then-was_tested-clause-sum
-returns-then-was_tested-clause-sum g c =
-    sum_there c.args.self.now c.args.start c.args.end c.args.header.now.checksum c.requires.headed.said c.requires.within (c.if-was_tested.ensures.sum refl)
-
-pub returns-then-was_tested-clause-tested : goal.returns-then-was_tested-clause-tested
-returns-then-was_tested-clause-tested g c = λ _.
-    items_there c.args.self.now c.args.start c.args.end c.args.header.now.version c.args.kind c.args.header.now.checksum c.requires.headed c.requires.within (c.if-was_tested.ensures.items refl)
+pub returns-then-payload-clause-valid : goal.returns-then-payload-clause-valid
+returns-then-payload-clause-valid g c =
+    let p = c.args.payload.now in
+    let bytes : List ℕ = c.args.self.now in
+    let cached = c.requires.verified c.if-payload.true in
+    let items = items_there bytes c.args.kind p c.requires cached.1 in
+    record {
+      sum = sum_there bytes p c.requires.headed cached.0;
+      room = grammar_room p.header.version c.args.kind (payload_in (body_of bytes) p) items;
+      verified = λ _. items;
+    }
 
 pub returns-then-not-has_sum-clause-returned : goal.returns-then-not-has_sum-clause-returned
 returns-then-not-has_sum-clause-returned g c =
-    let payload : List ℕ = slice_range (body_of c.args.self.now) c.args.start c.args.end in
-    checksum_wrong c.args.header.now.version c.args.header.now.checksum c.args.kind payload (λ same. let wrong : false ≡ true = c.if-not-has_sum.ensures.1 same in absurd cc)
+    let p = c.args.payload.now in
+    checksum_wrong p.header.version p.header.checksum c.args.kind (payload_in (body_of c.args.self.now) p) (λ same. let wrong : false ≡ true = c.if-not-has_sum.ensures.1 same in absurd cc)
 
 pub returns-then-not-has_room-clause-returned : goal.returns-then-not-has_room-clause-returned
 returns-then-not-has_room-clause-returned g c =
-    let payload : List ℕ = slice_range (body_of c.args.self.now) c.args.start c.args.end in
-    let part = ap (λ (bytes : List ℕ). has_room c.args.header.now.version c.args.kind (slice_range bytes c.args.start c.args.end)) c.body.ensures.body in
-    room_wrong c.args.header.now.version c.args.header.now.checksum c.args.kind payload (c.if-not-has_sum.ensures.0 refl) (sym (c.if-not-has_room.ensures ∙ part))
+    let p = c.args.payload.now in
+    let part = ap (λ (bytes : List ℕ). has_room p.header.version c.args.kind (slice_range bytes p.start p.end)) c.body.ensures.body in
+    room_wrong p.header.version p.header.checksum c.args.kind (payload_in (body_of c.args.self.now) p) (c.if-not-has_sum.ensures.0 refl) (sym (c.if-not-has_room.ensures ∙ part))
+
+pub returns-clause-valid : goal.returns-clause-valid
+returns-clause-valid g c =
+    let p = c.args.payload.now in
+    let part = ap (λ (bytes : List ℕ). has_room p.header.version c.args.kind (slice_range bytes p.start p.end)) c.body.ensures.body in
+    record {
+      sum = c.if-not-has_sum.ensures.0 refl;
+      room = sym (c.if-not-has_room.ensures ∙ part);
+      verified = λ is. let wrong : false ≡ true = sym c.if-payload.false ∙ is in absurd cc;
+    }

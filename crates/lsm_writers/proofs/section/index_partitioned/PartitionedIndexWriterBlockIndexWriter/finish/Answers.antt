@@ -1,5 +1,5 @@
 -- What is inside is what the writer holds.
-use Rattle.std.proofs.Common.{◌≡◌, ℕ, [], ap, subst, length}
+use Rattle.std.proofs.Common.{◌≡◌, ℕ, [], ap, sym, ◌∙◌, subst, length}
 use Rattle.sst_blocks.specs.table.Partitions.{partitioned_index}
 use Rattle.std.specs.Prelude.{OnOk, IfOk, Ok}
 use Rattle.sst_entries.proofs.StreamLemmas.{on_err}
@@ -34,39 +34,39 @@ returns-clause-fits g c =
 
 pub returns-clause-refused : goal.returns-clause-refused
 returns-clause-refused g c =
-    works_fault c.write_sections.result c.args.self (Partitioned c.self.inside.partition_size) c.self.inside.held.handles c.self.inside.held.failed c.self.view_is c.if-self.false
+    works_fault c.write_sections.result c.args.self (Partitioned c.self.inside.partition_size) c.self.inside.kept.handles c.self.inside.kept.failed c.self.view_is (sym c.has_failed.ensures ∙ c.if-has_failed.false)
     c.write_sections.ensures.refused
 
 pub returns-clause-first : goal.returns-clause-first
 returns-clause-first g c =
-    works_first c.write_sections.result c.self.inside.held.failed c.args.self.failed (ap (λ (w : Registered). w.failed) c.self.view_is) c.if-self.false
+    works_first c.write_sections.result c.self.inside.kept.failed c.args.self.failed (ap (λ (w : Registered). w.failed) c.self.view_is) (sym c.has_failed.ensures ∙ c.if-has_failed.false)
 
 -- without handles
 pub returns-then-is_empty-clause-ok : goal.returns-then-is_empty-clause-ok
 returns-then-is_empty-clause-ok g c =
-    empty_written c.args.self (Partitioned c.self.inside.partition_size) c.self.inside.held.handles c.self.inside.held.failed c.args.writer.now c.write_no_partitions.new.writer c.self.view_is
+    empty_written c.args.self (Partitioned c.self.inside.partition_size) c.self.inside.kept.handles c.self.inside.kept.failed c.args.writer.now c.write_no_partitions.new.writer c.self.view_is
     (c.is_empty.ensures.0 c.if-is_empty.true)
     c.in_ok-write_no_partitions.ensures.ok
 
 pub returns-then-is_empty-clause-count : goal.returns-then-is_empty-clause-count
 returns-then-is_empty-clause-count g c =
-    empty_count c.args.self (Partitioned c.self.inside.partition_size) c.self.inside.held.handles c.self.inside.held.failed c.args.writer.now c.write_no_partitions.new.writer c.self.view_is
+    empty_count c.args.self (Partitioned c.self.inside.partition_size) c.self.inside.kept.handles c.self.inside.kept.failed c.args.writer.now c.write_no_partitions.new.writer c.self.view_is
     (c.is_empty.ensures.0 c.if-is_empty.true)
 
 pub returns-then-is_empty-clause-fits : goal.returns-then-is_empty-clause-fits
 returns-then-is_empty-clause-fits g c =
-    empty_fits c.args.self (Partitioned c.self.inside.partition_size) c.self.inside.held.handles c.self.inside.held.failed c.args.writer.now c.write_no_partitions.new.writer c.self.view_is
+    empty_fits c.args.self (Partitioned c.self.inside.partition_size) c.self.inside.kept.handles c.self.inside.kept.failed c.args.writer.now c.write_no_partitions.new.writer c.self.view_is
     (c.is_empty.ensures.0 c.if-is_empty.true)
 
 pub returns-then-is_empty-clause-refused : goal.returns-then-is_empty-clause-refused
 returns-then-is_empty-clause-refused g c =
-    empty_fault c.args.self (Partitioned c.self.inside.partition_size) c.self.inside.held.handles c.self.inside.held.failed c.args.writer.now c.write_no_partitions.new.writer c.self.view_is
+    empty_fault c.args.self (Partitioned c.self.inside.partition_size) c.self.inside.kept.handles c.self.inside.kept.failed c.args.writer.now c.write_no_partitions.new.writer c.self.view_is
     (c.is_empty.ensures.0 c.if-is_empty.true)
-    c.if-self.false
+    (sym c.has_failed.ensures ∙ c.if-has_failed.false)
 
 pub returns-then-is_empty-clause-first : goal.returns-then-is_empty-clause-first
 returns-then-is_empty-clause-first g c =
-    works_first {X = ℕ} (Ok 0) c.self.inside.held.failed c.args.self.failed (ap (λ (w : Registered). w.failed) c.self.view_is) c.if-self.false
+    works_first {X = ℕ} (Ok 0) c.self.inside.kept.failed c.args.self.failed (ap (λ (w : Registered). w.failed) c.self.view_is) (sym c.has_failed.ensures ∙ c.if-has_failed.false)
 
 pub returns-then-is_empty-clause-before : goal.returns-then-is_empty-clause-before
 returns-then-is_empty-clause-before g c = empty_front c.args.writer.now c.write_no_partitions.new.writer (partitioned_index V4 (length c.args.writer.now.bytes) []) c.in_ok-write_no_partitions.ensures.ok
@@ -77,7 +77,7 @@ returns-in_err-write_no_partitions-clause-refused g c =
 
 pub returns-in_err-write_no_partitions-clause-first : goal.returns-in_err-write_no_partitions-clause-first
 returns-in_err-write_no_partitions-clause-first g c =
-    works_first c.from_residual.result c.self.inside.held.failed c.args.self.failed (ap (λ (w : Registered). w.failed) c.self.view_is) c.if-self.false
+    works_first c.from_residual.result c.self.inside.kept.failed c.args.self.failed (ap (λ (w : Registered). w.failed) c.self.view_is) (sym c.has_failed.ensures ∙ c.if-has_failed.false)
 
 pub returns-in_err-write_no_partitions-clause-before : goal.returns-in_err-write_no_partitions-clause-before
 returns-in_err-write_no_partitions-clause-before g c = same_front c.args.writer.now c.write_no_partitions.new.writer c.in_err-write_no_partitions.ensures.bytes
@@ -90,5 +90,5 @@ returns-in_err-write_no_partitions-clause-idle g c =
 pub returns-clause-idle : goal.returns-clause-idle
 returns-clause-idle g c =
     let none : c.args.self.handles ≡ [] → c.write_sections.new.writer.bytes ≡ c.args.writer.now.bytes = λ none.
-    absurd (is_some_then c.is_empty.result c.self.inside.held.handles c.args.self.handles (ap (λ (w : Registered). w.handles) c.self.view_is) c.is_empty.ensures c.if-is_empty.false none) in
+    absurd (is_some_then c.is_empty.result c.self.inside.kept.handles c.args.self.handles (ap (λ (w : Registered). w.handles) c.self.view_is) c.is_empty.ensures c.if-is_empty.false none) in
     on_err c.write_sections.result none

@@ -1,7 +1,0 @@
-use Rattle.std.proofs.Common.{refl}
-use Rattle.sst_blocks.specs.Number.{le4, le8}
-use Rattle.lsm_writers.proofs.writer.block_buffer.entry_head.Goals as goal
-
-pub returns : goal.returns
-unfolding le4 le8
-returns c = rw (c.tag-tag.ensures, c.to_le_bytes.ensures, c.to_le_bytes-2.ensures, c.to_le_bytes-3.ensures) refl

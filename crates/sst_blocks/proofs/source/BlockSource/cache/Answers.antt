@@ -1,0 +1,10 @@
+use Rattle.std.proofs.Common.{◌≡◌, ℕ, List, sym, subst}
+use Rattle.sst_blocks.specs.Marks.{Holds}
+use Rattle.sst_blocks.proofs.source.BlockSource.cache.Goals as goal
+
+pub add-requires : goal.add-requires
+add-requires g c =
+    let bytes : List ℕ = c.args.self.now in
+    let of = rw c.in-Some.is at c.self.invariant.1 in
+    let key : c.deref.result.now ≡ bytes = cc (c.deref.ensures, of, c.self.view_is) in
+    subst (λ (b : List ℕ). Holds c.args.verified b c.args.start) (sym key) c.requires
