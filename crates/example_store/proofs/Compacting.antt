@@ -1,4 +1,4 @@
--- How a store goes on telling its story where its runs are compacted or packed.
+-- A store reads as the same history after its runs are compacted or packed.
 use Rattle.std.proofs.Common.{◌≡◌, ◌≢◌, refl, sym, ◌∙◌, ap, subst, ℕ, ◌<◌, ◌≤◌, inr, List, []}
 use Rattle.std.proofs.Common.{◌∷◌, ◌++◌, append-nil, count_by, length, arith}
 use Rattle.std.specs.Prelude.{All, IfSome, IsPermutation, MatchOption, None, Option, Some}
@@ -14,14 +14,14 @@ use Rattle.example_store.specs.Story.{HoldBelow, Holding, IsOwnRun, IsOwnTable, 
 use Rattle.example_store.specs.Story.{IsReported, holding, option_list}
 use Rattle.example_store.proofs.Stories.{able_none, seen_more}
 
--- what is read alike behind some entries
+-- lists that read alike do so after further entries
 pub seen_behind : (key : List ℕ) (bound : ℕ) (es xs ys : List Entry)
     → seen xs key bound ≡ seen ys key bound → seen (es ++ xs) key bound ≡ seen (es ++ ys) key bound
 seen_behind key bound [] xs ys same = same
 seen_behind key bound (e ∷ es) xs ys same =
     seen_more key bound e (es ++ xs) (es ++ ys) (seen_behind key bound es xs ys same)
 
--- nothing else is newer than what is compacted
+-- no other entry is newer than the compacted ones
 none_newer : (es : List Entry) → AllNewer es []
 none_newer [] = tt
 none_newer (e ∷ es) = (tt, none_newer es)
@@ -120,7 +120,7 @@ own_packed bound runs packed own same ordered =
           apart packed ordered.1 (all_behind (IsOwnTable bound) run rest h),
         )
 
--- ---- the run of what is kept
+-- ---- the run of the kept entries
 
 pub made_of : (es : List Entry) (r : Option (List OpenTable))
     → MatchOption r (es ≡ []) (λ run. HasList es run) → HaveAll es (option_list r)
@@ -137,7 +137,7 @@ pub able_of : (r : Option (List OpenTable)) → IfSome r (λ run. AreCompactable
 able_of None h = able_none
 able_of (Some run) h = h
 
--- ---- what stays sound
+-- ---- the invariant is kept
 
 pub valid_replaced : (recent : List Entry) (runs new : List (List OpenTable)) (ids left : Option ℕ)
     (target next flushed oldest later limit : ℕ)

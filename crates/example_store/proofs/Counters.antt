@@ -1,4 +1,4 @@
--- What a store makes of lists, and the counters of ids behind the tables.
+-- The tables that a store writes of lists, and the counters of ids after them.
 use Rattle.std.proofs.Common.{◌≡◌, refl, sym, ◌∙◌, ap, ℕ, ◌≤◌, List, [], ◌∷◌}
 use Rattle.std.proofs.Common.{arith, length}
 use Rattle.std.specs.Prelude.{IfSome, MatchOption, None, Option, Some, sum_by}
@@ -10,7 +10,7 @@ use Rattle.example_store.specs.Ids.{AreMadeOf, HasFlushed}
 use Rattle.example_store.specs.Story.{Holding, option_list}
 use Rattle.example_store.proofs.Compacting.{made_of}
 
--- ---- what is made of a list
+-- ---- the tables of a list
 
 pub cut_listed : (label : Label) (target : ℕ) (es : List Entry) (r : Option (List OpenTable))
     → IfSome r (λ run. AreCutOf label target es 0 run)
@@ -43,7 +43,7 @@ flushed_none s none = record {
   counter = refl;
 }
 
--- runs and counter stay behind it
+-- runs and counter are unchanged after it
 pub flushed_on : (s t u : Holding) → HasFlushed s t → u.runs ≡ t.runs → u.ids ≡ t.ids
     → HasFlushed s u
 flushed_on s t u h runs ids = record {
@@ -56,7 +56,7 @@ flushed_on s t u h runs ids = record {
 one_run : (run : List OpenTable) → sum_by length (run ∷ []) ≡ length run
 one_run run = search arith
 
--- a run was put in front
+-- a run was put before the others
 pub flushed_one : (s t : Holding) (run : List OpenTable) → HasList s.recent run
     → AreCutOf (run_label s.ids s.target 0) s.target s.recent 0 run → t.runs ≡ run ∷ s.runs
     → t.ids ≡ ids_behind s.ids s.target (length run) → HasFlushed s t
@@ -69,7 +69,7 @@ flushed_one s t run has cut runs ids = record {
 
 -- ---- counters
 
--- the counter behind a run that is shared
+-- the counter after a run that is shared
 pub shared_counter : {S : Type 0} (f : S → List OpenTable) (ids : Option ℕ) (target : ℕ)
     (left : Option ℕ) (shared : Option S) (run : Option (List OpenTable))
     → option_map f shared ≡ run → left ≡ ids_behind ids target (option_map_or length run 0)

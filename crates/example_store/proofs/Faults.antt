@@ -1,4 +1,4 @@
--- What a refusal to open a store names.
+-- The fault that an error of opening a store names.
 use Rattle.std.proofs.Common.{◌≡◌, refl, sym, ◌∙◌, ap, subst, ℕ, zero, suc, ◌-◌, ◌^◌, ◌<◌, ◌⊎◌}
 use Rattle.std.proofs.Common.{inl, inr}
 use Rattle.std.proofs.Common.{true, false, List, [], ◌∷◌, ◌++◌, length, take, drop, get_or, arith}
@@ -21,7 +21,7 @@ use Rattle.example_store.specs.declared.store.open.OpenError.TheVariants.{Repeat
 use Rattle.example_store.proofs.Opening.{order_alike}
 use Rattle.example_store.proofs.Own.{bytes_of, table_stored}
 
--- a refusal that is passed on says what it said
+-- an error that is passed on names the same fault
 pub passed : {X E : Type 0} (P : E → Type 0) (r : Result X E) (e : E) → IsErrAnd r (λ y. y ≡ e)
     → P e → IfErr r P
 passed P (Ok x) e is said = tt
@@ -64,7 +64,7 @@ own_files next (t ∷ ts) own = (own_file next t own.0, own_files next ts own.1)
 
 -- ---- one run
 
--- a list about one of its places
+-- a list around one of its indexes
 about : {X : Type 0} (xs : List X) (i : ℕ) (x : X) → i < length xs → x ≡ get_or xs i x
     → xs ≡ take i xs ++ x ∷ drop (suc i) xs
 about [] i x less is = absurd (omega (arith, less))
@@ -158,7 +158,7 @@ names_first_run next bytes items made ys i y e so_far less is fine named =
     (subst (λ (n : ℕ). NamesInRun next (items y) n e)
     (sym (length-map made bytes) ∙ ap length so_far) named)
 
--- and of what was kept, where its numbers are right
+-- the fault of a closed store whose seqnos are right
 pub names_kept : {A : Type 0} (c : Closed A) (e : OpenError) → HasNumbers c
     → IsFirstFault c.next (files_in c) e → IsOpenFault c e
 names_kept c OutOfMemory right named = tt
@@ -169,7 +169,7 @@ names_kept c (NoFile r) right named = (right, named)
 names_kept c (OutOfOrder r) right named = (right, named)
 names_kept c Repeated right named = absurd named
 
--- what is wrong with its numbers
+-- the fault of its seqnos
 pub names_numbers : {A : Type 0} (c : Closed A) (e : OpenError)
     → (e ≡ SeqNoOverflow) × (c.next ≡ 2 ^ 64 - 1) ⊎ (e ≡ OldestTooHigh) × (c.next < c.oldest)
     → IsOpenFault c e
@@ -178,7 +178,7 @@ names_numbers c e named = elim named [
   | inr high ↦ subst (IsOpenFault c) (sym high.0) high.1
 ]
 
--- two entries with one key and one number
+-- two entries with the same key and seqno
 pub names_repeated : {A : Type 0} (c : Closed A) (e : OpenError) (lists : List (List (List Entry)))
     → HasNumbers c → AllByRecursion (AreOwnFiles c.next) (files_in c)
     → (e ≡ OutOfMemory) ⊎ (e ≡ Repeated) → StoreLists (files_in c) lists

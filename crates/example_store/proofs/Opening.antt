@@ -1,4 +1,4 @@
--- What was closed, opened again.
+-- A closed store, opened again.
 use Rattle.std.proofs.Common.{◌≡◌, ◌≢◌, refl, sym, ◌∙◌, ap, subst, ℕ, ◌+◌, ◌-◌, ◌^◌, ◌<◌, inl}
 use Rattle.std.proofs.Common.{true, false, List, [], ◌∷◌, ◌++◌, count_by, length, take, get_or}
 use Rattle.std.proofs.Common.{inr, zero, suc, arith, ltb, le-ltb}
@@ -57,7 +57,7 @@ module _ (n m : ℕ) where
         held_alike runs others lists more own.1 other.1 h.1,
       )
 
-  -- in strict order, where the others' are
+  -- they are in strict order if the others are
   pub strict_alike : (runs others : List (List OpenTable)) → bytes_by_run runs ≡ bytes_by_run others
       → AllByRecursion (IsOwnRun n) runs → (own : AllByRecursion (IsOwnRun m) others)
       → AreCompactable runs → IsStrict (union_in (own_run_lists m others own).lists)
@@ -68,7 +68,7 @@ module _ (n m : ℕ) where
       (held_alike runs others able.lists same was own able.hold) all.hold)
       able.writable.strict
 
-  -- and so a store of them tells the same
+  -- so a store of them reads as the same history
   pub reports_alike : (s t : Holding) (ws : List Entry) → IsReported s ws
       → AllByRecursion (IsOwnRun n) s.runs → AllByRecursion (IsOwnRun m) t.runs
       → bytes_by_run s.runs ≡ bytes_by_run t.runs → s.recent ≡ t.recent → s.next ≡ t.next
@@ -82,10 +82,10 @@ module _ (n m : ℕ) where
         ∙ returned.same key bound (omega (arith, oldest, reads));
   }
 
--- ---- one more of a list
+-- ---- one more item of a list
 
 module _ {X Y : Type 0} (f : X → Y) (P : X → Type 0) where
-  -- what is so of all that make up a list is so of that which makes up what stands at a place
+  -- a fact about all sources of a list holds for the source of the item at an index
   pub made_at : (xs : List X) (ys : List Y) (i : ℕ) (y : Y) → AllByRecursion P xs → map f xs ≡ ys
       → i < length ys → y ≡ get_or ys i y → (x : X) × (f x ≡ y) × P x
   made_at [] [] i y all same less is = absurd (omega (arith, less))
@@ -97,7 +97,7 @@ module _ {X Y : Type 0} (f : X → Y) (P : X → Type 0) where
       let more : map f xs ≡ ys = cc in
       made_at xs ys i y all.1 more (omega (arith, less)) is
 
-  -- and one more is made, and it is so of it
+  -- one more item was made, and the fact holds for it
   pub one_made : (made : List X) (ys : List Y) (i : ℕ) (x : X) (y : Y) → map f made ≡ take i ys
       → i < length ys → y ≡ get_or ys i y → f x ≡ y → map f (made ++ x ∷ []) ≡ take (i + 1) ys
   one_made made ys i x y so_far less is one =
@@ -106,7 +106,7 @@ module _ {X Y : Type 0} (f : X → Y) (P : X → Type 0) where
       ∙ ap (λ (z : Y). take i ys ++ z ∷ []) (one ∙ is)
       ∙ sym (take_more ys i y less)
 
--- so it is of two lists that are seen as the same
+-- the same for two lists with the same view
 module _ {X Y Z : Type 0} (f : X → Z) (h : Y → Z) (P : X → Type 0) where
   pub seen_at : (xs : List X) (ys : List Y) (i : ℕ) (y : Y) → AllByRecursion P xs
       → map f xs ≡ map h ys → i < length ys → y ≡ get_or ys i y → (x : X) × (f x ≡ h y) × P x
@@ -133,7 +133,7 @@ pub some_there : {X : Type 0} (xs : List X) → xs ≢ [] → 0 < length xs
 some_there [] other = absurd (other refl)
 some_there (x ∷ xs) other = omega arith
 
--- ---- tables of the same bytes stand in the same order
+-- ---- tables of the same bytes are in the same order
 
 same_ranges : (ts us : List OpenTable) → map bytes_of ts ≡ map bytes_of us
     → map range_of ts ≡ map range_of us
@@ -158,7 +158,7 @@ some_alike [] us same some = absurd (omega (arith, some))
 some_alike (t ∷ ts) [] same some = absurd cc
 some_alike (t ∷ ts) (u ∷ us) same some = omega arith
 
--- ---- what is opened of a run
+-- ---- the opened tables of a run
 
 pub run_owned : {E : Type 0} (n : ℕ) (r : Result (List OpenTable) E) (ts : List OpenTable)
     → IfOk r (λ run. run ≡ ts) → IfOk r (λ _. 0 < length ts) → IfOk r (λ _. IsInOrder range_of ts)
@@ -167,9 +167,9 @@ run_owned n (Ok run) ts is some order own = subst (IsOwnRun n) (sym is)
     (record { some = some; order = order; tables = own })
 run_owned n (Err e) ts is some order own = tt
 
--- ---- what a table says of its list
+-- ---- the metadata of a table
 
--- its highest number, and how many weak tombstones it has
+-- its highest seqno, and its number of weak tombstones
 pub all_highest : (n : ℕ) (es : List Entry) → highest_seqno es < n
     → AllByRecursion (λ (e : Entry). e.seqno < n) es
 unfolding highest_seqno
@@ -203,7 +203,7 @@ own_said n es high none =
     both [] low kinds = tt
     both (e ∷ es) low kinds = ((low.0, kinds.0), both es low.1 kinds.1)
 
--- such a table, of a list that its bytes store
+-- such a table, whose bytes store the list
 pub own_table : (n : ℕ) (t : OpenTable) (es : List Entry) → IsOpen t → t.global_seqno ≡ 0
     → StoresList t.bytes es → 0 < length es → highest_seqno es < n → count_by is_weak es ≡ 0
     → IsOwnTable n t
@@ -220,7 +220,7 @@ own_table n t es opened unlifted stored some high none = record {
   unlifted = unlifted;
 }
 
--- bytes that store a list are refused for want of memory alone
+-- for bytes that store a list, the only error is `OutOfMemory`
 pub stored_opens : (bytes : List ℕ) (es : List Entry) → StoresList bytes es
     → (e : Error) → (is_memory e ≡ false → fits_result es 0 ≡ Err e) → is_memory e ≡ true
 stored_opens bytes es stored e returned =

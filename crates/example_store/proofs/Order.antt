@@ -1,4 +1,4 @@
--- Whether what runs have together is in strict order, by one pass over all of it.
+-- Whether the sorted entries of runs are in strict order, by one pass over all of them.
 use Rattle.std.proofs.Common.{◌≡◌, refl, sym, ◌∙◌, ap, subst, ℕ, zero, suc, ◌+◌, ◌<◌, inl, inr}
 use Rattle.std.proofs.Common.{true, false, List, [], ◌∷◌, ◌++◌, get_or, length, take, arith}
 use Rattle.std.specs.Prelude.{Option, Some, None, Result, Ok, Err, IfErr, IsErrAnd, map}
@@ -14,7 +14,7 @@ use Rattle.lsm_tables.proofs.TableLaws.{apart, ascends_of, yields_front, may_fol
 use Rattle.lsm_tables.proofs.TableLaws.{nowhere}
 use Rattle.lsm_tables.proofs.TableLaws.{run_strict, zip_push}
 
--- a refusal that can be nothing but want of memory
+-- an error that can only be `OutOfMemory`
 pub only_memory : {X : Type 0} (r : Result X Error) (e : Error) → IsErrAnd r (λ y. y ≡ e)
     → (is_memory e ≡ false → ⊥) → IfErr r (λ y. y ≡ OutOfMemory)
 only_memory (Ok x) e is fine = tt
@@ -24,7 +24,7 @@ only_memory (Err y) e is fine =
       | inr other ↦ absurd (fine other)
     ]
 
--- ---- a stream whose entries are compared one by one
+-- ---- an iterator whose entries are compared one by one
 
 module _ {S : Type 0} (next : S → Option (Result Entry Error) → S → Type 0) where
   yielded_one : (rest : List Entry) (s t : S) (e : Entry) → YieldsList next nowhere rest s
@@ -65,7 +65,7 @@ module _ {S : Type 0} (next : S → Option (Result Entry Error) → S → Type 0
       (Some (Err e)) t (d is_memory refl) step fine in
       let no : Some (Err e) ≡ Some (Ok x) = h.0 in absurd cc
 
-  -- what is still dealt of a list is in order behind the last entry just where the list is
+  -- the entries that remain are in order after the last one if and only if the list is in order
   pub record ComesOn (es : List Entry) (last : Option Entry) (s : S) : Type 0 where
     pub rest : List Entry
     pub yields : YieldsList next nowhere rest s
@@ -113,7 +113,7 @@ module _ {S : Type 0} (next : S → Option (Result Entry Error) → S → Type 0
 
 -- ---- a scanner of each run
 
--- it deals whatever lists the tables of its run hold
+-- it yields the lists that the tables of its run hold
 abbrev pub ScansRun : RunScan → List OpenTable → Type 0
 ScansRun s tables =
     (ls : List (List Entry)) → HoldLists tables ls → HaveEntries ls
@@ -129,7 +129,7 @@ scan_more {X} {S} f Q xs i x made s so_far less is one =
     (zip_push Q made (map f (take i xs)) s (f (get_or xs i x)) so_far
     (subst (λ (y : X). Q s (f y)) is one))
 
--- they deal together what the runs have
+-- they yield together the entries of the runs
 pub scans_together : (scans : List RunScan) (runs : List (List OpenTable))
     (lists : List (List (List Entry))) → AllZip ScansRun scans runs → RunsHoldLists runs lists
     → AllByRecursion HaveEntries lists
@@ -161,7 +161,7 @@ scans_together scans runs lists scan hold some = record {
     yield_each (s ∷ scans) (ts ∷ runs) (ls ∷ lists) scan hold some =
         (scan.0 ls hold.0.1 some.0, yield_each scans runs lists scan.1 hold.1 some.1)
 
--- the lists of the run at a place
+-- the lists of the run at an index
 pub lists_at_place : {X : Type 0} (f : X → List OpenTable) (xs : List X)
     (lists : List (List (List Entry))) (i : ℕ) (x : X) → RunsHoldLists (map f xs) lists
     → AllByRecursion HaveEntries lists → i < length xs → x ≡ get_or xs i x

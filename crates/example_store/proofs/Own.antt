@@ -1,4 +1,4 @@
--- Tables and runs that have a store's own entries alone.
+-- Tables and runs that have only a store's own entries.
 use Rattle.std.proofs.Common.{◌≡◌, sym, ◌∙◌, ap, subst, ℕ, ◌+◌, ◌-◌, ◌^◌, ◌<◌, ◌≤◌, List}
 use Rattle.std.proofs.Common.{[], ◌∷◌, length, arith}
 use Rattle.std.specs.Prelude.{IfSome, MatchOption, None, Option, Some, map}
@@ -14,7 +14,7 @@ use Rattle.lsm_tables.proofs.TableLaws.{lift_zero, tables_there, zeroed_below}
 use Rattle.example_store.specs.Closed.{StoreLists, bytes_by_run}
 use Rattle.example_store.specs.Story.{IsOwn, IsOwnRun, IsOwnTable, option_list}
 
--- what is so of each is so of each once they are sorted
+-- a fact about each entry holds for each after sorting
 pub all_in_order : (P : Entry → Type 0) (es : List Entry) → AllByRecursion P es
     → AllByRecursion P (sort_entries es)
 all_in_order P [] h = tt
@@ -91,7 +91,7 @@ module _ (bound : ℕ) where
         own = all_append (IsOwn bound) (joined one.lists) (joined_in more.lists) one.own more.own;
       }
 
-  -- what they have together is the store's own
+  -- all their entries are the store's own
   pub own_union : (runs : List (List OpenTable)) → AllByRecursion (IsOwnRun bound) runs
       → (lists : List (List (List Entry))) → RunsHoldLists runs lists
       → AllByRecursion (IsOwn bound) (union_in lists)
@@ -108,7 +108,7 @@ module _ (bound : ℕ) where
   low_union runs own lists hold = all_more (IsOwn bound) (λ (e : Entry). e.seqno < bound)
       (λ e h. h.0) (union_in lists) (own_union runs own lists hold)
 
-  -- they may be compacted, where no key has one number twice
+  -- they may be compacted if no key has one seqno twice
   pub own_able : (runs : List (List OpenTable)) (own : AllByRecursion (IsOwnRun bound) runs)
       → bound ≤ 2 ^ 64 - 1 → IsStrict (union_in (own_run_lists runs own).lists)
       → AreCompactable runs
@@ -138,7 +138,7 @@ module _ (bound : ℕ) where
         (subst (AllByRecursion (IsOwn bound)) (sym has.whole) own) unlifted;
   }
 
-  -- what is kept of a store's own entries is its own
+  -- the entries kept of a store's own are its own
   pub own_kept : (rules : Rules) (lists : List (List (List Entry)))
       → AllByRecursion (IsOwn bound) (union_in lists)
       → AllByRecursion (IsOwn bound) (kept_in rules lists)
@@ -146,7 +146,7 @@ module _ (bound : ℕ) where
       (λ e h. let less = h.0 in (omega (arith, less, zeroed_below rules e), h.1))
       (union_in lists) own
 
--- ---- tables that were opened without a global number
+-- ---- tables that were opened without a global seqno
 
 opened_unlifted : (label : Label) (lists : List (List Entry)) (run : List OpenTable)
     → AreOpened label lists 0 run

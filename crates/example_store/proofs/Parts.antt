@@ -1,4 +1,4 @@
--- How a store goes on telling its story where a part of its runs is compacted.
+-- A store reads as the same history after a part of its runs is compacted.
 use Rattle.std.proofs.Common.{◌≡◌, refl, sym, ◌∙◌, ap, subst, ℕ, ◌+◌, ◌-◌, ◌^◌, ◌≤◌, inl, inr}
 use Rattle.std.proofs.Common.{Bool, false, List, [], ◌∷◌, ◌++◌, append_assoc, count_by, drop, take}
 use Rattle.std.proofs.Common.{length, arith}
@@ -23,7 +23,7 @@ use Rattle.example_store.proofs.Places.{take_drop}
 -- ---- lists of runs side by side
 
 module _ {A B : Type 0} (Q : A → B → Type 0) where
-  -- what pairs with two lists is cut where they meet
+  -- a list that pairs with two lists is cut where they meet
   pub record IsCut (xs us : List A) (zs : List B) : Type 0 where
     pub front : List B
     pub behind : List B
@@ -53,7 +53,7 @@ module _ {A B : Type 0} (Q : A → B → Type 0) where
   zip_beside (x ∷ xs) us (y ∷ ys) vs front behind =
       (front.0, zip_beside xs us ys vs front.1 behind)
 
--- a list is what stands in front of a part, the part, and what stands behind it
+-- a list is the items before a part, the part, and the items after it
 pub three_parts : (from to : ℕ) (runs : List (List OpenTable))
     → runs ≡ front_runs from to runs ++ (part_runs from to runs ++ drop to runs)
 three_parts from to runs =
@@ -61,7 +61,7 @@ three_parts from to runs =
     ∙ ap (λ (xs : List (List OpenTable)). xs ++ drop to runs) (take_drop from (take to runs))
     ∙ append_assoc (take from (take to runs)) (drop from (take to runs)) (drop to runs)
 
--- ---- parts of a list whose places may lie behind its end
+-- ---- parts of a list whose indexes may be after its end
 
 module _ {X : Type 0} where
   take_least : (n : ℕ) (xs : List X) → take (min n (length xs)) xs ≡ take n xs
@@ -179,7 +179,7 @@ module _ (flushed watermark : ℕ) (front part behind made : List (List OpenTabl
         reads_alike_of_part key bound reads
         ∙ ap (λ (ls : List (List (List Entry))). seen (union_in ls) key bound) (sym parts.whole)
 
--- the runs as they stand then
+-- the runs afterwards
 pub placed_part : (front made behind new others kept rest : List (List OpenTable))
     → new ≡ front ++ (made ++ behind) → front ≡ others → made ≡ kept → behind ≡ rest
     → new ≡ others ++ (kept ++ rest)
@@ -188,7 +188,7 @@ placed_part front made behind new others kept rest is front_is made_is behind_is
     ∙ ap (λ (xs : List (List OpenTable)). others ++ (xs ++ behind)) made_is
     ∙ ap (λ (xs : List (List OpenTable)). others ++ (kept ++ xs)) behind_is
 
--- a store whose part was compacted tells what it told
+-- a store reads as the same history after a part was compacted
 pub reports_part : (s t : Holding) (ws : List Entry) (from to watermark : ℕ)
     (made : List (List OpenTable)) → IsStore s → IsReported s ws
     → ((ps : List (List (List Entry))) → RunsHoldLists (part_runs from to s.runs) ps

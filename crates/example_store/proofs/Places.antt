@@ -1,4 +1,4 @@
--- A list in order, cut where a test fails first, and an entry that is put there.
+-- A list in order, cut where a test first fails, and an entry that is inserted there.
 use Rattle.std.proofs.Common.{◌≡◌, refl, sym, ◌∙◌, ap, subst, ℕ, zero, suc, ◌+◌, ◌<◌, ◌≤◌, Bool}
 use Rattle.std.proofs.Common.{true, false, cond, List, [], ◌∷◌, ◌++◌, length, take, drop, inl, inr}
 use Rattle.std.proofs.Common.{get_or, arith, rules}
@@ -17,7 +17,7 @@ use Rattle.lsm_tables.proofs.TableLaws.{number_total, pairs_of, parted, precedes
 use Rattle.lsm_tables.proofs.TableLaws.{read_other, read_past, same_itself, strict_from}
 use Rattle.example_store.specs.Recent.{IsPut}
 
--- ---- a place at which a test ends
+-- ---- the index at which a test first fails
 
 module _ {X : Type 0} (p : X → Bool) where
   pub place_is : (xs : List X) (n : ℕ) → n ≤ length xs
@@ -50,14 +50,14 @@ take_drop zero xs = refl
 take_drop (suc n) [] = refl
 take_drop {X} (suc n) (x ∷ xs) = ap (λ (ys : List X). x ∷ ys) (take_drop n xs)
 
--- ---- what comes before an entry
+-- ---- the entries before an entry
 
 pub before_cuts : (es : List Entry) (e : Entry) → IsStrict es
     → IsPartitionedBy (λ x. is_before x e) es
 before_cuts es e strict = parted (λ (x : Entry). is_before x e) es strict
     (λ a b h k. before_trans a b e h k)
 
--- entries that tie have one number
+-- entries that tie have the same seqno
 same_number : (x y : Entry) → version_cmp x y ≡ Equal → x.seqno ≡ y.seqno
 same_number x y h =
     elim (slice_cmp nat_cmp x.user_key y.user_key) as
@@ -71,7 +71,7 @@ same_number x y h =
     number_tied m n k = grind (arith, rules, k)
 
 module _ (e : Entry) where
-  -- of different numbers one comes before the other
+  -- of two different seqnos one comes before the other
   after_or : (x : Entry) → x.seqno < e.seqno → is_before x e ≡ false → is_before e x ≡ true
   after_or x less not_before =
       elim (version_cmp x e) as (λ o. version_cmp x e ≡ o → is_before e x ≡ true) [
@@ -83,7 +83,7 @@ module _ (e : Entry) where
   abbrev pub Older : List Entry → Type 0
   Older es = AllByRecursion (λ (x : Entry). x.seqno < e.seqno) es
 
-  -- all that stand behind one that does not come before it come after it
+  -- all entries after one that is not before it are after it
   behind_all : (es : List Entry) → AllBefore es → Older es
       → AllByRecursion (λ (x : Entry). is_before e x ≡ true)
       (drop (front_length (λ x. is_before x e) es) es)
@@ -120,7 +120,7 @@ module _ (e : Entry) where
     put_before front behind h.1 f.1 b,
   )
 
-  -- put behind what comes before it, it makes a strict list again
+  -- inserted after the entries before it, it makes a strict list again
   pub put_strict : (es : List Entry) → IsStrict es → Older es
       → let n = front_length (λ (x : Entry). is_before x e) es in
       IsStrict (take n es ++ e ∷ drop n es)
@@ -132,7 +132,7 @@ module _ (e : Entry) where
       (front_all (λ (x : Entry). is_before x e) es)
       (behind_all es (pairs_of es strict) older))
 
-  -- ---- reads of it
+  -- ---- reads of the new list
 
   module _ (key : List ℕ) (bound : ℕ) where
     pub hit_first : (es : List Entry) → is_hit key bound e ≡ true
@@ -188,7 +188,7 @@ module _ (e : Entry) where
           | inr miss ↦ passed front behind miss ∙ sym (hit_later (front ++ behind) miss)
         ]
 
-    -- put into a list in order
+    -- inserted into a list in order
     pub read_put_in : (es : List Entry) → Older es
         → let n = front_length (λ (x : Entry). is_before x e) es in
         point (take n es ++ e ∷ drop n es) key bound ≡ point (e ∷ es) key bound
@@ -198,7 +198,7 @@ module _ (e : Entry) where
         (subst Older (take_drop n es) older)
         ∙ ap (λ (xs : List Entry). point (e ∷ xs) key bound) (sym (take_drop n es))
 
--- ---- a new entry, put in
+-- ---- a new entry, inserted
 
 pub is_put : (e : Entry) (es new : List Entry) (n : ℕ) → Older e es
     → n ≡ front_length (λ (x : Entry). is_before x e) es → new ≡ take n es ++ e ∷ drop n es
@@ -219,7 +219,7 @@ put_in_order e es new n strict older n_is is =
     subst IsStrict (sym (is ∙ ap (λ (k : ℕ). take k es ++ e ∷ drop k es) n_is))
     (put_strict e es strict older)
 
--- ---- the first entry of a key, at the place behind those that come no later than its read
+-- ---- the first entry of a key, at the index after the entries not after the position of the read
 
 module _ (es : List Entry) (key : List ℕ) (bound n : ℕ)
     (at : n ≡ front_length (λ (e : Entry). not (is_before (read_place key bound) e)) es) where

@@ -1,4 +1,4 @@
--- What a range of a store shows is what its story says.
+-- A range of a store shows what its history says.
 use Rattle.std.proofs.Common.{◌≡◌, refl, sym, ◌∙◌, ap, subst, ℕ, ◌<◌, ◌≤◌, inl, inr, Bool, true}
 use Rattle.std.proofs.Common.{false, cond, List, [], ◌∷◌, ◌++◌, append-nil, filter, arith}
 use Rattle.std.specs.Prelude.{Option, Some, None, nat_lt, ◌&&◌, map, All, IfOk, Result, Ok, Err}
@@ -19,10 +19,10 @@ use Rattle.example_store.proofs.Own.{all_in_order}
 use Rattle.example_store.proofs.Places.{hit_first, hit_later}
 use Rattle.example_store.proofs.Stories.{low_lists, read_more, story_later}
 
--- ---- entries numbered below a bound
+-- ---- entries with a seqno below a bound
 
 module _ (below : ℕ) where
-  -- a read at the bound or above sees in them what a read at the bound sees in all
+  -- a read of them at the bound or above is a read of all at the bound
   read_below : (key : List ℕ) (bound : ℕ) → below ≤ bound → (es : List Entry)
       → point (numbered_below below es) key bound ≡ point es key below
   unfolding point
@@ -42,7 +42,7 @@ module _ (below : ℕ) where
             rw (high, miss) rest
       ]
 
-  -- leaving out by two tests may be exchanged
+  -- two filters may be exchanged
   exchanged : (p q : Entry → Bool) (es : List Entry)
       → filter p (filter q es) ≡ filter q (filter p es)
   exchanged p q [] = refl
@@ -65,7 +65,7 @@ module _ (below : ℕ) where
     below_within es = exchanged (λ (e : Entry). nat_lt e.seqno below)
         (λ (e : Entry). is_from low e.user_key && is_to high e.user_key) es
 
-    -- what is read alike is shown alike by ranges
+    -- lists that read alike show the same in ranges
     pub shown_alike : (oldest : ℕ) → oldest ≤ below → (lists : List (List (List Entry)))
         (ws : List Entry)
         → ((key : List ℕ) (bound : ℕ) → oldest ≤ bound
@@ -83,7 +83,7 @@ module _ (below : ℕ) where
         ∙ sym (ap shown (read_below key bound le ys)))
         ∙ sym (ap (λ (es : List Entry). all_shown (newest es)) (below_within ys))
 
--- ---- a story, sorted
+-- ---- a history, sorted
 
 pub story_below : (n : ℕ) (ws : List Entry) → IsStory n ws
     → AllByRecursion (λ (e : Entry). e.seqno < n) ws
@@ -97,7 +97,7 @@ module _ (key : List ℕ) (bound : ℕ) where
   unfolding point
   nothing = refl
 
-  -- reads of it sorted are reads of it
+  -- sorting it does not change reads
   pub sorted_story : (n : ℕ) (ws : List Entry) → IsStory n ws
       → point (sort_entries ws) key bound ≡ point ws key bound
   sorted_story n [] h = refl
@@ -132,7 +132,7 @@ range_results s ws low high below sound strict returned kept =
     ∙ returned.same key bound reads
     ∙ sym (ap shown (sorted_story key bound s.next ws returned.story)))
 
--- a stream that deals a list of which this holds
+-- an iterator that yields a list for which a fact holds
 pub yielded_result : {S : Type 0} (front back : S → Option (Result Entry Error) → S → Type 0)
     (Q : List Entry → Type 0) (r : Result S Error) (es : List Entry)
     → IfOk r (YieldsList front back es) → Q es
@@ -140,14 +140,14 @@ pub yielded_result : {S : Type 0} (front back : S → Option (Result Entry Error
 yielded_result front back Q (Ok s) es yields holds = (es, yields, holds)
 yielded_result front back Q (Err e) es yields holds = tt
 
--- so of the same list, written otherwise
+-- the same for an equal list
 pub yielded_as : {S : Type 0} (front back : S → Option (Result Entry Error) → S → Type 0)
     (r : Result S Error) (f : List Entry → List Entry) (xs ys : List Entry) → xs ≡ ys
     → IfOk r (YieldsList front back (f xs)) → IfOk r (YieldsList front back (f ys))
 yielded_as front back r f xs ys same = subst (λ (es : List Entry).
     IfOk r (YieldsList front back (f es))) same
 
--- one source, of a list in order
+-- one source, which yields a list in order
 pub one_source : {S : Type 0} (front back : S → Option (Result Entry Error) → S → Type 0)
     (low high : Bound (List ℕ)) (source : Result S Error) (sources : List S) (es : List Entry)
     → IsOkAnd source (λ s. sources ≡ s ∷ []) → IsStrict es
@@ -158,7 +158,7 @@ one_source {S} front back low high (Ok s) sources es is strict yields =
     (record { ascend = (ascends_of es (as_pairs es strict), tt); yield_each = (yields, tt) })
 one_source front back low high (Err e) sources es is strict yields = absurd is
 
--- so of a source, and of the one in a list
+-- a fact about a source holds for the one in a list
 pub one_of : {S : Type 0} (P : S → Type 0) (source : Result S Error) (sources : List S)
     → IsOkAnd source (λ s. sources ≡ s ∷ []) → IfOk source P → All P sources
 one_of {S} P (Ok s) sources is holds =

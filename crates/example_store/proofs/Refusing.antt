@@ -1,4 +1,4 @@
--- What calls refuse, told by those that pass it on.
+-- Errors that calls pass on.
 use Rattle.std.proofs.Common.{◌≡◌, refl, sym, ◌∙◌, ap, subst, ℕ, ◌+◌, ◌-◌, ◌^◌}
 use Rattle.std.proofs.Common.{false, List, [], arith, ltb, le-ltb}
 use Rattle.std.specs.Prelude.{Option, Some, None, Result, Ok, Err, IfErr, IfOk, IfSome}
@@ -9,7 +9,7 @@ use Rattle.lsm_tables.specs.Words.{Label, OpenTable, chain_fault, highest_seqno,
 use Rattle.lsm_tables.specs.Words.{number_fault, tables_fault}
 use Rattle.lsm_tables.proofs.TableLaws.{of_cut_unlifted, small_numbers}
 
--- a refusal that is passed on, memory aside
+-- an error that is passed on, except for `OutOfMemory`
 pub passed_on : {X : Type 0} (r : Result X Error) (e : Error) (returned : Option Error)
     → IsErrAnd r (λ y. y ≡ e) → (is_memory e ≡ false → returned ≡ Some e)
     → IfErr r (λ y. is_memory y ≡ false → returned ≡ Some y)
@@ -27,7 +27,7 @@ or_none : (a : Option Error) → option_or a None ≡ a
 or_none None = refl
 or_none (Some e) = refl
 
--- with no global number, what a run refuses is what writing its tables refuses
+-- without a global seqno, a run fails with the error of writing its tables
 pub run_fault : (ids : Option ℕ) (target moment : ℕ) (es : List Entry) → moment ≡ 0
     → IsWritable es → chain_fault ids target moment es 0 ≡ tables_fault ids target 0 es
 run_fault ids target moment es now p =
@@ -35,7 +35,7 @@ run_fault ids target moment es now p =
     ∙ or_none (tables_fault ids target moment es)
     ∙ ap (λ (n : ℕ). tables_fault ids target n es) now
 
--- a run that was written of a list
+-- a run that was written from a list
 pub run_list : (label : Label) (target : ℕ) (es : List Entry) (r : Option (List OpenTable))
     → MatchOption r (es ≡ []) (λ run. IsRunOfList es 0 run)
     → IfSome r (λ run. AreCutOf label target es 0 run)
@@ -65,25 +65,25 @@ shared_own {X} f P o r same returned = own o (subst (λ (p : Option (List OpenTa
     own None h = h
     own (Some x) h = h
 
--- what is so of what an answer is seen as, where it is this
+-- a fact about the view of a result, if the view is this
 pub ok_is : {S X E : Type 0} (f : S → X) (P : X → Type 0) (r : Result S E) (x : X)
     → IfOk r (λ s. f s ≡ x) → P x → IfOk r (λ s. P (f s))
 ok_is f P (Ok s) x same holds = subst P (sym same) holds
 ok_is f P (Err e) x same holds = tt
 
--- so of what it is
+-- the same about the result
 pub ok_more : {S E : Type 0} {P Q : S → Type 0} (r : Result S E) → IfOk r P
     → ((s : S) → P s → Q s) → IfOk r Q
 ok_more (Ok s) h more = more s h
 ok_more (Err e) h more = tt
 
--- a refusal that is passed on is want of memory where it was
+-- an error that is passed on is `OutOfMemory` if it was
 pub wanted : {X E : Type 0} (m : E) (r : Result X E) (e : E) → IsErrAnd r (λ y. y ≡ e) → e ≡ m
     → IfErr r (λ y. y ≡ m)
 wanted m (Ok x) e is memory = tt
 wanted m (Err y) e is memory = is ∙ memory
 
--- an answer refuses nothing
+-- a value is no error
 pub refuses_none : {X E : Type 0} (P : E → Type 0) (r : Result X E) → IsOk r → IfErr r P
 refuses_none P (Ok x) fine = tt
 refuses_none P (Err e) fine = absurd cc

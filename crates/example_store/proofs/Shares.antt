@@ -24,7 +24,7 @@ pub shared_all : {X Y : Type 0} (f : X → Y) (shared : List X) (rest all : List
 shared_all {X} {Y} f shared rest all none so_far = sym (append-nil (map f shared))
     ∙ ap (λ (ys : List Y). map f shared ++ ys) (sym none) ∙ so_far
 
--- ---- what is made of each element, one more
+-- ---- one more item, made of the next element
 
 module _ {X : Type 0} (xs : List X) (i : ℕ) (x : X) (less : i < length xs)
     (is : x ≡ get_or xs i x) where

@@ -1,4 +1,4 @@
--- How a store goes on telling its story.
+-- A store reads as the same history after each call.
 use Rattle.std.proofs.Common.{◌≡◌, refl, sym, ◌∙◌, ap, subst, ℕ, ◌+◌, ◌-◌, ◌^◌, ◌<◌, ◌≤◌, Bool}
 use Rattle.std.proofs.Common.{false, List, [], ◌∷◌, ◌++◌, count_by, inl, inr, arith}
 use Rattle.std.specs.Prelude.{Option, Some, None, map}
@@ -19,7 +19,7 @@ use Rattle.example_store.specs.Story.{IsStory, IsReported, holding}
 use Rattle.example_store.proofs.Own.{later_runs, low_union}
 use Rattle.example_store.proofs.Places.{all_put, hit_first, hit_later}
 
--- ---- reads of lists one behind another
+-- ---- reads of lists one after another
 
 module _ (key : List ℕ) (bound : ℕ) where
   nothing : point [] key bound ≡ None
@@ -40,7 +40,7 @@ module _ (key : List ℕ) (bound : ℕ) where
             (hit_later x key bound xs miss))
       ]
 
-  -- one entry in front of what is read alike
+  -- one entry before lists that read alike
   pub seen_more : (e : Entry) (xs ys : List Entry) → seen xs key bound ≡ seen ys key bound
       → seen (e ∷ xs) key bound ≡ seen (e ∷ ys) key bound
   seen_more e xs ys same =
@@ -50,7 +50,7 @@ module _ (key : List ℕ) (bound : ℕ) where
             ∙ sym (ap shown (hit_later e key bound ys miss))
       ]
 
-  -- an entry that was put into the first of two lists
+  -- an entry that was inserted into the first of two lists
   pub seen_put : (e : Entry) (old new rest ws : List Entry) → IsPut e old new
       → seen (old ++ rest) key bound ≡ seen ws key bound
       → seen (new ++ rest) key bound ≡ seen (e ∷ ws) key bound
@@ -60,7 +60,7 @@ module _ (key : List ℕ) (bound : ℕ) where
       ∙ sym (point_behind (e ∷ old) rest))
       ∙ seen_more e (old ++ rest) ws same
 
-  -- where what is found in front is newer than all behind, the sorted entries are read alike
+  -- if the entry found first is newer than all later ones, the sorted entries read alike
   pub found_newer : (from to : ℕ) (es all : List Entry) → AreNumbered from to es
       → AllByRecursion (λ (e : Entry). e.seqno < from) all → (x : Option Entry)
       → point es key bound ≡ x → leading_of x (point all key bound)
@@ -89,7 +89,7 @@ module _ (key : List ℕ) (bound : ℕ) where
 abbrev rest_of : List (List (List Entry)) → List Entry
 rest_of lists = all_entries (map (λ (run : List (List Entry)). ok_results (joined run)) lists)
 
--- what all have that are sorted into others that have it
+-- a fact about all entries of two lists holds after sorting one into the other
 pub all_sorted : (P : Entry → Type 0) (es all : List Entry) → AllByRecursion P es
     → AllByRecursion P (sort_entries all) → AllByRecursion P (sort_entries (es ++ all))
 all_sorted P [] all h k = k
@@ -160,7 +160,7 @@ numbered_later from n m es le h = all_more
     (λ (e : Entry). (from ≤ e.seqno) × IsOwn m e)
     (λ e both. let less = both.1.0 in (both.0, (omega (arith, le, less), both.1.1))) es h
 
--- entries that are a store's own, and numbered below a number
+-- a store's own entries, with seqnos below a bound
 pub all_own : (from n : ℕ) (es : List Entry) → AreNumbered from n es → AllByRecursion (IsOwn n) es
 all_own from n es h = all_more (λ (e : Entry). (from ≤ e.seqno) × IsOwn n e) (IsOwn n)
     (λ e both. both.1) es h
@@ -170,7 +170,7 @@ pub all_older : (from n : ℕ) (es : List Entry) → AreNumbered from n es
 all_older from n es h = all_more (IsOwn n) (λ (e : Entry). e.seqno < n) (λ e own. own.0) es
     (all_own from n es h)
 
--- an entry with the next number
+-- an entry with the next seqno
 pub reports_more : (s t : Holding) (e : Entry) (ws : List Entry) → IsReported s ws
     → IsPut e s.recent t.recent → e.seqno ≡ s.next → t.next ≡ s.next + 1 → t.runs ≡ s.runs
     → t.oldest ≡ s.oldest → IsReported t (e ∷ ws)
@@ -207,7 +207,7 @@ writable_recent s sound strict = record {
       (all_older s.flushed s.next s.recent sound.recent);
 }
 
--- a run of what was in no table, in front of the others
+-- a run of the memtable's entries, before the others
 pub able_flushed : (s : Holding) (run : List OpenTable) → IsStore s → IsStrict s.recent
     → HasList s.recent run → IsOwnRun s.next run → HoldBelow s.next (run ∷ s.runs)
 able_flushed s run sound strict has own =
@@ -229,7 +229,7 @@ able_flushed s run sound strict has own =
       };
     }
 
--- the lists of the runs are numbered below what is in no table
+-- the seqnos in the runs' lists are below those in the memtable
 pub low_lists : (s : Holding) (ws : List Entry) → IsStore s → (returned : IsReported s ws)
     → AllByRecursion (λ (e : Entry). e.seqno < s.flushed) (union_in returned.lists)
 low_lists s ws sound returned = low_union s.flushed s.runs sound.runs.own returned.lists returned.hold
@@ -249,7 +249,7 @@ reports_flushed s t run ws sound strict has returned none runs next oldest = rec
       ∙ returned.same key bound (omega (arith, oldest, reads));
 }
 
--- nothing was written to a table
+-- no table was written
 pub reports_still : (s t : Holding) (ws : List Entry) → IsReported s ws → t.recent ≡ s.recent
     → t.runs ≡ s.runs → t.next ≡ s.next → t.oldest ≡ s.oldest → IsReported t ws
 reports_still s t ws returned recent runs next oldest = record {
@@ -297,7 +297,7 @@ reports_new recent runs ids target limit none empty = record {
       ap (λ (xs : List Entry). seen (xs ++ union_in []) key bound) none;
 }
 
--- ---- what stays sound
+-- ---- the invariant is kept
 
 module _ (recent new : List Entry) (runs : List (List OpenTable)) (ids : Option ℕ)
     (target next flushed oldest limit : ℕ) where

@@ -1,15 +1,16 @@
--- The words of the clauses, those of the crates below among them, from one place.
+-- The definitions that clauses cite, with those of the crates below, from one place.
 pub use Rattle.std.specs.Arc.{arc_value}
 pub use Rattle.std.specs.Iterator.{IsFinite}
 pub use Rattle.std.specs.List.{AllByRecursion}
-pub use Rattle.std.specs.Option.{option_map}
+pub use Rattle.std.specs.Option.{option_copied, option_map}
 pub use Rattle.std.specs.Result.{IsOkAnd}
 pub use Rattle.lsm_tables.specs.Words.{AreCompactable, AreCutOf, AreInOrder, CanYield, YieldTogether}
 pub use Rattle.lsm_tables.specs.Words.{YieldsList, Entry, Gives, HasList, HaveAll, HaveEntries}
 pub use Rattle.lsm_tables.specs.Words.{HoldLists, HoldUnion, IsInOrder, IsLeastSize, IsStrict}
 pub use Rattle.lsm_tables.specs.Words.{IsWritable, OpenTable, Refuses, RunsHoldLists, SameTables}
-pub use Rattle.lsm_tables.specs.Words.{StoresList, Tombstone, Value, all_shown, entry, front_length}
-pub use Rattle.lsm_tables.specs.Words.{ids_behind, is_before, is_from, is_memory, is_to, is_weak}
+pub use Rattle.lsm_tables.specs.Words.{StoresList, Tombstone, Value, all_shown, entry, entry_of_ref}
+pub use Rattle.lsm_tables.specs.Words.{front_length, ids_behind, is_before, is_from, is_memory}
+pub use Rattle.lsm_tables.specs.Words.{is_to, is_weak}
 pub use Rattle.lsm_tables.specs.Words.{is_weak_kind, joined, kept_in, newest, nowhere}
 pub use Rattle.lsm_tables.specs.Words.{numbered_below, ok_results, range_of, read_place}
 pub use Rattle.lsm_tables.specs.Words.{recovered_result, rules_by, run_label, shown, single}

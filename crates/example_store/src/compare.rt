@@ -3,7 +3,7 @@ ghost use Rattle.std.specs.Prelude.{IfOk};
 ghost use Rattle.example_store.specs.Words as spec;
 
 use crate::store::Store;
-use lsm_tables::block::{Direction, Error, InternalValue, IterItem, SeqNo, Slice};
+use lsm_tables::block::{Direction, Error, InternalValue, IterItem, SeqNo};
 use lsm_tables::merge::{Below, NewestOf};
 use std::alloc::{Allocator, Global};
 use std::collections::BTreeMap;
@@ -48,20 +48,20 @@ pub struct Compared {
 }
 
 // Whether a value is this number.
-fn is_value(found: &Option<Slice>, want: Option<&u32>) -> bool {
+fn is_value(found: Option<&[u8]>, want: Option<&u32>) -> bool {
     let Some(want) = want else {
         return found.is_none();
     };
     let Some(found) = found else {
         return false;
     };
-    found.as_slice() == want.to_be_bytes().as_slice()
+    found == want.to_be_bytes().as_slice()
 }
 
 // Whether a key has the expected value.
 fn is_got(store: &Store, plain: &Plain, key: u32, snapshot: SeqNo) -> Result<bool, Error> {
     let found = store.get(&key.to_be_bytes(), snapshot)?;
-    Ok(is_value(&found, plain.get(&key)))
+    Ok(is_value(found, plain.get(&key)))
 }
 
 // Reads each key.

@@ -1,10 +1,10 @@
 //! The entries that are in no table yet.
-ghost use Rattle.std.specs.Prelude.{◌≡◌, ◌<◌, ◌≤◌, ◌&&◌, [], length, not, IfErr, IfOk, List, Ok};
-ghost use Rattle.std.specs.Prelude.{None, OnErr, OnOk, Option};
+ghost use Rattle.std.specs.Prelude.{◌≡◌, ◌<◌, ◌≤◌, ◌&&◌, [], length, not, IfErr, IfOk, List};
+ghost use Rattle.std.specs.Prelude.{None, OnErr, OnOk};
 ghost use Rattle.example_store.specs.Words as spec;
 ghost use Rattle.lsm_tables.specs.Words.{OutOfMemory};
 
-use lsm_tables::block::{Error, InternalValue, IterItem, SeqNo, UserKey};
+use lsm_tables::block::{EntryRef, Error, InternalValue, IterItem, SeqNo, UserKey};
 use std::alloc::{Allocator, Global};
 use std::marker::Model;
 use std::ops::Bound;
@@ -70,23 +70,18 @@ impl<A: Allocator + Clone> Memtable<A> {
         Ok(())
     }
 
-    /// Returns the newest version of a key visible at `seqno`.
-    ///
-    /// # Errors
-    ///
-    /// [`Error::OutOfMemory`] only.
-    pub fn get(&self, key: &[u8], seqno: SeqNo) -> Result<Option<InternalValue<A>>, Error>
-        ensures { spec.Gives (λ (x : Option spec.Entry). x) result
-            (Ok (spec.point self.now key.now seqno)) }
+    /// Returns the newest version of a key visible at `seqno`, borrowed.
+    pub fn get(&self, key: &[u8], seqno: SeqNo) -> Option<EntryRef<'_>>
+        ensures { spec.option_map spec.entry_of_ref result ≡ spec.point self.now key.now seqno }
     {
         let place = count_up_to(&self.items, key, seqno);
         let Some(item) = self.items.get(place) else {
-            return Ok(None);
+            return None;
         };
         if !item.key.user_key.equals(key) {
-            return Ok(None);
+            return None;
         }
-        Ok(Some(item.clone()?))
+        Some(item.as_entry_ref())
     }
 
     /// Returns the entries, shared: no bytes are copied.

@@ -14,8 +14,8 @@ mod range;
 
 use crate::memtable::Memtable;
 pub use close::Closed;
-use lsm_tables::block::{Error, InternalValue, SeqNo, Slice, ValueType};
-use lsm_tables::run::{Run, get_runs_by_age, write_run};
+use lsm_tables::block::{EntryRef, Error, InternalValue, SeqNo, Slice, ValueType};
+use lsm_tables::run::{Run, get_runs_ref_by_age, write_run};
 use lsm_tables::table::{Table, TableIds, Timestamp};
 pub use open::{FileFault, OpenError};
 pub use range::Range;
@@ -318,6 +318,8 @@ impl<A: Allocator + Clone> Store<A> {
 
     /// Returns the value of a key at a snapshot; `None` if it was deleted last, or never written.
     ///
+    /// The value is borrowed from the memtable or from its table.
+    ///
     /// Below [`Store::oldest_snapshot`] it is the value of the newest version below the snapshot
     /// that is still stored. If a later version was compacted away, this may be `None`, or an older
     /// value.
@@ -325,15 +327,16 @@ impl<A: Allocator + Clone> Store<A> {
     /// # Errors
     ///
     /// [`Error::OutOfMemory`] only.
-    pub fn get(&self, key: &[u8], snapshot: SeqNo) -> Result<Option<Slice<A>>, Error>
+    pub fn get(&self, key: &[u8], snapshot: SeqNo) -> Result<Option<&[u8]>, Error>
         // At a snapshot that is kept, it is the value in the history of writes.
         ensures returned { (ws : List spec.Entry) → spec.IsReported self.now ws →
-            self.now.oldest ≤ snapshot →
-            IfOk result (λ value. value ≡ spec.value_in ws key.now snapshot) }
+            self.now.oldest ≤ snapshot → IfOk result (λ value.
+            spec.option_copied value ≡ spec.value_in ws key.now snapshot) }
         // At any snapshot, it is the value in the entries of the memtable and of the tables' lists.
         ensures read { (lists : List (List (List spec.Entry))) →
-            spec.RunsHoldLists self.now.runs lists → IfOk result (λ value.
-            value ≡ spec.value_in (self.now.recent ++ spec.union_in lists) key.now snapshot) }
+            spec.RunsHoldLists self.now.runs lists →
+            IfOk result (λ value. spec.option_copied value
+            ≡ spec.value_in (self.now.recent ++ spec.union_in lists) key.now snapshot) }
         ensures memory { IfErr result (λ e. e ≡ OutOfMemory) }
     {
         let found = find_in(&self.memtable, &self.runs, key, snapshot)?;
@@ -425,33 +428,35 @@ fn share_run<T: Drop, A: Allocator + Clone>(
     }
 }
 
-// The newest version of a key visible at `seqno`, in a memtable and then in runs.
-fn find_in<A: Allocator + Clone>(
-    memtable: &Memtable<A>,
-    runs: &[Arc<Run<Table<A>, A>, A>],
+// The newest version of a key visible at `seqno`, in a memtable and then in runs, borrowed from
+// there.
+fn find_in<'a, A: Allocator + Clone>(
+    memtable: &'a Memtable<A>,
+    runs: &'a [Arc<Run<Table<A>, A>, A>],
     key: &[u8],
     seqno: SeqNo,
-) -> Result<Option<InternalValue<A>>, Error>
+) -> Result<Option<EntryRef<'a>>, Error>
     ensures { (lists : List (List (List spec.Entry))) →
         spec.RunsHoldLists (map spec.arc_value runs.now) lists →
-        spec.Gives (λ (x : Option spec.Entry). x) result
+        spec.Gives (spec.option_map spec.entry_of_ref) result
         (Ok (spec.point (memtable.now ++ spec.union_in lists) key.now seqno)) }
 {
-    if let Some(item) = memtable.get(key, seqno)? {
-        return Ok(Some(item));
+    if let Some(entry) = memtable.get(key, seqno) {
+        return Ok(Some(entry));
     }
-    get_runs_by_age(runs, key, seqno)
+    get_runs_ref_by_age(runs, key, seqno)
 }
 
 // The value of an entry that is no tombstone.
-fn value_of<A: Allocator>(found: Option<InternalValue<A>>) -> Option<Slice<A>>
-    ensures { result ≡ spec.option_map (λ v. v.1) (spec.shown found) }
+fn value_of<'a>(found: Option<EntryRef<'a>>) -> Option<&'a [u8]>
+    ensures { spec.option_copied result
+        ≡ spec.option_map (λ v. v.1) (spec.shown (spec.option_map spec.entry_of_ref found.entry)) }
 {
-    let Some(item) = found else {
+    let Some(entry) = found else {
         return None;
     };
-    if item.is_tombstone() {
+    if entry.is_tombstone() {
         return None;
     }
-    Some(item.value)
+    Some(entry.value)
 }

@@ -103,12 +103,12 @@ words_joined line words h = sym (join_with_byte-slice_split 32 line) ∙ ap (joi
 pub some_word : (line : List ℕ) → words_of line ≡ [] → ⊥
 some_word line h = omega (arith, length-slice_split is_space line, ap length h)
 
--- the first of some words, and those behind it
+-- the first of some words, and those after it
 pub parts : (w x : List ℕ) (ws rest others : List (List ℕ)) → ws ≡ w ∷ rest → ws ≡ x ∷ others
     → (w ≡ x) × (rest ≡ others)
 parts w x ws rest others h k = let e : w ∷ rest ≡ x ∷ others = sym h ∙ k in (cc, cc)
 
--- a line of several words whose first is none of these names asks for nothing
+-- a line of several words whose first is none of these names is no command
 pub no_command : (line name rest : List ℕ) → words_of line ≡ name ∷ words_of rest
     → (name ≡ codes "entry" → ⊥) → (name ≡ codes "get" → ⊥) → (name ≡ codes "range" → ⊥)
     → (name ≡ codes "compact" → ⊥) → (command : Command) → AskFor (words_of line) command → ⊥
@@ -126,7 +126,7 @@ no_command line name rest words no_entry no_get no_range no_compact
 no_command line name rest words no_entry no_get no_range no_compact Pack h =
     some_word rest (parts name (codes "pack") (words_of line) (words_of rest) [] words h).1
 
--- words behind a watermark that are none of these are no settings
+-- words after a watermark that are none of these are no settings
 pub no_settings : (rest : List ℕ) → (rest ≡ codes "evict" → ⊥) → (rest ≡ codes "zero" → ⊥)
     → (rest ≡ codes "evict zero" → ⊥) → (evict zero : Bool)
     → words_of rest ≡ setting_words evict zero → ⊥

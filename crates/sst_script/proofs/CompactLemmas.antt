@@ -1,4 +1,4 @@
--- What compacting the runs comes to, and that they may be compacted.
+-- The result of compacting the runs, and that they may be compacted.
 use Rattle.std.proofs.Common.{◌≡◌, refl, sym, ◌∙◌, ap, subst, inl, inr, ◌⊎◌, ℕ, ◌<◌, Bool, true}
 use Rattle.std.proofs.Common.{false, List, [], ◌∷◌, length, arith}
 use Rattle.std.specs.Prelude.{◌≢◌, Option, Some, None, Result, Ok, Err}
@@ -38,7 +38,7 @@ use Rattle.sst_script.proofs.UnionLemmas.{union_more}
 abbrev pub EachHasEntries : List Run → Type 0
 EachHasEntries rs = AllByRecursion HaveEntries (lists_of rs)
 
--- runs of lists that have entries, in which together no key has one number twice
+-- runs of lists that have entries, where no key has one seqno twice in all of them
 pub able_from : (rs : List Run) (ts : List (List OpenTable)) → run_tables rs ≡ ts
     → EachHasEntries rs → IsWritable (union rs) → AreCompactable ts
 able_from rs ts same some writable = record {
@@ -62,7 +62,7 @@ module _ (rs : List Run) (ts : List (List OpenTable)) (same : run_tables rs ≡ 
   pub able_writable : IsWritable (union rs)
   able_writable = subst IsWritable (ap union_in lists_are ∙ union_same rs) able.writable
 
--- some tables that hold lists
+-- tables that hold lists are not none
 some_tables : (ts : List OpenTable) (ls : List (List Entry)) → HoldLists ts ls → 0 < length ls
     → ts ≢ []
 some_tables [] [] h some = absurd (omega (arith, some))
@@ -105,7 +105,7 @@ pub able_runs : (ts : List (List OpenTable)) → AreCompactable ts
     → (rs : List Run) × (run_tables rs ≡ ts)
 able_runs ts able = runs_of ts able.lists able.hold (each_some ts able.lists able.hold able.some)
 
--- a run that was written of a list of which they have nothing
+-- one more run, written of a list that repeats none of their entries
 pub able_more : (rs : List Run) (ts new : List (List OpenTable)) (label : Label) (es : List Entry)
     (tables : List OpenTable) → run_tables rs ≡ ts → AreCompactable ts → new ≡ tables ∷ ts
     → IsWritable es → repeats rs es ≡ false
@@ -116,14 +116,14 @@ able_more rs ts new label es tables same able new_is writable fresh is cut =
     (run_entries label target_size es 0 tables is cut, able_entries rs ts same able)
     (union_more run rs writable (able_writable rs ts same able) fresh)
 
--- ---- what compacting them comes to
+-- ---- the result of compacting them
 
--- what holds at one moment of some entries
+-- a fact about a timestamp and some entries
 pub moved : (P : ℕ → List Entry → Type 0) (m n : ℕ) (es xs : List Entry) → m ≡ n → es ≡ xs → P m es
     → P n xs
 moved P m n es xs moment same h = subst (P n) same (subst (λ (k : ℕ). P k es) moment h)
 
--- what is kept of their tables' lists
+-- the entries kept of their tables' lists
 pub kept_is : (watermark : ℕ) (evict zero : Bool) (rs : List Run)
     → kept_in (rules_by watermark evict zero) (lists_of rs) ≡ kept_by watermark evict zero rs
 kept_is watermark evict zero rs = ap (λ (es : List Entry). kept (rules_by watermark evict zero)
@@ -131,7 +131,7 @@ kept_is watermark evict zero rs = ap (λ (es : List Entry). kept (rules_by water
 
 module _ (es left : List Entry) (next : Option ℕ) (rs : List Run) (ts : List (List OpenTable))
     (same : run_tables rs ≡ ts) where
-  -- it is refused, and the runs are what they were
+  -- it fails, and the runs are unchanged
   abbrev MayFail : Failure → Type 0
   MayFail f = (f ≡ Refused OutOfMemory) ⊎ (kept_fault (store es rs next) left ≡ Some f)
 
@@ -155,7 +155,7 @@ module _ (es left : List Entry) (next : Option ℕ) (rs : List Run) (ts : List (
       → (is_memory e ≡ false → tables_fault next target_size 0 left ≡ Some e) → MayFail (Refused e)
   compaction_fails e fault = fails_by e _ refl fault
 
-  -- it was written
+  -- the kept entries were written
   pub compacted : (new : List (List OpenTable)) (following : Option ℕ) (tables : List OpenTable)
       (count : ℕ) → new ≡ tables ∷ [] → count ≡ length tables
       → tables_fault next target_size 0 left ≡ None

@@ -1,4 +1,4 @@
--- Whether a sorted list has an entry of a key and number.
+-- Whether a sorted list has an entry of a key and a seqno.
 use Rattle.std.proofs.Common.{◌≡◌, refl, sym, ◌∙◌, ap, ℕ, ◌+◌, ◌<◌, ◌≤◌, Bool, true, false, cond}
 use Rattle.std.proofs.Common.{List, [], ◌∷◌, arith, ltb-true, ltb-false}
 use Rattle.std.specs.Prelude.{Option, Some, None, ◌&&◌, ◌||◌, ◌==◌, nat_lt, find}
@@ -19,7 +19,7 @@ use Rattle.sst_entries.proofs.OrderLemmas.{gt_first}
 use Rattle.lsm_sorted.specs.merge.Union.{AtMost, Ascends}
 use Rattle.sst_script.specs.Runs.{has_entry}
 
--- whether an entry that may be there has a number
+-- whether an optional entry has a seqno
 abbrev pub has_number : ℕ → Option Entry → Bool
 has_number n None = false
 has_number n (Some e) = e.seqno == n
@@ -30,7 +30,7 @@ not_above m n true c p q h = omega (arith, ltb-true _ _ p)
 not_above m n false true p q h = omega (arith, eqb-true _ _ q)
 not_above m n false false p q h = absurd cc
 
--- of two entries of a key the earlier has no smaller number
+-- of two entries of a key the earlier has no smaller seqno
 number_falls : (a b : Entry) → AtMost a b → b.user_key ≡ a.user_key → b.seqno ≤ a.seqno
 number_falls a b most same =
     let tie : slice_cmp nat_cmp a.user_key b.user_key ≡ Equal =
@@ -50,7 +50,7 @@ other_number key n e true same below = let less : e.seqno < n = below refl in
     grind (less, arith, nat_tests)
 other_number key n e false same below = refl
 
--- behind an entry of a key with a smaller number, no entry of that key has the number
+-- after an entry of a key with a smaller seqno, no entry of that key has the seqno
 none_behind : (key : List ℕ) (n : ℕ) (x : Entry) (es : List Entry) → x.user_key ≡ key → x.seqno < n
     → AllByRecursion (AtMost x) es → has_entry es key n ≡ false
 none_behind key n x [] is low h = refl
@@ -78,7 +78,7 @@ found_by key n e es true false true p q r none rest =
     absurd (omega (arith, ltb-false _ _ q, eqb-true _ _ r))
 found_by key n e es true false false p q r none rest = rest
 
--- the entry of a key and number is the first of the key that is numbered below the next number
+-- the entry of a key and seqno is the newest version of the key visible at the next seqno
 pub has_entry_found : (es : List Entry) (key : List ℕ) (n : ℕ) → Ascends es
     → has_entry es key n ≡ has_number n (point es key (n + 1))
 unfolding point

@@ -1,4 +1,4 @@
--- The last place of a list, and what is last of it.
+-- The last index of a list, and its last item.
 use Rattle.std.proofs.Common.{◌≡◌, refl, ◌∙◌, ap, suc, ◌-◌, List, [], ◌∷◌, length, arith}
 use Rattle.std.specs.Prelude.{Option, Some, None, slice_get}
 use Rattle.sst_entries.specs.Entry.{Entry}
@@ -13,7 +13,7 @@ last_is before (e ∷ f ∷ es) x h =
     let n : length (e ∷ f ∷ es) - 1 ≡ suc (length (f ∷ es) - 1) = omega arith in
     last_is (Some e) (f ∷ es) x (h ∙ ap (slice_get (e ∷ f ∷ es)) n)
 
--- without a last place there is nothing
+-- a list without a last item is empty
 no_place : (es : List Entry) → None ≡ slice_get es (length es - 1) → es ≡ []
 no_place [] h = refl
 no_place (e ∷ []) h = absurd cc

@@ -1,5 +1,5 @@
 pub mod CommandLemmas
-pub mod PrintLemmas
+pub mod LineLemmas
 pub mod ShownLemmas
 pub mod CompactLemmas
 pub mod YieldedLemmas

@@ -1,4 +1,4 @@
--- What packing the runs comes to.
+-- The result of packing the runs.
 use Rattle.std.proofs.Common.{◌≡◌, refl, sym, ◌∙◌, ap, subst, ℕ, List, [], length}
 use Rattle.std.specs.Prelude.{◌≢◌, Option}
 use Rattle.std.specs.List.{AllByRecursion}
@@ -38,7 +38,7 @@ module _ (rs : List Run) (ts packed : List (List OpenTable)) (same : run_tables 
   same_union : union made.0 ≡ union rs
   same_union = sym (union_same made.0) ∙ ap union_in (sym lists_are) ∙ hold.union ∙ union_same rs
 
-  -- they stand in the place of the runs
+  -- they replace the runs
   pub packed_runs : (es : List Entry) (next : Option ℕ) (count : ℕ) → count ≡ length packed
       → SameTables ts packed → SameHolders range_of ts packed
       → IsLeastSize range_of ts (length packed)

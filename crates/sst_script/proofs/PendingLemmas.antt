@@ -1,4 +1,4 @@
--- Lists that a table can be written of.
+-- Lists that a table can be written from.
 use Rattle.std.proofs.Common.{◌≡◌, refl, sym, ◌∙◌, ap, subst, ℕ, ◌+◌, ◌-◌, ◌^◌, ◌<◌, Bool, true}
 use Rattle.std.proofs.Common.{false, IsTrue, List, [], ◌∷◌, ◌++◌, arith, ltb, ltb-true, le-ltb}
 use Rattle.std.specs.Prelude.{Option, Some, None, IfOk, IfSome, MatchOption, Result, nat_lt}
@@ -23,7 +23,7 @@ pub nothing_pending : IsWritable []
 unfolding IsStrictAfter
 nothing_pending = record { strict = tt; numbered = tt }
 
--- by key and number an entry may follow where another of that key and number may
+-- an entry may follow if another of its key and seqno may
 same_place : (last : Option Entry) (e : Entry)
     → may_follow last (entry e.user_key [] e.seqno Value) ≡ may_follow last e
 same_place None e = refl
@@ -55,13 +55,13 @@ or_none : (a : Option Error) → option_or a None ≡ a
 or_none None = refl
 or_none (Some e) = refl
 
--- with no global number, what a run refuses is what writing its tables refuses
+-- without a global seqno, a run fails with the error of writing its tables
 refusal_is : (ids : Option ℕ) (target moment : ℕ) (es : List Entry) → IsWritable es
     → chain_fault ids target moment es 0 ≡ tables_fault ids target moment es
 refusal_is ids target moment es p = ap (option_or (tables_fault ids target moment es))
     (number_fits es p) ∙ or_none (tables_fault ids target moment es)
 
--- what was refused at a moment, of the list that was pending
+-- the error of writing the pending list at a timestamp
 pub run_faults : {X : Type 0} (r : Result X Error) (ids : Option ℕ) (target moment now : ℕ)
     (es pending : List Entry) → moment ≡ now → es ≡ pending → IsWritable es
     → Faults r (chain_fault ids target moment es 0) → Faults r (tables_fault ids target now pending)
@@ -74,7 +74,7 @@ run_faults {X} r ids target moment now es pending time is p h =
 abbrev pub IsWrittenOf : List Entry → Option (List OpenTable) → Type 0
 IsWrittenOf es r = MatchOption r (es ≡ []) (λ run. IsRunOfList es 0 run)
 
--- its tables are cut by a target, under ids that run on
+-- its tables are cut by a target, with consecutive ids
 abbrev pub IsCutOf : Option ℕ → ℕ → ℕ → List Entry → Option (List OpenTable) → Type 0
 IsCutOf ids target moment es r =
     IfSome r (λ run. AreCutOf (run_label ids target moment) target es 0 run)

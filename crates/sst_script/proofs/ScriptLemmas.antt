@@ -92,7 +92,7 @@ some_by : (b : ℕ) (bs : List ℕ) (e : Bool) → 0 < length (cond e (b ∷ [])
 some_by b bs true = omega arith
 some_by b bs false = omega arith
 
--- the first line, and those behind it
+-- the first line, and those after it
 lines_by : (b : ℕ) (bs : List ℕ) (e : Bool) → (b == 10) ≡ e
     → lines_of (b ∷ bs) ≡ first_piece 10 (b ∷ bs) ∷ lines_of (drop_through 10 (b ∷ bs))
 lines_by b bs true h =
@@ -114,13 +114,13 @@ lines_first : (bs : List ℕ) → 0 < length bs
 lines_first [] h = absurd (omega arith)
 lines_first (b ∷ bs) h = lines_by b bs _ refl
 
--- the lines of known bytes are some lines and next those that a reader has left
+-- the lines of known bytes are some lines, and then those that a reader has left
 abbrev pub Leaves : Option (List ℕ) → List (List ℕ) → Option (List ℕ) → Type 0
 Leaves None front left = Unit {0}
 Leaves (Some bytes) front None = ⊥
 Leaves (Some bytes) front (Some rest) = lines_of bytes ≡ front ++ lines_of rest
 
--- the lines that a reader has left, where they are known
+-- the lines that a reader has left, if they are known
 abbrev pub known_lines : Option (List ℕ) → List (List ℕ)
 known_lines None = []
 known_lines (Some rest) = lines_of rest
@@ -152,7 +152,7 @@ leaves_more (Some bytes) front (Some rest) new line h loses =
     ∙ ap (λ (l : List ℕ). front ++ l ∷ lines_of (drop_through 10 rest)) (sym loses.1)
     ∙ sym (append_assoc front (line ∷ []) (lines_of (drop_through 10 rest))))
 
--- so many lines were answered, and what they print was written
+-- this number of lines was executed, and their text was written
 pub record IsAt (A : Type 0) (input left before after : Option (List ℕ)) (count : ℕ)
     (now : Store) : Type 0 where
   pub front : List (List ℕ)
@@ -322,27 +322,27 @@ ends_printed {X} {A} number line command old new
     (refl, some, inr (new, (command, asked, does)), ends.1) in
     subst (λ (r : Result X Stop). LineEnds A number line old new before after r) (sym ends.0) fault
 
--- whether the line of a stop was taken is passed over
+-- whether the line of a stop was written makes no difference
 pub reported : {X E : Type 0} (before after : Option (List ℕ)) (stop : Stop) (r : Result X E)
     → ShowsText before after r (stop_line stop) → AppendsFront before after (stop_line stop)
 reported before after stop (Ok x) shows = front_all before after (stop_line stop) shows
 reported before after stop (Err e) shows = shows
 
--- a text that was written stays where the output is flushed, whether that fails or not
+-- flushing the output keeps a text that was written, whether it fails or not
 pub shows_kept : {X E : Type 0} (a b c : Option (List ℕ)) (text : List ℕ) (r : Result X E)
     → Appends a b text → Keeps b c → ShowsText a c r text
 shows_kept a b c text (Ok x) written kept = kept_behind a b c text written kept
 shows_kept a b c text (Err e) written kept = front_all a c text
     (kept_behind a b c text written kept)
 
--- what printing a text comes to
+-- the result of printing a text
 pub ends_shown : {X : Type 0} (number : ℕ) (text : List ℕ) (a b : Option (List ℕ))
     (r : Result X Stop) → ShowsText a b r text → IfErr r (λ stop. stop ≡ Output)
     → PrintEnds number (Some text) a b r
 ends_shown number text a b (Ok x) shows stops = shows
 ends_shown number text a b (Err stop) shows stops = (stops, shows)
 
--- it stops at the line, or where the output fails
+-- it stops at the line, or because the output fails
 pub ends_stops : {X : Type 0} (number : ℕ) (text : Option (List ℕ)) (a b : Option (List ℕ))
     (r : Result X Stop) → PrintEnds number text a b r
     → IfErr r (λ stop. (stop ≡ Line number) ⊎ (stop ≡ Output))

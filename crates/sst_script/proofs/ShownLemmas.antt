@@ -1,4 +1,4 @@
--- What is written of a text, part by part.
+-- The prefix of a text that was written, part by part.
 use Rattle.std.proofs.Common.{◌≡◌, sym, ◌∙◌, ap, subst, ℕ, List, [], ◌++◌}
 use Rattle.std.proofs.Common.{append_assoc, append-nil}
 use Rattle.std.specs.Prelude.{Option, Some, None, Result, Ok, Err}
@@ -7,7 +7,7 @@ use Rattle.std.specs.Io.KnownBytes.{Appends, Keeps}
 use Rattle.std.proofs.KnownBytes.{Appends-trans}
 use Rattle.sst_script.specs.Shown.{AppendsFront, ShowsText}
 
--- all of a text is a front of it
+-- a text is a prefix of itself
 pub front_all : (a b : Option (List ℕ)) (text : List ℕ) → Appends a b text → AppendsFront a b text
 front_all a b text all = record {
   front = text;
@@ -17,8 +17,8 @@ front_all a b text all = record {
       all;
 }
 
--- a part behind one that was written
-pub front_then : (a b c : Option (List ℕ)) (done text : List ℕ) → Appends a b done
+-- a part after one that was written
+front_then : (a b c : Option (List ℕ)) (done text : List ℕ) → Appends a b done
     → AppendsFront b c text → AppendsFront a c (done ++ text)
 front_then a b c done text whole shown = record {
   front = done ++ shown.front;
@@ -27,8 +27,8 @@ front_then a b c done text whole shown = record {
   appends = Appends-trans a b c done shown.front whole shown.appends;
 }
 
--- other parts would follow
-pub front_before : (a b : Option (List ℕ)) (text after : List ℕ) → AppendsFront a b text
+-- a prefix of a text is one of a longer text
+front_before : (a b : Option (List ℕ)) (text after : List ℕ) → AppendsFront a b text
     → AppendsFront a b (text ++ after)
 front_before a b text after shown = record {
   front = shown.front;
@@ -37,7 +37,7 @@ front_before a b text after shown = record {
   appends = shown.appends;
 }
 
--- a part failed behind others that were written, and before others that would follow
+-- a part failed after others that were written, and before others
 pub front_failed : {X E : Type 0} (a b c : Option (List ℕ)) (all done text after : List ℕ)
     (r : Result X E) (e : E) → IsErrAnd r (λ y. y ≡ e)
     → all ≡ done ++ text ++ after → Appends a b done → AppendsFront b c text → ShowsText a c r all
@@ -61,9 +61,3 @@ kept_behind None b c bs p q = tt
 kept_behind (Some x) None c bs p q = absurd p
 kept_behind (Some x) (Some y) None bs p q = absurd q
 kept_behind (Some x) (Some y) (Some z) bs p q = q ∙ p
-
--- a call that failed behind a front of a text
-pub failed_behind : {X E : Type 0} (a c : Option (List ℕ)) (all text : List ℕ) (r : Result X E)
-    (e : E) → IsErrAnd r (λ y. y ≡ e) → all ≡ text → AppendsFront a c text → ShowsText a c r all
-failed_behind a c all text (Ok x) e is same shown = absurd is
-failed_behind a c all text (Err y) e is same shown = subst (AppendsFront a c) (sym same) shown

@@ -1,4 +1,4 @@
--- What writing the pending entries comes to.
+-- The result of writing the pending entries, and of the commands that replace the runs.
 use Rattle.std.proofs.Common.{◌≡◌, refl, sym, ◌∙◌, ap, subst, inr, ℕ, Bool, false}
 use Rattle.std.proofs.Common.{List, [], ◌∷◌, length}
 use Rattle.std.specs.Prelude.{Option, None, Ok}
@@ -19,14 +19,14 @@ nothing_refused : (next : Option ℕ) (es : List Entry) → tables_fault next ta
 nothing_refused next [] written = refl
 nothing_refused next (e ∷ es) written = written
 
--- nothing is against them
+-- they have no fault
 fine : (rs : List Run) (es : List Entry) (next : Option ℕ) → repeats rs es ≡ false
     → tables_fault next target_size 0 es ≡ None → adding_fault (store es rs next) ≡ None
 fine rs es next fresh written =
     let returned : pending_fault next es ≡ None = nothing_refused next es written in
     rw (fresh, returned) refl
 
--- what the test for repeated entries answered
+-- the result of the test for repeated entries
 pub answered : (rs : List Run) (es given : List Entry) (b returned : Bool)
     → Gives (λ (x : Bool). x) (Ok b) (Ok (repeats rs given)) → b ≡ returned → given ≡ es
     → repeats rs es ≡ returned

@@ -1,4 +1,4 @@
--- More entries in a sorted list in which no key has one number twice.
+-- More entries in a sorted list in which no key has one seqno twice.
 use Rattle.std.proofs.Common.{◌≡◌, refl, sym, ◌∙◌, ap, subst, ℕ, ◌-◌, ◌^◌, ◌<◌, ◌⊎◌, inl, inr, Bool}
 use Rattle.std.proofs.Common.{true, false, cond, List, [], ◌∷◌, ◌++◌, arith, rules}
 use Rattle.std.specs.Prelude.{◌&&◌, ◌==◌, map}
@@ -26,11 +26,11 @@ use Rattle.lsm_runs.proofs.Unions.{entries_of}
 use Rattle.lsm_writers.specs.Writing.{IsWritable}
 use Rattle.sst_script.specs.Runs.{Run, has_entry, repeats, union}
 
--- two entries of different keys or numbers: one comes before the other
+-- two entries of different keys or seqnos: one is before the other
 abbrev Apart : Entry → Entry → Type 0
 Apart x y = (is_before x y ≡ true) ⊎ (is_before y x ≡ true)
 
--- what comes behind an entry is above it
+-- an entry after another is above it
 behind_above : (x y : Entry) → is_before x y ≡ true → Above y x
 behind_above x y h =
     let less : item_cmp x y ≡ Less = then_less (slice_cmp nat_cmp x.user_key y.user_key)
@@ -50,7 +50,7 @@ apart_above x y a e = elim a [
   | inr q ↦ q
 ]
 
--- an entry that differs from each of a strict list is put into it
+-- an entry that differs from each of a strict list is inserted
 put_strict : (x : Entry) (ys : List Entry) → AllBefore ys → AllByRecursion (Apart x) ys
     → AllBefore (insert_sorted x ys)
 put_strict x [] h a = (tt, tt)
@@ -86,7 +86,7 @@ sorted_strict (e ∷ es) all h k a =
     put_strict e (sort_entries (es ++ all)) (sorted_strict es all h.1 k a.1)
     (all_sorted_in (Apart e) es all own a.0)
 
--- ---- entries whose key and number another list has not
+-- ---- entries whose key and seqno another list does not have
 
 abbrev is_at : Entry → Entry → Bool
 is_at x y = same_key y.user_key x.user_key && (y.seqno == x.seqno)
@@ -129,12 +129,12 @@ each_apart rs (e ∷ es) h =
     let both = or_parts (has_entry (union rs) e.user_key e.seqno) (repeats rs es) h in
     (all_apart e (union rs) both.0, each_apart rs es both.1)
 
--- ---- a run more
+-- ---- one more run
 
 abbrev all_of : List Run → List Entry
 all_of rs = all_entries (map (λ (r : Run). ok_results r.list) rs)
 
--- the sorted entries of runs, and of one more that has none of their keys and numbers
+-- the sorted entries of runs, and of one more that repeats none of their keys and seqnos
 pub union_more : (run : Run) (rs : List Run) → IsWritable run.list → IsWritable (union rs)
     → repeats rs run.list ≡ false → IsWritable (union (run ∷ rs))
 union_more run rs one all fresh =

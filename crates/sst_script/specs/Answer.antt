@@ -1,11 +1,10 @@
 -- The text of results.
-use Rattle.std.specs.Prelude.{ℕ, List, [], ◌∷◌, ◌++◌, Some, None, codes}
+use Rattle.std.specs.Prelude.{ℕ, List, [], ◌∷◌, ◌++◌, Option, Some, None, codes}
 use Rattle.std.specs.Fmt.{decimal}
 use Rattle.std.specs.List.{flat_map, join_with_byte}
 use Rattle.sst_entries.specs.Entry.{Entry}
 use Rattle.sst_script.specs.declared.print.Answer.{Answer}
-use Rattle.sst_script.specs.declared.print.Answer.TheVariants.{Silent, Tables, Runs, Found}
-use Rattle.sst_script.specs.declared.print.Answer.TheVariants.{Entries}
+use Rattle.sst_script.specs.declared.print.Answer.TheVariants.{Silent, Tables, Runs, Lines}
 use Rattle.sst_script.specs.Text.{letter_of, printed}
 
 -- an entry's line: its key, seqno, kind and value
@@ -19,6 +18,11 @@ entry_line e =
 abbrev pub none_line : List ℕ
 none_line = codes "none" ++ 10 ∷ []
 
+-- the line of an entry that was found, or the line for none
+abbrev pub found_line : Option Entry → List ℕ
+found_line None = none_line
+found_line (Some e) = entry_line e
+
 -- entries, each on a line of its own
 abbrev pub entry_lines : List Entry → List ℕ
 entry_lines [] = none_line
@@ -29,9 +33,7 @@ abbrev pub answer_lines : {A : Type 0} → Answer A → List ℕ
 answer_lines Silent = []
 answer_lines (Tables n) = codes "tables " ++ decimal n ++ 10 ∷ []
 answer_lines (Runs n) = codes "runs " ++ decimal n ++ 10 ∷ []
-answer_lines (Found None) = none_line
-answer_lines (Found (Some e)) = entry_line e
-answer_lines (Entries v) = entry_lines v.items
+answer_lines (Lines v) = v.items
 
 abbrev pub refusal_line : ℕ → List ℕ
 refusal_line n = codes "refused " ++ decimal n ++ 10 ∷ []

@@ -19,9 +19,10 @@ use Rattle.sst_script.specs.declared.command.Command.TheVariants.{Entry as Add, 
 use Rattle.sst_script.specs.declared.command.Command.TheVariants.{Compact, Pack}
 use Rattle.sst_script.specs.declared.print.Answer.{Answer}
 use Rattle.sst_script.specs.declared.print.Answer.TheVariants.{Silent, Tables, Runs as PackedInto}
-use Rattle.sst_script.specs.declared.print.Answer.TheVariants.{Found, Entries}
+use Rattle.sst_script.specs.declared.print.Answer.TheVariants.{Lines}
 use Rattle.sst_script.specs.declared.stop.Failure.{Failure}
 use Rattle.sst_script.specs.declared.stop.Failure.TheVariants.{BadLine, Refused}
+use Rattle.sst_script.specs.Answer.{entry_lines, found_line}
 use Rattle.sst_script.specs.Runs.{Run, repeats, run_tables, union}
 
 -- the state of a script: the entries of the next run, the runs, newest first, and the next id
@@ -131,10 +132,10 @@ PacksRuns old r new =
 abbrev pub entry_failure : List Entry → List ℕ → ℕ → Failure
 entry_failure es key seqno = if may_be_written es key seqno then Refused OutOfMemory else BadLine
 
--- a result is these entries
-abbrev pub AreAnswered : {A : Type 0} → List Entry → Answer A → Type 0
-AreAnswered es (Entries v) = v.items ≡ es
-AreAnswered es answer = ⊥
+-- a result is this text
+abbrev pub IsText : {A : Type 0} → List ℕ → Answer A → Type 0
+IsText text (Lines v) = v.items ≡ text
+IsText text answer = ⊥
 
 -- a command's result, and the state after it
 abbrev pub Executes : {A : Type 0} → Command → Store → Result (Answer A) Failure → Store → Type 0
@@ -146,11 +147,11 @@ Executes Table old r new = MatchResult r
     (λ a. (count : ℕ) × (a ≡ Tables count) × Writes old count new)
     (λ e. GivesUp old e new)
 Executes (Get key bound) old r new = (new ≡ old) × MatchResult r
-    (λ a. a ≡ Found (point (union old.runs) key.now bound))
+    (λ a. IsText (found_line (point (union old.runs) key.now bound)) a)
     (λ e. e ≡ Refused OutOfMemory)
-Executes (Range low high) old r new = (new ≡ old) × MatchResult r
-    (λ a. AreAnswered (newest (within (key_bound low) (key_bound high) (union old.runs))) a)
-    (λ e. e ≡ Refused OutOfMemory)
+Executes (Range low high) old r new =
+    let found = newest (within (key_bound low) (key_bound high) (union old.runs)) in
+    (new ≡ old) × MatchResult r (λ a. IsText (entry_lines found) a) (λ e. e ≡ Refused OutOfMemory)
 Executes (Compact watermark evict zero) old r new =
     let left = kept_by watermark evict zero old.runs in MatchResult r
     (λ a. (count : ℕ) × (a ≡ Tables count) × CompactsTo old left count new)

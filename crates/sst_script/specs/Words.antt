@@ -2,7 +2,8 @@
 pub use Rattle.sst_entries.specs.Entry.{Entry, entry}
 pub use Rattle.sst_entries.specs.Error.{Faults, Gives}
 pub use Rattle.sst_entries.specs.Point.{point, within}
-pub use Rattle.sst_entries.specs.Stream.{nowhere}
+pub use Rattle.sst_entries.specs.Lending.{entry_of_ref}
+pub use Rattle.sst_entries.specs.Stream.{CanYield, nowhere}
 pub use Rattle.lsm_sorted.specs.merge.Union.{newest}
 pub use Rattle.lsm_sorted.specs.version.KeyRange.{key_bound}
 pub use Rattle.lsm_writers.specs.Writing.{IsWritable, may_be_written}
@@ -11,9 +12,8 @@ pub use Rattle.std.specs.Arc.{arc_value}
 pub use Rattle.std.specs.Char.{is_ascii_graphic}
 pub use Rattle.std.specs.Fmt.{decimal}
 pub use Rattle.std.specs.Io.BufRead.{strip_last}
-pub use Rattle.std.specs.Iterator.{IsFinite}
-pub use Rattle.std.specs.List.{list_all, position}
-pub use Rattle.std.specs.Option.{SomeIff, option_copied, option_map_or}
+pub use Rattle.std.specs.List.{flat_map, list_all, position}
+pub use Rattle.std.specs.Option.{SomeIff, option_copied, option_map, option_map_or}
 pub use Rattle.std.specs.Str.Parse.{digits_value}
 pub use Rattle.std.specs.Vec.{vec_items}
 pub use Rattle.std.specs.declared.ops.Bound.{Bound}
@@ -22,7 +22,7 @@ pub use Rattle.sst_entries.specs.declared.value_type.ValueType.{ValueType}
 pub use Rattle.lsm_runs.specs.compaction.Chain.{AreCutOf, IsRunOfList, ids_behind, run_label}
 pub use Rattle.lsm_runs.specs.compaction.Chain.{tables_fault}
 pub use Rattle.lsm_runs.specs.compaction.Compacted.{AreCompactable}
-pub use Rattle.sst_script.specs.Answer.{answer_lines, entry_line, entry_lines, none_line}
+pub use Rattle.sst_script.specs.Answer.{answer_lines, entry_line, entry_lines, found_line}
 pub use Rattle.sst_script.specs.Answer.{refusal_line}
 pub use Rattle.sst_script.specs.Answering.{LineEnds, PrintEnds, Reports, ScriptEnds, outcome_text}
 pub use Rattle.sst_script.specs.Answering.{status_of}

@@ -13,6 +13,7 @@
 #![tactic(auto)]
 
 mod command;
+mod lines;
 mod pending;
 mod print;
 mod runs;

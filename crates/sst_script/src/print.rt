@@ -5,7 +5,6 @@ ghost use Rattle.sst_script.specs.Words as spec;
 use crate::stop::Stop;
 use crate::write::write_text;
 use itoa::Buffer;
-use sst_entries::{InternalValue, ValueType};
 use std::alloc::Allocator;
 use std::io::{Result, Write};
 
@@ -18,10 +17,8 @@ pub enum Answer<A: Allocator> {
     Tables(u64),
     /// The number of runs into which the tables were packed.
     Runs(u64),
-    /// The entry that was found.
-    Found(Option<InternalValue<A>>),
-    /// The entries that were read.
-    Entries(Vec<InternalValue<A>, A>),
+    /// The lines of the entries that were read, or the line for none.
+    Lines(Vec<u8, A>),
 }
 
 /// Prints a result; if writing fails, a prefix of it.
@@ -33,16 +30,8 @@ pub fn print_answer<W: Write, A: Allocator>(output: &mut W, answer: &Answer<A>) 
         Answer::Silent => Ok(()),
         Answer::Tables(count) => print_counted(output, b"tables ", *count),
         Answer::Runs(count) => print_counted(output, b"runs ", *count),
-        Answer::Found(Some(item)) => print_entry(output, item),
-        Answer::Found(None) => print_none(output),
-        Answer::Entries(items) => print_entries(output, items),
+        Answer::Lines(text) => write_text(output, text),
     }
-}
-
-fn print_none<W: Write>(output: &mut W) -> Result<()>
-    ensures { spec.ShowsText (W.contents output.old) (W.contents output.new) result spec.none_line }
-{
-    write_text(output, b"none\n")
 }
 
 // Prints a line of a word and a number.
@@ -53,20 +42,6 @@ fn print_counted<W: Write>(output: &mut W, word: &[u8], count: u64) -> Result<()
     write_text(output, word)?;
     write_text(output, Buffer::new().format(count).as_bytes())?;
     write_text(output, b"\n")
-}
-
-// Prints each entry on a line of its own.
-fn print_entries<W: Write, A: Allocator>(output: &mut W, items: &[InternalValue<A>]) -> Result<()>
-    ensures { spec.ShowsText (W.contents output.old) (W.contents output.new) result
-        (spec.entry_lines items.now) }
-{
-    if items.is_empty() {
-        return print_none(output);
-    }
-    for item in items {
-        print_entry(output, item)?;
-    }
-    Ok(())
 }
 
 /// Prints the line of an error code; if writing fails, a prefix of it.
@@ -86,37 +61,5 @@ pub fn print_stop<W: Write>(errors: &mut W, stop: Stop) -> Result<()>
         Stop::Line(number) => print_counted(errors, b"sst: line ", number),
         Stop::Input => write_text(errors, b"sst: input\n"),
         Stop::Output => write_text(errors, b"sst: output\n"),
-    }
-}
-
-// Prints a key, a seqno, a kind and a value.
-fn print_entry<W: Write, A: Allocator>(output: &mut W, item: &InternalValue<A>) -> Result<()>
-    ensures { spec.ShowsText (W.contents output.old) (W.contents output.new) result
-        (spec.entry_line item.now) }
-{
-    write_text(output, printed(item.key.user_key.as_slice()))?;
-    write_text(output, b" ")?;
-    write_text(output, Buffer::new().format(item.key.seqno).as_bytes())?;
-    write_text(output, &[b' ', letter_of(item.key.value_type), b' '])?;
-    write_text(output, printed(item.value.as_slice()))?;
-    write_text(output, b"\n")
-}
-
-// The printed form of bytes: `-` for none.
-fn printed(bytes: &[u8]) -> &[u8]
-    ensures { result.now ≡ spec.printed bytes.now }
-{
-    if bytes.is_empty() { b"-" } else { bytes }
-}
-
-// The letter of a kind.
-fn letter_of(kind: ValueType) -> u8
-    ensures { result ≡ spec.letter_of kind }
-{
-    match kind {
-        ValueType::Value => b'V',
-        ValueType::Tombstone => b'T',
-        ValueType::WeakTombstone => b'W',
-        ValueType::Indirection => b'I',
     }
 }

@@ -1,58 +1,51 @@
 //! Reading the runs that a script has written.
-ghost use Rattle.std.specs.Prelude.{◌≡◌, ◌+◌, ◌-◌, ◌<◌, ◌^◌, Bool, IfErr, IfOk, List, Option, Ok};
+ghost use Rattle.std.specs.Prelude.{◌≡◌, ◌+◌, ◌-◌, ◌<◌, ◌^◌, Bool, IfErr, IfOk, Ok};
 ghost use Rattle.std.specs.Prelude.{◌∷◌, [], map};
 ghost use Rattle.sst_script.specs.Words as spec;
 
+use crate::lines::{line_of_found, lines_of_newest};
 use lsm_readers::Table;
-use lsm_runs::{get_runs, get_runs_ref, range_runs};
-use lsm_sorted::{NewestOf, Run};
-use sst_blocks::{Error, InternalValue, IterItem, SeqNo, Slice, UserKey};
+use lsm_runs::{get_runs_ref, lend_runs_at};
+use lsm_sorted::Run;
+use sst_blocks::{Error, InternalValue, SeqNo, Slice, UserKey};
 use std::alloc::Allocator;
 use std::ops::Bound;
 use std::sync::Arc;
 
-/// The newest version in the runs of a key visible at a seqno. Fails with `OutOfMemory` only.
-pub(crate) fn newest_answer<A: Allocator + Clone>(
+/// Returns the line of the newest version in the runs of a key visible at a seqno, or the line for
+/// none. Fails with `OutOfMemory` only.
+pub(crate) fn newest_line<A: Allocator + Clone>(
+    alloc: &A,
     runs: &[Arc<Run<Table<A>, A>, A>],
     key: &[u8],
     bound: SeqNo,
-) -> Result<Option<InternalValue<A>>, Error>
-    ensures { spec.ForRuns (map spec.arc_value runs.now) (λ rs.
-        spec.Gives (λ (found : Option spec.Entry). found) result
-        (Ok (spec.point (spec.union rs) key.now bound))) }
+) -> Result<Vec<u8, A>, Error>
+    ensures { spec.ForRuns (map spec.arc_value runs.now) (λ rs. spec.Gives spec.vec_items result
+        (Ok (spec.found_line (spec.point (spec.union rs) key.now bound)))) }
 {
-    get_runs(runs, key, bound)
+    let found = get_runs_ref(runs, key, bound)?;
+    line_of_found(alloc.clone()?, found)
 }
 
-/// The newest version in the runs of each key within two bounds. Fails with `OutOfMemory` only.
-pub(crate) fn newest_entries<A: Allocator + Clone>(
-    alloc: A,
+/// Returns the lines of the newest version in the runs of each key within two bounds, or the line
+/// for none. Fails with `OutOfMemory` only.
+///
+/// The seqnos in the runs are below the highest one, so a read at that sees all of them.
+pub(crate) fn newest_lines<A: Allocator + Clone>(
+    alloc: &A,
     runs: &[Arc<Run<Table<A>, A>, A>],
     low: Bound<&[u8]>,
     high: Bound<&[u8]>,
-) -> Result<Vec<InternalValue<A>, A>, Error>
+) -> Result<Vec<u8, A>, Error>
+    requires { spec.AreCompactable (map spec.arc_value runs.now) }
     ensures { let from = spec.key_bound low.entry in let to = spec.key_bound high.entry in
-        spec.ForRuns (map spec.arc_value runs.now) (λ rs.
-        spec.Gives spec.vec_items result (Ok (spec.newest (spec.within from to (spec.union rs))))) }
+        spec.ForRuns (map spec.arc_value runs.now) (λ rs. spec.Gives spec.vec_items result
+        (Ok (spec.entry_lines (spec.newest (spec.within from to (spec.union rs)))))) }
 {
-    let bounds = (owned(&alloc, low)?, owned(&alloc, high)?);
-    let stream = range_runs(alloc.clone()?, runs, bounds)?;
-    collect_newest(alloc, stream)
-}
-
-// All newest versions of some sources, as `collect`. Generic in the sources: a whole concrete
-// stream makes a proof expensive.
-fn collect_newest<A: Allocator, S: Iterator<Item = IterItem<A>>>(
-    alloc: A,
-    stream: NewestOf<S, A>,
-) -> Result<Vec<InternalValue<A>, A>, Error>
-    requires can { ⟦<NewestOf<S, A> as Iterator>⟧.can_next stream }
-    requires ends { spec.IsFinite (⟦<NewestOf<S, A> as Iterator>⟧.remaining stream) }
-    ensures { let gives = ⟦<NewestOf<S, A> as Iterator>⟧.next_gives in
-        (es : List spec.Entry) → spec.YieldsList gives spec.nowhere es stream →
-        spec.Gives spec.vec_items result (Ok es) }
-{
-    collect(alloc, stream)
+    let bounds = (owned(alloc, low)?, owned(alloc, high)?);
+    let beside = alloc.clone()?;
+    let stream = lend_runs_at(alloc.clone()?, runs, bounds, SeqNo::MAX)?;
+    lines_of_newest(beside, stream)
 }
 
 // The bound with an owned key.
@@ -65,23 +58,6 @@ fn owned<A: Allocator + Clone>(alloc: &A, bound: Bound<&[u8]>) -> Result<Bound<U
         Bound::Excluded(key) => Ok(Bound::Excluded(Slice::from(alloc.clone()?, key)?)),
         Bound::Unbounded => Ok(Bound::Unbounded),
     }
-}
-
-// All entries of a stream, or its first error. For a stream of a list, that is `OutOfMemory` only.
-fn collect<A: Allocator, I: Iterator<Item = IterItem<A>>>(
-    alloc: A,
-    stream: I,
-) -> Result<Vec<InternalValue<A>, A>, Error>
-    requires can { I.can_next stream }
-    requires ends { spec.IsFinite (I.remaining stream) }
-    ensures { (es : List spec.Entry) → spec.YieldsList I.next_gives spec.nowhere es stream →
-        spec.Gives spec.vec_items result (Ok es) }
-{
-    let mut items = Vec::new(alloc);
-    for item in stream {
-        items.push(item?)?;
-    }
-    Ok(items)
 }
 
 /// A run as a shared one. Fails with `OutOfMemory` only.

@@ -4,7 +4,7 @@ ghost use Rattle.std.specs.Prelude.{map};
 ghost use Rattle.sst_script.specs.Words as spec;
 
 use crate::pending::{Pending, TARGET_SIZE};
-use crate::runs::{is_repeated, newest_answer, newest_entries, share, share_all, share_one};
+use crate::runs::{is_repeated, newest_line, newest_lines, share, share_all, share_one};
 use crate::{
     Answer, Command, Failure, Stop, parse_command, print_answer, print_refusal, print_stop,
 };
@@ -173,6 +173,8 @@ impl<A: Allocator + Clone> Script<A> {
         print_outcome(output, number, &self.execute(command))
     }
 
+    // Executes a command. The lines of a read are collected first, so that a command that fails
+    // prints no entry.
     fn execute(&mut self, command: Command<'_>) -> Result<Answer<A>, Failure>
         requires { spec.AreCompactable (map spec.arc_value self.old.runs.items) }
         ensures able { spec.AreCompactable (map spec.arc_value self.new.runs.items) }
@@ -198,12 +200,12 @@ impl<A: Allocator + Clone> Script<A> {
                 Ok(Answer::Tables(written?))
             }
             Command::Get { key, bound } => {
-                let found = newest_answer(&self.runs, key, bound)?;
-                Ok(Answer::Found(found))
+                let text = newest_line(&self.alloc, &self.runs, key, bound)?;
+                Ok(Answer::Lines(text))
             }
             Command::Range { low, high } => {
-                let found = newest_entries(self.alloc.clone()?, &self.runs, low, high)?;
-                Ok(Answer::Entries(found))
+                let text = newest_lines(&self.alloc, &self.runs, low, high)?;
+                Ok(Answer::Lines(text))
             }
             Command::Compact {
                 watermark,

@@ -5,7 +5,7 @@ use Rattle.sst_script.proofs.ShownLemmas.{kept_behind}
 use Rattle.sst_script.proofs.write.write_text.Goals as goal
 use Rattle.sst_script.proofs.write.write_text.Goals.{in-Ok, in-Err+else-ne}
 
--- so many of the bytes that are left were taken
+-- the first bytes that were left were taken
 taken : (all done rest : List ℕ) (n : ℕ) → all ≡ done ++ rest → all ≡ (done ++ take n rest) ++ take (length rest - n) (drop n rest)
 taken all done rest n e =
     e

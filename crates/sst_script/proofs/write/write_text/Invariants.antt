@@ -1,4 +1,4 @@
--- What is gone from the rest was written.
+-- The part that the rest has lost was written.
 use Rattle.std.proofs.Common.{◌≡◌, ℕ, List, ◌++◌}
 use Rattle.std.specs.Io.KnownBytes.{Appends}
 use Rattle.sst_script.proofs.write.write_text.Given as goal

@@ -14,7 +14,7 @@ use Rattle.sst_script.proofs.pending.Pending.add.Goals as goal
 same_entry : (k l v w : List ℕ) (n : ℕ) (kind : ValueType) → k ≡ l → v ≡ w → entry k v n kind ≡ entry l w n kind
 same_entry k l v w n kind p q = rw (p, q)
 
--- where an entry may follow, only memory is refused
+-- if an entry may follow, the only error is `OutOfMemory`
 memory_only : (follow : Bool) (e : Error) → follow ≡ true → e ≡ OutOfMemory → Refused e ≡ (if follow then Refused OutOfMemory else BadLine)
 memory_only follow e p q = rw (p, q)
 
