@@ -9,6 +9,8 @@ use Rattle.lsm_readers.specs.point.Parts.{recovered_result}
 use Rattle.lsm_readers.specs.point.Table.{OpenTable}
 use Rattle.sst_entries.specs.Error.{Gives, is_memory}
 use Rattle.sst_entries.specs.declared.error.Error.{Error}
+use Rattle.sst_tool.specs.files.Opened.{IsToldByBytes}
+use Rattle.sst_tool.specs.show.Files.{IsSoundTable}
 use Rattle.sst.specs.Verified.{HaveFaulty, IsFaultyFile, StoresNoTable}
 
 all_more : {A : Type 0} (P : A → Type 0) (xs : List A) (x : A) → AllByRecursion P xs → P x
@@ -51,6 +53,25 @@ pub no_table : {E : Type 0} (bytes : List ℕ) (e : Error) (r : Result ℕ E)
     → IfOk r (λ n. is_memory e ≡ false) → IfOk r (λ n. 0 < n → StoresNoTable bytes)
 no_table bytes e (Ok n) refused other = λ some. inr (e, other, refused)
 no_table bytes e (Err f) refused other = tt
+
+not_none : (n : ℕ) → n ≡ 0 → 0 < n → ⊥
+not_none zero is some = omega (arith, some)
+not_none (suc n) is some = omega (arith, is)
+
+-- a table in which no fault is counted is valid
+pub verified_sound : {E : Type 0} (bytes : List ℕ) (t : OpenTable) (r : Result ℕ E)
+    → t.bytes ≡ bytes → IfOk r (λ n. n ≡ 0 → IsSoundTable t)
+    → IfOk r (λ n. n ≡ 0 → (u : OpenTable) × (u.bytes ≡ bytes) × IsSoundTable u)
+verified_sound bytes t (Ok n) same sound = λ none. (t, same, sound none)
+verified_sound bytes t (Err e) same sound = tt
+
+-- and one in which a fault is counted stores no list
+pub verified_faulty : {E : Type 0} (bytes : List ℕ) (t : OpenTable) (r : Result ℕ E)
+    → t.bytes ≡ bytes → IsToldByBytes false t → (IsSoundTable t → IfOk r (λ n. n ≡ 0))
+    → IfOk r (λ n. 0 < n → StoresNoTable bytes)
+verified_faulty bytes t (Ok n) same recovered complete =
+    λ some. inl (t, same, recovered, λ sound. not_none n (complete sound) some)
+verified_faulty bytes t (Err e) same recovered complete = tt
 
 -- a number that tests as none is none, and else is some
 pub none_tested : (n : ℕ) → nat_eq n 0 ≡ true → n ≡ 0
