@@ -1,5 +1,6 @@
 -- Definitions that the contracts cite, from this crate and those below it.
-pub use Rattle.core.specs.List.{AllByRecursion, sum}
+pub use Rattle.core.specs.List.{AllByRecursion, slice_get, sum}
+pub use Rattle.std.specs.List.{All}
 pub use Rattle.core.specs.Option.{option_and_then, option_map}
 pub use Rattle.core.specs.Ptr.{as_ptr}
 pub use Rattle.std_alloc.specs.Arc.{arc_value}
@@ -13,6 +14,7 @@ pub use Rattle.sst_entries.specs.Stream.{CanYield, nowhere, ok_results}
 pub use Rattle.sst_entries.specs.declared.error.Error.{Error as ErrorValue}
 pub use Rattle.sst_entries.specs.declared.error.Error.TheVariants.{OutOfMemory}
 pub use Rattle.sst_entries.specs.declared.value_type.ValueType.{ValueType as Kind}
+pub use Rattle.sst_blocks.specs.EntryPlace.{IsPlacedIn}
 pub use Rattle.sst_blocks.specs.Sections.{body_of}
 pub use Rattle.lsm_sorted.specs.version.KeyRange.{is_well_formed}
 pub use Rattle.lsm_sorted.specs.version.Packed.{IsPackedOf}
@@ -30,6 +32,7 @@ pub use Rattle.lsm_writers.specs.declared.writer.FinishedTable.{FinishedTable as
 pub use Rattle.lsm_iters.specs.Lift.{lift}
 pub use Rattle.lsm_iters.specs.Range.{Range as RangeValue}
 pub use Rattle.lsm_readers.specs.point.Answer.{table_answer}
+pub use Rattle.lsm_readers.specs.point.Batch.{entries_placed}
 pub use Rattle.lsm_readers.specs.point.Many.{many_results}
 pub use Rattle.lsm_readers.specs.point.Parts.{early_fault, recovered_result}
 pub use Rattle.lsm_readers.specs.point.Table.{OpenTable}
