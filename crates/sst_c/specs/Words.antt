@@ -52,7 +52,7 @@ pub use Rattle.lsm_runs.specs.SpansRead.{IsOverSpansBelow}
 pub use Rattle.lsm_runs.specs.Words.{range_of}
 pub use Rattle.lsm_runs.specs.compaction.AnyRuns.{GoesThrough}
 pub use Rattle.lsm_runs.specs.compaction.Compacted.{rules_by}
-pub use Rattle.sst_c.specs.Adds.{Adds, AddsMany, row, rows_in, size_of}
+pub use Rattle.sst_c.specs.Adds.{AddsOne, AddsMany, row, rows_of_reports, reported_size}
 pub use Rattle.sst_c.specs.Codes.{ReportsCode, ReportsFirst, result_code}
 pub use Rattle.sst_c.specs.Compact.{IsCompactionOf, IsReportedOf, decode_compactor}
 unfoldable pub use Rattle.sst_c.specs.Compact.{ReportsOutcome}
@@ -78,7 +78,7 @@ pub use Rattle.sst_c.specs.Stepwise.{step_result}
 pub use Rattle.sst_c.specs.Takes.{CopiesMany, ReadsMany, bytes_found, bytes_of}
 pub use Rattle.sst_c.specs.Reported.{AnswersRead, entry_facts, found_at, found_by, found_in, found_of}
 pub use Rattle.sst_c.specs.Reported.{in_runs, in_table, is_settled, kept_in_runs, kept_in_table}
-pub use Rattle.sst_c.specs.Reported.{lent_in, outcome_of}
+pub use Rattle.sst_c.specs.Reported.{borrowed_in, outcome_of}
 pub use Rattle.sst_c.specs.Verify.{ReportsCounts, ReportsFinding, ReportsWrong, detail_of, fault_number}
 pub use Rattle.sst_c.specs.Verify.{finding_result, no_finding, verified_result, verify_code}
 pub use Rattle.sst_c.specs.Verify.{verify_result}

@@ -122,7 +122,7 @@ pub(crate) fn box_of(alloc: Global, what: What) -> Result<Box<Held>, Error>
 }
 
 fn lent(what: &What) -> Option<EntryRef<'_>>
-    ensures { spec.option_map spec.entry_of_ref result ≡ spec.lent_in what.now }
+    ensures { spec.option_map spec.entry_of_ref result ≡ spec.borrowed_in what.now }
 {
     match what {
         What::Scan(scanner) => scanner.entry(),
