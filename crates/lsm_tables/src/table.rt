@@ -10,7 +10,7 @@ pub use lsm_iters::{
 };
 pub use lsm_readers::{
     Fault, Finding, Inner, ParsedMeta, ParsedRegions, PinnedBlockIndex, Query, Scanner, Table,
-    TableInner, Verification, Verified, VerifyError, get_many, point_in,
+    TableInner, Verification, Verified, VerifyError, get_many, get_many_places, point_in,
 };
 pub use lsm_runs::OpenOptions;
 pub use lsm_writers::{

@@ -1,13 +1,14 @@
-//! Opening finished tables.
-ghost use Rattle.std.specs.Prelude.{IfOk, List};
+//! Opening tables with named options.
+ghost use Rattle.std.specs.Prelude.{◌≡◌, IfOk, List, tt};
+ghost use Rattle.lsm_readers.specs.Words as table;
 ghost use Rattle.lsm_runs.specs.compaction.Words as spec;
 
 use lsm_readers::Table;
 use lsm_writers::FinishedTable;
-use sst_blocks::{Error, SeqNo, TreeId};
+use sst_blocks::{Checksum, Error, SeqNo, Slice, TreeId};
 use std::alloc::Allocator;
 
-/// Options for opening finished tables; by default global seqno 0, tree 0, filter and index pinned.
+/// Options for opening tables; by default global seqno 0, tree 0, filter and index pinned.
 #[derive(Clone, Copy, Debug, PartialEq, Eq)]
 pub struct OpenOptions {
     /// The sequence number that is added to every stored one, for a table that is ingested from
@@ -39,6 +40,51 @@ impl Default for OpenOptions {
 }
 
 impl OpenOptions {
+    /// Opens a table from the bytes of its file.
+    ///
+    /// This is [`Table::recover`] with named options. `checksum` is stored, and is not compared
+    /// with the bytes.
+    ///
+    /// # Errors
+    ///
+    /// Those of [`Table::recover`].
+    pub fn open_bytes<A: Allocator + Clone>(
+        &self,
+        alloc: A,
+        bytes: Slice<A>,
+        checksum: Checksum,
+    ) -> Result<Table<A>, Error>
+        ensures returned { spec.Gives (λ (t : spec.OpenTable). t.parts) result
+            (spec.recovered_result bytes self.now.global_seqno self.now.pin_filter
+            self.now.pin_index) }
+        // A fault that is found before any allocation takes precedence over `OutOfMemory`.
+        ensures early { table.FaultsFirst result (table.early_fault bytes) }
+        // A table written from a list, with an index restart interval of 1, opens if the highest
+        // seqno fits. Its parts match the list.
+        ensures list { (es : List spec.Entry) (t : table.IsTable bytes es) →
+            t.options.index_block_restart_interval ≡ 1 →
+            spec.Gives (λ (t : spec.OpenTable). t.parts) result
+            (table.list_result t self.now.global_seqno self.now.pin_filter self.now.pin_index) }
+        // Bytes that store a list, whoever wrote them, open if the highest seqno fits.
+        ensures stores { (es : List spec.Entry) → spec.StoresList bytes es →
+            spec.Gives (λ (t : spec.OpenTable). tt) result
+            (table.fits_result es self.now.global_seqno) }
+        ensures bytes { IfOk result (λ t. t.bytes ≡ bytes) }
+        ensures number { IfOk result (λ t. t.global_seqno ≡ self.now.global_seqno) }
+        ensures tree { IfOk result (λ t. t.tree_id ≡ self.now.tree_id) }
+        ensures checksum { IfOk result (λ t. t.checksum ≡ checksum.0) }
+    {
+        Table::recover(
+            alloc,
+            bytes,
+            checksum,
+            self.global_seqno,
+            self.tree_id,
+            self.pin_filter,
+            self.pin_index,
+        )
+    }
+
     /// Opens a finished table and shares its bytes; the finished table is not changed.
     ///
     /// # Errors
@@ -70,15 +116,7 @@ impl OpenOptions {
         let bytes = table.bytes.clone()?;
         // Its length is that of a slice.
         let _len = bytes.len();
-        let opened = Table::recover(
-            alloc,
-            bytes,
-            table.checksum,
-            self.global_seqno,
-            self.tree_id,
-            self.pin_filter,
-            self.pin_index,
-        )?;
+        let opened = self.open_bytes(alloc, bytes, table.checksum)?;
         // It is open.
         opened.tells_its_list();
         Ok(opened)

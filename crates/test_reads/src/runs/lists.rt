@@ -6,7 +6,7 @@ use lsm_tables::compaction::Rules;
 use lsm_tables::run::write_run_with;
 use lsm_tables::table::{MultiWriter, OpenOptions, Table};
 use lsm_writers::{TableId, TableIds, Timestamp};
-use sst_blocks::{Error, SeqNo, ValueType};
+use sst_blocks::{Checksum, Error, SeqNo, Slice, ValueType};
 use std::alloc::{Allocator, Global};
 use std::ops::Bound;
 use test_support::samples::lists::{list_of, read_names};
@@ -306,6 +306,45 @@ fn a_run_has_the_tables_that_the_target_cuts(rt: HostRuntime) {
     for cut in CUTS {
         assert!(rt; matches!(is_cut(rt.alloc(), cut), Ok(true)));
     }
+}
+
+// Whether a table's bytes open as a table with these options.
+fn opens_so<A: Allocator + Copy>(alloc: A, how: &OpenOptions) -> Result<bool, Error> {
+    let items = list_of(alloc, rows_at(THREE_KEYS))?;
+    let writer = MultiWriter::new(alloc, TableIds::new(5), 50_000, 0, Timestamp::from(0))?;
+    let (_, run, _) = write_run_with(alloc, writer, items, &OpenOptions::default())?;
+    let Some(run) = run else {
+        return Ok(false);
+    };
+    let Some(written) = run.as_slice().first() else {
+        return Ok(false);
+    };
+    let table = how.open_bytes(alloc, written.bytes()?, Checksum(7))?;
+    Ok(
+        table.tree_id == how.tree_id
+            && table.checksum == Checksum(7)
+            && table.global_seqno() == how.global_seqno
+            && table.get_highest_seqno() == 10 + how.global_seqno,
+    )
+}
+
+#[test]
+fn bytes_open_with_named_options(rt: HostRuntime) {
+    let how = OpenOptions {
+        global_seqno: 20,
+        tree_id: 3,
+        pin_filter: false,
+        pin_index: false,
+    };
+    assert!(rt; matches!(opens_so(rt.alloc(), &how), Ok(true)));
+    assert!(rt; matches!(opens_so(rt.alloc(), &OpenOptions::default()), Ok(true)));
+    // Bytes that are shorter than a trailer are no table.
+    let short = OpenOptions::default().open_bytes(
+        rt.alloc(),
+        Slice::from_static(b"sst"),
+        Checksum(0),
+    );
+    assert!(rt; matches!(short, Err(Error::InvalidTrailer)));
 }
 
 /// Whether the first target cuts its rows.

@@ -1,2 +1,0 @@
-pub mod HandleLemmas
-pub mod KeyLemmas

@@ -1,0 +1,5 @@
+use Rattle.test_layers.proofs.sorted.streams.merger_answers_so.Goals as goal
+
+pub answers_so-requires : goal.answers_so-requires
+answers_so-requires g c =
+    (c.from_both_ends.ensures.can c.args.sources.items c.in_ok-merger.ensures.fresh).asks c.requires.can c.requires.finite

@@ -1,6 +1,0 @@
-use Rattle.sst_entries.specs.Stream.{CanYield, nowhere}
-use Rattle.test_sorted.proofs.sorted.words.gives_so.Given as goal
-
-abbrev pub invariant-loop-word : goal.invariant-loop-word
-invariant-loop-word g l =
-    CanYield g.I.Iterator.next_gives nowhere g.I.Iterator.can_next g.I.Iterator.can_next l.stream
