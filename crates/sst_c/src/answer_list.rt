@@ -27,15 +27,17 @@ impl Model for AnswerList {
 
 impl AnswerList {
     // The entries at positions within a table's bytes.
-    #[tactic(auto, using(crate::proofs::AnswerLists::all_there))]
     fn placed(table: &Table, places: Vec<Option<EntryPlace>>) -> Result<AnswerList, Error>
         requires { spec.All (λ place. IfSome place (spec.IsPlacedIn table.now.bytes)) places.items }
         ensures ok { IfOk result (λ found.
             found ≡ spec.entries_placed table.now.bytes places.items) }
         ensures err { IfErr result (λ e. e ≡ spec.OutOfMemory) }
     {
-        let table = table.clone()?;
-        Ok(AnswerList { table, places })
+        let share = table.clone()?;
+        Ok(AnswerList {
+            table: share,
+            places,
+        })
     }
 
     /// Reads a table for some queries. Fails as `get_many`.
