@@ -8,9 +8,11 @@ use Rattle.sst_entries.specs.declared.error.Error.{Error}
 use Rattle.sst_entries.specs.declared.error.Error.TheVariants.{OutOfMemory}
 use Rattle.lsm_readers.specs.point.Answer.{lift}
 use Rattle.lsm_readers.specs.Scan.{IsEndedScan, LendsList, Scan, ScansLent, ScansList, ScansNext}
+use Rattle.lsm_readers.specs.Words.{OpenTable, StoresList}
+use Rattle.lsm_runs.specs.RunScan.{table_scan}
 use Rattle.lsm_readers.proofs.Scans.{ended_left}
 use Rattle.sst_c.specs.Codes.{result_code}
-use Rattle.sst_c.specs.Scans.{YieldsScan}
+use Rattle.sst_c.specs.Scans.{IsBegunScan, ScansTable, YieldsScan}
 use Rattle.sst_c.specs.Steps.{StepsBy}
 use Rattle.sst_entries.specs.Error.{number_of}
 use Rattle.sst_entries.specs.Lending.{came}
@@ -34,6 +36,13 @@ pub list_yielded : (r : Result Scan Error) (es : List Entry) (g : ℕ) → Scans
 unfolding YieldsScan
 list_yielded (Ok s) es g yields lends = λ stops memory. (yields stops memory, lends stops memory)
 list_yielded (Err e) es g yields lends = tt
+
+pub all_scans : (t : OpenTable) (r : Result Scan Error) → IfOk r (IsBegunScan t)
+    → IfOk r (YieldsScan (table_scan t))
+    → ((es : List Entry) → StoresList t.bytes es → IfOk r (YieldsScan (ok_results (lift es t.global_seqno))))
+    → IfOk r (ScansTable t)
+all_scans t (Ok s) begun yields list = record { begun = begun; yields = yields; list = list }
+all_scans t (Err e) begun yields list = tt
 
 -- and is refused for want of memory alone, where it has an entry
 pub list_refused : (r : Result Scan Error) (es : List Entry) (g : ℕ) → ScansList r es g

@@ -7,6 +7,8 @@ pub mod What
 pub mod Options
 pub mod Writing
 pub mod Steps
+pub mod Handles
+pub mod RunsWithin
 pub mod Scans
 pub mod Takes
 pub mod Reads

@@ -5,7 +5,12 @@ use Rattle.std.specs.Option.{option_flatten, option_map_or}
 use Rattle.std.specs.Global.{Global}
 use Rattle.sst_entries.specs.Entry.{Entry}
 use Rattle.sst_entries.specs.Error.{number_of}
+use Rattle.sst_entries.specs.Point.{point}
 use Rattle.sst_entries.specs.declared.error.Error.{Error}
+use Rattle.lsm_iters.specs.Lift.{lift}
+use Rattle.lsm_readers.specs.Stored.{StoresList}
+use Rattle.lsm_readers.specs.point.Many.{many_results}
+use Rattle.lsm_readers.specs.point.Table.{OpenTable}
 use Rattle.lsm_readers.specs.declared.many.Query.{Query}
 use Rattle.sst_c.specs.Copies.{copy_code, laid_over, lend_code}
 use Rattle.sst_c.specs.Reported.{entry_facts}
@@ -33,6 +38,16 @@ unfoldable pub AnswersMany : ℕ → Option (List (Option Entry)) → List Entry
 AnswersMany code kept old new (Ok found) = (code ≡ 1)
     ⊎ ((code ≡ 0) × (kept ≡ Some found) × (new ≡ laid_over (map entry_facts found) old))
 AnswersMany code kept old new (Err e) = (code ≡ 1) ⊎ (code ≡ number_of e)
+
+-- point reads of a table for the keys of these lengths, which are back to back in the bytes: they
+-- are kept and reported, or fail
+pub record AnswersKeys (t : OpenTable) (keys lens : List ℕ) (seqno code : ℕ)
+    (kept : Option (List (Option Entry))) (old new : List EntryReport) : Type 0 where
+  -- for any bytes, it is the result of each read, or the first error
+  pub returned : AnswersMany code kept old new (many_results t (queries_for keys lens seqno))
+  -- for bytes that store a list, it is each key's newest visible version, global seqno applied
+  pub list : (es : List Entry) → StoresList t.bytes es → AnswersMany code kept old new
+      (Ok (map (λ k. point (lift es t.global_seqno) k seqno) (keys_cut lens keys)))
 
 -- the results that a handle holds, if it holds those of many keys
 abbrev pub many_kept : Option Held → Option (List (Option Entry))

@@ -9,8 +9,9 @@ use Rattle.sst_entries.specs.declared.error.Error.{Error}
 use Rattle.lsm_iters.specs.Range.{Range, RangeGives, back_next, front_next}
 use Rattle.lsm_iters.specs.Words.{back_of, front_of}
 use Rattle.lsm_readers.specs.point.Parts.{recovered_result}
-use Rattle.lsm_readers.specs.Ranges.{YieldsWithin}
+use Rattle.lsm_readers.specs.Ranges.{IsRangeOf, YieldsWithin}
 use Rattle.lsm_readers.specs.Scan.{Scan}
+use Rattle.lsm_readers.specs.Stored.{StoresList}
 use Rattle.lsm_readers.specs.point.Table.{OpenTable}
 use Rattle.lsm_readers.specs.Verification.{Verifying}
 use Rattle.lsm_writers.specs.declared.writer.FinishedTable.{FinishedTable}
@@ -168,3 +169,9 @@ decode_bound kind key =
 unfoldable pub YieldsTable : Bound (List ℕ) → Bound (List ℕ) → List Entry → ℕ → Range Global → Type 0
 YieldsTable low high es g s =
     YieldsWithin (RangeGives front_of front_next) (RangeGives back_of back_next) low high es g s
+
+-- a range reads a table within bounds, and has not been stepped
+pub record RangesTable (low high : Bound (List ℕ)) (t : OpenTable) (s : Range Global) : Type 0 where
+  pub range : IsRangeOf t low high s
+  -- for bytes that store a list, both ends yield its entries within the bounds
+  pub list : (es : List Entry) → StoresList t.bytes es → YieldsTable low high es t.global_seqno s

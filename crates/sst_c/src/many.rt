@@ -1,7 +1,6 @@
 //! Point reads of many keys in one table.
 ghost use Rattle.std.specs.Prelude.{◌≡◌, ◌≢◌, ◌<◌, ◌≤◌, ◌==◌, ◌⊎◌, false, true, IfErr, IfOk, List};
-ghost use Rattle.std.specs.Prelude.{IsSomeAnd, None, Ok, Option, Result, Some, is_some, length};
-ghost use Rattle.std.specs.Prelude.{map};
+ghost use Rattle.std.specs.Prelude.{IsSomeAnd, None, Ok, Option, Result, Some, length, map};
 ghost use Rattle.sst_c.specs.Words as spec;
 
 use crate::answer_list::AnswerList;
@@ -115,7 +114,7 @@ fn keep_each(
     }
 }
 
-// The same for the result of reads.
+// Stores and reports the result of reads, or returns the error code.
 fn keep_found(
     alloc: Global,
     found: Result<AnswerList, Error>,
@@ -151,15 +150,8 @@ fn read_each(
     requires empty { answers.old.boxed.value ≡ None }
     requires sum { spec.sum lens.now ≡ length keys.now }
     requires room { length lens.now ≤ length entries.old }
-    ensures returned { let returned = spec.many_results table.now
-        (spec.queries_for keys.now lens.now seqno) in
-        let kept = spec.many_kept answers.new.boxed.value in
-        spec.AnswersMany result kept entries.old entries.new returned }
-    ensures list { (es : List spec.Entry) → spec.StoresList table.now.bytes es →
-        let all = spec.lift es table.now.global_seqno in
-        let each = map (λ k. spec.point all k seqno) (spec.keys_cut lens.now keys.now) in
-        let kept = spec.many_kept answers.new.boxed.value in
-        spec.AnswersMany result kept entries.old entries.new (Ok each) }
+    ensures returned { spec.AnswersKeys table.now keys.now lens.now seqno result
+        (spec.many_kept answers.new.boxed.value) entries.old entries.new }
     ensures new { result ≡ 0 → IsSomeAnd answers.new.boxed.value (λ k. spec.found_by k ≡ None) }
     ensures left { result ≢ 0 →
         (entries.new ≡ entries.old) × (answers.new.boxed.value ≡ None) }
@@ -185,15 +177,8 @@ fn get_each(
         length entries.old < length lens.now → result ≡ 103 }
     ensures returned { (t : spec.OpenTable) → held.now.what ≡ spec.TableOf t →
         spec.sum lens.now ≡ length keys.now → length lens.now ≤ length entries.old →
-        let returned = spec.many_results t (spec.queries_for keys.now lens.now seqno) in
-        let kept = spec.many_kept answers.new.boxed.value in
-        spec.AnswersMany result kept entries.old entries.new returned }
-    ensures list { (t : spec.OpenTable) (es : List spec.Entry) → held.now.what ≡ spec.TableOf t →
-        spec.sum lens.now ≡ length keys.now → length lens.now ≤ length entries.old →
-        spec.StoresList t.bytes es → let all = spec.lift es t.global_seqno in
-        let each = map (λ k. spec.point all k seqno) (spec.keys_cut lens.now keys.now) in
-        let kept = spec.many_kept answers.new.boxed.value in
-        spec.AnswersMany result kept entries.old entries.new (Ok each) }
+        spec.AnswersKeys t keys.now lens.now seqno result
+        (spec.many_kept answers.new.boxed.value) entries.old entries.new }
     ensures new { result ≡ 0 → IsSomeAnd answers.new.boxed.value (λ k. spec.found_by k ≡ None) }
     ensures left { result ≢ 0 →
         (entries.new ≡ entries.old) × (answers.new.boxed.value ≡ None) }
@@ -236,11 +221,8 @@ pub extern "C" fn sst_table_get_many(
     entries: &mut [EntryReport],
     answers: &mut Handle,
 ) -> u32
-    ensures kept { table.new.boxed.value ≡ table.old.boxed.value }
-    ensures open { is_some answers.old.boxed.value ≡ true → result ≡ 101 }
-    ensures shut { answers.old.boxed.value ≡ None → table.old.boxed.value ≡ None → result ≡ 100 }
-    ensures kind { (h : spec.HeldValue) → answers.old.boxed.value ≡ None →
-        table.old.boxed.value ≡ Some h → spec.is_table h.what ≡ false → result ≡ 102 }
+    ensures opens { spec.OpensFrom spec.is_table table.old.boxed.value table.new.boxed.value
+        answers.old.boxed.value answers.new.boxed.value result }
     ensures lengths { (h : spec.HeldValue) → answers.old.boxed.value ≡ None →
         table.old.boxed.value ≡ Some h → spec.is_table h.what ≡ true →
         spec.sum key_lens.now ≢ length keys.now → result ≡ 105 }
@@ -248,25 +230,13 @@ pub extern "C" fn sst_table_get_many(
         table.old.boxed.value ≡ Some h → spec.is_table h.what ≡ true →
         spec.sum key_lens.now ≡ length keys.now → length entries.old < length key_lens.now →
         result ≡ 103 }
-    // For any bytes it is the result of each read, or the first error.
+    // Else it is the result of each read, or the first error.
     ensures returned { (h : spec.HeldValue) (t : spec.OpenTable) → answers.old.boxed.value ≡ None →
         table.old.boxed.value ≡ Some h → h.what ≡ spec.TableOf t →
         spec.sum key_lens.now ≡ length keys.now → length key_lens.now ≤ length entries.old →
-        let returned = spec.many_results t (spec.queries_for keys.now key_lens.now seqno) in
-        let kept = spec.many_kept answers.new.boxed.value in
-        spec.AnswersMany result kept entries.old entries.new returned }
-    // For bytes that store a list it is each key's newest visible version in the list, global seqno
-    // applied.
-    ensures list { (h : spec.HeldValue) (t : spec.OpenTable) (es : List spec.Entry) →
-        answers.old.boxed.value ≡ None → table.old.boxed.value ≡ Some h → h.what ≡ spec.TableOf t →
-        spec.sum key_lens.now ≡ length keys.now → length key_lens.now ≤ length entries.old →
-        spec.StoresList t.bytes es → let all = spec.lift es t.global_seqno in
-        let each = map (λ k. spec.point all k seqno) (spec.keys_cut key_lens.now keys.now) in
-        let kept = spec.many_kept answers.new.boxed.value in
-        spec.AnswersMany result kept entries.old entries.new (Ok each) }
-    ensures new { result ≡ 0 → IsSomeAnd answers.new.boxed.value (λ k. spec.found_by k ≡ None) }
-    ensures left { result ≢ 0 →
-        (entries.new ≡ entries.old) × (answers.new.boxed.value ≡ answers.old.boxed.value) }
+        spec.AnswersKeys t keys.now key_lens.now seqno result
+        (spec.many_kept answers.new.boxed.value) entries.old entries.new }
+    ensures left { result ≢ 0 → entries.new ≡ entries.old }
 {
     if answers.is_open() {
         return OPEN;

@@ -1,6 +1,6 @@
 //! Packing the tables of a list of runs into the fewest runs.
 ghost use Rattle.std.specs.Prelude.{◌≡◌, ◌≢◌, ◌⊎◌, false, IsSomeAnd, List, None, Some};
-ghost use Rattle.std.specs.Prelude.{ℕ, is_some, length, slice_get, true};
+ghost use Rattle.std.specs.Prelude.{ℕ, length, slice_get, true};
 ghost use Rattle.sst_c.specs.Words as spec;
 
 use crate::codes::{CLOSED, NO_SUCH, OPEN, OTHER_KIND};
@@ -46,15 +46,10 @@ fn pack(alloc: Global, held: &Held, packed: &mut Handle) -> u32
 /// On error, both handles are unchanged.
 #[unsafe(no_mangle)]
 pub extern "C" fn sst_runs_pack(alloc: Global, runs: &mut Handle, packed: &mut Handle) -> u32
-    ensures kept { runs.new.boxed.value ≡ runs.old.boxed.value }
-    ensures left { result ≢ 0 → packed.new.boxed.value ≡ packed.old.boxed.value }
-    ensures open { is_some packed.old.boxed.value ≡ true → result ≡ 101 }
-    ensures shut { packed.old.boxed.value ≡ None → runs.old.boxed.value ≡ None → result ≡ 100 }
-    ensures other { (h : spec.HeldValue) → packed.old.boxed.value ≡ None →
-        runs.old.boxed.value ≡ Some h → spec.are_runs h.what ≡ false → result ≡ 102 }
+    ensures opens { spec.OpensFrom spec.are_runs runs.old.boxed.value runs.new.boxed.value
+        packed.old.boxed.value packed.new.boxed.value result }
     ensures memory { (h : spec.HeldValue) → packed.old.boxed.value ≡ None →
         runs.old.boxed.value ≡ Some h → spec.are_runs h.what ≡ true → (result ≡ 0) ⊎ (result ≡ 1) }
-    ensures new { result ≡ 0 → IsSomeAnd packed.new.boxed.value (λ k. spec.found_by k ≡ None) }
     ensures kind { result ≡ 0 →
         IsSomeAnd packed.new.boxed.value (λ k. spec.are_runs k.what ≡ true) }
     // They are the packed runs of the list. If the tables store lists, they hold the same entries.
@@ -109,15 +104,10 @@ fn show_packing(alloc: Global, held: &Held, packing: &mut Handle) -> u32
 /// On error, both handles are unchanged.
 #[unsafe(no_mangle)]
 pub extern "C" fn sst_packing_open(alloc: Global, runs: &mut Handle, packing: &mut Handle) -> u32
-    ensures kept { runs.new.boxed.value ≡ runs.old.boxed.value }
-    ensures left { result ≢ 0 → packing.new.boxed.value ≡ packing.old.boxed.value }
-    ensures open { is_some packing.old.boxed.value ≡ true → result ≡ 101 }
-    ensures shut { packing.old.boxed.value ≡ None → runs.old.boxed.value ≡ None → result ≡ 100 }
-    ensures other { (h : spec.HeldValue) → packing.old.boxed.value ≡ None →
-        runs.old.boxed.value ≡ Some h → spec.are_runs h.what ≡ false → result ≡ 102 }
+    ensures opens { spec.OpensFrom spec.are_runs runs.old.boxed.value runs.new.boxed.value
+        packing.old.boxed.value packing.new.boxed.value result }
     ensures memory { (h : spec.HeldValue) → packing.old.boxed.value ≡ None →
         runs.old.boxed.value ≡ Some h → spec.are_runs h.what ≡ true → (result ≡ 0) ⊎ (result ≡ 1) }
-    ensures new { result ≡ 0 → IsSomeAnd packing.new.boxed.value (λ k. spec.found_by k ≡ None) }
     // The tables are those of the list, and the order of each key's tables is kept. No fewer runs
     // suffice, and the chain has as many tables as there are runs.
     ensures packed { (h : spec.HeldValue) → runs.old.boxed.value ≡ Some h → result ≡ 0 →
@@ -161,10 +151,8 @@ fn count(held: &Held, runs: &mut u64) -> u32
 /// On error, `runs` is unchanged.
 #[unsafe(no_mangle)]
 pub extern "C" fn sst_packing_count(alloc: Global, packing: &mut Handle, runs: &mut u64) -> u32
-    ensures kept { packing.new.boxed.value ≡ packing.old.boxed.value }
-    ensures shut { packing.old.boxed.value ≡ None → result ≡ 100 }
-    ensures other { (h : spec.HeldValue) → packing.old.boxed.value ≡ Some h →
-        spec.is_packing h.what ≡ false → result ≡ 102 }
+    ensures queries { spec.QueriesHandle spec.is_packing packing.old.boxed.value
+        packing.new.boxed.value result }
     ensures returned { (h : spec.HeldValue) → packing.old.boxed.value ≡ Some h →
         spec.is_packing h.what ≡ true →
         (result ≡ 0) × (runs.new ≡ length (spec.packed_runs h.what)) }
@@ -215,10 +203,8 @@ pub extern "C" fn sst_packing_run(
     run: u64,
     tables: &mut u64,
 ) -> u32
-    ensures kept { packing.new.boxed.value ≡ packing.old.boxed.value }
-    ensures shut { packing.old.boxed.value ≡ None → result ≡ 100 }
-    ensures other { (h : spec.HeldValue) → packing.old.boxed.value ≡ Some h →
-        spec.is_packing h.what ≡ false → result ≡ 102 }
+    ensures queries { spec.QueriesHandle spec.is_packing packing.old.boxed.value
+        packing.new.boxed.value result }
     ensures none { (h : spec.HeldValue) → packing.old.boxed.value ≡ Some h →
         spec.is_packing h.what ≡ true → slice_get (spec.packed_runs h.what) run ≡ None →
         result ≡ 105 }
@@ -282,10 +268,8 @@ pub extern "C" fn sst_packing_table(
     place: u64,
     table: &mut u64,
 ) -> u32
-    ensures kept { packing.new.boxed.value ≡ packing.old.boxed.value }
-    ensures shut { packing.old.boxed.value ≡ None → result ≡ 100 }
-    ensures other { (h : spec.HeldValue) → packing.old.boxed.value ≡ Some h →
-        spec.is_packing h.what ≡ false → result ≡ 102 }
+    ensures queries { spec.QueriesHandle spec.is_packing packing.old.boxed.value
+        packing.new.boxed.value result }
     ensures no_run { (h : spec.HeldValue) → packing.old.boxed.value ≡ Some h →
         spec.is_packing h.what ≡ true → slice_get (spec.packed_runs h.what) run ≡ None →
         result ≡ 105 }
@@ -345,10 +329,8 @@ pub extern "C" fn sst_packing_chain(
     place: u64,
     table: &mut u64,
 ) -> u32
-    ensures kept { packing.new.boxed.value ≡ packing.old.boxed.value }
-    ensures shut { packing.old.boxed.value ≡ None → result ≡ 100 }
-    ensures other { (h : spec.HeldValue) → packing.old.boxed.value ≡ Some h →
-        spec.is_packing h.what ≡ false → result ≡ 102 }
+    ensures queries { spec.QueriesHandle spec.is_packing packing.old.boxed.value
+        packing.new.boxed.value result }
     ensures none { (h : spec.HeldValue) → packing.old.boxed.value ≡ Some h →
         spec.is_packing h.what ≡ true → slice_get (spec.packed_chain h.what) place ≡ None →
         result ≡ 105 }

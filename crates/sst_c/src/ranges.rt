@@ -1,5 +1,5 @@
 //! Ranges, read from both ends, and opening a range of a table.
-ghost use Rattle.std.specs.Prelude.{◌≡◌, ◌≢◌, ◌<◌, ◌⊎◌, ◌||◌, false, IfErr, IfOk, IsSomeAnd, List};
+ghost use Rattle.std.specs.Prelude.{◌≡◌, ◌≢◌, ◌<◌, ◌⊎◌, ◌||◌, false, IfErr, IfOk, IsSomeAnd};
 ghost use Rattle.std.specs.Prelude.{None, Option, Result, Some, is_some, nat_lt, true};
 ghost use Rattle.sst_c.specs.Words as spec;
 
@@ -49,7 +49,6 @@ pub(crate) fn bounds(
 }
 
 // A range of a table, for bounds as C passes them.
-#[tactic(auto, unfolding(crate::specs::What::YieldsTable))]
 fn range_within(
     alloc: Global,
     table: &Table,
@@ -60,13 +59,9 @@ fn range_within(
 ) -> Result<Iter, Error>
     requires lower { lower_kind < 3 }
     requires upper { upper_kind < 3 }
-    ensures range { let low = spec.decode_bound lower_kind lower.now in
+    ensures ranges { let low = spec.decode_bound lower_kind lower.now in
         let high = spec.decode_bound upper_kind upper.now in
-        IfOk result (spec.IsRangeOf table.now low high) }
-    ensures list { let low = spec.decode_bound lower_kind lower.now in
-        let high = spec.decode_bound upper_kind upper.now in
-        (es : List spec.Entry) → spec.StoresList table.now.bytes es →
-        let g = table.now.global_seqno in IfOk result (spec.YieldsTable low high es g) }
+        IfOk result (spec.RangesTable low high table.now) }
     ensures err { IfErr result (λ e. e ≡ spec.OutOfMemory) }
 {
     let (lower, upper) = bounds(alloc, lower_kind, lower, upper_kind, upper)?;
@@ -88,16 +83,11 @@ fn begin_within(
     requires upper { upper_kind < 3 }
     ensures memory { (result ≡ 0) ⊎ (result ≡ 1) }
     ensures new { result ≡ 0 → IsSomeAnd range.new.boxed.value (λ r. spec.found_by r ≡ None) }
-    ensures range { result ≡ 0 →
+    ensures ranges { result ≡ 0 →
         let low = spec.decode_bound lower_kind lower.now in
         let high = spec.decode_bound upper_kind upper.now in
         IsSomeAnd range.new.boxed.value
-        (λ r. spec.IsRangeWhere (spec.IsRangeOf table.now low high) r.what) }
-    ensures list { (es : List spec.Entry) → spec.StoresList table.now.bytes es → result ≡ 0 →
-        let low = spec.decode_bound lower_kind lower.now in
-        let high = spec.decode_bound upper_kind upper.now in let g = table.now.global_seqno in
-        IsSomeAnd range.new.boxed.value
-        (λ r. spec.IsRangeWhere (spec.YieldsTable low high es g) r.what) }
+        (λ r. spec.IsRangeWhere (spec.RangesTable low high table.now) r.what) }
     ensures left { result ≢ 0 → range.new.boxed.value ≡ None }
 {
     match range_within(alloc, table, lower_kind, lower, upper_kind, upper) {
@@ -117,21 +107,16 @@ fn begin(
 ) -> u32
     requires { range.old.boxed.value ≡ None }
     ensures other { spec.is_table held.now.what ≡ false → result ≡ 102 }
-    ensures kinds { (t : spec.OpenTable) → held.now.what ≡ spec.TableOf t →
+    ensures kinds { spec.is_table held.now.what ≡ true →
         nat_lt 2 lower_kind || nat_lt 2 upper_kind ≡ true → result ≡ 105 }
-    ensures memory { (t : spec.OpenTable) → held.now.what ≡ spec.TableOf t →
+    ensures memory { spec.is_table held.now.what ≡ true →
         nat_lt 2 lower_kind || nat_lt 2 upper_kind ≡ false → (result ≡ 0) ⊎ (result ≡ 1) }
     ensures new { result ≡ 0 → IsSomeAnd range.new.boxed.value (λ r. spec.found_by r ≡ None) }
-    ensures range { (t : spec.OpenTable) → held.now.what ≡ spec.TableOf t → result ≡ 0 →
+    ensures ranges { (t : spec.OpenTable) → held.now.what ≡ spec.TableOf t → result ≡ 0 →
         let low = spec.decode_bound lower_kind lower.now in
         let high = spec.decode_bound upper_kind upper.now in
         IsSomeAnd range.new.boxed.value
-        (λ r. spec.IsRangeWhere (spec.IsRangeOf t low high) r.what) }
-    ensures list { (t : spec.OpenTable) (es : List spec.Entry) → held.now.what ≡ spec.TableOf t →
-        result ≡ 0 → spec.StoresList t.bytes es →
-        let low = spec.decode_bound lower_kind lower.now in
-        let high = spec.decode_bound upper_kind upper.now in IsSomeAnd range.new.boxed.value (λ r.
-        spec.IsRangeWhere (spec.YieldsTable low high es t.global_seqno) r.what) }
+        (λ r. spec.IsRangeWhere (spec.RangesTable low high t) r.what) }
     ensures left { result ≢ 0 → range.new.boxed.value ≡ None }
 {
     let What::Table(table) = &held.what else {
@@ -167,34 +152,15 @@ pub extern "C" fn sst_range_open(
     upper: &[u8],
     range: &mut Handle,
 ) -> u32
-    ensures kept { table.new.boxed.value ≡ table.old.boxed.value }
-    ensures left { result ≢ 0 → range.new.boxed.value ≡ range.old.boxed.value }
-    ensures open { is_some range.old.boxed.value ≡ true → result ≡ 101 }
-    ensures shut { range.old.boxed.value ≡ None → table.old.boxed.value ≡ None → result ≡ 100 }
-    ensures other { (h : spec.HeldValue) → range.old.boxed.value ≡ None →
-        table.old.boxed.value ≡ Some h → spec.is_table h.what ≡ false → result ≡ 102 }
-    ensures kinds { (h : spec.HeldValue) (t : spec.OpenTable) → range.old.boxed.value ≡ None →
-        table.old.boxed.value ≡ Some h → h.what ≡ spec.TableOf t →
-        nat_lt 2 lower_kind || nat_lt 2 upper_kind ≡ true → result ≡ 105 }
-    ensures memory { (h : spec.HeldValue) (t : spec.OpenTable) → range.old.boxed.value ≡ None →
-        table.old.boxed.value ≡ Some h → h.what ≡ spec.TableOf t →
-        nat_lt 2 lower_kind || nat_lt 2 upper_kind ≡ false → (result ≡ 0) ⊎ (result ≡ 1) }
-    ensures new { result ≡ 0 → IsSomeAnd range.new.boxed.value (λ r. spec.found_by r ≡ None) }
-    // It reads the table within the bounds, and has not been stepped.
-    ensures range { (h : spec.HeldValue) (t : spec.OpenTable) → table.old.boxed.value ≡ Some h →
+    ensures opens { spec.OpensWithin lower_kind upper_kind spec.is_table table.old.boxed.value
+        table.new.boxed.value range.old.boxed.value range.new.boxed.value result }
+    // It reads the table within the bounds, from both ends.
+    ensures ranges { (h : spec.HeldValue) (t : spec.OpenTable) → table.old.boxed.value ≡ Some h →
         h.what ≡ spec.TableOf t → result ≡ 0 →
         let low = spec.decode_bound lower_kind lower.now in
         let high = spec.decode_bound upper_kind upper.now in
         IsSomeAnd range.new.boxed.value
-        (λ r. spec.IsRangeWhere (spec.IsRangeOf t low high) r.what) }
-    // On bytes that store a list, it yields the list's entries within the bounds, global sequence
-    // number applied.
-    ensures list { (h : spec.HeldValue) (t : spec.OpenTable) (es : List spec.Entry) →
-        table.old.boxed.value ≡ Some h → h.what ≡ spec.TableOf t → result ≡ 0 →
-        spec.StoresList t.bytes es →
-        let low = spec.decode_bound lower_kind lower.now in
-        let high = spec.decode_bound upper_kind upper.now in IsSomeAnd range.new.boxed.value (λ r.
-        spec.IsRangeWhere (spec.YieldsTable low high es t.global_seqno) r.what) }
+        (λ r. spec.IsRangeWhere (spec.RangesTable low high t) r.what) }
 {
     if range.is_open() {
         return OPEN;
@@ -314,12 +280,8 @@ pub extern "C" fn sst_range_next(
     back: bool,
     entry: &mut EntryReport,
 ) -> u32
-    ensures shut { range.old.boxed.value ≡ None →
-        (result ≡ 100) × (range.new.boxed.value ≡ None) }
-    ensures other { (h : spec.HeldValue) → range.old.boxed.value ≡ Some h →
-        spec.is_range h.what ≡ false → (result ≡ 102) × IsSomeAnd range.new.boxed.value (λ k.
-        (spec.found_by k ≡ None) × (k.what ≡ h.what)) }
-    ensures entry { entry.new ≡ spec.entry_facts (spec.found_in range.new.boxed.value) }
+    ensures reads { spec.ReadsThrough spec.is_range range.old.boxed.value range.new.boxed.value
+        result entry.new }
     // It is one step of the range from that end.
     ensures front { (h : spec.HeldValue) (s : spec.RangeValue spec.Heap) →
         range.old.boxed.value ≡ Some h →
@@ -422,18 +384,8 @@ pub extern "C" fn sst_range_take(
     count: &mut u64,
     found: &mut EntryReport,
 ) -> u32
-    ensures shut { range.old.boxed.value ≡ None →
-        (result ≡ 100) × (range.new.boxed.value ≡ None) }
-    ensures other { (h : spec.HeldValue) → range.old.boxed.value ≡ Some h →
-        spec.is_range h.what ≡ false → (result ≡ 102) × IsSomeAnd range.new.boxed.value (λ k.
-        (spec.found_by k ≡ None) × (k.what ≡ h.what)) }
-    // If the handle is closed or holds another kind, nothing is copied.
-    ensures closed { range.old.boxed.value ≡ None → (count.new ≡ 0)
-        × (entries.new ≡ entries.old) × (bytes.new ≡ bytes.old) }
-    ensures none { (h : spec.HeldValue) → range.old.boxed.value ≡ Some h →
-        spec.is_range h.what ≡ false →
-        (count.new ≡ 0) × (entries.new ≡ entries.old) × (bytes.new ≡ bytes.old) }
-    ensures found { found.new ≡ spec.entry_facts (spec.found_in range.new.boxed.value) }
+    ensures takes { spec.TakesThrough spec.is_range range.old.boxed.value range.new.boxed.value
+        entries.old entries.new bytes.old bytes.new count.new result found.new }
     // It makes as many steps of a table's range as needed, each as `sst_range_next` does.
     ensures reads { (h : spec.HeldValue) (s : spec.RangeValue spec.Heap) →
         range.old.boxed.value ≡ Some h →

@@ -267,14 +267,10 @@ pub extern "C" fn sst_runs_get(
     seqno: u64,
     entry: &mut EntryReport,
 ) -> u32
-    ensures shut { runs.old.boxed.value ≡ None →
-        (result ≡ 100) × (runs.new.boxed.value ≡ None) }
+    ensures reads { spec.ReadsThrough spec.are_runs runs.old.boxed.value runs.new.boxed.value result
+        entry.new }
     ensures kept { (h : spec.HeldValue) → runs.old.boxed.value ≡ Some h →
         IsSomeAnd runs.new.boxed.value (λ k. k.what ≡ h.what) }
-    ensures other { (h : spec.HeldValue) → runs.old.boxed.value ≡ Some h →
-        spec.are_runs h.what ≡ false →
-        (result ≡ 102) × (spec.found_in runs.new.boxed.value ≡ None) }
-    ensures entry { entry.new ≡ spec.entry_facts (spec.found_in runs.new.boxed.value) }
     // For any bytes, it is the result of the tables.
     ensures returned { (h : spec.HeldValue) → runs.old.boxed.value ≡ Some h →
         spec.are_runs h.what ≡ true → let found = spec.found_in runs.new.boxed.value in

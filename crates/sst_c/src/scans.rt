@@ -15,10 +15,7 @@ use sst_blocks::{Error, Lending};
 use std::alloc::Global;
 
 fn scan_of(table: &Table) -> Result<Scanner, Error>
-    ensures begun { IfOk result (spec.IsBegunScan table.now) }
-    ensures yields { IfOk result (spec.YieldsScan (spec.table_scan table.now)) }
-    ensures list { (es : List spec.Entry) → spec.StoresList table.now.bytes es →
-        IfOk result (spec.YieldsScan (spec.ok_results (spec.lift es table.now.global_seqno))) }
+    ensures scans { IfOk result (spec.ScansTable table.now) }
     ensures refused { spec.Faults result (spec.scan_fault table.now) }
     ensures early { spec.FaultsFirst result (spec.early_scan_fault table.now) }
     ensures fine { (es : List spec.Entry) → spec.StoresList table.now.bytes es → 0 < length es →
@@ -36,13 +33,8 @@ fn begin_scan(alloc: Global, table: &Table, scan: &mut Handle) -> u32
     ensures fine { (es : List spec.Entry) → spec.StoresList table.now.bytes es → 0 < length es →
         (result ≡ 0) ⊎ (result ≡ 1) }
     ensures new { result ≡ 0 → IsSomeAnd scan.new.boxed.value (λ k. spec.found_by k ≡ None) }
-    ensures begun { result ≡ 0 → IsSomeAnd scan.new.boxed.value (λ k.
-        spec.IsScanWhere (spec.IsBegunScan table.now) k.what) }
-    ensures yields { result ≡ 0 → IsSomeAnd scan.new.boxed.value (λ k.
-        spec.IsScanWhere (spec.YieldsScan (spec.table_scan table.now)) k.what) }
-    ensures list { (es : List spec.Entry) → spec.StoresList table.now.bytes es → result ≡ 0 →
-        let g = table.now.global_seqno in IsSomeAnd scan.new.boxed.value (λ k.
-        spec.IsScanWhere (spec.YieldsScan (spec.ok_results (spec.lift es g))) k.what) }
+    ensures scans { result ≡ 0 → IsSomeAnd scan.new.boxed.value (λ k.
+        spec.IsScanWhere (spec.ScansTable table.now) k.what) }
     ensures left { result ≢ 0 → scan.new.boxed.value ≡ None }
 {
     match scan_of(table) {
@@ -54,21 +46,11 @@ fn begin_scan(alloc: Global, table: &Table, scan: &mut Handle) -> u32
 fn begin(alloc: Global, held: &Held, scan: &mut Handle) -> u32
     requires { scan.old.boxed.value ≡ None }
     ensures other { spec.is_table held.now.what ≡ false → result ≡ 102 }
-    ensures returned { (t : spec.OpenTable) → held.now.what ≡ spec.TableOf t →
-        spec.FaultReported result (spec.scan_fault t) }
-    ensures early { (t : spec.OpenTable) → held.now.what ≡ spec.TableOf t →
-        spec.ReportsFirst result (spec.early_scan_fault t) }
-    ensures fine { (t : spec.OpenTable) (es : List spec.Entry) → held.now.what ≡ spec.TableOf t →
-        spec.StoresList t.bytes es → 0 < length es → (result ≡ 0) ⊎ (result ≡ 1) }
+    ensures reports { (t : spec.OpenTable) → held.now.what ≡ spec.TableOf t →
+        spec.ReportsScan t result }
     ensures new { result ≡ 0 → IsSomeAnd scan.new.boxed.value (λ k. spec.found_by k ≡ None) }
-    ensures begun { (t : spec.OpenTable) → held.now.what ≡ spec.TableOf t → result ≡ 0 →
-        IsSomeAnd scan.new.boxed.value (λ k. spec.IsScanWhere (spec.IsBegunScan t) k.what) }
-    ensures yields { (t : spec.OpenTable) → held.now.what ≡ spec.TableOf t → result ≡ 0 →
-        IsSomeAnd scan.new.boxed.value (λ k. spec.IsScanWhere (spec.YieldsScan (spec.table_scan t))
-        k.what) }
-    ensures list { (t : spec.OpenTable) (es : List spec.Entry) → held.now.what ≡ spec.TableOf t →
-        result ≡ 0 → spec.StoresList t.bytes es → IsSomeAnd scan.new.boxed.value (λ k.
-        spec.IsScanWhere (spec.YieldsScan (spec.ok_results (spec.lift es t.global_seqno))) k.what) }
+    ensures scans { (t : spec.OpenTable) → held.now.what ≡ spec.TableOf t → result ≡ 0 →
+        IsSomeAnd scan.new.boxed.value (λ k. spec.IsScanWhere (spec.ScansTable t) k.what) }
     ensures left { result ≢ 0 → scan.new.boxed.value ≡ None }
 {
     let What::Table(table) = &held.what else {
@@ -93,39 +75,15 @@ fn begin(alloc: Global, held: &Held, scan: &mut Handle) -> u32
 /// On error, both handles are unchanged.
 #[unsafe(no_mangle)]
 pub extern "C" fn sst_scan_open(alloc: Global, table: &mut Handle, scan: &mut Handle) -> u32
-    ensures kept { table.new.boxed.value ≡ table.old.boxed.value }
-    ensures left { result ≢ 0 → scan.new.boxed.value ≡ scan.old.boxed.value }
-    ensures open { is_some scan.old.boxed.value ≡ true → result ≡ 101 }
-    ensures shut { scan.old.boxed.value ≡ None → table.old.boxed.value ≡ None → result ≡ 100 }
-    ensures other { (h : spec.HeldValue) → scan.old.boxed.value ≡ None →
-        table.old.boxed.value ≡ Some h → spec.is_table h.what ≡ false → result ≡ 102 }
+    ensures opens { spec.OpensFrom spec.is_table table.old.boxed.value table.new.boxed.value
+        scan.old.boxed.value scan.new.boxed.value result }
     // Except for `OutOfMemory`, it fails only with the fault of the first block.
-    ensures returned { (h : spec.HeldValue) (t : spec.OpenTable) → scan.old.boxed.value ≡ None →
-        table.old.boxed.value ≡ Some h → h.what ≡ spec.TableOf t →
-        spec.FaultReported result (spec.scan_fault t) }
-    // A fault of the block's header, checksum or count takes precedence over `OutOfMemory`.
-    ensures early { (h : spec.HeldValue) (t : spec.OpenTable) → scan.old.boxed.value ≡ None →
-        table.old.boxed.value ≡ Some h → h.what ≡ spec.TableOf t →
-        spec.ReportsFirst result (spec.early_scan_fault t) }
-    // On bytes that store a list with an entry, it fails only with `OutOfMemory`.
-    ensures fine { (h : spec.HeldValue) (t : spec.OpenTable) (es : List spec.Entry) →
-        scan.old.boxed.value ≡ None → table.old.boxed.value ≡ Some h → h.what ≡ spec.TableOf t →
-        spec.StoresList t.bytes es → 0 < length es → (result ≡ 0) ⊎ (result ≡ 1) }
-    ensures new { result ≡ 0 → IsSomeAnd scan.new.boxed.value (λ k. spec.found_by k ≡ None) }
-    // It covers all blocks of the table, and has not been stepped. For any bytes, its steps yield
-    // the entries of the blocks, up to the first fault.
-    ensures begun { (h : spec.HeldValue) (t : spec.OpenTable) → table.old.boxed.value ≡ Some h →
+    ensures reports { (h : spec.HeldValue) (t : spec.OpenTable) → scan.old.boxed.value ≡ None →
+        table.old.boxed.value ≡ Some h → h.what ≡ spec.TableOf t → spec.ReportsScan t result }
+    // It yields all entries of the table, in order.
+    ensures scans { (h : spec.HeldValue) (t : spec.OpenTable) → table.old.boxed.value ≡ Some h →
         h.what ≡ spec.TableOf t → result ≡ 0 → IsSomeAnd scan.new.boxed.value (λ k.
-        spec.IsScanWhere (spec.IsBegunScan t) k.what) }
-    ensures yields { (h : spec.HeldValue) (t : spec.OpenTable) → table.old.boxed.value ≡ Some h →
-        h.what ≡ spec.TableOf t → result ≡ 0 → IsSomeAnd scan.new.boxed.value (λ k.
-        spec.IsScanWhere (spec.YieldsScan (spec.table_scan t)) k.what) }
-    // On bytes that store a list, it yields each entry once, in order, global sequence number
-    // applied.
-    ensures list { (h : spec.HeldValue) (t : spec.OpenTable) (es : List spec.Entry) →
-        table.old.boxed.value ≡ Some h → h.what ≡ spec.TableOf t → result ≡ 0 →
-        spec.StoresList t.bytes es → IsSomeAnd scan.new.boxed.value (λ k.
-        spec.IsScanWhere (spec.YieldsScan (spec.ok_results (spec.lift es t.global_seqno))) k.what) }
+        spec.IsScanWhere (spec.ScansTable t) k.what) }
 {
     if scan.is_open() {
         return OPEN;
@@ -199,12 +157,8 @@ pub(crate) fn step(held: &mut Held) -> u32
 /// On error nothing is found, and `entry` is zero.
 #[unsafe(no_mangle)]
 pub extern "C" fn sst_scan_next(alloc: Global, scan: &mut Handle, entry: &mut EntryReport) -> u32
-    ensures shut { scan.old.boxed.value ≡ None →
-        (result ≡ 100) × (scan.new.boxed.value ≡ None) }
-    ensures other { (h : spec.HeldValue) → scan.old.boxed.value ≡ Some h →
-        spec.is_scan h.what ≡ false → (result ≡ 102) × IsSomeAnd scan.new.boxed.value (λ k.
-        (spec.found_by k ≡ None) × (k.what ≡ h.what)) }
-    ensures entry { entry.new ≡ spec.entry_facts (spec.found_in scan.new.boxed.value) }
+    ensures reads { spec.ReadsThrough spec.is_scan scan.old.boxed.value scan.new.boxed.value result
+        entry.new }
     // It is one step of the scanner as a lending iterator.
     ensures steps { (h : spec.HeldValue) (s : spec.Scan) → scan.old.boxed.value ≡ Some h →
         h.what ≡ spec.ScanOf s → IsSomeAnd scan.new.boxed.value (λ k.
@@ -294,18 +248,8 @@ pub extern "C" fn sst_scan_take(
     count: &mut u64,
     found: &mut EntryReport,
 ) -> u32
-    ensures shut { scan.old.boxed.value ≡ None →
-        (result ≡ 100) × (scan.new.boxed.value ≡ None) }
-    ensures other { (h : spec.HeldValue) → scan.old.boxed.value ≡ Some h →
-        spec.is_scan h.what ≡ false → (result ≡ 102) × IsSomeAnd scan.new.boxed.value (λ k.
-        (spec.found_by k ≡ None) × (k.what ≡ h.what)) }
-    // If the handle is closed or holds another kind, nothing is copied.
-    ensures closed { scan.old.boxed.value ≡ None → (count.new ≡ 0)
-        × (entries.new ≡ entries.old) × (bytes.new ≡ bytes.old) }
-    ensures none { (h : spec.HeldValue) → scan.old.boxed.value ≡ Some h →
-        spec.is_scan h.what ≡ false →
-        (count.new ≡ 0) × (entries.new ≡ entries.old) × (bytes.new ≡ bytes.old) }
-    ensures found { found.new ≡ spec.entry_facts (spec.found_in scan.new.boxed.value) }
+    ensures takes { spec.TakesThrough spec.is_scan scan.old.boxed.value scan.new.boxed.value
+        entries.old entries.new bytes.old bytes.new count.new result found.new }
     // It makes as many steps of the scanner as needed, each as `sst_scan_next` does.
     ensures reads { (h : spec.HeldValue) (s : spec.Scan) → scan.old.boxed.value ≡ Some h →
         h.what ≡ spec.ScanOf s → IsSomeAnd scan.new.boxed.value (λ k. spec.IsScanWhere

@@ -185,14 +185,10 @@ pub extern "C" fn sst_table_get(
     seqno: u64,
     entry: &mut EntryReport,
 ) -> u32
-    ensures shut { table.old.boxed.value ≡ None →
-        (result ≡ 100) × (table.new.boxed.value ≡ None) }
+    ensures reads { spec.ReadsThrough spec.is_table table.old.boxed.value table.new.boxed.value
+        result entry.new }
     ensures kept { (h : spec.HeldValue) → table.old.boxed.value ≡ Some h →
         IsSomeAnd table.new.boxed.value (λ k. k.what ≡ h.what) }
-    ensures other { (h : spec.HeldValue) → table.old.boxed.value ≡ Some h →
-        spec.is_table h.what ≡ false →
-        (result ≡ 102) × (spec.found_in table.new.boxed.value ≡ None) }
-    ensures entry { entry.new ≡ spec.entry_facts (spec.found_in table.new.boxed.value) }
     // For any bytes, it is the result of the table.
     ensures returned { (h : spec.HeldValue) (t : spec.OpenTable) → table.old.boxed.value ≡ Some h →
         h.what ≡ spec.TableOf t → let found = spec.found_in table.new.boxed.value in

@@ -1,6 +1,5 @@
 //! Verifying a table by steps.
-ghost use Rattle.std.specs.Prelude.{◌≡◌, ◌≢◌, ◌⊎◌, false, IsSomeAnd, None, Some};
-ghost use Rattle.std.specs.Prelude.{is_some, true};
+ghost use Rattle.std.specs.Prelude.{◌≡◌, ◌≢◌, ◌⊎◌, false, true, IsSomeAnd, None, Some};
 ghost use Rattle.sst_c.specs.Words as spec;
 
 use crate::codes::{CLOSED, OPEN, OTHER_KIND};
@@ -51,17 +50,10 @@ pub extern "C" fn sst_verification_open(
     table: &mut Handle,
     verification: &mut Handle,
 ) -> u32
-    ensures kept { table.new.boxed.value ≡ table.old.boxed.value }
-    ensures left { result ≢ 0 → verification.new.boxed.value ≡ verification.old.boxed.value }
-    ensures open { is_some verification.old.boxed.value ≡ true → result ≡ 101 }
-    ensures shut { verification.old.boxed.value ≡ None → table.old.boxed.value ≡ None →
-        result ≡ 100 }
-    ensures kind { (h : spec.HeldValue) → verification.old.boxed.value ≡ None →
-        table.old.boxed.value ≡ Some h → spec.is_table h.what ≡ false → result ≡ 102 }
+    ensures opens { spec.OpensFrom spec.is_table table.old.boxed.value table.new.boxed.value
+        verification.old.boxed.value verification.new.boxed.value result }
     ensures memory { (h : spec.HeldValue) → verification.old.boxed.value ≡ None →
         table.old.boxed.value ≡ Some h → spec.is_table h.what ≡ true → (result ≡ 0) ⊎ (result ≡ 1) }
-    ensures new { result ≡ 0 →
-        IsSomeAnd verification.new.boxed.value (λ k. spec.found_by k ≡ None) }
     // It verifies the table, and has read nothing yet.
     ensures begun { (h : spec.HeldValue) (t : spec.OpenTable) → table.old.boxed.value ≡ Some h →
         h.what ≡ spec.TableOf t → result ≡ 0 → IsSomeAnd verification.new.boxed.value (λ k.
