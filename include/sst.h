@@ -260,7 +260,8 @@ uint32_t sst_table_share(sst_handle *table, sst_handle *other);
 /* Finds for each of several keys what `sst_table_get` finds. It stores the results in a handle that
  * holds nothing, until that is closed. The keys are one after another in `keys`. `key_lens` has the
  * length of each in bytes, and `keys_len` is their sum. The keys may be in any order and may
- * repeat. A block that has several of them is loaded once for them.
+ * repeat. The checksums of their blocks are compared several in one loop. The results have one
+ * reference to the table, and none for an entry.
  *
  * `entries` receives what `sst_table_get` reports for each key, in the order of the keys. What
  * follows them in `entries` stays.

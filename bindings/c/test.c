@@ -209,6 +209,29 @@ static void test_shares(const uint8_t *file, size_t len) {
   sst_close(&range);
 }
 
+/* Reads keys of which nothing is found, one of them twice. */
+static void test_absent(sst_handle *table) {
+  sst_handle answers = {0};
+  uint64_t lens[] = {7, 3, 7}, count = 0;
+  sst_entry entries[3];
+  sst_lent lent;
+  uint8_t key[7], room = 5;
+  memset(entries, 7, sizeof entries);
+  CHECK(sst_table_get_many(table, bytes("nothingkeynothing"), 17, lens, 3, SST_NEWEST, entries, 3,
+                           &answers) == 0);
+  for (int i = 0; i < 3; i++) {
+    CHECK(entries[i].kind == SST_NO_ENTRY && entries[i].seqno == 0);
+    CHECK(entries[i].key_len == 0 && entries[i].value_len == 0);
+    CHECK(sst_answers_lend(&answers, i, &lent) == SST_NOTHING);
+    CHECK(sst_answers_copy(&answers, i, key, 7, key, 0) == SST_NOTHING);
+  }
+  CHECK(sst_answers_take(&answers, 0, &room, 1, &count) == 0 && count == 3 && room == 5);
+  CHECK(sst_answers_take(&answers, 2, &room, 0, &count) == 0 && count == 1);
+  CHECK(sst_answers_take(&answers, 3, &room, 0, &count) == 0 && count == 0);
+  CHECK(sst_answers_take(&answers, 4, &room, 0, &count) == SST_NO_SUCH);
+  sst_close(&answers);
+}
+
 /* Reads many keys at once: present, deleted, absent, repeated and empty ones. */
 static void test_many(const uint8_t *file, size_t len) {
   sst_handle table = {0}, answers = {0}, closed = {0}, writer = {0};
@@ -266,6 +289,8 @@ static void test_many(const uint8_t *file, size_t len) {
   CHECK(sst_answers_take(&table, 0, key, 9, &lens[0]) == SST_OTHER_KIND);
   CHECK(sst_table_get_many(&table, &none, 0, lens, 0, SST_NEWEST, entries, 0, &answers) == 0);
   CHECK(sst_answers_lend(&answers, 0, &lent) == SST_NO_SUCH);
+  sst_close(&answers);
+  test_absent(&table);
   sst_options_default(&options);
   CHECK(sst_writer_open(&options, &writer) == 0);
   CHECK(sst_table_get_many(&writer, &none, 0, lens, 0, 1, entries, 0, &closed) == SST_OTHER_KIND);

@@ -365,8 +365,7 @@ class Table(Returned, _Reader):
                  at: int = NEWEST) -> List[Any]:
         """Returns what `get` returns for each of some keys, in their order.
 
-        The keys may be in any order and repeat. A block that has several of them is loaded once.
-        Raises the error of the first key that has one.
+        The keys may be in any order and repeat. Raises the error of the first key that has one.
 
         >>> writer = Writer()
         >>> writer.add_many([(b"a", b"1"), (b"b", b"2")])

@@ -9,7 +9,7 @@ import pickle
 import tempfile
 import unittest
 
-from common import entries_of, file_of, keys_of, newest, shown, small, table_of, within
+from common import entries_of, file_of, keys_of, newest, seen, shown, small, table_of, within
 
 import logpurple
 from logpurple import Entry, Kind, Memory, Table, Writer
@@ -45,6 +45,18 @@ class Tables(unittest.TestCase):
         for wrong in (b"abc", "abc", bytearray(b"a"), 5, ["a"], [5], [None]):
             with self.assertRaises(TypeError):
                 table.get_many(wrong)
+
+    def test_many_keys_twice_absent_or_deleted(self):
+        entries, absent = entries_of(13, 200), [b"zz", b"c" * 9, b"\xff" * 9]
+        deleted = [entry.key for entry in seen(entries) if entry.kind.is_deletion]
+        self.assertGreater(len(deleted), 9)
+        for options in ({}, small(1), small(2)):
+            table = table_of(entries, **options)
+            for keys in (keys_of(entries) * 2, absent * 2, deleted * 2, deleted + absent):
+                for at in (0, 1, 5, logpurple.NEWEST):
+                    self.assertEqual(table.entry_many(keys, at),
+                                     [newest(entries, key, at) for key in keys])
+            self.assertEqual(table.get_many(deleted * 2), [None] * (2 * len(deleted)))
 
     def test_ranges(self):
         for seed in range(6):

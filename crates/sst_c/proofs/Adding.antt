@@ -5,7 +5,7 @@ use Rattle.std.specs.List.{sum}
 use Rattle.std.proofs.Math.Seq.{drop-length, take-length}
 use Rattle.std.proofs.lemmas.List.{drop_more, drop-drop}
 use Rattle.std.proofs.lemmas.List.Sums.{sum_by-cons}
-use Rattle.sst_c.specs.Adds.{Adds, AddsAll, AddsMany, Row, row, rows_in, size_of}
+use Rattle.sst_c.specs.Adds.{AddsOne, AddsAll, AddsMany, Row, row, rows_of_reports, reported_size}
 use Rattle.sst_c.specs.declared.entries.EntryReport.{EntryReport}
 use Rattle.lsm_writers.specs.Writing.{Writing}
 
@@ -16,9 +16,9 @@ take_next zero (y ∷ ys) rest x same = let one : y ≡ x = cc in ap (λ z. z �
 take_next (suc i) [] rest x same = absurd (let no : ⊥ = cc in no)
 take_next (suc i) (y ∷ ys) rest x same = ap (λ l. y ∷ l) (take_next i ys rest x same)
 
-pub rows_length : (ts : List EntryReport) (bytes : List ℕ) → length (rows_in ts bytes) ≡ length ts
+pub rows_length : (ts : List EntryReport) (bytes : List ℕ) → length (rows_of_reports ts bytes) ≡ length ts
 rows_length [] bytes = refl
-rows_length (t ∷ ts) bytes = ap suc (rows_length ts (drop (size_of t) bytes))
+rows_length (t ∷ ts) bytes = ap suc (rows_length ts (drop (reported_size t) bytes))
 
 -- the row at a place, as a loop cuts it
 abbrev pub cut_row : EntryReport → List ℕ → ℕ → Row
@@ -35,37 +35,37 @@ cut t bytes at =
     ∙ ap (λ l. row t (take t.key_len (drop at bytes)) (take t.value_len l)) (sym (drop-drop t.key_len at bytes))
 
 pub next_row : (ts : List EntryReport) (bytes : List ℕ) (i at : ℕ) (d : EntryReport)
-    → drop i (rows_in ts bytes) ≡ rows_in (drop i ts) (drop at bytes) → i < length ts
+    → drop i (rows_of_reports ts bytes) ≡ rows_of_reports (drop i ts) (drop at bytes) → i < length ts
     → let t = slice_index_or ts i d in
-    drop i (rows_in ts bytes) ≡ cut_row t bytes at
-    ∷ rows_in (drop (i + 1) ts) (drop (at + t.key_len + t.value_len) bytes)
+    drop i (rows_of_reports ts bytes) ≡ cut_row t bytes at
+    ∷ rows_of_reports (drop (i + 1) ts) (drop (at + t.key_len + t.value_len) bytes)
 next_row ts bytes i at d rest within =
     let t = slice_index_or ts i d in
-    let end : at + size_of t ≡ at + t.key_len + t.value_len = omega arith in
+    let end : at + reported_size t ≡ at + t.key_len + t.value_len = omega arith in
     rest
-    ∙ ap (λ l. rows_in l (drop at bytes)) (drop_more ts i d within)
-    ∙ ap (λ r. r ∷ rows_in (drop (i + 1) ts) (drop (size_of t) (drop at bytes))) (sym (cut t bytes at))
-    ∙ ap (λ l. cut_row t bytes at ∷ rows_in (drop (i + 1) ts) l) (drop-drop (size_of t) at bytes)
-    ∙ ap (λ n. cut_row t bytes at ∷ rows_in (drop (i + 1) ts) (drop n bytes)) end
+    ∙ ap (λ l. rows_of_reports l (drop at bytes)) (drop_more ts i d within)
+    ∙ ap (λ r. r ∷ rows_of_reports (drop (i + 1) ts) (drop (reported_size t) (drop at bytes))) (sym (cut t bytes at))
+    ∙ ap (λ l. cut_row t bytes at ∷ rows_of_reports (drop (i + 1) ts) l) (drop-drop (reported_size t) at bytes)
+    ∙ ap (λ n. cut_row t bytes at ∷ rows_of_reports (drop (i + 1) ts) (drop n bytes)) end
 
 pub adds_next : (w u v : Writing) (rows rest : List Row) (i : ℕ) (r : Row) → AddsAll w (take i rows) u
-    → drop i rows ≡ r ∷ rest → Adds u r 0 v → AddsAll w (take (i + 1) rows) v
+    → drop i rows ≡ r ∷ rest → AddsOne u r 0 v → AddsAll w (take (i + 1) rows) v
 adds_next w u v rows rest i r added same step =
     let one : suc i ≡ i + 1 = omega arith in
     subst (λ (n : ℕ). AddsAll w (take n rows) v) one
     (subst (λ (l : List Row). AddsAll w l v) (sym (take_next i rows rest r same))
     (adds_one w u v (take i rows) r added step))
   where
-    adds_one : (w u v : Writing) (rows : List Row) (r : Row) → AddsAll w rows u → Adds u r 0 v
+    adds_one : (w u v : Writing) (rows : List Row) (r : Row) → AddsAll w rows u → AddsOne u r 0 v
         → AddsAll w (rows ++ r ∷ []) v
-    adds_one w u v [] r same step = (v, subst (λ (x : Writing). Adds x r 0 v) (sym same) step, refl)
+    adds_one w u v [] r same step = (v, subst (λ (x : Writing). AddsOne x r 0 v) (sym same) step, refl)
     adds_one w u v (s ∷ ss) r more step = (more.0, more.1, adds_one more.0 u v ss r more.2 step)
 
 pub rest_next : (rows rest : List Row) (i : ℕ) (r : Row) → drop i rows ≡ r ∷ rest → drop (i + 1) rows ≡ rest
 rest_next rows rest i r same = sym (drop-drop 1 i rows) ∙ ap (drop 1) same
 
 pub adds_stopped : (w u v : Writing) (rows rest : List Row) (i code : ℕ) (r : Row) → AddsAll w (take i rows) u
-    → drop i rows ≡ r ∷ rest → Adds u r code v → code ≢ 0 → AddsMany w rows i code v
+    → drop i rows ≡ r ∷ rest → AddsOne u r code v → code ≢ 0 → AddsMany w rows i code v
 adds_stopped w u v rows rest i code r added same step fails = record {
   last = u;
   added = added;
@@ -76,12 +76,12 @@ pub adds_all : (w v : Writing) (rows : List Row) (i : ℕ) → AddsAll w (take i
     → AddsMany w rows i 0 v
 adds_all w v rows i added full = record { last = v; added = added; ends = inl (full, refl, refl) }
 
-pub bytes_next : (ts : List EntryReport) (i at len : ℕ) (d : EntryReport) → at + sum (map size_of (drop i ts)) ≡ len
+pub bytes_next : (ts : List EntryReport) (i at len : ℕ) (d : EntryReport) → at + sum (map reported_size (drop i ts)) ≡ len
     → i < length ts
-    → at + (slice_index_or ts i d).key_len + (slice_index_or ts i d).value_len + sum (map size_of (drop (i + 1) ts)) ≡ len
+    → at + (slice_index_or ts i d).key_len + (slice_index_or ts i d).value_len + sum (map reported_size (drop (i + 1) ts)) ≡ len
 bytes_next ts i at len d same within =
     let t = slice_index_or ts i d in
-    let more : sum (map size_of (drop i ts)) ≡ t.key_len + t.value_len + sum (map size_of (drop (i + 1) ts)) =
-    ap (λ (l : List EntryReport). sum (map size_of l)) (drop_more ts i d within)
-    ∙ sum_by-cons (λ (x : ℕ). x) (size_of t) (map size_of (drop (i + 1) ts)) in
+    let more : sum (map reported_size (drop i ts)) ≡ t.key_len + t.value_len + sum (map reported_size (drop (i + 1) ts)) =
+    ap (λ (l : List EntryReport). sum (map reported_size l)) (drop_more ts i d within)
+    ∙ sum_by-cons (λ (x : ℕ). x) (reported_size t) (map reported_size (drop (i + 1) ts)) in
     omega arith

@@ -19,3 +19,5 @@ pub mod Compacting
 pub mod MergedLists
 pub mod Alone
 pub mod Shared
+pub mod AnswerLists
+pub mod LaidFound

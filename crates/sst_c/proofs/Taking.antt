@@ -8,7 +8,7 @@ use Rattle.std.proofs.lemmas.List.{drop_more, set-append_right, length-map, drop
 use Rattle.sst_entries.specs.Entry.{Entry}
 use Rattle.sst_c.specs.Copies.{laid_over}
 use Rattle.sst_c.specs.Reported.{entry_facts}
-use Rattle.sst_c.specs.Takes.{EndsWith, ReadsMany, Yields, bytes_in, bytes_of, facts_of}
+use Rattle.sst_c.specs.Takes.{EndsWith, ReadsMany, Yields, bytes_of_all, bytes_of, facts_of_all}
 use Rattle.sst_c.specs.declared.entries.EntryReport.{EntryReport}
 
 -- reads from s on yielded entries that fill the first places and bytes, and led to t
@@ -17,9 +17,9 @@ pub record IsTaking {S : Type 0} (read : S → ℕ → Option Entry → S → Ty
   pub entries : List Entry
   pub yields : Yields read s entries t
   pub counts : place ≡ length entries
-  pub states : returned ≡ laid_over (facts_of entries) places
-  pub copies : copied ≡ laid_over (bytes_in entries) room
-  pub filled : at ≡ length (bytes_in entries)
+  pub states : returned ≡ laid_over (facts_of_all entries) places
+  pub copies : copied ≡ laid_over (bytes_of_all entries) room
+  pub filled : at ≡ length (bytes_of_all entries)
 
 -- a list laid over a room after the list before it
 pub laid_on : {X : Type 0} (xs ys room : List X) (n : ℕ) → n ≡ length xs
@@ -44,7 +44,7 @@ one_result xs room n x same within =
     ∙ ap (λ m. (xs ++ x ∷ []) ++ drop m room)
     (ap (λ m. m + 1) same ∙ sym (length-append xs (x ∷ [])))
 
-one_more : (es : List Entry) (e : Entry) → bytes_in (es ++ e ∷ []) ≡ bytes_in es ++ bytes_of e
+one_more : (es : List Entry) (e : Entry) → bytes_of_all (es ++ e ∷ []) ≡ bytes_of_all es ++ bytes_of e
 one_more es e = grind (arith, common_steps)
 
 module _ {S : Type 0} (read : S → ℕ → Option Entry → S → Type 0) where
@@ -87,18 +87,18 @@ module _ {S : Type 0} (read : S → ℕ → Option Entry → S → Type 0) where
         states =
             ap (λ y. slice_set returned place y) fact
             ∙ ap (λ l. slice_set l place (entry_facts (Some e))) before.states
-            ∙ one_result (facts_of es) places place (entry_facts (Some e))
+            ∙ one_result (facts_of_all es) places place (entry_facts (Some e))
             (before.counts ∙ sym (length-map es (λ x. entry_facts (Some x)))) within
             ∙ ap (λ l. laid_over l places) (sym (map-append (λ x. entry_facts (Some x)) es (e ∷ [])));
         copies =
             same
             ∙ ap (λ l. take at l ++ laid_over (bytes_of e) (drop at l)) before.copies
-            ∙ laid_on (bytes_in es) (bytes_of e) room at before.filled
+            ∙ laid_on (bytes_of_all es) (bytes_of e) room at before.filled
             ∙ ap (λ l. laid_over l room) (sym (one_more es e));
         filled =
             on
             ∙ ap (λ n. n + length (bytes_of e)) before.filled
-            ∙ sym (length-append (bytes_in es) (bytes_of e))
+            ∙ sym (length-append (bytes_of_all es) (bytes_of e))
             ∙ ap length (sym (one_more es e));
       }
 

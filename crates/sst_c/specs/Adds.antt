@@ -19,18 +19,18 @@ abbrev pub row : EntryReport → List ℕ → List ℕ → Row
 row t k v = record { kind = t.kind; seqno = t.seqno; user_key = k; value = v }
 
 -- the total length of an entry's key and value
-abbrev pub size_of : EntryReport → ℕ
-size_of t = t.key_len + t.value_len
+abbrev pub reported_size : EntryReport → ℕ
+reported_size t = t.key_len + t.value_len
 
 -- the entries with these reports, whose keys and values are back to back in the bytes
-abbrev pub rows_in : List EntryReport → List ℕ → List Row
-rows_in [] bytes = []
-rows_in (t ∷ ts) bytes =
+abbrev pub rows_of_reports : List EntryReport → List ℕ → List Row
+rows_of_reports [] bytes = []
+rows_of_reports (t ∷ ts) bytes =
     row t (take t.key_len bytes) (take t.value_len (drop t.key_len bytes))
-    ∷ rows_in ts (drop (size_of t) bytes)
+    ∷ rows_of_reports ts (drop (reported_size t) bytes)
 
 -- `sst_writer_add` of an entry returns a code and takes a writer from w to v
-pub record Adds (w : Writing) (r : Row) (code : ℕ) (v : Writing) : Type 0 where
+pub record AddsOne (w : Writing) (r : Row) (code : ℕ) (v : Writing) : Type 0 where
   pub kind : decode_kind r.kind ≡ None → (code ≡ 105) × (v ≡ w)
   pub order : is_some (decode_kind r.kind) ≡ true
       → may_be_written (written w) r.user_key r.seqno ≡ false → (code ≡ 104) × (v ≡ w)
@@ -41,7 +41,7 @@ pub record Adds (w : Writing) (r : Row) (code : ℕ) (v : Writing) : Type 0 wher
 -- writing these entries one after another succeeds and takes a writer from w to v
 abbrev pub AddsAll : Writing → List Row → Writing → Type 0
 AddsAll w [] v = w ≡ v
-AddsAll w (r ∷ rs) v = (u : Writing) × Adds w r 0 u × AddsAll u rs v
+AddsAll w (r ∷ rs) v = (u : Writing) × AddsOne w r 0 u × AddsAll u rs v
 
 -- a bulk write takes a writer from w to v and writes `count` entries. It writes all of them, or
 -- those before the first that fails with this code
@@ -49,5 +49,5 @@ pub record AddsMany (w : Writing) (rows : List Row) (count code : ℕ) (v : Writ
   pub last : Writing
   pub added : AddsAll w (take count rows) last
   pub ends : ((count ≡ length rows) × (code ≡ 0) × (last ≡ v))
-      ⊎ ((r : Row) × (rest : List Row) × (drop count rows ≡ r ∷ rest) × Adds last r code v
+      ⊎ ((r : Row) × (rest : List Row) × (drop count rows ≡ r ∷ rest) × AddsOne last r code v
       × (code ≢ 0))

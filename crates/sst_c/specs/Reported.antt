@@ -30,11 +30,11 @@ entry_facts (Some e) = record {
 }
 
 -- the entry that the held scan or range borrows
-abbrev pub lent_in : What → Option Entry
-lent_in (Scan s) = s.lent
-lent_in (Range s) = s.lent
-lent_in (RunsScan m) = option_and_then newest_lent m
-lent_in _ = None
+abbrev pub borrowed_in : What → Option Entry
+borrowed_in (Scan s) = s.lent
+borrowed_in (Range s) = s.lent
+borrowed_in (RunsScan m) = option_and_then newest_lent m
+borrowed_in _ = None
 
 -- the entry at a position in the bytes of the held table
 abbrev pub in_table : EntryPlace → What → Option Entry
@@ -49,7 +49,7 @@ in_runs p _ = None
 -- the entry that the last read found: kept, borrowed, or at a position
 abbrev pub found_at : FoundEntry → What → Option Entry
 found_at (Kept found) what = found
-found_at Lent what = lent_in what
+found_at Lent what = borrowed_in what
 found_at (InTable p) what = in_table p what
 found_at (InRuns p) what = in_runs p what
 

@@ -12,12 +12,12 @@ abbrev pub bytes_of : Entry → List ℕ
 bytes_of e = e.user_key ++ e.value
 
 -- the bytes of entries, back to back
-abbrev pub bytes_in : List Entry → List ℕ
-bytes_in es = flat_map bytes_of es
+abbrev pub bytes_of_all : List Entry → List ℕ
+bytes_of_all es = flat_map bytes_of es
 
 -- the reports of entries
-abbrev pub facts_of : List Entry → List EntryReport
-facts_of es = map (λ e. entry_facts (Some e)) es
+abbrev pub facts_of_all : List Entry → List EntryReport
+facts_of_all es = map (λ e. entry_facts (Some e)) es
 
 -- reads from s to t find these entries, one after another
 abbrev pub Yields : {S : Type 0} → (S → ℕ → Option Entry → S → Type 0) → S → List Entry → S
@@ -32,7 +32,7 @@ abbrev pub EndsWith : {S : Type 0} → (S → ℕ → Option Entry → S → Typ
 EndsWith read places room es s code found t =
     ((length es ≡ places) × (code ≡ 0) × (found ≡ None) × (s ≡ t))
     ⊎ ((length es < places) × read s code found t
-    × ((e : Entry) → found ≡ Some e → room < length (bytes_in es) + length (bytes_of e)))
+    × ((e : Entry) → found ≡ Some e → room < length (bytes_of_all es) + length (bytes_of e)))
 
 -- a bulk read from s to t, with its code and an entry that was found and not copied. Each entry
 -- before the end is reported and copied
@@ -44,8 +44,8 @@ pub record ReadsMany {S : Type 0} (read : S → ℕ → Option Entry → S → T
   pub yields : Yields read s entries last
   pub ends : EndsWith read (length places) (length room) entries last code found t
   pub counts : count ≡ length entries
-  pub states : returned ≡ laid_over (facts_of entries) places
-  pub copies : copied ≡ laid_over (bytes_in entries) room
+  pub states : returned ≡ laid_over (facts_of_all entries) places
+  pub copies : copied ≡ laid_over (bytes_of_all entries) room
 
 -- the bytes of the entry found, or none
 abbrev pub bytes_found : Option Entry → List ℕ

@@ -89,7 +89,7 @@ is_scan _ = false
 
 -- the results of reading many keys, if the object is that
 abbrev pub many_in : What → Option (List (Option Entry))
-many_in (AnswersOf found) = Some found.items
+many_in (AnswersOf found) = Some found
 many_in _ = None
 
 -- the object is finished tables or a writer

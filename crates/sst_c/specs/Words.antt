@@ -1,5 +1,6 @@
 -- Definitions that the contracts cite, from this crate and those below it.
-pub use Rattle.core.specs.List.{AllByRecursion, sum}
+pub use Rattle.core.specs.List.{AllByRecursion, slice_get, sum}
+pub use Rattle.std.specs.List.{All}
 pub use Rattle.core.specs.Option.{option_and_then, option_map}
 pub use Rattle.core.specs.Ptr.{as_ptr}
 pub use Rattle.std_alloc.specs.Arc.{arc_value}
@@ -13,6 +14,7 @@ pub use Rattle.sst_entries.specs.Stream.{CanYield, nowhere, ok_results}
 pub use Rattle.sst_entries.specs.declared.error.Error.{Error as ErrorValue}
 pub use Rattle.sst_entries.specs.declared.error.Error.TheVariants.{OutOfMemory}
 pub use Rattle.sst_entries.specs.declared.value_type.ValueType.{ValueType as Kind}
+pub use Rattle.sst_blocks.specs.EntryPlace.{IsPlacedIn}
 pub use Rattle.sst_blocks.specs.Sections.{body_of}
 pub use Rattle.lsm_sorted.specs.version.KeyRange.{is_well_formed}
 pub use Rattle.lsm_sorted.specs.version.Packed.{IsPackedOf}
@@ -30,6 +32,7 @@ pub use Rattle.lsm_writers.specs.declared.writer.FinishedTable.{FinishedTable as
 pub use Rattle.lsm_iters.specs.Lift.{lift}
 pub use Rattle.lsm_iters.specs.Range.{Range as RangeValue}
 pub use Rattle.lsm_readers.specs.point.Answer.{table_answer}
+pub use Rattle.lsm_readers.specs.point.Batch.{entries_placed}
 pub use Rattle.lsm_readers.specs.point.Many.{many_results}
 pub use Rattle.lsm_readers.specs.point.Parts.{early_fault, recovered_result}
 pub use Rattle.lsm_readers.specs.point.Table.{OpenTable}
@@ -49,7 +52,7 @@ pub use Rattle.lsm_runs.specs.SpansRead.{IsOverSpansBelow}
 pub use Rattle.lsm_runs.specs.Words.{range_of}
 pub use Rattle.lsm_runs.specs.compaction.AnyRuns.{GoesThrough}
 pub use Rattle.lsm_runs.specs.compaction.Compacted.{rules_by}
-pub use Rattle.sst_c.specs.Adds.{Adds, AddsMany, row, rows_in, size_of}
+pub use Rattle.sst_c.specs.Adds.{AddsOne, AddsMany, row, rows_of_reports, reported_size}
 pub use Rattle.sst_c.specs.Codes.{ReportsCode, ReportsFirst, result_code}
 pub use Rattle.sst_c.specs.Compact.{IsCompactionOf, IsReportedOf, decode_compactor}
 unfoldable pub use Rattle.sst_c.specs.Compact.{ReportsOutcome}
@@ -75,7 +78,7 @@ pub use Rattle.sst_c.specs.Stepwise.{step_result}
 pub use Rattle.sst_c.specs.Takes.{CopiesMany, ReadsMany, bytes_found, bytes_of}
 pub use Rattle.sst_c.specs.Reported.{AnswersRead, entry_facts, found_at, found_by, found_in, found_of}
 pub use Rattle.sst_c.specs.Reported.{in_runs, in_table, is_settled, kept_in_runs, kept_in_table}
-pub use Rattle.sst_c.specs.Reported.{lent_in, outcome_of}
+pub use Rattle.sst_c.specs.Reported.{borrowed_in, outcome_of}
 pub use Rattle.sst_c.specs.Verify.{ReportsCounts, ReportsFinding, ReportsWrong, detail_of, fault_number}
 pub use Rattle.sst_c.specs.Verify.{finding_result, no_finding, verified_result, verify_code}
 pub use Rattle.sst_c.specs.Verify.{verify_result}

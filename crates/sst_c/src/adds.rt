@@ -12,7 +12,7 @@ use std::alloc::Global;
 
 // Returns whether the keys and values of the entries have `count` bytes in total.
 fn have_bytes(entries: &[EntryReport], count: u64) -> bool
-    ensures { result ≡ (spec.sum (map spec.size_of entries.now) == count) }
+    ensures { result ≡ (spec.sum (map spec.reported_size entries.now) == count) }
 {
     let mut left = count;
     for returned in entries {
@@ -25,15 +25,15 @@ fn have_bytes(entries: &[EntryReport], count: u64) -> bool
 }
 
 fn add_told(writer: &mut Writer, returned: &EntryReport, key: &[u8], value: &[u8]) -> u32
-    ensures { spec.Adds writer.old (spec.row returned.now key.now value.now) result writer.new }
+    ensures { spec.AddsOne writer.old (spec.row returned.now key.now value.now) result writer.new }
 {
     add_kind(writer, key, returned.seqno, returned.kind, value)
 }
 
 // Writes entries one after another, up to the first that fails.
 fn add_each(writer: &mut Writer, entries: &[EntryReport], bytes: &[u8], count: &mut u64) -> u32
-    requires { spec.sum (map spec.size_of entries.now) ≡ length bytes.now }
-    ensures { spec.AddsMany writer.old (spec.rows_in entries.now bytes.now) count.new result
+    requires { spec.sum (map spec.reported_size entries.now) ≡ length bytes.now }
+    ensures { spec.AddsMany writer.old (spec.rows_of_reports entries.now bytes.now) count.new result
         writer.new }
 {
     let mut at = 0;
@@ -54,10 +54,10 @@ fn add_each(writer: &mut Writer, entries: &[EntryReport], bytes: &[u8], count: &
 
 // Writes entries, if their lengths add up to the length of `bytes`.
 fn add_fitting(writer: &mut Writer, entries: &[EntryReport], bytes: &[u8], count: &mut u64) -> u32
-    ensures lengths { spec.sum (map spec.size_of entries.now) ≢ length bytes.now →
+    ensures lengths { spec.sum (map spec.reported_size entries.now) ≢ length bytes.now →
         (result ≡ 105) × (writer.new ≡ writer.old) × (count.new ≡ count.old) }
-    ensures added { spec.sum (map spec.size_of entries.now) ≡ length bytes.now →
-        spec.AddsMany writer.old (spec.rows_in entries.now bytes.now) count.new result writer.new }
+    ensures added { spec.sum (map spec.reported_size entries.now) ≡ length bytes.now →
+        spec.AddsMany writer.old (spec.rows_of_reports entries.now bytes.now) count.new result writer.new }
 {
     if !have_bytes(entries, bytes.len() as u64) {
         return NO_SUCH;
@@ -69,12 +69,12 @@ fn add_many(held: &mut Held, entries: &[EntryReport], bytes: &[u8], count: &mut 
     ensures other { spec.writer_in held.old.what ≡ None →
         (result ≡ 102) × (held.new.what ≡ held.old.what) × (count.new ≡ count.old) }
     ensures lengths { (w : spec.WritingValue) → spec.writer_in held.old.what ≡ Some w →
-        spec.sum (map spec.size_of entries.now) ≢ length bytes.now →
+        spec.sum (map spec.reported_size entries.now) ≢ length bytes.now →
         (result ≡ 105) × (held.new.what ≡ held.old.what) × (count.new ≡ count.old) }
     ensures added { (w : spec.WritingValue) → spec.writer_in held.old.what ≡ Some w →
-        spec.sum (map spec.size_of entries.now) ≡ length bytes.now →
+        spec.sum (map spec.reported_size entries.now) ≡ length bytes.now →
         IsSomeAnd (spec.writer_in held.new.what)
-        (spec.AddsMany w (spec.rows_in entries.now bytes.now) count.new result) }
+        (spec.AddsMany w (spec.rows_of_reports entries.now bytes.now) count.new result) }
     ensures tables { spec.files_held held.new.what ≡ spec.files_held held.old.what }
     ensures found { spec.found_by held.new ≡ spec.found_by held.old }
 {
@@ -118,15 +118,15 @@ pub extern "C" fn sst_writer_add_many(
     ensures lengths { (h : spec.HeldValue) (w : spec.WritingValue) →
         writer.old.boxed.value ≡ Some h →
         spec.writer_in h.what ≡ Some w →
-        spec.sum (map spec.size_of entries.now) ≢ length bytes.now →
+        spec.sum (map spec.reported_size entries.now) ≢ length bytes.now →
         (result ≡ 105) × IsSomeAnd writer.new.boxed.value (λ k. k.what ≡ h.what)
         × (count.new ≡ 0) }
     // Each entry is added as by `sst_writer_add`, up to the first that fails.
     ensures added { (h : spec.HeldValue) (w : spec.WritingValue) → writer.old.boxed.value ≡ Some h →
         spec.writer_in h.what ≡ Some w →
-        spec.sum (map spec.size_of entries.now) ≡ length bytes.now →
+        spec.sum (map spec.reported_size entries.now) ≡ length bytes.now →
         IsSomeAnd writer.new.boxed.value (λ k. IsSomeAnd (spec.writer_in k.what)
-        (spec.AddsMany w (spec.rows_in entries.now bytes.now) count.new result)) }
+        (spec.AddsMany w (spec.rows_of_reports entries.now bytes.now) count.new result)) }
     ensures tables { (h : spec.HeldValue) → writer.old.boxed.value ≡ Some h →
         IsSomeAnd writer.new.boxed.value (λ k. spec.files_held k.what ≡ spec.files_held h.what) }
     // The entry found by the last read is unchanged.

@@ -1,26 +1,28 @@
-//! What many reads found, copied in bulk.
+//! Copying the results of many reads at once.
 ghost use Rattle.std.specs.Prelude.{◌≡◌, ◌≢◌, ◌<◌, ◌≤◌, List, None, Option, Some, drop, length};
 ghost use Rattle.sst_c.specs.Words as spec;
 
+use crate::answer_list::AnswerList;
 use crate::codes::{CLOSED, NO_SUCH, OTHER_KIND};
 use crate::handle::Handle;
 use crate::held::{Held, What};
 use crate::laying::lay_found;
-use sst_blocks::InternalValue;
 use std::alloc::Global;
 
-// Copies the keys and values of what was found, one after another, as many as fit.
-fn lay_each(found: &[Option<InternalValue>], bytes: &mut [u8], count: &mut u64)
-    ensures { spec.CopiesMany found.now bytes.old bytes.new count.new }
+// Copies the entries found for the keys from an index on, one after another, as many as fit.
+fn lay_each(found: &AnswerList, first: usize, bytes: &mut [u8], count: &mut u64)
+    requires { first ≤ length found.now }
+    ensures { spec.CopiesMany (drop first found.now) bytes.old bytes.new count.new }
 {
     let mut at = 0;
-    for place in 0..found.len() {
+    let left = found.len() - first;
+    for place in 0..left {
         *count = place as u64;
-        if !lay_found(&found[place], bytes, &mut at) {
+        if !lay_found(found.entry(first + place), bytes, &mut at) {
             return;
         }
     }
-    *count = found.len() as u64;
+    *count = left as u64;
 }
 
 fn take(held: &Held, first: u64, bytes: &mut [u8], count: &mut u64) -> u32
@@ -38,16 +40,23 @@ fn take(held: &Held, first: u64, bytes: &mut [u8], count: &mut u64) -> u32
     if first > found.len() as u64 {
         return NO_SUCH;
     }
-    lay_each(&found[first as usize..], bytes, count);
+    lay_each(found, first as usize, bytes, count);
     0
 }
 
-/// Copies the keys and values of what was found of the keys from an index on, one after another, to
-/// the front of `bytes`, up to the first that does not fit. Writes to `count` how many keys it has
-/// gone over; those of which nothing was found count too, and take no bytes.
+/// Copies the keys and values found for the keys from index `first` on to the front of `bytes`.
 ///
-/// Fails with 100 if the handle is closed, with 102 if it holds no answers, and with 105 if there
-/// are fewer keys than `first`; nothing is copied then.
+/// They are one after another: key, value, key, value. The call stops at the first entry that does
+/// not fit. `count` is set to the number of keys that were passed. A key without an entry counts,
+/// and takes no bytes.
+///
+/// # Errors
+///
+/// - 100: the handle is closed.
+/// - 102: it holds no answers.
+/// - 105: there are fewer than `first` keys.
+///
+/// On error nothing is copied, and `count` does not change.
 #[unsafe(no_mangle)]
 pub extern "C" fn sst_answers_take(
     alloc: Global,

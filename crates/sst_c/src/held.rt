@@ -2,6 +2,7 @@
 ghost use Rattle.std.specs.Prelude.{◌≡◌, ◌++◌, IfErr, IfOk, List, None};
 ghost use Rattle.sst_c.specs.Words as spec;
 
+use crate::answer_list::AnswerList;
 use crate::asked::Asked;
 use crate::entries::entry_of;
 use crate::run_list::RunList;
@@ -95,7 +96,7 @@ pub enum What {
     /// A list of runs, the newest first.
     Runs(RunList),
     /// The results of point reads, one for each key.
-    Answers(Vec<Option<InternalValue>>),
+    Answers(AnswerList),
     /// A verification of a table by steps.
     Verification(Verifier),
     /// A packing of tables in runs.
@@ -121,7 +122,7 @@ pub(crate) fn box_of(alloc: Global, what: What) -> Result<Box<Held>, Error>
 }
 
 fn lent(what: &What) -> Option<EntryRef<'_>>
-    ensures { spec.option_map spec.entry_of_ref result ≡ spec.lent_in what.now }
+    ensures { spec.option_map spec.entry_of_ref result ≡ spec.borrowed_in what.now }
 {
     match what {
         What::Scan(scanner) => scanner.entry(),

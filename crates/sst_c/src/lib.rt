@@ -10,6 +10,7 @@
 
 mod address;
 mod adds;
+mod answer_list;
 mod answers;
 mod asked;
 mod boxed;

@@ -1,19 +1,20 @@
-//! Many reads of a table at once, and what they found.
+//! Point reads of many keys in one table.
 ghost use Rattle.std.specs.Prelude.{◌≡◌, ◌≢◌, ◌<◌, ◌≤◌, ◌==◌, ◌⊎◌, false, true, IfErr, IfOk, List};
 ghost use Rattle.std.specs.Prelude.{IsSomeAnd, None, Ok, Option, Result, Some, is_some, length};
 ghost use Rattle.std.specs.Prelude.{map};
 ghost use Rattle.sst_c.specs.Words as spec;
 
+use crate::answer_list::AnswerList;
 use crate::codes::{CLOSED, NO_ROOM, NO_SUCH, NOTHING, OPEN, OTHER_KIND};
-use crate::entries::{EntryReport, entry_of, tell};
+use crate::entries::{EntryReport, tell};
 use crate::found::{Lent, copy_item, lend_item};
 use crate::handle::Handle;
 use crate::held::{Held, What, box_of};
-use lsm_readers::{Query, Table, get_many};
-use sst_blocks::{Error, InternalValue, SeqNo, Slice};
+use lsm_readers::{Query, Table};
+use sst_blocks::{Error, SeqNo, Slice};
 use std::alloc::Global;
 
-// Whether lengths add up to a count of bytes.
+// Whether lengths add up to a number of bytes.
 fn add_up(lens: &[u64], count: u64) -> bool
     ensures { result ≡ (spec.sum lens.now == count) }
 {
@@ -27,7 +28,7 @@ fn add_up(lens: &[u64], count: u64) -> bool
     left == 0
 }
 
-// The queries for keys of these lengths that stand one behind another.
+// The queries for keys of these lengths, which are one after another.
 fn queries_of(alloc: Global, keys: &[u8], lens: &[u64], seqno: SeqNo) -> Result<Vec<Query>, Error>
     requires { spec.sum lens.now ≡ length keys.now }
     ensures ok { IfOk result (λ qs. qs.items ≡ spec.queries_for keys.now lens.now seqno) }
@@ -45,38 +46,37 @@ fn queries_of(alloc: Global, keys: &[u8], lens: &[u64], seqno: SeqNo) -> Result<
     Ok(queries)
 }
 
-// What was found of each of these keys.
 fn found_of(
     alloc: Global,
     table: &Table,
     keys: &[u8],
     lens: &[u64],
     seqno: SeqNo,
-) -> Result<Vec<Option<InternalValue>>, Error>
+) -> Result<AnswerList, Error>
     requires { spec.sum lens.now ≡ length keys.now }
-    ensures returned { let returned = spec.many_results table.now (spec.queries_for keys.now lens.now seqno) in
-        spec.Gives (λ found. found.items) result returned }
+    ensures returned { let returned = spec.many_results table.now
+        (spec.queries_for keys.now lens.now seqno) in
+        spec.Gives (λ (found : List (Option spec.Entry)). found) result returned }
     ensures list { (es : List spec.Entry) → spec.StoresList table.now.bytes es →
         let all = spec.lift es table.now.global_seqno in
         let each = map (λ k. spec.point all k seqno) (spec.keys_cut lens.now keys.now) in
-        spec.Gives (λ found. found.items) result (Ok each) }
-    ensures count { IfOk result (λ found. length found.items ≡ length lens.now) }
+        spec.Gives (λ (found : List (Option spec.Entry)). found) result (Ok each) }
+    ensures count { IfOk result (λ found. length found ≡ length lens.now) }
 {
     let queries = queries_of(alloc, keys, lens, seqno)?;
-    get_many(table, &queries)
+    AnswerList::read(table, &queries)
 }
 
-// Tells of each entry, or that there is none.
-fn tell_each(found: &[Option<InternalValue>], entries: &mut [EntryReport])
+// Writes what is reported of each entry.
+fn tell_each(found: &AnswerList, entries: &mut [EntryReport])
     requires { length found.now ≤ length entries.old }
     ensures { entries.new ≡ spec.laid_over (map spec.entry_facts found.now) entries.old }
 {
     for at in 0..found.len() {
-        entries[at] = tell(entry_of(&found[at]));
+        entries[at] = tell(found.entry(at));
     }
 }
 
-// Tells of what is held.
 fn tell_held(held: &Held, entries: &mut [EntryReport])
     requires { IsSomeAnd (spec.many_in held.now.what) (λ found. length found ≤ length entries.old) }
     ensures { IsSomeAnd (spec.many_in held.now.what) (λ found.
@@ -87,21 +87,21 @@ fn tell_held(held: &Held, entries: &mut [EntryReport])
     }
 }
 
-// Keeps what was found in a handle that holds nothing, and tells it.
+// Stores results in a handle that holds nothing, and reports them.
 fn keep_each(
     alloc: Global,
-    found: Vec<Option<InternalValue>>,
+    found: AnswerList,
     entries: &mut [EntryReport],
     answers: &mut Handle,
 ) -> u32
     requires empty { answers.old.boxed.value ≡ None }
-    requires room { length found.items ≤ length entries.old }
+    requires room { length found ≤ length entries.old }
     ensures memory { (result ≡ 0) ⊎ (result ≡ 1) }
     ensures new { result ≡ 0 → IsSomeAnd answers.new.boxed.value (λ k. spec.found_by k ≡ None) }
     ensures many { result ≡ 0 → IsSomeAnd answers.new.boxed.value (λ k.
-        spec.many_in k.what ≡ Some found.items) }
+        spec.many_in k.what ≡ Some found) }
     ensures returned { result ≡ 0 →
-        entries.new ≡ spec.laid_over (map spec.entry_facts found.items) entries.old }
+        entries.new ≡ spec.laid_over (map spec.entry_facts found) entries.old }
     ensures left { result ≢ 0 →
         (entries.new ≡ entries.old) × (answers.new.boxed.value ≡ None) }
 {
@@ -115,18 +115,18 @@ fn keep_each(
     }
 }
 
-// Keeps and tells what reads came to.
+// The same for the result of reads.
 fn keep_found(
     alloc: Global,
-    found: Result<Vec<Option<InternalValue>>, Error>,
+    found: Result<AnswerList, Error>,
     entries: &mut [EntryReport],
     answers: &mut Handle,
 ) -> u32
     requires empty { answers.old.boxed.value ≡ None }
-    requires room { IfOk found (λ each. length each.items ≤ length entries.old) }
+    requires room { IfOk found (λ each. length each ≤ length entries.old) }
     ensures refused { IfErr found (λ e. result ≡ spec.number_of e) }
     ensures returned { (returned : Result (List (Option spec.Entry)) spec.ErrorValue) →
-        spec.Gives (λ each. each.items) found returned →
+        spec.Gives (λ (each : List (Option spec.Entry)). each) found returned →
         let kept = spec.many_kept answers.new.boxed.value in
         spec.AnswersMany result kept entries.old entries.new returned }
     ensures new { result ≡ 0 → IsSomeAnd answers.new.boxed.value (λ k. spec.found_by k ≡ None) }
@@ -139,7 +139,6 @@ fn keep_found(
     }
 }
 
-// Reads for these keys.
 fn read_each(
     alloc: Global,
     table: &Table,
@@ -152,7 +151,8 @@ fn read_each(
     requires empty { answers.old.boxed.value ≡ None }
     requires sum { spec.sum lens.now ≡ length keys.now }
     requires room { length lens.now ≤ length entries.old }
-    ensures returned { let returned = spec.many_results table.now (spec.queries_for keys.now lens.now seqno) in
+    ensures returned { let returned = spec.many_results table.now
+        (spec.queries_for keys.now lens.now seqno) in
         let kept = spec.many_kept answers.new.boxed.value in
         spec.AnswersMany result kept entries.old entries.new returned }
     ensures list { (es : List spec.Entry) → spec.StoresList table.now.bytes es →
@@ -210,12 +210,22 @@ fn get_each(
     read_each(alloc, table, keys, lens, seqno, entries, answers)
 }
 
-/// Finds of each of some keys what `sst_table_get` finds, keeps all of it in a handle that holds
-/// nothing, and tells of each its kind, number and lengths, in the order of the keys. The keys
-/// stand one behind another in `keys`, and have these lengths. Refused 101 where the answers'
-/// handle holds something, 100 where the table's is closed, 102 where it holds no table, 105 where
-/// the lengths do not add up to how many bytes there are, 103 where there are fewer entries than
-/// keys, and as `get_many`; nothing is kept or told then.
+/// Finds for each of several keys what `sst_table_get` finds.
+///
+/// The keys are one after another in `keys`; `key_lens` has their lengths in bytes. `answers` must
+/// hold nothing, and then has the results. They share the table's memory by one reference.
+/// `entries` gets kind, sequence number and lengths for each key, in the order of the keys.
+///
+/// # Errors
+///
+/// - 101: `answers` holds something.
+/// - 100: the table's handle is closed.
+/// - 102: it holds no table.
+/// - 105: the lengths do not add up to the length of `keys`.
+/// - 103: there are fewer entries than keys.
+/// - The error code of the first key whose read fails.
+///
+/// On error `entries` and `answers` do not change.
 #[unsafe(no_mangle)]
 pub extern "C" fn sst_table_get_many(
     alloc: Global,
@@ -238,14 +248,15 @@ pub extern "C" fn sst_table_get_many(
         table.old.boxed.value ≡ Some h → spec.is_table h.what ≡ true →
         spec.sum key_lens.now ≡ length keys.now → length entries.old < length key_lens.now →
         result ≡ 103 }
-    // Whatever the bytes, it is what the table tells of each key, or of the first that is refused,
+    // For any bytes it is the result of each read, or the first error.
     ensures returned { (h : spec.HeldValue) (t : spec.OpenTable) → answers.old.boxed.value ≡ None →
         table.old.boxed.value ≡ Some h → h.what ≡ spec.TableOf t →
         spec.sum key_lens.now ≡ length keys.now → length key_lens.now ≤ length entries.old →
         let returned = spec.many_results t (spec.queries_for keys.now key_lens.now seqno) in
         let kept = spec.many_kept answers.new.boxed.value in
         spec.AnswersMany result kept entries.old entries.new returned }
-    // and on bytes that store a list each key's first match in the list, its numbers lifted.
+    // For bytes that store a list it is each key's newest visible version in the list, global seqno
+    // applied.
     ensures list { (h : spec.HeldValue) (t : spec.OpenTable) (es : List spec.Entry) →
         answers.old.boxed.value ≡ None → table.old.boxed.value ≡ Some h → h.what ≡ spec.TableOf t →
         spec.sum key_lens.now ≡ length keys.now → length key_lens.now ≤ length entries.old →
@@ -277,20 +288,30 @@ fn lend_at(held: &Held, index: u64, lent: &mut Lent) -> u32
     let What::Answers(found) = &held.what else {
         return OTHER_KIND;
     };
-    match found.get(index as usize) {
-        Some(Some(item)) => {
-            lend_item(&item.as_entry_ref(), lent);
+    if index >= found.len() as u64 {
+        return NO_SUCH;
+    }
+    match found.entry(index as usize) {
+        Some(item) => {
+            lend_item(&item, lent);
             0
         }
-        Some(None) => NOTHING,
-        None => NO_SUCH,
+        None => NOTHING,
     }
 }
 
-/// Lends the key and the value of what was found of the key at a place, from 0 on: they lie there
-/// until the answers are closed. Refused 100 where the handle is closed, 102 where it holds no
-/// answers, 105 where there is no key at that place, and 106 where nothing was found of it; what
-/// `lent` says stays then.
+/// Returns pointers to the key and the value found for the key at an index, from 0 on.
+///
+/// They are valid until the answers are closed.
+///
+/// # Errors
+///
+/// - 100: the handle is closed.
+/// - 102: it holds no answers.
+/// - 105: there is no key at the index.
+/// - 106: nothing was found for it.
+///
+/// On error `lent` does not change.
 #[unsafe(no_mangle)]
 pub extern "C" fn sst_answers_lend(
     alloc: Global,
@@ -326,17 +347,26 @@ fn copy_at(held: &Held, index: u64, key: &mut [u8], value: &mut [u8]) -> u32
     let What::Answers(found) = &held.what else {
         return OTHER_KIND;
     };
-    match found.get(index as usize) {
-        Some(Some(item)) => copy_item(&item.as_entry_ref(), key, value),
-        Some(None) => NOTHING,
-        None => NO_SUCH,
+    if index >= found.len() as u64 {
+        return NO_SUCH;
+    }
+    match found.entry(index as usize) {
+        Some(item) => copy_item(&item, key, value),
+        None => NOTHING,
     }
 }
 
-/// Copies the key and the value of what was found of the key at a place, from 0 on, to the fronts
-/// of two rooms. Refused 100 where the handle is closed, 102 where it holds no answers, 105 where
-/// there is no key at that place, 106 where nothing was found of it, and 103 where a room is too
-/// small: nothing is copied then, and nothing is lost.
+/// Copies the key and the value found for the key at an index, from 0 on, to two buffers.
+///
+/// # Errors
+///
+/// - 100: the handle is closed.
+/// - 102: it holds no answers.
+/// - 105: there is no key at the index.
+/// - 106: nothing was found for it.
+/// - 103: a buffer is too small.
+///
+/// On error nothing is copied.
 #[unsafe(no_mangle)]
 pub extern "C" fn sst_answers_copy(
     alloc: Global,
