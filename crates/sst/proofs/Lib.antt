@@ -2,3 +2,4 @@ mod Endings
 mod Failures
 mod Files
 mod Named
+mod Passing
