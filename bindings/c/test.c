@@ -219,7 +219,7 @@ static void test_absent(sst_handle *table) {
   memset(entries, 7, sizeof entries);
   CHECK(sst_table_get_many(table, bytes("nothingkeynothing"), 17, lens, 3, SST_NEWEST, entries, 3,
                            &answers) == 0);
-  for (int i = 0; i < 3; i++) {
+  for (size_t i = 0; i < 3; i++) {
     CHECK(entries[i].kind == SST_NO_ENTRY && entries[i].seqno == 0);
     CHECK(entries[i].key_len == 0 && entries[i].value_len == 0);
     CHECK(sst_answers_lend(&answers, i, &lent) == SST_NOTHING);
