@@ -30,7 +30,7 @@ loop-at-preserved g c =
     let at = c.loop-at.at in
     let found = c.loop-at.found.items in
     let done = c.args.batch.done.items in
-    let are = c.loop-at.invariant.are_found in
+    let are : AreFound entry is_within returned queries found done = c.loop-at.invariant.are_found in
     let query = c.index-queries-at.result in
     elim c.if-not-index.branch [
       | then-not-index+in_ok-read_one w ↦
