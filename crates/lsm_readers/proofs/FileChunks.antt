@@ -31,13 +31,12 @@ use Rattle.sst_blocks.specs.table.Partitions.{handles_block}
 use Rattle.sst_blocks.specs.declared.table.options.Options.{Options}
 use Rattle.sst_blocks.specs.declared.table.label.Label.{Label}
 use Rattle.sst_blocks.specs.table.Fits.{EntryFits, BlockFits}
-use Rattle.lsm_readers.specs.Scan.{behind}
 use Rattle.lsm_readers.proofs.ChunkReads.{AreSome}
 use Rattle.sst_blocks.proofs.BlockLengths.{length-block}
 use Rattle.lsm_readers.proofs.FileLengths.{chunk_reads}
 use Rattle.sst_entries.proofs.Lists.{all_front, all_behind}
 use Rattle.sst_entries.proofs.Strictness.{strict_alone, strict_front, strict_back}
-use Rattle.lsm_readers.proofs.FileContent.{some_chunks, whole}
+use Rattle.lsm_readers.proofs.FileContent.{some_chunks}
 use Rattle.lsm_readers.proofs.FileIndexKinds.{index_alone}
 use Rattle.lsm_readers.proofs.FileSections.{body_is, the_end, the_filter, written}
 use Rattle.std.proofs.lemmas.List.Sums.{sum_by-cons}

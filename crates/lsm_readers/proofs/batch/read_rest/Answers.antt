@@ -1,4 +1,4 @@
-use Rattle.std.proofs.Common.{◌≡◌, ◌+◌, ◌<◌, arith, length, rules, List, Option, get_or, false, true, set, take, subst, sym, ◌∙◌}
+use Rattle.std.proofs.Common.{◌≡◌, ◌+◌, ◌<◌, arith, length, rules, get_or, false, true, set, take, subst, sym, ◌∙◌}
 use Rattle.std.proofs.lemmas.List.{get_or_read}
 use Rattle.std.specs.Prelude.{Ok}
 use Rattle.std.specs.Option.{option_map}
@@ -30,7 +30,7 @@ loop-at-preserved g c =
     let at = c.loop-at.at in
     let found = c.loop-at.found.items in
     let done = c.args.batch.done.items in
-    let are = c.loop-at.invariant.are_found in
+    let are : AreFound entry is_within returned queries found done = c.loop-at.invariant.are_found in
     let query = c.index-queries-at.result in
     elim c.if-not-index.branch [
       | then-not-index+in_ok-read_one w ↦
