@@ -1,4 +1,5 @@
 -- The definitions that contracts of this crate cite, under one name.
+pub use Rattle.std.specs.IoError.{error_kind}
 pub use Rattle.std.specs.Option.{option_map}
 pub use Rattle.sst_entries.specs.Error.{is_memory}
 pub use Rattle.lsm_readers.specs.point.Table.{OpenTable}
@@ -12,7 +13,7 @@ pub use Rattle.sst.specs.Making.{CompactsTables, RefusesCompact, RefusesPack, Re
 pub use Rattle.sst.specs.Making.{WritesTables}
 pub use Rattle.sst.specs.Options.{compact_by, format_of, write_by}
 pub use Rattle.sst.specs.Showing.{AreNamed, DoesDump, DoesGet, DumpsEach, MeansKey}
-pub use Rattle.sst.specs.Statuses.{status_of_answer, status_of_failure}
+pub use Rattle.sst.specs.Statuses.{is_closed, status_of_answer, status_of_failure}
 pub use Rattle.sst.specs.Tasks.{DoesTask, RefusesTask, Runs}
 pub use Rattle.sst.specs.Verified.{AreSoundFiles, HaveFaulty, IsFaultyFile, IsSoundFile}
 pub use Rattle.sst.specs.Verified.{StoresNoTable}

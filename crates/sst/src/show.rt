@@ -6,7 +6,7 @@ use crate::System;
 use crate::bar::{Bar, Work, behind};
 use crate::make::format_of;
 use sst_blocks::{Error, Slice};
-use sst_tool::files::{FileFault, KeyWord, Place, ToolError, open_bytes, open_table};
+use sst_tool::files::{Escaped, FileFault, KeyWord, Place, ToolError, open_bytes, open_table};
 use sst_tool::lines::parse_bytes;
 use sst_tool::show::{DumpOptions, GetOptions, NamedTable, NoProgress};
 use std::alloc::Global;
@@ -245,6 +245,7 @@ fn print_unread<'a, W: Write>(
     if fault.is_memory() {
         return Err(ToolError::Refused(Error::OutOfMemory));
     }
+    let name = Escaped(name);
     writeln!(output, "{name}: {fault}")?;
     Ok(1)
 }
@@ -289,8 +290,8 @@ fn print_unopened<'a, W: Write>(
     if is_memory(&error) {
         return Err(ToolError::Refused(Error::OutOfMemory));
     }
-    let number = error.number();
-    writeln!(output, "{name}: {error} ({number})")?;
+    let (shown, number) = (Escaped(name), error.number());
+    writeln!(output, "{shown}: {error} ({number})")?;
     let blocks = sst_tool::show::verify_unopened(alloc, output, name, bytes)?;
     Ok(blocks.saturating_add(1))
 }

@@ -263,7 +263,7 @@ fn open_and_compact<'a, P: Place, A: Allocator + Copy>(
 }
 
 /// Compacts table files, each as a run of its own, and writes the new tables into a new folder. The
-/// files are named `1.sst`, `2.sst` and so on. Which entries are kept is that of
+/// files are named `000001.sst`, `000002.sst` and so on. Which entries are kept is that of
 /// [`compact_any_runs`](lsm_runs::compact_any_runs).
 ///
 /// # Errors

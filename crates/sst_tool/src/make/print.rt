@@ -2,6 +2,7 @@
 ghost use Rattle.std.specs.Prelude.{◌≡◌};
 ghost use Rattle.sst_tool.specs.make.Words as spec;
 
+use crate::files::Escaped;
 use lsm_sorted::{Packed, Ranged};
 use std::alloc::Allocator;
 use std::io;
@@ -47,6 +48,6 @@ pub fn print_packed<W: Write, T: Ranged, A: Allocator>(
 
 // Prints a space and the path at an index.
 fn print_name<W: Write>(output: &mut W, paths: &[&str], place: usize) -> io::Result<()> {
-    let path = path_at(paths, place);
+    let path = Escaped(path_at(paths, place));
     write!(output, " {path}")
 }

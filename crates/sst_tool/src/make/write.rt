@@ -193,8 +193,8 @@ fn put_tables<'a, P: Place, A: Allocator + Copy>(
     Ok(place_tables(place, alloc, path, target, &wanted)?)
 }
 
-/// Writes the entries of lines into a table file, or with a target into several: `PATH.1`, `PATH.2`
-/// and so on. Empty lines are skipped. The entries are in order, by ascending key and then by
+/// Writes the entries of lines into a table file, or with a target into several: `PATH.000001`,
+/// `PATH.000002` and so on. Empty lines are skipped. The entries are in order, by ascending key and then by
 /// descending sequence number, or are sorted first.
 ///
 /// # Errors

@@ -3,7 +3,7 @@ ghost use Rattle.std.specs.Prelude.{◌≡◌, ◌<◌, List, IfErr, IfOk};
 ghost use Rattle.sst_tool.specs.show.Words as spec;
 ghost use Rattle.lsm_readers.specs.declared.verify.VerifyError.TheVariants.{OutOfMemory};
 
-use crate::files::{BlockPlace, ToolError};
+use crate::files::{BlockPlace, Escaped, ToolError};
 use crate::lines::word_for;
 use crate::show::NamedTable;
 use crate::show::blocks::{NamedBlock, named_blocks, refusal_of, region_blocks, source_of};
@@ -134,6 +134,7 @@ fn print_sound<W: Write>(
     let entry_word = word_for(entries, "entry", "entries");
     let data_word = word_for(data, "data block", "data blocks");
     let word = word_for(blocks, "block", "blocks");
+    let name = Escaped(name);
     writeln!(
         output,
         "{name}: sound, {entries} {entry_word} in {data} {data_word}, {blocks} {word} read"
@@ -171,6 +172,7 @@ fn print_first<W: Write>(
         section: finding.section,
         offset: finding.offset,
     };
+    let name = Escaped(name);
     write!(output, "{name}: {place}: ")?;
     print_fault(output, &finding.fault)?;
     let word = word_for(blocks, "block before it is", "blocks before it are");
@@ -294,7 +296,7 @@ fn print_unloaded_line<W: Write>(
     place: BlockPlace,
     error: &Error,
 ) -> io::Result<()> {
-    let number = error.number();
+    let (name, number) = (Escaped(name), error.number());
     writeln!(output, "{name}: {place}: {error} ({number})")
 }
 

@@ -174,8 +174,8 @@ fn several_tables_are_numbered(rt: HostRuntime) {
     let mut place = Memory::new(alloc, NEVER);
     // At target 0 each key has a table.
     assert_eq!(rt; write(&mut place, alloc, LINES, "t", Some(0)), Some((2, 3)));
-    assert_eq!(rt; entries_of(&mut place, alloc, "t.1"), Some(2));
-    assert_eq!(rt; entries_of(&mut place, alloc, "t.2"), Some(1));
+    assert_eq!(rt; entries_of(&mut place, alloc, "t.000001"), Some(2));
+    assert_eq!(rt; entries_of(&mut place, alloc, "t.000002"), Some(1));
     assert_eq!(rt; place.count(), 2);
 }
 
@@ -183,7 +183,7 @@ fn several_tables_are_numbered(rt: HostRuntime) {
 fn file_behind_the_last_is_left_of_an_earlier_write(rt: HostRuntime) {
     let alloc = rt.alloc();
     let mut place = Memory::new(alloc, NEVER);
-    assert_eq!(rt; place.put("t.3", Some(b"old")).is_ok(), true);
+    assert_eq!(rt; place.put("t.000003", Some(b"old")).is_ok(), true);
     assert_eq!(rt; write(&mut place, alloc, LINES, "t", Some(0)), None);
     assert_eq!(rt; place.steps(), 0);
     assert_eq!(rt; place.count(), 1);
@@ -194,7 +194,7 @@ fn files_are_compacted_and_read_back(rt: HostRuntime) {
     let alloc = rt.alloc();
     let mut place = sources(alloc, NEVER);
     assert_eq!(rt; compact(&mut place, alloc, "to", None), Some((1, 5)));
-    assert_eq!(rt; entries_of(&mut place, alloc, "to/1.sst"), Some(5));
+    assert_eq!(rt; entries_of(&mut place, alloc, "to/000001.sst"), Some(5));
     // A folder was made, one file written in it, the folder synced and renamed, and its name
     // synced.
     assert_eq!(rt; place.steps(), 5);
@@ -207,9 +207,9 @@ fn several_tables_get_their_folder_at_once(rt: HostRuntime) {
     let mut place = sources(alloc, NEVER);
     // At target 0 each key has a table.
     assert_eq!(rt; compact(&mut place, alloc, "to", Some(0)), Some((3, 5)));
-    assert_eq!(rt; entries_of(&mut place, alloc, "to/1.sst"), Some(3));
-    assert_eq!(rt; entries_of(&mut place, alloc, "to/2.sst"), Some(1));
-    assert_eq!(rt; entries_of(&mut place, alloc, "to/3.sst"), Some(1));
+    assert_eq!(rt; entries_of(&mut place, alloc, "to/000001.sst"), Some(3));
+    assert_eq!(rt; entries_of(&mut place, alloc, "to/000002.sst"), Some(1));
+    assert_eq!(rt; entries_of(&mut place, alloc, "to/000003.sst"), Some(1));
     assert_eq!(rt; place.steps(), 7);
     assert_eq!(rt; place.count(), 6);
 }
