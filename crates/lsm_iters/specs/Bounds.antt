@@ -26,8 +26,3 @@ abbrev pub upper_edge : Edge (List ℕ) → Option (List ℕ)
 upper_edge (Included key) = Some key
 upper_edge (Excluded key) = Some key
 upper_edge Unbounded = None
-
--- The bound's key.
-abbrev pub key_of : {A : Type 0} → Bound A → List ℕ
-key_of (AtKey key) = key
-key_of (BesideKey key) = key

@@ -21,7 +21,7 @@ pub use Rattle.lsm_iters.specs.block_index.Left.{fault_at, front_early, front_ne
 pub use Rattle.lsm_iters.specs.block_index.Left.{needs_at, new_on_demand, new_two_level}
 pub use Rattle.lsm_iters.specs.block_index.Left.{on_demand_left, span_left, two_level_left}
 pub use Rattle.lsm_iters.specs.block_index.Left.{with_index_loads}
-pub use Rattle.lsm_iters.specs.Bounds.{edge_in, edge_of, key_of, lower_edge, upper_edge}
+pub use Rattle.lsm_iters.specs.Bounds.{edge_in, edge_of, lower_edge, upper_edge}
 pub use Rattle.lsm_iters.specs.Lift.{global_seqno_result, lift, lift_results, lifted, lifted_result}
 pub use Rattle.lsm_iters.specs.Range.{LendsOn, Range, RangeGives, back_next, data_loaded}
 pub use Rattle.lsm_iters.specs.Range.{front_next, left_in, new_range, next_at, opened_in}
@@ -40,6 +40,7 @@ pub use Rattle.lsm_iters.specs.Lending.{LendsAt, RangeLends, RangeLendsAt, behin
 pub use Rattle.lsm_iters.specs.Lending.{cursor_remains, lent_in}
 pub use Rattle.std.specs.Iterator.{at_most}
 pub use Rattle.std.specs.Option.{option_map}
+pub use Rattle.std.specs.Range.Bound.{bound_map}
 pub use Rattle.std.specs.declared.ops.Bound.TheVariants.{Unbounded}
 pub use Rattle.sst_entries.specs.Entry.{Entry}
 pub use Rattle.sst_entries.specs.declared.error.Error.{Error}

@@ -4,6 +4,7 @@ ghost use Rattle.lsm_iters.specs.Words as spec;
 
 use sst_blocks::UserKey;
 use std::alloc::{Allocator, Global};
+use std::ops;
 
 /// A key at which a range begins or ends.
 ///
@@ -16,14 +17,13 @@ pub enum Bound<A: Allocator = Global> {
     Excluded(UserKey<A>),
 }
 
-impl<A: Allocator> Bound<A> {
-    /// Returns the key, for a seek in the index.
-    pub(crate) fn key(&self) -> &[u8]
-        ensures { result.now ≡ spec.key_of self.now }
-    {
-        match self {
-            Bound::Included(key) => key.as_slice(),
-            Bound::Excluded(key) => key.as_slice(),
-        }
+/// Borrows a bound; a missing one is unbounded.
+pub fn edge<A: Allocator>(bound: &Option<Bound<A>>) -> ops::Bound<&UserKey<A>>
+    ensures { spec.bound_map (λ k. k.now) result ≡ spec.edge_in bound.now }
+{
+    match bound {
+        Some(Bound::Included(key)) => ops::Bound::Included(key),
+        Some(Bound::Excluded(key)) => ops::Bound::Excluded(key),
+        None => ops::Bound::Unbounded,
     }
 }

@@ -1,10 +1,10 @@
 //! The handles of the blocks that are not loaded yet.
-ghost use Rattle.std.specs.Prelude.{◌≡◌, ◌↔◌, None, true, false, OnOk, OnErr, IfErr, List, ℕ};
-ghost use Rattle.std.specs.Prelude.{Option};
+ghost use Rattle.std.specs.Prelude.{◌≡◌, ◌↔◌, None, true, false, OnOk, OnErr, IfErr};
 ghost use Rattle.lsm_iters.specs.Words as spec;
 
-use crate::{BlockIndexIter, BlockIndexIterImpl, Bound};
-use sst_blocks::{Error, KeyedBlockHandle, Opened, SeqNo};
+use crate::bound::edge;
+use crate::{BlockIndexIter, BlockIndexIterImpl, Bound, seek_lower, seek_upper};
+use sst_blocks::{Error, KeyedBlockHandle, Opened};
 use sst_entries::Direction;
 use std::alloc::Allocator;
 use std::marker::Model;
@@ -90,8 +90,8 @@ impl<A: Allocator + Clone> Handles<A> {
         ensures err { IfErr result (λ e. e ≡ spec.OutOfMemory) }
     {
         self.sought = true;
-        seek_lower(&mut self.iter, lower)?;
-        seek_upper(&mut self.iter, upper)
+        seek_lower(&mut self.iter, edge(lower))?;
+        seek_upper(&mut self.iter, edge(upper))
     }
 
     /// Takes the next handle at an end.
@@ -123,41 +123,5 @@ impl<A: Allocator + Clone> Handles<A> {
         ensures { result ≡ (spec.left_in self.now).opened }
     {
         self.iter.opened()
-    }
-}
-
-/// Seeks a lower bound, if there is one.
-fn seek_lower<A: Allocator + Clone>(
-    iter: &mut BlockIndexIterImpl<A>,
-    lower: &Option<Bound<A>>,
-) -> Result<(), Error>
-    ensures sought { let low = spec.lower_edge (spec.edge_in lower.now) in
-        spec.IsSought iter.old None None → OnOk result (spec.IsSought iter.new low None) }
-    ensures none { spec.LoadsNone (spec.left_of iter.old) (spec.left_of iter.new) }
-    ensures refused { OnErr result (spec.TakesMemory iter.old) }
-    ensures wants { spec.TakesMemory iter.new → spec.TakesMemory iter.old }
-    ensures err { IfErr result (λ e. e ≡ spec.OutOfMemory) }
-{
-    match lower {
-        Some(bound) => iter.seek_lower(bound.key(), SeqNo::MAX).and(Ok(())),
-        None => Ok(()),
-    }
-}
-
-/// Seeks an upper bound, if there is one.
-fn seek_upper<A: Allocator + Clone>(
-    iter: &mut BlockIndexIterImpl<A>,
-    upper: &Option<Bound<A>>,
-) -> Result<(), Error>
-    ensures sought { let high = spec.upper_edge (spec.edge_in upper.now) in
-        (low : Option (List ℕ × ℕ)) → spec.IsSought iter.old low None →
-        OnOk result (spec.IsSought iter.new low high) }
-    ensures none { spec.LoadsNone (spec.left_of iter.old) (spec.left_of iter.new) }
-    ensures refused { OnErr result (spec.TakesMemory iter.old) }
-    ensures err { IfErr result (λ e. e ≡ spec.OutOfMemory) }
-{
-    match upper {
-        Some(bound) => iter.seek_upper(bound.key(), SeqNo::MAX).and(Ok(())),
-        None => Ok(()),
     }
 }

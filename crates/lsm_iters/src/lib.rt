@@ -14,6 +14,7 @@ mod lift;
 mod owned;
 mod pairs;
 mod parts;
+mod seek;
 mod walk;
 
 pub use block_index::{
@@ -28,4 +29,5 @@ pub use lift::lift_seqno;
 pub use owned::OwnedDataBlockIter;
 pub use pairs::beside;
 pub use parts::Parts;
+pub use seek::{SeekKey, seek_lower, seek_upper};
 pub use walk::Walk;

@@ -2,8 +2,9 @@
 ghost use Rattle.std.specs.Prelude.{◌≡◌, ◌↔◌, IsTrue, Some, None, OnOk, OnErr, IfErr};
 ghost use Rattle.lsm_iters.specs.Words as spec;
 
+use crate::SeekKey;
 use crate::block_index::iter::OwnedIndexBlockIter;
-use sst_blocks::{Error, IndexBlock, SeqNo, Slice, UserKey};
+use sst_blocks::{Error, IndexBlock, SeqNo, UserKey};
 use std::alloc::Allocator;
 use std::marker::Model;
 
@@ -42,32 +43,32 @@ impl<A: Allocator + Clone> Edges<A> {
         self.lower.is_none() && self.upper.is_none()
     }
 
-    /// Stores a copy of the lower edge.
+    /// Keeps the lower edge.
     ///
     /// # Errors
     ///
     /// [`Error::OutOfMemory`] only; the edges are then unchanged.
-    pub fn set_lower(&mut self, key: &[u8], seqno: SeqNo) -> Result<(), Error>
-        ensures ok { OnOk result (self.new ≡ (Some (key.now, seqno), self.old.1)) }
+    pub fn set_lower<K: SeekKey<A>>(&mut self, key: &K, seqno: SeqNo) -> Result<(), Error>
+        ensures ok { OnOk result (self.new ≡ (Some (K.key key.now, seqno), self.old.1)) }
         ensures unchanged { OnErr result (self.new ≡ self.old) }
         ensures err { IfErr result (λ e. e ≡ spec.OutOfMemory) }
     {
-        let key = Slice::from(self.alloc.clone()?, key)?;
+        let key = key.keep(&self.alloc)?;
         drop(self.lower.replace((key, seqno)));
         Ok(())
     }
 
-    /// Stores a copy of the upper edge.
+    /// Keeps the upper edge.
     ///
     /// # Errors
     ///
     /// [`Error::OutOfMemory`] only; the edges are then unchanged.
-    pub fn set_upper(&mut self, key: &[u8]) -> Result<(), Error>
-        ensures ok { OnOk result (self.new ≡ (self.old.0, Some key.now)) }
+    pub fn set_upper<K: SeekKey<A>>(&mut self, key: &K) -> Result<(), Error>
+        ensures ok { OnOk result (self.new ≡ (self.old.0, Some (K.key key.now))) }
         ensures unchanged { OnErr result (self.new ≡ self.old) }
         ensures err { IfErr result (λ e. e ≡ spec.OutOfMemory) }
     {
-        let key = Slice::from(self.alloc.clone()?, key)?;
+        let key = key.keep(&self.alloc)?;
         drop(self.upper.replace(key));
         Ok(())
     }

@@ -1,8 +1,9 @@
 //! The traits of block indexes and their three kinds.
 ghost use Rattle.std.specs.Prelude.{◌≡◌, ℕ, Bool, List, Option, [], Some, None, false, MatchOption};
-ghost use Rattle.std.specs.Prelude.{◌↔◌, IsTrue, OnOk, OnErr, IfOk, IfErr};
+ghost use Rattle.std.specs.Prelude.{◌↔◌, ◌-◌, ◌^◌, IsTrue, OnOk, OnErr, IfOk, IfErr};
 ghost use Rattle.lsm_iters.specs.Words as spec;
 
+use crate::SeekKey;
 use crate::block_index::full::{self, FullBlockIndex};
 use crate::block_index::two_level::{self, TwoLevelBlockIndex};
 use crate::block_index::volatile::{self, VolatileBlockIndex};
@@ -204,6 +205,38 @@ impl<A: Allocator + Clone> BlockIndexIterImpl<A> {
             BlockIndexIterImpl::Full(iter) => iter.is_unsought(),
             BlockIndexIterImpl::Volatile(iter) => iter.is_unsought(),
             BlockIndexIterImpl::TwoLevel(iter) => iter.is_unsought(),
+        }
+    }
+
+    /// Seeks a lower edge; an index that is not loaded keeps its key.
+    pub(crate) fn keep_lower<K: SeekKey<A>>(&mut self, key: &K) -> Result<(), Error>
+        ensures sought { spec.IsSought self.old None None →
+            OnOk result (spec.IsSought self.new (Some (K.key key.now, 2 ^ 64 - 1)) None) }
+        ensures none { spec.LoadsNone (spec.left_of self.old) (spec.left_of self.new) }
+        ensures refused { OnErr result (spec.TakesMemory self.old) }
+        ensures wants { spec.TakesMemory self.new → spec.TakesMemory self.old }
+        ensures err { IfErr result (λ e. e ≡ spec.OutOfMemory) }
+    {
+        match self {
+            BlockIndexIterImpl::Full(iter) => iter.seek_lower(key.bytes(), SeqNo::MAX).and(Ok(())),
+            BlockIndexIterImpl::Volatile(iter) => iter.keep_lower(key, SeqNo::MAX).and(Ok(())),
+            BlockIndexIterImpl::TwoLevel(iter) => iter.keep_lower(key, SeqNo::MAX).and(Ok(())),
+        }
+    }
+
+    /// Seeks an upper edge; an index that is not loaded keeps its key.
+    pub(crate) fn keep_upper<K: SeekKey<A>>(&mut self, key: &K) -> Result<(), Error>
+        ensures sought { (low : Option (List ℕ × ℕ)) → spec.IsSought self.old low None →
+            OnOk result (spec.IsSought self.new low (Some (K.key key.now))) }
+        ensures none { spec.LoadsNone (spec.left_of self.old) (spec.left_of self.new) }
+        ensures refused { OnErr result (spec.TakesMemory self.old) }
+        ensures wants { spec.TakesMemory self.new → spec.TakesMemory self.old }
+        ensures err { IfErr result (λ e. e ≡ spec.OutOfMemory) }
+    {
+        match self {
+            BlockIndexIterImpl::Full(iter) => iter.seek_upper(key.bytes(), SeqNo::MAX).and(Ok(())),
+            BlockIndexIterImpl::Volatile(iter) => iter.keep_upper(key).and(Ok(())),
+            BlockIndexIterImpl::TwoLevel(iter) => iter.keep_upper(key).and(Ok(())),
         }
     }
 

@@ -1,12 +1,13 @@
 //! The two-level index: a pinned top level over partitions that each iterator loads one by one.
-ghost use Rattle.std.specs.Prelude.{◌≡◌, ◌↔◌, [], IsTrue, Some, None, IfOk, IfErr};
+ghost use Rattle.std.specs.Prelude.{◌≡◌, ◌↔◌, [], IsTrue, Some, None, IfOk, IfErr, true};
+ghost use Rattle.std.specs.Prelude.{ℕ, List, Option, OnOk, OnErr};
 ghost use Rattle.lsm_iters.specs.Words as spec;
 
 use crate::block_index::edges::Edges;
 use crate::block_index::iter::OwnedIndexBlockIter;
 use crate::block_index::kinds::BlockIndexIter;
 use crate::block_index::partitions::Partitions;
-use crate::{Ends, Walk};
+use crate::{Ends, SeekKey, Walk};
 use sst_blocks::{BlockSource, Error, IndexBlock, KeyedBlockHandle, Opened, SeqNo};
 use sst_entries::Direction;
 use std::alloc::{Allocator, Global};
@@ -147,6 +148,56 @@ impl<A: Allocator + Clone> Iter<A> {
         whole && is_over(&self.walk.front) && is_over(&self.walk.back)
     }
 
+    /// Seeks a lower edge and keeps its key.
+    pub(crate) fn keep_lower<K: SeekKey<A>>(&mut self, key: &K, seqno: SeqNo) -> Result<bool, Error>
+        ensures sought { (upper : Option (List ℕ)) → spec.IsTwoLevelSought self.old None upper →
+            OnOk result (spec.IsTwoLevelSought self.new (Some (K.key key.now, seqno)) upper) }
+        ensures any { IfOk result (λ any. any ≡ true) }
+        ensures over { spec.IsEnded (spec.two_level_left self.old) →
+            spec.IsEnded (spec.two_level_left self.new) }
+        ensures index { (spec.two_level_left self.new).index
+            ≡ (spec.two_level_left self.old).index }
+        ensures opened { self.new.opened ≡ self.old.opened }
+        ensures ended { OnErr result (spec.IsEnded (spec.two_level_left self.new)) }
+        ensures err { IfErr result (λ e. e ≡ spec.OutOfMemory) }
+    {
+        match self.walk.parts.edges.set_lower(key, seqno) {
+            Ok(()) => {
+                self.walk.parts.tops.seek_lower(key.bytes(), seqno);
+                Ok(true)
+            }
+            Err(refusal) => {
+                self.end();
+                Err(refusal)
+            }
+        }
+    }
+
+    /// Seeks an upper edge and keeps its key.
+    pub(crate) fn keep_upper<K: SeekKey<A>>(&mut self, key: &K) -> Result<bool, Error>
+        ensures sought { (lower : Option (List ℕ × ℕ)) → spec.IsTwoLevelSought self.old lower None →
+            OnOk result (spec.IsTwoLevelSought self.new lower (Some (K.key key.now))) }
+        ensures any { IfOk result (λ any. any ≡ true) }
+        ensures over { spec.IsEnded (spec.two_level_left self.old) →
+            spec.IsEnded (spec.two_level_left self.new) }
+        ensures index { (spec.two_level_left self.new).index
+            ≡ (spec.two_level_left self.old).index }
+        ensures opened { self.new.opened ≡ self.old.opened }
+        ensures ended { OnErr result (spec.IsEnded (spec.two_level_left self.new)) }
+        ensures err { IfErr result (λ e. e ≡ spec.OutOfMemory) }
+    {
+        match self.walk.parts.edges.set_upper(key) {
+            Ok(()) => {
+                self.walk.parts.tops.seek_upper(key.bytes(), 0);
+                Ok(true)
+            }
+            Err(refusal) => {
+                self.end();
+                Err(refusal)
+            }
+        }
+    }
+
     /// Returns the next item at an end.
     #[inline(always)]
     fn answer(&mut self, at: Direction) -> Option<Result<KeyedBlockHandle<A>, Error>>
@@ -198,29 +249,11 @@ impl<A: Allocator + Clone> BlockIndexIter<A> for Iter<A> {
     ghost takes_memory = { λ _. Unit {0} };
 
     fn seek_lower(&mut self, key: &[u8], seqno: SeqNo) -> Result<bool, Error> {
-        match self.walk.parts.edges.set_lower(key, seqno) {
-            Ok(()) => {
-                self.walk.parts.tops.seek_lower(key, seqno);
-                Ok(true)
-            }
-            Err(refusal) => {
-                self.end();
-                Err(refusal)
-            }
-        }
+        self.keep_lower(&key, seqno)
     }
 
-    fn seek_upper(&mut self, key: &[u8], seqno: SeqNo) -> Result<bool, Error> {
-        match self.walk.parts.edges.set_upper(key) {
-            Ok(()) => {
-                self.walk.parts.tops.seek_upper(key, seqno);
-                Ok(true)
-            }
-            Err(refusal) => {
-                self.end();
-                Err(refusal)
-            }
-        }
+    fn seek_upper(&mut self, key: &[u8], _seqno: SeqNo) -> Result<bool, Error> {
+        self.keep_upper(&key)
     }
 
     fn opened(&self) -> Opened {

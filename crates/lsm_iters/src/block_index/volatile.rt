@@ -1,7 +1,9 @@
 //! The volatile index: one block with the handle of every data block, loaded by each iterator.
-ghost use Rattle.std.specs.Prelude.{◌≡◌, ◌↔◌, [], IsTrue, Some, None, IfOk, IfErr};
+ghost use Rattle.std.specs.Prelude.{◌≡◌, ◌↔◌, [], IsTrue, Some, None, IfOk, IfErr, true};
+ghost use Rattle.std.specs.Prelude.{ℕ, List, Option, OnOk, OnErr};
 ghost use Rattle.lsm_iters.specs.Words as spec;
 
+use crate::SeekKey;
 use crate::block_index::edges::Edges;
 use crate::block_index::kinds::BlockIndexIter;
 use crate::block_index::part::{Part, load_part};
@@ -64,7 +66,7 @@ impl<A: Allocator + Clone> VolatileBlockIndex<A> {
         ensures err { IfErr result (λ e. e ≡ spec.OutOfMemory) }
     {
         let mut iter = self.iter()?;
-        let sought = iter.edges.set_lower(key, seqno);
+        let sought = iter.edges.set_lower(&key, seqno);
         sought.and(Ok(iter))
     }
 
@@ -132,6 +134,48 @@ impl<A: Allocator + Clone> Iter<A> {
         ensures { IsTrue result ↔ spec.IsDemandSought self.now None None }
     {
         self.part.is_none() && self.edges.are_none()
+    }
+
+    /// Seeks a lower edge and keeps its key.
+    pub(crate) fn keep_lower<K: SeekKey<A>>(&mut self, key: &K, seqno: SeqNo) -> Result<bool, Error>
+        ensures sought { (upper : Option (List ℕ)) → spec.IsDemandSought self.old None upper →
+            OnOk result (spec.IsDemandSought self.new (Some (K.key key.now, seqno)) upper) }
+        ensures any { IfOk result (λ any. any ≡ true) }
+        ensures over { spec.IsEnded (spec.on_demand_left self.old) →
+            spec.IsEnded (spec.on_demand_left self.new) }
+        ensures index { (spec.on_demand_left self.new).index ≡ (spec.on_demand_left self.old).index }
+        ensures opened { self.new.opened ≡ self.old.opened }
+        ensures ended { OnErr result (spec.IsEnded (spec.on_demand_left self.new)) }
+        ensures err { IfErr result (λ e. e ≡ spec.OutOfMemory) }
+    {
+        match self.edges.set_lower(key, seqno) {
+            Ok(()) => Ok(true),
+            Err(refusal) => {
+                self.end();
+                Err(refusal)
+            }
+        }
+    }
+
+    /// Seeks an upper edge and keeps its key.
+    pub(crate) fn keep_upper<K: SeekKey<A>>(&mut self, key: &K) -> Result<bool, Error>
+        ensures sought { (lower : Option (List ℕ × ℕ)) → spec.IsDemandSought self.old lower None →
+            OnOk result (spec.IsDemandSought self.new lower (Some (K.key key.now))) }
+        ensures any { IfOk result (λ any. any ≡ true) }
+        ensures over { spec.IsEnded (spec.on_demand_left self.old) →
+            spec.IsEnded (spec.on_demand_left self.new) }
+        ensures index { (spec.on_demand_left self.new).index ≡ (spec.on_demand_left self.old).index }
+        ensures opened { self.new.opened ≡ self.old.opened }
+        ensures ended { OnErr result (spec.IsEnded (spec.on_demand_left self.new)) }
+        ensures err { IfErr result (λ e. e ≡ spec.OutOfMemory) }
+    {
+        match self.edges.set_upper(key) {
+            Ok(()) => Ok(true),
+            Err(refusal) => {
+                self.end();
+                Err(refusal)
+            }
+        }
     }
 }
 
@@ -204,23 +248,11 @@ impl<A: Allocator + Clone> BlockIndexIter<A> for Iter<A> {
     ghost takes_memory = { λ _. Unit {0} };
 
     fn seek_lower(&mut self, key: &[u8], seqno: SeqNo) -> Result<bool, Error> {
-        match self.edges.set_lower(key, seqno) {
-            Ok(()) => Ok(true),
-            Err(refusal) => {
-                self.end();
-                Err(refusal)
-            }
-        }
+        self.keep_lower(&key, seqno)
     }
 
     fn seek_upper(&mut self, key: &[u8], _seqno: SeqNo) -> Result<bool, Error> {
-        match self.edges.set_upper(key) {
-            Ok(()) => Ok(true),
-            Err(refusal) => {
-                self.end();
-                Err(refusal)
-            }
-        }
+        self.keep_upper(&key)
     }
 
     fn opened(&self) -> Opened {
