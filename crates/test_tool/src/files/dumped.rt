@@ -69,19 +69,20 @@ fn lines_of(alloc: Global, bytes: &[u8], format: Format) -> Vec<u8> {
     text
 }
 
-// Counts the entries of a table that are those at their index.
+// Counts the entries of a table, or returns 0 if one is not the entry at its index.
 fn count_same(table: &Table<Global>, bytes: &[u8]) -> usize {
     let Ok(items) = table.iter() else {
         return 0;
     };
     let mut count = 0usize;
-    for (index, item) in items.enumerate() {
+    for item in items {
         let Ok(item) = item else {
             return 0;
         };
-        if Some(item.as_entry_ref()) == entry_at(bytes, index) {
-            count = count.saturating_add(1);
+        if Some(item.as_entry_ref()) != entry_at(bytes, count) {
+            return 0;
         }
+        count = count.saturating_add(1);
     }
     count
 }
