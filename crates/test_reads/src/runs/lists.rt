@@ -324,7 +324,7 @@ fn opens_so<A: Allocator + Copy>(alloc: A, how: &OpenOptions) -> Result<bool, Er
         table.tree_id == how.tree_id
             && table.checksum == Checksum(7)
             && table.global_seqno() == how.global_seqno
-            && table.get_highest_seqno() == 10 + how.global_seqno,
+            && table.get_highest_seqno() == how.global_seqno.saturating_add(10),
     )
 }
 
