@@ -1,5 +1,4 @@
 //! Tests of the tool's files over a file system in memory, each step of which can fail.
-mod dumped;
 mod memory;
 mod refused;
 mod written;
