@@ -223,7 +223,7 @@ impl<A: Allocator + Clone> MultiWriter<A> {
         ensures table { spec.AreFinished self.old.present.options (spec.first_label self.old)
             (take 1 self.old.tables) (spec.option_to_list result) }
         ensures left { self.new ≡ spec.taken 1 self.old }
-        // The same entries can be written next.
+        // Taking a table does not change which entries may be written next.
         ensures last { spec.last_of None (spec.all_written self.new)
             ≡ spec.last_of None (spec.all_written self.old) }
         ensures ids { length self.old.tables ≤ self.old.present.label.table_id }

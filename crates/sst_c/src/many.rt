@@ -115,7 +115,7 @@ fn keep_each(
     }
 }
 
-// The same for the result of reads.
+// Stores the results of reads in an empty handle and reports them, or returns the error's code.
 fn keep_found(
     alloc: Global,
     found: Result<AnswerList, Error>,
