@@ -12,8 +12,8 @@
  *
  * A handle is two words in the caller's memory, zeros at first (`sst_handle table = {0};`). A call
  * fills it, and `sst_close` empties it. A handle may be closed twice, and handles may be closed in
- * any order: what was opened through a handle has shares of its own. A handle may be moved in
- * memory, but a copy must not be used beside it.
+ * any order: a range, for example, has a share of its table. A handle may be moved in memory, but a
+ * copy must not be used beside it.
  *
  * If a call gets one handle both to fill and to read, it fills nothing. It returns SST_OPEN if the
  * handle is in use, else SST_CLOSED. `sst_runs_add` fills no handle and must not get one handle
@@ -43,7 +43,7 @@
  * - `sst_table_verify` and `sst_verification_step` set `verified` to zeros, unless the error is
  *   SST_FAULTY. `progress` still reports how far an open verification is.
  * - `sst_range_take`, `sst_scan_take` and `sst_writer_add_many` set `count` to the number of
- *   entries that were done before the error.
+ *   entries that were read or written before the error.
  *
  * Pointers: no pointer may be NULL, and each is aligned for its type. Bytes and other arrays are a
  * pointer and a length, in this order. If the length is 0, any pointer other than NULL will do. A
@@ -201,9 +201,9 @@ uint32_t sst_table_open(const uint8_t *file, size_t len, uint64_t global_seqno, 
 
 /* Opens a table as `sst_table_open` does, over the bytes themselves, without a copy. The bytes must
  * stay in place and unchanged until this handle and all that was opened from its content are
- * closed. These are its shares, ranges, scans, answers and verifications, the lists of runs that it
- * was added to, and what was opened from these. No process may write to the bytes meanwhile, for
- * example to a mapped file.
+ * closed. These are its shares, ranges, scans, answers and verifications, and the lists of runs
+ * that it was added to. The same goes for handles opened from these. No process may write to the
+ * bytes meanwhile, for example to a mapped file.
  */
 uint32_t sst_table_open_kept(const uint8_t *file, size_t len, uint64_t global_seqno,
                              bool pin_filter, bool pin_index, sst_handle *table);
@@ -216,7 +216,7 @@ uint32_t sst_table_open_kept(const uint8_t *file, size_t len, uint64_t global_se
 uint32_t sst_table_get(sst_handle *table, const uint8_t *key, size_t key_len, uint64_t seqno,
                        sst_entry *entry);
 
-/* What a table claims about itself. Sequence numbers are as stored, without the global one. */
+/* The metadata that a table claims. Sequence numbers are as stored, without the global one. */
 typedef struct sst_facts {
   uint64_t id;
   uint64_t version; /* of the format: 3 or 4 */
@@ -231,7 +231,7 @@ typedef struct sst_facts {
   uint64_t data_size; /* size of the data blocks in bytes */
 } sst_facts;
 
-/* Reports what a table claims about itself. Bytes of another writer may claim what is not so. */
+/* Reports the metadata that a table claims. Bytes of another writer may have wrong metadata. */
 uint32_t sst_table_facts(sst_handle *table, sst_facts *facts);
 
 /* The memory of a table, in bytes. It counts once for all handles of the table and for what was
@@ -263,36 +263,36 @@ uint32_t sst_table_share(sst_handle *table, sst_handle *other);
  * repeat. The checksums of their blocks are compared several in one loop. The results have one
  * reference to the table, and none for an entry.
  *
- * `entries` receives what `sst_table_get` reports for each key, in the order of the keys. What
- * follows them in `entries` stays.
+ * `entries` receives what `sst_table_get` reports for each key, in the order of the keys. The rest
+ * of `entries` stays as it was.
  *
- * Errors: SST_NO_SUCH if the lengths do not add up to `keys_len`; SST_NO_ROOM if `entry_room` is
- * below `key_count`; else the error of the first key whose read fails. `entries` stays then, and
- * `answers` holds nothing.
+ * Errors: SST_NO_SUCH if the lengths do not add up to `keys_len`. SST_NO_ROOM if `entry_room` is
+ * below `key_count`. Else the error of the first key whose read fails. After an error `entries`
+ * stays, and `answers` holds nothing.
  */
 uint32_t sst_table_get_many(sst_handle *table, const uint8_t *keys, size_t keys_len,
                             const uint64_t *key_lens, size_t key_count, uint64_t seqno,
                             sst_entry *entries, size_t entry_room, sst_handle *answers);
 
-/* Returns pointers to what was found of the key at `index`, from 0 on, as `sst_found_lend` does.
+/* Returns pointers to the entry found for the key at `index`, from 0 on, as `sst_found_lend` does.
  * They are valid until the answers are closed.
  *
- * Errors: SST_NO_SUCH if there is no key at `index`; SST_NOTHING if nothing was found of it.
+ * Errors: SST_NO_SUCH if there is no key at `index`. SST_NOTHING if nothing was found for it.
  */
 uint32_t sst_answers_lend(sst_handle *answers, uint64_t index, sst_lent *lent);
 
-/* Copies what was found of the key at `index`, from 0 on, as `sst_found_copy` does.
+/* Copies the entry found for the key at `index`, from 0 on, as `sst_found_copy` does.
  *
- * Errors: SST_NO_SUCH if there is no key at `index`; SST_NOTHING if nothing was found of it;
+ * Errors: SST_NO_SUCH if there is no key at `index`. SST_NOTHING if nothing was found for it.
  * SST_NO_ROOM if its key or its value is longer than the buffer. Nothing is copied then.
  */
 uint32_t sst_answers_copy(sst_handle *answers, uint64_t index, uint8_t *key, size_t key_room,
                           uint8_t *value, size_t value_room);
 
-/* Copies what was found of the keys from index `first` on, one after another, to the front of
- * `bytes`: key, value, key, value, and so on. It stops at the first that does not fit. `count` is
- * set to the number of keys that were passed. A key of which nothing was found counts and takes no
- * bytes. The lengths are those in the `entries` of `sst_table_get_many`.
+/* Copies the entries found for the keys from index `first` on to the front of `bytes`, one after
+ * another: key, value, key, value, and so on. It stops at the first that does not fit. `count` is
+ * set to the number of keys that were done. A key without an entry counts, and takes no bytes. The
+ * lengths are those in the `entries` of `sst_table_get_many`.
  *
  * Errors: SST_NO_SUCH if there are fewer than `first` keys.
  */
@@ -342,9 +342,9 @@ typedef struct sst_verified {
  * Errors: SST_FAULTY if they do not: `verified` has the first fault and its position.
  * SST_OUT_OF_MEMORY does not mean that the table is invalid.
  *
- * Bytes that no read needs are not checked: the byte of the version section, and the trailer's
- * positions of that section, the data blocks and partitions. A file that differs only there may
- * open and be verified. The `checksum` of an `sst_file` covers every byte.
+ * Bytes that no read needs are not checked. These are the byte of the version section, and the
+ * trailer's positions of that section, the data blocks and partitions. A file that differs only
+ * there may open and be verified. The `checksum` of an `sst_file` covers every byte.
  */
 uint32_t sst_table_verify(sst_handle *table, sst_verified *verified);
 
@@ -380,9 +380,8 @@ uint32_t sst_verification_step(sst_handle *verification, sst_progress *progress,
 /* Ranges. */
 
 /* Opens a range of the entries of a table whose keys are within two bounds, into a handle that
- * holds nothing. No block is loaded yet. The key of an SST_UNBOUNDED bound is ignored. A range
- * between whose bounds is no key, for example with the lower bound above the upper one, has no
- * entry.
+ * holds nothing. No block is loaded yet. The key of an SST_UNBOUNDED bound is ignored. If no key is
+ * between the bounds, the range has no entry. So it is if the lower bound is above the upper one.
  *
  * The keys that begin with a prefix are those from the prefix on, included, up to a key, excluded.
  * That key is the prefix without the bytes 255 at its end, and with its last byte raised by 1. If
@@ -404,11 +403,11 @@ uint32_t sst_range_open(sst_handle *table, uint32_t lower_kind, const uint8_t *l
  */
 uint32_t sst_range_next(sst_handle *range, bool back, sst_entry *entry);
 
-/* Takes the next entries as `sst_range_next` does, one after another, and copies them to the front
- * of `bytes`: key, value, key, value, and so on. `entries` receives what `sst_range_next` reports
- * of each, and `count` the number of entries that were copied. It stops
+/* Takes the next entries as `sst_range_next` does, and copies them to the front of `bytes`, one
+ * after another: key, value, key, value, and so on. `entries` receives what `sst_range_next`
+ * reports of each, and `count` the number of copied entries. It stops
  *
- * - when `entry_room` entries are copied;
+ * - when `entry_room` entries are copied, and returns 0;
  * - at the end, and returns 0;
  * - at an error, and returns it: the entries before it are copied, and no further entry follows;
  * - at an entry that does not fit into the rest of `bytes`, and returns 0. That entry is not lost:
@@ -416,9 +415,8 @@ uint32_t sst_range_next(sst_handle *range, bool back, sst_entry *entry);
  *   kind, sequence number and lengths, and the next call continues after it.
  *
  * In the other cases the handle has found nothing, and `found` is all zeros. So the range is at its
- * end if the call returns 0, `count` is below `entry_room` and `found` is all zeros. What follows
- * the copied entries in `entries` and `bytes` stays as it was. `count` is 0 if the handle is closed
- * or holds no range.
+ * end if the call returns 0, `count` is below `entry_room` and `found` is all zeros. The rest of
+ * `entries` and of `bytes` stays as it was. `count` is 0 if the handle is closed or holds no range.
  */
 uint32_t sst_range_take(sst_handle *range, bool back, sst_entry *entries, size_t entry_room,
                         uint8_t *bytes, size_t byte_room, uint64_t *count, sst_entry *found);
@@ -442,8 +440,8 @@ uint32_t sst_scan_open(sst_handle *table, sst_handle *scan);
  */
 uint32_t sst_scan_next(sst_handle *scan, sst_entry *entry);
 
-/* Takes the next entries as `sst_scan_next` does, one after another, and copies them to the front
- * of `bytes`: key, value, key, value, and so on. It stops and reports as `sst_range_take` does.
+/* Takes the next entries as `sst_scan_next` does, and copies them to the front of `bytes`, one
+ * after another: key, value, key, value, and so on. It stops and reports as `sst_range_take` does.
  */
 uint32_t sst_scan_take(sst_handle *scan, sst_entry *entries, size_t entry_room, uint8_t *bytes,
                        size_t byte_room, uint64_t *count, sst_entry *found);
@@ -462,8 +460,8 @@ uint32_t sst_runs_open(sst_handle *runs);
  */
 uint32_t sst_runs_add(sst_handle *runs, sst_handle *table);
 
-/* Finds the newest version of a key whose sequence number is below `seqno`, in all tables of a list
- * of runs together, and keeps it. Results and errors are those of `sst_table_get`.
+/* Finds the newest version of a key in all tables of a list of runs together, among those whose
+ * sequence number is below `seqno`, and keeps it. Results and errors are those of `sst_table_get`.
  */
 uint32_t sst_runs_get(sst_handle *runs, const uint8_t *key, size_t key_len, uint64_t seqno,
                       sst_entry *entry);
@@ -499,9 +497,9 @@ uint32_t sst_runs_scan_open(sst_handle *runs, uint32_t lower_kind, const uint8_t
  */
 uint32_t sst_runs_pack(sst_handle *runs, sst_handle *packed);
 
-/* Finds the runs that packing makes, and why there cannot be fewer. It keeps the result in a handle
- * that holds nothing, for the calls below. These name a table by its index in the list, from 0 on;
- * in a list of packed runs, run by run.
+/* Finds the runs that packing makes, and a chain of tables that shows why there cannot be fewer. It
+ * stores the result in a handle that holds nothing, for the calls below. These name a table by its
+ * index in the list, from 0 on; in a list of packed runs, run by run.
  */
 uint32_t sst_packing_open(sst_handle *runs, sst_handle *packing);
 
@@ -608,9 +606,9 @@ uint32_t sst_writer_finish(sst_handle *writer);
  * stores the finished tables in a handle that holds nothing; there are none if no entry is kept.
  * The list and its tables stay.
  *
- * `watermark` is the least snapshot that is still read. Of each key, the versions that are not
- * below it are kept, and the newest version below it. All older ones are dropped. Of those that are
- * kept, only the oldest may be dropped too:
+ * `watermark` is the least snapshot that is still read. For each key, the versions that are not
+ * below it are kept, and the newest version below it. All older ones are dropped. Among the kept
+ * versions, only the oldest may be dropped too:
  *
  * - A weak tombstone is dropped if the version directly after it is dropped, and is an SST_VALUE.
  * - If `evict_tombstones` is set, an SST_TOMBSTONE is dropped, and so is a weak tombstone after
@@ -621,7 +619,7 @@ uint32_t sst_writer_finish(sst_handle *writer);
  *
  * `evict_tombstones` is only for a list after which there is no older table. If `zero_seqnos` is
  * set, sequence numbers below the watermark become 0. A new table starts at the next key once the
- * data blocks of the current one have `target_size` bytes; with UINT64_MAX there is one table. The
+ * data blocks of the current one have `target_size` bytes. With UINT64_MAX there is one table. The
  * tables are written with `options`. Their ids ascend by 1 from `options->id`, or from the id after
  * it if `target_size` is 0. `next_id` is set to the first unused id, or to 0 if none is left.
  * `options->id` is used up even if no entry is kept.

@@ -138,8 +138,8 @@ static bool is_found_within(sst_handle *handle, const uint8_t *file, size_t len)
          lent.key + lent.key_len <= file + len && lent.value + lent.value_len <= file + len;
 }
 
-/* What a point read, a scan, and a range from each end found is in the caller's bytes. It stays
- * there until the next read by that handle, whatever other handles read.
+/* An entry found by a point read, a scan, or a range from either end is in the caller's bytes. It
+ * stays there until the next read by that handle, whatever other handles read.
  */
 static void test_found(const uint8_t *file, size_t len) {
   sst_handle table = {0}, range = {0}, scan = {0}, runs = {0}, merged = {0};
@@ -307,7 +307,7 @@ static bool is_next(sst_handle *range, bool back, const char *key, const char *v
          has_found(range, &entry, key, value);
 }
 
-/* Reads a table over the caller's bytes. What was opened from it reads them after it is closed. A
+/* Reads a table over the caller's bytes. Handles opened from it read them after it is closed. A
  * borrowed value that is whole in the bytes points into them.
  */
 static void test_kept(const uint8_t *file, size_t len, int n) {
@@ -813,7 +813,9 @@ static void test_no_entry(const sst_options *options) {
   sst_close(&writer);
 }
 
-/* Damages each byte of a table in turn. What opens may be read, and what verifies is the table. */
+/* Damages each byte of a table in turn. Bytes that open may be read; those that verify are the same
+ * table.
+ */
 static void test_damage(const uint8_t *file, size_t len, uint64_t items) {
   uint8_t *damaged = malloc(len);
   sst_verified verified;

@@ -94,9 +94,9 @@ _INSTALLED = ("libsst.so.1", "libsst.so")
 def _load() -> ctypes.CDLL:
     """Loads the library.
 
-    It is in the package's folder, or else the file that LOGPURPLE_LIBRARY names, or else what a
-    checkout has built, or else where the system's loader finds it. Raises `ImportError` if it is in
-    none of these places, or if the first that has it has one that does not load.
+    Looks in the package's folder, then takes the file that LOGPURPLE_LIBRARY names, then the one
+    that a checkout has built, then the one that the system's loader finds. Raises `ImportError` if
+    there is none, or if the first that exists does not load.
     """
     named = os.environ.get("LOGPURPLE_LIBRARY")
     places = [f"{_PACKAGED}: {_state(_PACKAGED)}",

@@ -23,8 +23,7 @@ class TableError(Exception):
 
     `code`: the error code, 1 to 24 for a table or a writer, 100 to 107 for a call.
     `path`: the path of the table's file, if the table was opened by its path.
-    `section`, `offset`: the block that is at fault, where it is known: its section, and the offset
-    in the file at which it starts, in bytes.
+    `section`, `offset`: the section of the block at fault, and its offset in the file in bytes.
 
     The last three are `None` if they are not known.
 

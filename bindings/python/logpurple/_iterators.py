@@ -17,9 +17,9 @@ from ._resources import Returned
 
 _Steps = TypeVar("_Steps", bound="Steps")
 
-# How many entries the first calls of an iterator fetch, and how many the later ones; and how many
-# bytes of keys and values a call fetches at most, except for one entry that has more.
+# The numbers of entries that the first call, the second and each later one fetch.
 _BATCHES = (16, 64, 256)
+# A call fetches at most so many bytes of keys and values, or one entry that has more.
 _BATCH_BYTES = 1 << 16
 
 # Rows of kind, sequence number and lengths; and the bytes of their keys and values, one after
@@ -183,7 +183,7 @@ class Steps(Returned):
             self._finish()
         return batch
 
-    # Releases the source at its end. What was fetched stays.
+    # Releases the source at its end. Entries that were fetched stay.
     def _finish(self) -> None:
         self._is_over, self._room = True, None
         self._release()
@@ -223,8 +223,8 @@ class Scan(Steps):
     """An iterator over all entries of a table, which `Table.scan` returns.
 
     It reads the data blocks in the order of the file, each once, and no index. It has a share of
-    the table, which may be closed meanwhile. It can be left at any time: it is released with the
-    last reference to it, by `close`, or at the end of a `with` statement.
+    the table, which may be closed meanwhile. It may be dropped before its end. It is released with
+    the last reference to it, by `close`, or at the end of a `with` statement.
 
     After an error it is exhausted.
 
@@ -253,9 +253,9 @@ class Scan(Steps):
 class Entries(Steps):
     """An iterator over entries, which `Table.entries` and `Runs.entries` return.
 
-    `take` reads from either end. It has a share of what it reads, which may be closed meanwhile. It
-    can be left at any time: it is released with the last reference to it, by `close`, or at the end
-    of a `with` statement.
+    `take` reads from either end. It has shares of the tables it reads, which may be closed
+    meanwhile. It may be dropped before its end. It is released with the last reference to it, by
+    `close`, or at the end of a `with` statement.
 
     After an error it is exhausted, from both ends.
 

@@ -14,7 +14,7 @@ def merged(steps: Steps, memtable: Sequence[Entry], bounds: Bounds, at: int,
     """Yields the newest versions that are visible at a snapshot, deletions too.
 
     `steps` reads the tables within the bounds, and `memtable` has more entries in the order of a
-    table. Where both have a version with one sequence number, that of the memtable is yielded.
+    table. If both have a version with one sequence number, that of the memtable is yielded.
     """
     with steps:
         newer = _newest(_within(memtable, bounds, reverse), at, reverse)
@@ -78,8 +78,8 @@ def _newest(entries: Iterator[Entry], at: int, reverse: bool) -> Iterator[Entry]
         yield last
 
 
-# Merges two iterators that have each key once. Of a key that both have, it yields the version with
-# the larger sequence number, or that of the first.
+# Merges two iterators that have each key once. If both have a key, it yields the version with the
+# larger sequence number, or that of the first.
 def _union(first: Iterator[Entry], second: Iterator[Entry], reverse: bool) -> Iterator[Entry]:
     one, other = next(first, None), next(second, None)
     while one is not None and other is not None:

@@ -5,8 +5,8 @@ from __future__ import annotations
 import enum
 from typing import List, NamedTuple
 
-#: The largest sequence number. A read at it finds the newest version of a key, except for one that
-#: has this number itself: a `Writer` takes none, but a global sequence number can lead to it.
+#: The largest sequence number. A read at it finds the newest version of a key, but no version that
+#: has this number itself. A `Writer` takes no such version; a global sequence number can make one.
 NEWEST = 2**64 - 1
 
 

@@ -40,8 +40,8 @@ def plain(value: Any) -> bytes:
 
 
 class Turn:
-    """Lets one call at a time use a handle, since a read needs two calls: one fills the handle, and
-    the next copies what it found. A call within another one of the same thread, as from a signal
+    """Allows one call at a time to use a handle. A read needs two calls: one fills the handle, and
+    the next copies the result. A call within another one of the same thread, as from a signal
     handler, raises `RuntimeError`."""
 
     __slots__ = ("_lock", "_is_taken")

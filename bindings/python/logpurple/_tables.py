@@ -268,11 +268,12 @@ class Table(Returned, _Reader):
         A file is read whole. Bytes are copied, unless they are kept.
 
         `global_seqno`: is added to the sequence number of each entry.
-        `pin_filter`, `pin_index`: whether a filter or an index that is one block stays loaded. If
-        it does not, each read loads it.
-        `kept`: the table reads the bytes themselves. They are referenced until it is closed, and
-        all that was opened from it. Nobody may write to them meanwhile, as to a mapped file. They
-        have to be read-only and contiguous, as `bytes` and a map of a file with `ACCESS_READ` are.
+        `pin_filter`, `pin_index`: whether a filter or an index of one block stays loaded. Otherwise
+        each read loads it.
+        `kept`: the table reads the bytes themselves. They are referenced until the table and all
+        that was opened from it are closed. Until then no process may write to them, for example to
+        a mapped file. They must be read-only and contiguous, as `bytes` are, and a map of a file
+        with `ACCESS_READ`.
 
         Raises `OSError` if the file cannot be read, a `TableError` if the bytes are no table, and
         `BufferError` if bytes cannot be kept. A table with damaged blocks may open: then reads that
@@ -481,7 +482,7 @@ class Table(Returned, _Reader):
         return Memory(*(getattr(found, name) for name in Memory._fields))
 
     def facts(self) -> Facts:
-        """Returns what the table claims about itself. It takes constant time.
+        """Returns the metadata that the table claims. It takes constant time.
 
         >>> writer = Writer(id=3)
         >>> writer.add(b"a", b"1", seqno=8)
@@ -503,13 +504,13 @@ class Table(Returned, _Reader):
 
         Raises `Faulty` with the first fault, if there is one.
 
-        `progress`: is called after each block, with the number of bytes of data blocks that were
-        read, and the number that there are. It may use the table. An exception that it raises ends
-        the verification.
+        `progress`: is called after each block with two numbers, the bytes of data blocks that were
+        read and their total. It may use the table. An exception that it raises ends the
+        verification.
 
         Some bytes are never read, so a change of them is not found. In a table of a `Writer` these
-        are the version section, and the positions that the trailer has for this section, the data
-        blocks and partitions. The `checksum` of a `FinishedTable` is that of every byte.
+        are the version section, and the trailer's positions of this section, the data blocks and
+        partitions. The `checksum` of a `FinishedTable` covers every byte.
 
         >>> writer = Writer()
         >>> writer.add(b"a", b"1")
@@ -572,8 +573,8 @@ class Table(Returned, _Reader):
 _NUMBER = array.array("Q", [0])
 
 
-# The bounds of a range as a call takes them: from the lower one on, and below the upper one, and
-# only the keys that begin with a prefix.
+# Returns the bounds of a range as a call takes them. The range is from the lower bound on and below
+# the upper one, and has only keys that begin with the prefix.
 def _bounds(lower: Optional[BytesLike], upper: Optional[BytesLike],
             prefix: Optional[BytesLike]) -> Bounds:
     low = None if lower is None else plain(lower)
@@ -630,7 +631,7 @@ class Runs(_Reader):
 
     @classmethod
     def of_runs(cls: Type[_SomeRuns], runs: Iterable[Iterable[Table]]) -> _SomeRuns:
-        """Reads several runs as one, the newest first. Each is some tables that do not overlap.
+        """Reads several runs as one, the newest first. The tables of a run do not overlap.
 
         A point read searches one table of a run. If tables of one run overlap, the first of them is
         read as the newest, and they are searched one by one. The tables may be closed then.
@@ -745,8 +746,8 @@ class Runs(_Reader):
         return packed
 
     def packing(self) -> Packing:
-        """Returns the runs that `packed` makes, and a chain of tables that shows that fewer cannot
-        do.
+        """Returns the runs that `packed` makes, and a chain of tables. The chain shows that no
+        fewer runs are possible.
 
         >>> runs = Runs()
         >>> for keys in (b"ac", b"d", b"b"):

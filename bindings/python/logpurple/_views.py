@@ -1,4 +1,4 @@
-"""What a table's keys, values and items look like."""
+"""Views of a table's keys, values and items."""
 
 from __future__ import annotations
 

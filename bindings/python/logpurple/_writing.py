@@ -118,7 +118,7 @@ class Writer(Resource):
     `id`: the id of the table, up to 64 bits.
     `created_at`: the time of creation, in nanoseconds since 1970, up to 64 bits.
     `level`: the level of the tree that the table is for, up to 255.
-    `data_block_size`: a data block ends once its keys and values have as many bytes, up to 4 MiB.
+    `data_block_size`: a data block ends once its keys and values have this size, up to 4 MiB.
     `data_block_restart_interval` (1 to 255), `data_block_hash_ratio` (up to 32 bits): are stored in
     the meta block. They change nothing else.
     `index_partition_size`, `filter_partition_size`: the size of a partition, in bytes, up to 4 MiB;
@@ -126,8 +126,10 @@ class Writer(Resource):
     `filter_bits_per_key`: the size of the filter, in tenths of a bit for each key, up to 32 bits; 0
     for no filter.
 
-    Raises `NoSuch` if an option is out of its range, and `OverflowError` if it is negative or has
-    more bits than its field. 4 MiB are 4,194,304 bytes.
+    4 MiB are 4,194,304 bytes.
+
+    Raises `NoSuch` if an option is out of its range. Raises `OverflowError` if it is negative or
+    has more bits than its field.
 
     >>> with Writer() as writer:
     ...     writer.add(b"a", b"1")
@@ -162,13 +164,13 @@ class Writer(Resource):
             kind: Kind = Kind.VALUE) -> None:
         """Writes an entry. Its key and value are copied.
 
-        Raises `OutOfOrder` if the entry does not follow the one before it or if `seqno` is
-        `NEWEST`, and `NoSuch` if there is no such kind. The writer stays as it was.
+        Raises `OutOfOrder` if the entry does not follow the one before it, or if `seqno` is
+        `NEWEST`. Raises `NoSuch` if there is no such kind. The writer stays as it was.
 
         Raises `KeyTooLong` if the key has more than 1,048,576 bytes, and `ValueTooLong` if the
         value has 2^32 bytes or more. Raises `BlockTooLarge` if the data block would have 2^32 bytes
-        or more: 28, and for each entry 17 and the bytes of its key and value. After one of these,
-        or `OutOfMemory`, the writer has failed: `add` and `finish` raise `WriterFailed`.
+        or more. It counts 28, and for each entry 17 and the bytes of its key and value. After one
+        of these, or `OutOfMemory`, the writer has failed: `add` and `finish` raise `WriterFailed`.
 
         >>> writer = Writer()
         >>> writer.add(b"a", b"1", seqno=2)
@@ -283,13 +285,13 @@ def compact(tables: Union[Runs, Iterable[Table]], *, watermark: int = 0, evict: 
     `watermark`: the least snapshot that is still read. Versions whose sequence numbers are not
     below it are kept, and the newest version of each key below it. Older ones are dropped. By
     default all are kept.
-    `evict`: whether deletions that are not needed are dropped. Only for tables below which the tree
-    has no older one.
+    `evict`: whether deletions that are not needed are dropped. Set it only if the tree has no table
+    that is older than these.
     `zero`: whether sequence numbers below the watermark become 0.
-    `target`: a new table starts at the next key once the data blocks of the last one have as many
-    bytes. By default there is one table.
-    `id`: the id of the first table; that of each next one is by one larger. If `target` is 0, the
-    first table has the id after it. If no entry is kept, the id is taken, too.
+    `target`: a new table starts at the next key once the data blocks of the last one have this size
+    in bytes. By default there is one table.
+    `id`: the id of the first table; the ids after it ascend by one. If `target` is 0, the first
+    table has the id after it. If no entry is kept, the id is used up, too.
 
     The other options are those of `Writer`.
 

@@ -1,5 +1,5 @@
-"""Tables whose parts are laid out, changed or cut short on purpose, the longest keys and the
-largest numbers, and every range of every small list."""
+"""Tables that a test lays out, changes or cuts short; the longest keys and the largest numbers; and
+every range of every small list."""
 
 import itertools
 import struct

@@ -17,8 +17,8 @@ def bytes_of(word):
     return b"" if word == "-" else bytes.fromhex(word)
 
 
-# The id, the level and the timestamp. If there are more numbers, they are whether the index and the
-# filter are partitioned, the sizes of partitions and blocks, tenths of a bit, and the interval.
+# The id, the level and the timestamp. More numbers are whether the index and the filter are
+# partitioned, the sizes of partitions and blocks, tenths of a bit per key, and the restart interval.
 def options_of(words):
     numbers = [int(word) for word in words]
     options = dict(zip(("id", "level", "created_at"), numbers))

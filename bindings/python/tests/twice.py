@@ -38,8 +38,8 @@ def drained(begin):
 def read(file, keys, pin_filter, pin_index):
     """Returns the code of the error of opening a table.
 
-    If it opens, returns its entries from the front, from the back and in the order of the file,
-    each with the error that ends them. Then follow the newest entry of each key, or the error in
+    If it opens, returns its entries from the front, from the back and in the order of the file.
+    Each list has the error that ends it. Then follow the newest entry of each key, or the error in
     its place, and the same of all keys at once.
     """
     table = outcome(lambda: Table.open(file, pin_filter=pin_filter, pin_index=pin_index))

@@ -30,7 +30,7 @@ pub fn read_run_back<A: Allocator + Clone>(
 ) -> Result<Option<Reads<A>>, Error>
     requires { IsWritable items.items }
     // They are the first match of the key in the list and, from both ends, the newest version of
-    // each key within the bounds, global seqno applied.
+    // each key within the bounds. The global seqno is applied.
     ensures list { let gives = ⟦<NewestOfRuns<A> as Iterator>⟧.next_gives in
         let back_gives = ⟦<NewestOfRuns<A> as DoubleEndedIterator>⟧.next_back_gives in
         IfOk result (λ r. MatchOption r (items.items ≡ [])

@@ -1,4 +1,4 @@
-//! Examples of proofs of a caller, who names the one crate `lsm_tables`.
+//! Examples of proofs by a caller of the crate `lsm_tables`.
 //!
 //! - A read of a table that stores a list.
 //! - A list that is written, opened and read.
@@ -6,10 +6,10 @@
 //! - Runs that are compacted.
 //! - A loop over the newest versions of several runs below a seqno.
 //!
-//! The reads need no proof file, the compaction needs one law, and the loop one invariant.
+//! The reads need no proof file. The compaction needs one law, and the loop one invariant.
 //!
-//! The modules prove workflows end to end: a list that is written as a table or as a run, or
-//! compacted, is what the reads return. The proofs use the contracts of the calls alone.
+//! The modules prove workflows end to end. A list is written as a table or as a run, or is
+//! compacted, and reads return what the list says. The proofs use the contracts of the calls alone.
 #![tactic(auto)]
 
 ghost use Rattle.std.specs.Prelude.{◌≡◌, ◌-◌, ◌^◌, ◌≤◌, [], IfErr, IfOk, List, MatchOption, Some};
@@ -63,8 +63,8 @@ pub fn find<A: Allocator + Clone>(
     table.get_by_key(key, seqno)
 }
 
-/// Writes a list as a table, opens it, and returns the newest version of a key visible at `seqno`;
-/// `None` if the list has no entry.
+/// Writes a list as a table, opens it, and returns the newest version of a key visible at `seqno`.
+/// Returns `None` if the list has no entry.
 ///
 /// # Errors
 ///

@@ -1,8 +1,8 @@
 //! A small store over sorted tables: the newest entries in memory, and then runs of tables.
 //!
-//! Each write gets the next sequence number, and the store reads as the history of its writes: a
-//! read at a snapshot returns what this history says. This holds whatever was flushed, compacted
-//! and packed since, whether the store was closed and opened, and whatever failed in between.
+//! Each write gets the next sequence number. The store reads as the history of its writes: a read
+//! at a snapshot returns what this history says. This holds whatever was flushed, compacted and
+//! packed since, whether the store was closed and opened, and whatever failed in between.
 //!
 //! The program writes, overwrites and deletes 20,000 keys, with two snapshots, packing and
 //! compaction. It closes the store, opens it from its files and goes on. Each time it compares the

@@ -10,12 +10,15 @@ use Rattle.sst_blocks.specs.declared.block_type.BlockType.TheVariants.{Data}
 use Rattle.sst_blocks.specs.Block.{place_fault}
 use Rattle.sst_blocks.specs.Cursor.{Cursor}
 use Rattle.sst_blocks.specs.Handle.{Handle}
+use Rattle.sst_blocks.specs.Place.{Place, place_of}
 use Rattle.lsm_iters.specs.block_index.Left.{Left, LeftGives}
+use Rattle.lsm_iters.specs.block_index.Seen.{TakesPlace, placed}
 use Rattle.lsm_iters.specs.walk.Ends.{taken_at}
 use Rattle.lsm_iters.specs.walk.Parts.{Coming, LoadGives, Loading, Names, ReportsOf}
 use Rattle.lsm_iters.proofs.Instances.{refused_first}
 use Rattle.lsm_iters.proofs.AtEnds.{map_first, map_none, map_taken}
-use Rattle.lsm_iters.specs.Blocks.{Blocks, KeepsBlocks, block_named, coming_blocks, stored_rows}
+use Rattle.lsm_iters.specs.Blocks.{Blocks, KeepsBlocks, block_named, coming_blocks, stored_at}
+use Rattle.lsm_iters.specs.Blocks.{stored_rows}
 use Rattle.lsm_iters.specs.Lending.{cursor_remains}
 use Rattle.lsm_iters.specs.Range.{data_loaded, left_in}
 use Rattle.lsm_iters.specs.Rows.{Bounded}
@@ -67,7 +70,7 @@ module _ {A : Type 0} (at : Direction) (s m : Blocks A) (is : m ≡ record s { h
       (coming_in b (left_in m.handles))) (sym same_of)
       (names_by at s.of (left_in s.handles) (left_in m.handles) x step)
 
-  pub block_taken : (t : Blocks A) (h : Handle) (r : Result Cursor Error)
+  block_taken : (t : Blocks A) (h : Handle) (r : Result Cursor Error)
       → LeftGives (taken_at at) (left_in s.handles) (Some (Ok h)) (left_in m.handles)
       → IfOk r (λ c. ok_results c.behind ≡ stored_rows m.of h)
       → IfErr r (λ e. is_memory e ≡ false → Err e ∷ [] ≡ stored_rows m.of h)
@@ -94,7 +97,7 @@ module _ {A : Type 0} (at : Direction) (s m : Blocks A) (is : m ≡ record s { h
         };
       })
 
-  pub index_failed : (e : Error) → LeftGives (taken_at at) (left_in s.handles) (Some (Err e))
+  index_failed : (e : Error) → LeftGives (taken_at at) (left_in s.handles) (Some (Err e))
       (left_in m.handles) → LoadGives cursor_remains coming_blocks KeepsBlocks at s (Some (Err e)) m
   index_failed e step = record {
     named = named_in s.of (Some (Err e));
@@ -112,7 +115,7 @@ module _ {A : Type 0} (at : Direction) (s m : Blocks A) (is : m ≡ record s { h
     };
   }
 
-  pub none_named : LeftGives (taken_at at) (left_in s.handles) None (left_in m.handles)
+  none_named : LeftGives (taken_at at) (left_in s.handles) None (left_in m.handles)
       → LoadGives cursor_remains coming_blocks KeepsBlocks at s None m
   none_named step = record {
     named = None;
@@ -129,3 +132,67 @@ module _ {A : Type 0} (at : Direction) (s m : Blocks A) (is : m ≡ record s { h
       loads = step.loads;
     };
   }
+
+  -- the same by the offset and size of the block
+
+  taken_of : (t : Blocks A) (p : Place) (r : Result Cursor Error) (x : Option H)
+      → Some (Ok p) ≡ placed x
+      → LeftGives (taken_at at) (left_in s.handles) x (left_in m.handles)
+      → IfOk r (λ c. ok_results c.behind ≡ stored_at m.of p)
+      → IfErr r (λ e. is_memory e ≡ false → Err e ∷ [] ≡ stored_at m.of p)
+      → FaultsFirst r (place_fault m.of.body p.offset p.size Data)
+      → t ≡ record m { opened = data_loaded 1 m.opened }
+      → LoadGives cursor_remains coming_blocks KeepsBlocks at s (Some r) t
+  taken_of t p r None is step ok err first last =
+      let wrong : ◌≡◌ {A = Option (Result Place Error)} (Some (Ok p)) None = is in absurd cc
+  taken_of t p r (Some (Err e)) is step ok err first last =
+      let wrong : ◌≡◌ {A = Option (Result Place Error)} (Some (Ok p)) (Some (Err e)) = is in absurd cc
+  taken_of t p r (Some (Ok h)) is step ok err first last =
+      let whole : ◌≡◌ {A = Option (Result Place Error)} (Some (Ok p)) (Some (Ok (place_of h))) = is in
+      let same : p ≡ place_of h = cc in
+      block_taken t h r step
+      (subst (λ (q : Place). IfOk r (λ c. ok_results c.behind ≡ stored_at m.of q)) same ok)
+      (subst (λ (q : Place). IfErr r (λ e. is_memory e ≡ false → Err e ∷ [] ≡ stored_at m.of q)) same
+      err)
+      (subst (λ (q : Place). FaultsFirst r (place_fault m.of.body q.offset q.size Data)) same first)
+      last
+
+  pub place_taken : (t : Blocks A) (p : Place) (r : Result Cursor Error)
+      → TakesPlace (LeftGives (taken_at at)) (left_in s.handles) (Some (Ok p)) (left_in m.handles)
+      → IfOk r (λ c. ok_results c.behind ≡ stored_at m.of p)
+      → IfErr r (λ e. is_memory e ≡ false → Err e ∷ [] ≡ stored_at m.of p)
+      → FaultsFirst r (place_fault m.of.body p.offset p.size Data)
+      → t ≡ record m { opened = data_loaded 1 m.opened }
+      → LoadGives cursor_remains coming_blocks KeepsBlocks at s (Some r) t
+  place_taken t p r took ok err first last =
+      taken_of t p r took.handle took.returned took.step ok err first last
+
+  failed_of : (e : Error) (x : Option H) → Some (Err e) ≡ placed x
+      → LeftGives (taken_at at) (left_in s.handles) x (left_in m.handles)
+      → LoadGives cursor_remains coming_blocks KeepsBlocks at s (Some (Err e)) m
+  failed_of e None is step = let wrong : ◌≡◌ {A = Option (Result Place Error)} (Some (Err e)) None = is in absurd cc
+  failed_of e (Some (Ok h)) is step =
+      let wrong : ◌≡◌ {A = Option (Result Place Error)} (Some (Err e)) (Some (Ok (place_of h))) = is in absurd cc
+  failed_of e (Some (Err f)) is step =
+      let whole : ◌≡◌ {A = Option (Result Place Error)} (Some (Err e)) (Some (Err f)) = is in
+      let same : f ≡ e = cc in
+      index_failed e (subst (λ (x : Error). LeftGives (taken_at at) (left_in s.handles)
+      (Some (Err x)) (left_in m.handles)) same step)
+
+  pub place_failed : (e : Error)
+      → TakesPlace (LeftGives (taken_at at)) (left_in s.handles) (Some (Err e)) (left_in m.handles)
+      → LoadGives cursor_remains coming_blocks KeepsBlocks at s (Some (Err e)) m
+  place_failed e took = failed_of e took.handle took.returned took.step
+
+  none_of_them : (x : Option H) → None ≡ placed x
+      → LeftGives (taken_at at) (left_in s.handles) x (left_in m.handles)
+      → LoadGives cursor_remains coming_blocks KeepsBlocks at s None m
+  none_of_them None is step = none_named step
+  none_of_them (Some (Ok h)) is step =
+      let wrong : ◌≡◌ {A = Option (Result Place Error)} None (Some (Ok (place_of h))) = is in absurd cc
+  none_of_them (Some (Err e)) is step =
+      let wrong : ◌≡◌ {A = Option (Result Place Error)} None (Some (Err e)) = is in absurd cc
+
+  pub no_place_taken : TakesPlace (LeftGives (taken_at at)) (left_in s.handles) None (left_in m.handles)
+      → LoadGives cursor_remains coming_blocks KeepsBlocks at s None m
+  no_place_taken took = none_of_them took.handle took.returned took.step

@@ -5,6 +5,7 @@ use Rattle.sst_blocks.specs.declared.opened.Opened.{Opened}
 use Rattle.sst_blocks.specs.Block.{Loaded, load_result, place_fault, entries_of}
 use Rattle.sst_blocks.specs.Cursor.{Cursor}
 use Rattle.sst_blocks.specs.Handle.{Handle}
+use Rattle.sst_blocks.specs.Place.{Place, place_of}
 use Rattle.std.specs.Option.{option_map}
 use Rattle.sst_entries.specs.declared.error.Error.{Error}
 use Rattle.sst_entries.specs.declared.stream.Direction.{Direction}
@@ -32,9 +33,12 @@ abbrev pub stored_in : Bounded → Result Loaded Error → List (Result Entry Er
 stored_in b (Ok block) = ok_results (within b.low b.high (entries_of block))
 stored_in b (Err e) = Err e ∷ []
 
--- The entries of the block that a handle names.
+-- The entries of the block at an offset, and of the block that a handle names.
+abbrev pub stored_at : Bounded → Place → List (Result Entry Error)
+stored_at b p = stored_in b (load_result b.body p.offset p.size Data)
+
 abbrev pub stored_rows : Bounded → Handle → List (Result Entry Error)
-stored_rows b h = stored_in b (load_result b.body h.offset h.size Data)
+stored_rows b h = stored_at b (place_of h)
 
 -- The block of a handle, or the index's error instead.
 abbrev pub block_named : Bounded → Result Handle Error → Result (Loading Entry) Error

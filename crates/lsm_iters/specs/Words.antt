@@ -35,7 +35,7 @@ pub use Rattle.sst_blocks.specs.Cursor.{Cursor, advanced, cursor_of, unlent}
 pub use Rattle.lsm_iters.specs.walk.Walks.{Ended, WalkGives, WalkTakes, far, near, walk_left}
 pub use Rattle.lsm_iters.specs.walk.Walks.{with_far, with_near}
 pub use Rattle.lsm_iters.specs.Blocks.{EndsBlocks, KeepsBlocks, coming_blocks, lent_at, range_at}
-pub use Rattle.lsm_iters.specs.Blocks.{range_lending, stored_rows, swapped}
+pub use Rattle.lsm_iters.specs.Blocks.{range_lending, stored_at, swapped}
 pub use Rattle.lsm_iters.specs.Lending.{LendsAt, RangeLends, RangeLendsAt, behind_in}
 pub use Rattle.lsm_iters.specs.Lending.{cursor_remains, lent_in}
 pub use Rattle.std.specs.Iterator.{at_most}
@@ -52,5 +52,5 @@ pub use Rattle.lsm_iters.specs.block_index.Answers.{AnswersAny, AnswersTrue}
 pub use Rattle.lsm_iters.specs.block_index.Index.{Index, block_between, block_early, two_level}
 pub use Rattle.lsm_iters.specs.block_index.Partitions.{EndsPartitions, KeepsPartitions}
 pub use Rattle.lsm_iters.specs.block_index.Partitions.{coming_partitions}
-pub use Rattle.lsm_iters.specs.block_index.Seen.{PartGives, PlaceGives}
+pub use Rattle.lsm_iters.specs.block_index.Seen.{PartGives, PlaceGives, TakesPlace}
 pub use Rattle.lsm_iters.specs.walk.Parts.{Coming, IsDone, LoadGives, Loading}

@@ -6,7 +6,7 @@ use crate::block_cursor::BlockCursor;
 use crate::cut::cut;
 use crate::handles::Handles;
 use crate::{Bound, Parts};
-use sst_blocks::{BlockSource, BlockType, DataBlock, Error, KeyedBlockHandle, Opened, SeqNo};
+use sst_blocks::{BlockHandle, BlockSource, BlockType, DataBlock, Error, Opened, SeqNo};
 use sst_entries::Direction;
 use std::alloc::Allocator;
 use std::marker::Model;
@@ -72,20 +72,17 @@ impl<A: Allocator + Clone> Blocks<A> {
     }
 
     /// Loads the block of a handle and returns its entries within the bounds.
-    fn read(&mut self, handle: KeyedBlockHandle<A>) -> Result<BlockCursor<A>, Error>
-        ensures ok { let of = self.old.of in
-            IfOk result (λ c. spec.ok_results c.behind ≡ spec.stored_rows of handle) }
-        ensures err { let of = self.old.of in
-            IfErr result (λ e. spec.is_memory e ≡ false → Err e ∷ [] ≡ spec.stored_rows of handle) }
-        ensures first { let body = self.old.of.body in
-            spec.FaultsFirst result (spec.place_fault body handle.offset handle.size spec.Data) }
+    fn read(&mut self, handle: &BlockHandle) -> Result<BlockCursor<A>, Error>
+        ensures ok { let rows = spec.stored_at self.old.of handle.now in
+            IfOk result (λ c. spec.ok_results c.behind ≡ rows) }
+        ensures err { let rows = spec.stored_at self.old.of handle.now in
+            IfErr result (λ e. spec.is_memory e ≡ false → Err e ∷ [] ≡ rows) }
+        ensures first { let body = self.old.of.body in let place = handle.now in
+            spec.FaultsFirst result (spec.place_fault body place.offset place.size spec.Data) }
         ensures counted { self.new
             ≡ record self.old { opened = spec.data_loaded 1 self.old.opened } }
     {
-        let handle = handle.into_inner();
-        let block = self
-            .source
-            .load(&handle, BlockType::Data, &mut self.opened)?;
+        let block = self.source.load(handle, BlockType::Data, &mut self.opened)?;
         let cut = cut(DataBlock::new(block), &self.range.0, &self.range.1);
         Ok(cut.into_cursor())
     }
@@ -93,7 +90,7 @@ impl<A: Allocator + Clone> Blocks<A> {
     /// Compares the checksums of a front block and of the block after it together. This costs
     /// little more than one comparison. From the fifth block on it compares three blocks ahead,
     /// since a long scan is likely to continue. No result depends on it.
-    fn look_ahead(&self, handle: &KeyedBlockHandle<A>, at: Direction) {
+    fn look_ahead(&self, handle: &BlockHandle, at: Direction) {
         if at == Direction::Front {
             let most = if self.opened.data_loads < 4 { 2 } else { 4 };
             self.source.compare_ahead(handle.offset().0, most);
@@ -115,7 +112,7 @@ impl<A: Allocator + Clone> Parts for Blocks<A> {
         match self.index.take(at) {
             Some(Ok(handle)) => {
                 self.look_ahead(&handle, at);
-                Some(self.read(handle))
+                Some(self.read(&handle))
             }
             Some(Err(error)) => Some(Err(error)),
             None => None,

@@ -18,12 +18,12 @@ pub enum Bound<A: Allocator = Global> {
 
 impl<A: Allocator> Bound<A> {
     /// Returns the key, for a seek in the index.
-    pub(crate) fn key(&self) -> &[u8]
+    pub(crate) fn key(&self) -> &UserKey<A>
         ensures { result.now ≡ spec.key_of self.now }
     {
         match self {
-            Bound::Included(key) => key.as_slice(),
-            Bound::Excluded(key) => key.as_slice(),
+            Bound::Included(key) => key,
+            Bound::Excluded(key) => key,
         }
     }
 }

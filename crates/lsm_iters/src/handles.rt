@@ -4,7 +4,7 @@ ghost use Rattle.std.specs.Prelude.{Option};
 ghost use Rattle.lsm_iters.specs.Words as spec;
 
 use crate::{BlockIndexIter, BlockIndexIterImpl, Bound};
-use sst_blocks::{Error, KeyedBlockHandle, Opened, SeqNo};
+use sst_blocks::{BlockHandle, Error, Opened};
 use sst_entries::Direction;
 use std::alloc::Allocator;
 use std::marker::Model;
@@ -94,20 +94,17 @@ impl<A: Allocator + Clone> Handles<A> {
         seek_upper(&mut self.iter, upper)
     }
 
-    /// Takes the next handle at an end.
-    pub fn take(&mut self, at: Direction) -> Option<Result<KeyedBlockHandle<A>, Error>>
-        ensures gives { spec.LeftGives (spec.taken_at at) (spec.left_in self.old) result
-            (spec.left_in self.new) }
+    /// Takes the next handle at an end and returns its block's offset and size.
+    pub fn take(&mut self, at: Direction) -> Option<Result<BlockHandle, Error>>
+        ensures gives { spec.TakesPlace (spec.LeftGives (spec.taken_at at)) (spec.left_in self.old)
+            result (spec.left_in self.new) }
         ensures sought { self.new.sought ≡ true }
     {
         self.sought = true;
         if self.ended {
             return None;
         }
-        match at {
-            Direction::Front => self.iter.next(),
-            Direction::Back => self.iter.next_back(),
-        }
+        self.iter.take_place(at)
     }
 
     /// Drops the handles that are left.
@@ -139,7 +136,7 @@ fn seek_lower<A: Allocator + Clone>(
     ensures err { IfErr result (λ e. e ≡ spec.OutOfMemory) }
 {
     match lower {
-        Some(bound) => iter.seek_lower(bound.key(), SeqNo::MAX).and(Ok(())),
+        Some(bound) => iter.keep_lower(bound.key()),
         None => Ok(()),
     }
 }
@@ -157,7 +154,7 @@ fn seek_upper<A: Allocator + Clone>(
     ensures err { IfErr result (λ e. e ≡ spec.OutOfMemory) }
 {
     match upper {
-        Some(bound) => iter.seek_upper(bound.key(), SeqNo::MAX).and(Ok(())),
+        Some(bound) => iter.keep_upper(bound.key()),
         None => Ok(()),
     }
 }

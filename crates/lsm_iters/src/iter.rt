@@ -226,6 +226,8 @@ impl<A: Allocator + Clone> Iterator for Iter<A> {
 
     ghost remaining = { λ s. spec.at_most (spec.range_size s) };
 
+    // Always inlined: a call that returns an entry by value costs more than the step.
+    #[inline(always)]
     fn next(&mut self) -> Option<IterItem<A>> {
         self.answer(Direction::Front)
     }
@@ -236,6 +238,7 @@ impl<A: Allocator + Clone> DoubleEndedIterator for Iter<A> {
 
     ghost next_back_gives = { spec.RangeGives spec.back_of spec.back_next };
 
+    #[inline(always)]
     fn next_back(&mut self) -> Option<IterItem<A>> {
         self.answer(Direction::Back)
     }

@@ -21,7 +21,7 @@ use Rattle.sst_entries.proofs.StreamLemmas.{head_eq, yields_by}
 use Rattle.sst_entries.proofs.Refusals.{memory_is}
 use Rattle.lsm_readers.specs.point.Answer.{lifted}
 use Rattle.lsm_readers.specs.Scan.{FaultsAtBlock, FaultsAtEntry, IsEndedScan, Scan, ScanHas}
-use Rattle.lsm_readers.specs.Scan.{ScansLent, ScansNext, lend_first, lend_next, unlent}
+use Rattle.lsm_readers.specs.Scan.{ScansLent, ScansNext, lend_first, lend_next, unlend}
 use Rattle.lsm_readers.specs.Scan.{behind, block_result, blocks_results, ended, entries_from}
 use Rattle.lsm_readers.specs.Scan.{entries_results, fault_of, lifted_result, loads, scan_loads_behind}
 use Rattle.lsm_readers.specs.Scan.{loads_from, loads_of, scan_left, scan_size, scan_results}
@@ -142,8 +142,8 @@ HasNoFault s = (e : Error) → position_fault s.body s.position Data ≡ Some e 
 -- first had no fault
 pub record Reached (s u : Scan) : Type 0 where
   pub left : scan_left u ≡ scan_left s
-  pub start : (unlent s ≡ unlent u) ⊎ HasNoFault s
-  pub stands : (unlent s ≡ unlent u) ⊎ (s.entries ≡ [])
+  pub start : (unlend s ≡ unlend u) ⊎ HasNoFault s
+  pub stands : (unlend s ≡ unlend u) ⊎ (s.entries ≡ [])
   pub ended : IsEndedScan s → IsEndedScan u
   pub count : ℕ
   pub counts : u.opened ≡ loads count s.opened
@@ -200,14 +200,14 @@ needs_next u n es next none some returned =
 abbrev loaded : Result (Unit {0}) Error
 loaded = Ok tt
 
-no_fault : (s u : Scan) → (unlent s ≡ unlent u) ⊎ HasNoFault s
+no_fault : (s u : Scan) → (unlend s ≡ unlend u) ⊎ HasNoFault s
     → FaultsFirst loaded (position_fault u.body u.position Data) → HasNoFault s
 no_fault s u (inl same) ahead = subst HasNoFault (sym same)
     (λ e h. let wrong : Some e ≡ None = ahead e h in cc)
 no_fault s u (inr none) ahead = none
 
 -- a block is read only where no entry is left
-none_stood : (s u : Scan) → (unlent s ≡ unlent u) ⊎ (s.entries ≡ []) → u.entries ≡ []
+none_stood : (s u : Scan) → (unlend s ≡ unlend u) ⊎ (s.entries ≡ []) → u.entries ≡ []
     → s.entries ≡ []
 none_stood s u (inl same) none = ap (λ (v : Scan). v.entries) same ∙ none
 none_stood s u (inr none) _ = none
@@ -251,20 +251,20 @@ refused e = Err e
 -- where an entry is left, and where nothing is left to read, no block was asked for or the first
 -- had no fault
 early_entry : (s u : Scan) (e : Entry) (es : List Entry) (r : Option R)
-    → (unlent s ≡ unlent u) ⊎ HasNoFault s
+    → (unlend s ≡ unlend u) ⊎ HasNoFault s
     → u.entries ≡ e ∷ es → FaultsAtBlock s r
 early_entry s u e es r (inl same) some none more fault h =
     absurd (let wrong : [] ≡ e ∷ es = sym none ∙ ap (λ (v : Scan). v.entries) same ∙ some in cc)
 early_entry s u e es r (inr calm) some none more fault h = absurd (calm fault h)
 
-early_none : (s u : Scan) (r : Option R) → (unlent s ≡ unlent u) ⊎ HasNoFault s → u.blocks ≡ 0
+early_none : (s u : Scan) (r : Option R) → (unlend s ≡ unlend u) ⊎ HasNoFault s → u.blocks ≡ 0
     → FaultsAtBlock s r
 early_none s u r (inl same) last none more fault h =
     absurd (omega (arith, more, ap (λ (v : Scan). v.blocks) same, last))
 early_none s u r (inr calm) last none more fault h = absurd (calm fault h)
 
 -- the refusal of the block that was reached
-early_block : (s u : Scan) (e : Error) → (unlent s ≡ unlent u) ⊎ HasNoFault s
+early_block : (s u : Scan) (e : Error) → (unlend s ≡ unlend u) ⊎ HasNoFault s
     → FaultsFirst (refused e) (position_fault u.body u.position Data)
     → FaultsAtBlock s (Some (Err e))
 early_block s u e (inl same) ahead none more fault h =
@@ -279,7 +279,7 @@ LendsThere s r = (x : Entry) (xs : List Entry) → s.entries ≡ x ∷ xs
     → r ≡ Some (lifted_result s.global_seqno x)
 
 there_entry : (s u : Scan) (e : Entry) (es : List Entry) (r : R)
-    → (unlent s ≡ unlent u) ⊎ (s.entries ≡ []) → u.entries ≡ e ∷ es
+    → (unlend s ≡ unlend u) ⊎ (s.entries ≡ []) → u.entries ≡ e ∷ es
     → lifted_result u.global_seqno e ≡ r → LendsThere s (Some r)
 there_entry s u e es r (inl same) some returned x xs stands =
     let one : e ≡ x = head_eq (sym some ∙ sym (ap (λ (v : Scan). v.entries) same) ∙ stands) in
@@ -289,7 +289,7 @@ there_entry s u e es r (inl same) some returned x xs stands =
 there_entry s u e es r (inr none) some returned x xs stands =
     absurd (let wrong : [] ≡ x ∷ xs = sym none ∙ stands in cc)
 
-there_none : (s u : Scan) (r : Option R) → (unlent s ≡ unlent u) ⊎ (s.entries ≡ [])
+there_none : (s u : Scan) (r : Option R) → (unlend s ≡ unlend u) ⊎ (s.entries ≡ [])
     → u.entries ≡ [] → LendsThere s r
 there_none s u r stood none x xs stands =
     absurd (let wrong : [] ≡ x ∷ xs = sym (none_stood s u stood none) ∙ stands in cc)
@@ -433,7 +433,7 @@ pub record AtEnd (s t : Scan) : Type 0 where
   pub none : t.entries ≡ []
   pub lent : t.lent ≡ None
 
-still_reached : (s u : Scan) → Reached s u → Reached s (unlent u)
+still_reached : (s u : Scan) → Reached s u → Reached s (unlend u)
 still_reached s u reached = record {
   left = reached.left;
   start = reached.start;

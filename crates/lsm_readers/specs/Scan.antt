@@ -75,8 +75,8 @@ abbrev pub scan_left : Scan → List (Result Entry Error)
 scan_left s = entries_from s.body s.global_seqno s.entries s.position s.blocks
 
 -- Nothing is lent.
-abbrev pub unlent : Scan → Scan
-unlent s = record s { lent = None }
+abbrev pub unlend : Scan → Scan
+unlend s = record s { lent = None }
 
 -- Nothing is lent, and nothing is left to read.
 abbrev pub ended : Scan → Scan
@@ -96,7 +96,7 @@ lend_first s others (Err e) = (Err e, ended s)
 
 -- The same for the entries left of the current block, if any.
 abbrev pub lend_next : Scan → List Entry → Result Bool Error × Scan
-lend_next s [] = (Ok false, unlent s)
+lend_next s [] = (Ok false, unlend s)
 lend_next s (e ∷ es) = lend_first s es (lifted_result s.global_seqno e)
 
 -- The counts after a number of data block loads.

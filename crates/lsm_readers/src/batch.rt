@@ -26,7 +26,7 @@ pub(crate) trait Finder<A: Allocator + Clone> {
     ghost use Rattle.std.specs.Prelude.{◌+◌, ◌<◌, ◌^◌, IfOk, IfSome, List, ℕ};
     ghost use Rattle.lsm_readers.specs.Words as spec;
 
-    /// What is found of an entry.
+    /// The form of a found entry.
     type Found: Drop;
 
     /// It reads these bytes.
@@ -35,7 +35,7 @@ pub(crate) trait Finder<A: Allocator + Clone> {
     /// The entry that was found in these bytes.
     ghost entry: { List ℕ → Self.Found → spec.Entry };
 
-    /// What was found is within these bytes.
+    /// The found entry is within these bytes.
     ghost is_within: { List ℕ → Self.Found → Type 0 };
 
     /// Finds the newest version of a key below a stored seqno in the data block of a handle, and
@@ -62,7 +62,7 @@ pub(crate) trait Finder<A: Allocator + Clone> {
         ensures over { is_over self.new blocks.now };
 }
 
-/// What was found for some queries, in their order, and for which of them that is known.
+/// The results of some queries, in their order, and which of them are known.
 #[derive(Drop)]
 pub(crate) struct Batch<T: Drop, A: Allocator = Global> {
     pub(crate) found: Vec<Option<T>, A>,

@@ -25,7 +25,7 @@ use Rattle.lsm_readers.proofs.ReadViews.{does_by, gives_by, gives_seen}
 use Rattle.lsm_readers.specs.point.Read.{DoesRead, Opens, Read}
 use Rattle.lsm_readers.specs.point.Table.{OpenTable}
 use Rattle.lsm_readers.proofs.LentReads.{placed_there}
-use Rattle.lsm_runs.specs.RunPlaces.{IsThere, place_in, placed_in_run, placed_in_runs}
+use Rattle.lsm_runs.specs.RunPlaces.{IsThere, run_place, placed_in_run, placed_in_runs}
 use Rattle.lsm_runs.specs.declared.lent_gets.RunPlace.{RunPlace}
 use Rattle.lsm_runs.proofs.RunReads.{found_is}
 
@@ -84,7 +84,7 @@ module _ {T : Type 0} (f : T → Interval) (key : List ℕ) (ts : List T)
 module _ (tables : List OpenTable) (t : OpenTable) (run at : ℕ)
     (is : slice_get tables at ≡ Some t) where
   one_there : (p : EntryPlace) → IsPlacedIn t.bytes p
-      → placed_in_run tables (place_in run at p) ≡ Some (entry_placed t.bytes p)
+      → placed_in_run tables (run_place run at p) ≡ Some (entry_placed t.bytes p)
   one_there p there = ap (option_and_then (λ (u : OpenTable). placed_in u.bytes p)) is
       ∙ placed_there t.bytes p there
 
@@ -94,21 +94,21 @@ module _ (tables : List OpenTable) (t : OpenTable) (run at : ℕ)
   -- it is the entry of the table's bytes
   pub seen_there : (found : Result (Option EntryPlace) Error) → AreThere found
       → result_map (option_and_then (placed_in_run tables))
-      (result_map (option_map (place_in run at)) found)
+      (result_map (option_map (run_place run at)) found)
       ≡ result_map (option_map (entry_placed t.bytes)) found
   seen_there (Ok None) there = refl
   seen_there (Ok (Some p)) there = ap (λ (o : Option Entry). found_is o) (one_there p there)
   seen_there (Err e) there = refl
 
   pub all_there : (found : Result (Option EntryPlace) Error) → AreThere found
-      → IfOk (result_map (option_map (place_in run at)) found)
+      → IfOk (result_map (option_map (run_place run at)) found)
       (λ o. IfSome o (λ p. is_some (placed_in_run tables p) ≡ true))
   all_there (Ok None) there = tt
   all_there (Ok (Some p)) there = ap is_some (one_there p there)
   all_there (Err e) there = tt
 
   pub all_numbered : (found : Result (Option EntryPlace) Error)
-      → IfOk (result_map (option_map (place_in run at)) found) (λ o. IfSome o (λ p. p.run ≡ run))
+      → IfOk (result_map (option_map (run_place run at)) found) (λ o. IfSome o (λ p. p.run ≡ run))
   all_numbered (Ok None) = tt
   all_numbered (Ok (Some p)) = refl
   all_numbered (Err e) = tt

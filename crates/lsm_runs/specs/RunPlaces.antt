@@ -20,5 +20,5 @@ abbrev pub IsThere : List (List OpenTable) → RunPlace → Type 0
 IsThere runs p = is_some (placed_in_runs runs p) ≡ true
 
 -- the position of an entry in a table of a run
-abbrev pub place_in : ℕ → ℕ → EntryPlace → RunPlace
-place_in run table place = record { run = run; table = table; place = place }
+abbrev pub run_place : ℕ → ℕ → EntryPlace → RunPlace
+run_place run table place = record { run = run; table = table; place = place }

@@ -52,4 +52,4 @@ pub use Rattle.lsm_iters.specs.walk.Walks.{WalkTakes}
 pub use Rattle.lsm_iters.specs.Range.{range_remains}
 pub use Rattle.lsm_iters.specs.Steps.{without_lent}
 pub use Rattle.lsm_run_parts.specs.Tables.{KeepsTables, coming_tables}
-pub use Rattle.lsm_runs.specs.RunPlaces.{IsThere, place_in, placed_in_run, placed_in_runs}
+pub use Rattle.lsm_runs.specs.RunPlaces.{IsThere, run_place, placed_in_run, placed_in_runs}

@@ -17,5 +17,5 @@ pub use compacted_run::compact_to_run;
 pub use observer::{CompactionObserver, CompactionProgress, NoObserver};
 pub use open_options::OpenOptions;
 pub use pack::{pack_runs, packing_law};
-pub use runs_with::{compact_to_run_with, write_run_with};
+pub use runs_with::compact_to_run_with;
 pub use written_run::write_run;

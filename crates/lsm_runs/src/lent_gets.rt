@@ -37,7 +37,7 @@ fn found_in(
     table: usize,
     found: Result<Option<EntryPlace>, Error>,
 ) -> Result<Option<RunPlace>, Error>
-    ensures { result ≡ spec.result_map (spec.option_map (spec.place_in run table)) found }
+    ensures { result ≡ spec.result_map (spec.option_map (spec.run_place run table)) found }
 {
     match found {
         Ok(Some(place)) => Ok(Some(RunPlace { run, table, place })),
@@ -46,8 +46,8 @@ fn found_in(
     }
 }
 
-// The position of the first match in the one table of a run whose range has the key, and the number
-// of blocks loaded for it.
+// The position of the first match in the one table of a run whose range has the key. Also the
+// number of blocks loaded for it.
 fn place_in_run<A: Allocator + Clone>(
     run: &Run<Table<A>, A>,
     number: usize,

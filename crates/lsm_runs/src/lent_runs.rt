@@ -56,7 +56,7 @@ pub fn lend_runs_at<A: Allocator + Clone>(
     // Nothing is lent yet.
     ensures none { IfOk result (λ s. ⟦<LentNewestOfRunsAt<A> as Lending>⟧.lent s ≡ None) }
     // For tables of lists in runs in order, it lends the newest versions below `seqno` of all
-    // lists' entries within the bounds, global seqnos applied.
+    // lists' entries within the bounds. Global seqnos are applied.
     ensures list { let advances = ⟦<LentNewestOfRunsAt<A> as Lending>⟧.advances in
         (lists : List (List (List spec.Entry))) →
         spec.RunsHoldLists (map spec.arc_value runs.now) lists →

@@ -1,5 +1,4 @@
-//! Runs of tables: one run read from both ends or in one pass, several runs read as one, and runs
-//! made of a list, of several runs that are compacted, and of tables that are packed.
+//! Reading, writing, compacting and packing of runs of tables.
 #![tactic(auto)]
 
 mod compaction;
@@ -14,7 +13,7 @@ mod sources;
 pub use compaction::{
     CompactionObserver, CompactionOutcome, CompactionProgress, NoObserver, OpenOptions,
     compact_any_runs, compact_any_runs_with, compact_runs, compact_to_run, compact_to_run_with,
-    compaction_law, pack_runs, packing_law, write_run, write_run_with,
+    compaction_law, pack_runs, packing_law, write_run,
 };
 pub use lent_gets::{
     RunPlace, entry_in_runs, get_runs_ref, get_runs_ref_by_age, get_runs_ref_counted,

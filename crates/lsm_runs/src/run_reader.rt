@@ -61,7 +61,7 @@ impl<A: Allocator + Clone> RunReader<A> {
             IfOk result (λ r. IfSome r (λ reader. spec.YieldsEnding gives back_gives
             (λ _. Unit {0}) (λ _. Unit {0}) reader (spec.run_left reader))) }
         // For tables of lists in a run in order, it yields the part of all lists within the bounds,
-        // global seqnos applied; without a reader there is none.
+        // global seqnos applied. Without a reader no entry is within the bounds.
         ensures list { let gives = ⟦<RunReader<A> as Iterator>⟧.next_gives in
             let back_gives = ⟦<RunReader<A> as DoubleEndedIterator>⟧.next_back_gives in
             let tables = spec.arc_value run in spec.IsInOrder ⟦<Table<A> as Ranged>⟧.range tables →
@@ -138,8 +138,8 @@ impl<A: Allocator + Clone> RunReader<A> {
             let back_gives = ⟦<RunReader<A> as DoubleEndedIterator>⟧.next_back_gives in
             IfOk result (λ reader. spec.YieldsEnding gives back_gives (λ _. Unit {0}) (λ _. Unit {0})
             reader (spec.run_left reader)) }
-        // For tables of lists, it yields the span's entries, global seqnos applied: of the first
-        // and the last list within the bounds, of those between all.
+        // For tables of lists, it yields the span's entries, global seqnos applied. The first and
+        // the last list are cut at the bounds, those between are whole.
         ensures list { let gives = ⟦<RunReader<A> as Iterator>⟧.next_gives in
             let back_gives = ⟦<RunReader<A> as DoubleEndedIterator>⟧.next_back_gives in
             let tables = spec.arc_value run in let ends = spec.ends_given tables span in
@@ -214,6 +214,8 @@ impl<A: Allocator + Clone> Iterator for RunReader<A> {
 
     ghost remaining = { λ s. spec.at_most (spec.run_size s) };
 
+    // Always inlined: a call that returns an entry by value costs more than the step.
+    #[inline(always)]
     fn next(&mut self) -> Option<IterItem<A>> {
         self.answer(Direction::Front)
     }
@@ -224,6 +226,7 @@ impl<A: Allocator + Clone> DoubleEndedIterator for RunReader<A> {
 
     ghost next_back_gives = { spec.RunGives spec.back_of spec.back_tables };
 
+    #[inline(always)]
     fn next_back(&mut self) -> Option<IterItem<A>> {
         self.answer(Direction::Back)
     }

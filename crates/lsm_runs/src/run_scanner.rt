@@ -254,6 +254,8 @@ impl<A: Allocator + Clone> Iterator for RunScanner<A> {
 
     ghost remaining = { λ s. spec.at_most (spec.run_scan_size s) };
 
+    // Always inlined: a call that returns an entry by value costs more than the step.
+    #[inline(always)]
     fn next(&mut self) -> Option<IterItem<A>> {
         match self.advance() {
             Ok(true) => Some(self.share()),

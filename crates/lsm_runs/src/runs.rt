@@ -146,11 +146,11 @@ pub(crate) fn newest_stream<I: DoubleEndedIterator<Item = IterItem<A>>, A: Alloc
     Ok(stream)
 }
 
-/// Returns the newest version of each key within both bounds, of several runs, from both ends.
+/// Returns a stream of the newest version of each key within both bounds, of several runs, from
+/// both ends.
 ///
-/// A tombstone is yielded as an entry. No table is opened yet. When a table cannot be opened or
-/// read, that error takes the place of all entries that no step has taken yet, those of other runs
-/// too.
+/// A tombstone is yielded as an entry. No table is opened yet. If a table cannot be opened or read,
+/// the stream yields that error in place of all remaining entries, also those of other runs.
 ///
 /// # Errors
 ///
@@ -160,8 +160,8 @@ pub fn range_runs<A: Allocator + Clone>(
     runs: &[Arc<Run<Table<A>, A>, A>],
     range: (Bound<UserKey<A>>, Bound<UserKey<A>>),
 ) -> Result<MvccStream<Merger<RunReader<A>, A>>, Error>
-    // For tables of lists in runs in order, for every list of ends: it yields the newest versions
-    // of all lists' entries within the bounds, global seqnos applied.
+    // For tables of lists in runs in order, it yields the newest versions of all lists' entries
+    // within the bounds, for every list of ends. Global seqnos are applied.
     ensures list { let gives = ⟦<NewestOfRuns<A> as Iterator>⟧.next_gives in
         let back_gives = ⟦<NewestOfRuns<A> as DoubleEndedIterator>⟧.next_back_gives in
         (lists : List (List (List spec.Entry))) →
@@ -192,12 +192,12 @@ pub fn range_runs<A: Allocator + Clone>(
     newest_stream(alloc, readers)
 }
 
-/// Returns the newest version visible at `seqno` of each key within both bounds, of several runs,
-/// from both ends.
+/// Returns a stream of the newest version visible at `seqno` of each key within both bounds, of
+/// several runs, from both ends.
 ///
 /// These are the versions that [`get_runs`] reads at `seqno`. A tombstone is yielded as an entry.
-/// No table is opened yet. When a table cannot be opened or read, that error takes the place of all
-/// entries that no step has taken yet, those of other runs too.
+/// No table is opened yet. If a table cannot be opened or read, the stream yields that error in
+/// place of all remaining entries, also those of other runs.
 ///
 /// # Errors
 ///
@@ -208,8 +208,9 @@ pub fn range_runs_at<A: Allocator + Clone>(
     range: (Bound<UserKey<A>>, Bound<UserKey<A>>),
     seqno: SeqNo,
 ) -> Result<MvccStream<Merger<Below<RunReader<A>>, A>>, Error>
-    // For tables of lists in runs in order, for every list of ends: it yields the newest versions
-    // below `seqno` of all lists' entries within the bounds, global seqnos applied.
+    // For tables of lists in runs in order, it yields the newest versions below `seqno` of all
+    // lists' entries within the bounds. This holds for every list of ends. Global seqnos are
+    // applied.
     ensures list { let gives = ⟦<NewestOfRunsAt<A> as Iterator>⟧.next_gives in
         let back_gives = ⟦<NewestOfRunsAt<A> as DoubleEndedIterator>⟧.next_back_gives in
         (lists : List (List (List spec.Entry))) →
@@ -283,7 +284,7 @@ pub(crate) fn together(first: Opened, second: Opened) -> Opened
     }
 }
 
-// Whether every seqno of a table is below that of what was found.
+// Whether every seqno of a table is below that of the entry found.
 fn is_older<A: Allocator>(table: &Table<A>, found: &Option<InternalValue<A>>) -> bool
     ensures { result ≡ spec.is_older found.now table.now }
 {
@@ -293,8 +294,8 @@ fn is_older<A: Allocator>(table: &Table<A>, found: &Option<InternalValue<A>>) ->
     }
 }
 
-// The first match in the one table of a run whose range has the key, as in [`get_run_counted`];
-// nothing if the table is older than what was found.
+// The first match in the one table of a run whose range has the key, as in [`get_run_counted`]. It
+// is `None` if the table is older than the entry that was found.
 fn get_run_behind_counted<A: Allocator + Clone>(
     run: &Run<Table<A>, A>,
     key: &[u8],
@@ -469,9 +470,9 @@ pub fn get_runs_by_age_counted<A: Allocator + Clone>(
 
 /// Returns the newest version of a key visible at `seqno` in several runs, and skips older tables.
 ///
-/// It reads as [`get_runs`] does, but skips a table whose highest seqno is below that of what the
-/// earlier runs have. It reads the fewest tables if the newest run comes first. For tables of
-/// lists, any order yields the same result.
+/// It reads as [`get_runs`] does, but skips a table whose highest seqno is below that of the
+/// version found in earlier runs. It reads the fewest tables if the newest run comes first. For
+/// tables of lists, any order yields the same result.
 ///
 /// # Errors
 ///

@@ -33,16 +33,16 @@ fn all_sources<R: Drop, S: Drop, A: Allocator>(
     Ok(sources)
 }
 
-/// Returns the newest version visible at `seqno` of each key within both bounds, of several runs
-/// and further sources, from both ends.
+/// Returns a stream of the newest version visible at `seqno` of each key within both bounds, of
+/// several runs and further sources, from both ends.
 ///
 /// Each source must yield only its entries within the bounds, in order: the call does not cut
 /// sources. [`source_of`](sst_blocks::source_of) makes one of a vector. A tombstone is yielded as
 /// an entry. If a source and a run have an entry of the same key, seqno and kind, the source's
 /// entry comes first.
 ///
-/// No table is opened yet. When a table cannot be opened or read, that error takes the place of all
-/// entries that no step has taken yet, those of other runs too.
+/// No table is opened yet. If a table cannot be opened or read, the stream yields that error in
+/// place of all remaining entries, also those of other runs.
 ///
 /// # Errors
 ///
@@ -78,10 +78,10 @@ pub fn range_sources_at<S: DoubleEndedIterator<Item = IterItem<A>> + Drop, A: Al
         All (λ e. e.seqno < seqno) all →
         let found = spec.newest (spec.within range.0 range.1 all) in
         IfOk result (λ s. spec.YieldsList gives back_gives found s) }
-    // For any tables in runs in order, it is a stream over the sources, whatever they yield, and
-    // then the readers of the spans within the bounds, each below `seqno`. An error of one of them,
-    // `OutOfMemory` too, takes the place of all entries that no step has taken yet. After it, only
-    // an entry already read at the other end is yielded.
+    // For any tables in runs in order, it is a stream over the sources, whatever they yield. After
+    // the sources come the readers of the spans within the bounds, each below `seqno`. An error of
+    // one of them, `OutOfMemory` too, takes the place of all entries that no step has taken yet.
+    // After it, only an entry already read at the other end is yielded.
     ensures steps { spec.AllByRecursion (spec.IsInOrder spec.range_of) (map spec.arc_value runs.now)
         → IfOk result
         (spec.IsOverSourcesBelow ⟦<Below<Either<RunReader<A>, S>> as Iterator>⟧.next_gives
@@ -89,8 +89,8 @@ pub fn range_sources_at<S: DoubleEndedIterator<Item = IterItem<A>> + Drop, A: Al
         ⟦<NewestOfSourcesAt<S, A> as Iterator>⟧.next_gives
         ⟦<NewestOfSourcesAt<S, A> as DoubleEndedIterator>⟧.next_back_gives
         range.0 range.1 seqno (map spec.arc_value runs.now) sources.items) }
-    // If the sources are finite and both their ends may be called, both ends may be called any
-    // number of times, whatever the tables' bytes.
+    // If the sources are finite and may be called at both ends, so may the stream, any number of
+    // times. This holds for any bytes of the tables.
     ensures can { All (spec.CanYield S.next_gives S.next_back_gives S.can_next S.can_next_back)
         sources.items → All (λ s. spec.IsFinite (S.remaining s)) sources.items →
         IfOk result (λ s. spec.CanYield ⟦<NewestOfSourcesAt<S, A> as Iterator>⟧.next_gives

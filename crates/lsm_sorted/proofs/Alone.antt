@@ -11,16 +11,16 @@ use Rattle.lsm_sorted.specs.version.Packing.{SameTables}
 use Rattle.lsm_sorted.specs.version.Packing.{tables_in}
 use Rattle.lsm_sorted.specs.declared.version.packed.Packed.{Packed}
 use Rattle.lsm_sorted.specs.declared.version.packed.Placed.{Placed}
-use Rattle.lsm_sorted.specs.version.Packed.{IsPackedOf, alone, placed}
+use Rattle.lsm_sorted.specs.version.Packed.{IsPackedOf, alone, indexed}
 
 -- one more table stands alone
 pub alone_more : {T : Type 0} (runs : List (List (Placed T))) (t : T) (rest before : List T)
     (all : List (List (Placed T))) → before ≡ t ∷ rest
     → runs ++ alone (length runs) before ≡ all
-    → (runs ++ (placed (length runs) t ∷ []) ∷ [])
-    ++ alone (length (runs ++ (placed (length runs) t ∷ []) ∷ [])) rest ≡ all
+    → (runs ++ (indexed (length runs) t ∷ []) ∷ [])
+    ++ alone (length (runs ++ (indexed (length runs) t ∷ []) ∷ [])) rest ≡ all
 alone_more {T} runs t rest before all next so_far =
-    let x : List (Placed T) = placed (length runs) t ∷ [] in
+    let x : List (Placed T) = indexed (length runs) t ∷ [] in
     let one : length (runs ++ x ∷ []) ≡ suc (length runs) =
     length-append runs (x ∷ []) ∙ (let e : length runs + 1 ≡ suc (length runs) = omega arith in e) in
     ap (λ (n : ℕ). (runs ++ x ∷ []) ++ alone n rest) one

@@ -15,7 +15,7 @@ use Rattle.std.proofs.lemmas.List.{get_or-map, length-map}
 use Rattle.std.proofs.lemmas.List.Elements.{All-from_recursion, recursion_from_All}
 use Rattle.sst_entries.specs.Entry.{Entry}
 use Rattle.lsm_sorted.specs.declared.lending_merger.Head.{Head}
-use Rattle.lsm_sorted.specs.lending.Lent.{goes_before, head_before, is_queued, is_turn, lent_at}
+use Rattle.lsm_sorted.specs.lending.Lent.{goes_before, sorts_before, is_queued, is_turn, lent_of}
 use Rattle.lsm_sorted.specs.lending.Lent.{source_of}
 use Rattle.lsm_sorted.specs.lending.Lent.{IsHead, IsPrefix, IsQueue}
 use Rattle.lsm_sorted.proofs.LentLemmas.{lent_other}
@@ -45,7 +45,7 @@ by_prefix x y i j m n hx hy differ = go (nat_lt m n) refl
 
 agree : (at : ℕ → Option Entry) (h k : Head) → IsHead at h → IsHead at k
     → (o p : Option Entry) → at h.source ≡ o → at k.source ≡ p → is_some o ≡ true → is_some p ≡ true
-    → head_before o h p k ≡ goes_before o h.source p k.source
+    → sorts_before o h p k ≡ goes_before o h.source p k.source
 agree at h k hh hk None p eo ep so sp = cc
 agree at h k hh hk (Some x) None eo ep so sp = cc
 agree at h k hh hk (Some x) (Some y) eo ep so sp = go (h.prefix == k.prefix) refl
@@ -87,7 +87,7 @@ module _ (at : ℕ → Option Entry) (h : Head) (hs : List Head) (heads : All (I
     (own : IsHead at h) (some : is_some (at h.source) ≡ true)
     (queue : IsQueue at (map source_of hs)) where
   abbrev passes : Head → Bool
-  passes k = head_before (at h.source) h (at k.source) k
+  passes k = sorts_before (at h.source) h (at k.source) k
 
   abbrev goes : ℕ → Bool
   goes q = goes_before (at h.source) h.source (at q) q
@@ -138,8 +138,8 @@ module _ (at : ℕ → Option Entry) (h : Head) (hs : List Head) (heads : All (I
 -- ---- heads that stay
 
 heads_other : {S : Type 0} (lent : S → Option Entry) (ss : List S) (i : ℕ) (t : S) (hs : List Head)
-    → is_queued i (map source_of hs) ≡ false → AllByRecursion (IsHead (lent_at lent ss)) hs
-    → AllByRecursion (IsHead (lent_at lent (slice_set ss i t))) hs
+    → is_queued i (map source_of hs) ≡ false → AllByRecursion (IsHead (lent_of lent ss)) hs
+    → AllByRecursion (IsHead (lent_of lent (slice_set ss i t))) hs
 heads_other lent ss i t [] apart all = tt
 heads_other lent ss i t (h ∷ hs) apart all =
     let other = not_among i h.source (map source_of hs) apart in (
@@ -152,9 +152,9 @@ heads_other lent ss i t (h ∷ hs) apart all =
 -- a source that is not in the queue goes on
 pub heads_stay : {S : Type 0} (lent : S → Option Entry) (ss : List S) (i : ℕ) (t : S)
     (hs : List Head) → is_queued i (map source_of hs) ≡ false
-    → All (IsHead (lent_at lent ss)) hs → All (IsHead (lent_at lent (slice_set ss i t))) hs
-heads_stay lent ss i t hs apart all = All-from_recursion (IsHead (lent_at lent (slice_set ss i t)))
-    hs (heads_other lent ss i t hs apart (recursion_from_All (IsHead (lent_at lent ss)) hs all))
+    → All (IsHead (lent_of lent ss)) hs → All (IsHead (lent_of lent (slice_set ss i t))) hs
+heads_stay lent ss i t hs apart all = All-from_recursion (IsHead (lent_of lent (slice_set ss i t)))
+    hs (heads_other lent ss i t hs apart (recursion_from_All (IsHead (lent_of lent ss)) hs all))
 
 pub heads_put : (at : ℕ → Option Entry) (hs : List Head) (p : ℕ) (h : Head) → IsHead at h
     → All (IsHead at) hs → All (IsHead at) (insert hs p h)

@@ -12,7 +12,7 @@ use Rattle.sst_entries.specs.Stream.{answer_stops, but_first, first, nowhere}
 use Rattle.sst_entries.specs.declared.error.Error.{Error}
 use Rattle.sst_entries.proofs.StreamLemmas.{yields_front}
 use Rattle.lsm_sorted.specs.merge.Ends.{R}
-use Rattle.lsm_sorted.specs.lending.Lent.{goes_before, lent_at, IsQueue, is_queued, Has, RestIf}
+use Rattle.lsm_sorted.specs.lending.Lent.{goes_before, lent_of, IsQueue, is_queued, Has, RestIf}
 use Rattle.lsm_sorted.specs.lending.Lent.{Rests}
 use Rattle.lsm_sorted.proofs.QueueLemmas.{among_itself, among_put}
 
@@ -40,7 +40,7 @@ module _ {S : Type 0} where
 
   module _ (lent : S → Option Entry) where
     pub lent_other : (ss : List S) (i j : ℕ) (t : S) → (i ≡ j → ⊥)
-        → lent_at lent (slice_set ss i t) j ≡ lent_at lent ss j
+        → lent_of lent (slice_set ss i t) j ≡ lent_of lent ss j
     lent_other [] i j t apart = refl
     lent_other (s ∷ ss) zero zero t apart = absurd (apart refl)
     lent_other (s ∷ ss) zero (suc j) t apart = refl
@@ -48,14 +48,14 @@ module _ {S : Type 0} where
     lent_other (s ∷ ss) (suc i) (suc j) t apart = lent_other ss i j t (λ e. apart (ap suc e))
 
     pub lent_own : (ss : List S) (i : ℕ) (t : S) → i < length ss
-        → lent_at lent (slice_set ss i t) i ≡ lent t
+        → lent_of lent (slice_set ss i t) i ≡ lent t
     lent_own [] i t lt = absurd (omega arith)
     lent_own (s ∷ ss) zero t lt = refl
     lent_own (s ∷ ss) (suc i) t lt = lent_own ss i t (omega arith)
 
     -- what source j lends
     pub lent_is : (ss : List S) (j : ℕ) (s : S) → j < length ss
-        → lent_at lent ss j ≡ lent (slice_index_or ss j s)
+        → lent_of lent ss j ≡ lent (slice_index_or ss j s)
     lent_is [] j s lt = absurd (omega arith)
     lent_is (r ∷ ss) zero s lt = refl
     lent_is (r ∷ ss) (suc j) s lt = lent_is ss j s (omega arith)
@@ -93,9 +93,9 @@ module _ (at at' : ℕ → Option Entry) where
 
 -- a source that is not in the queue goes on
 pub queue_stays : {S : Type 0} (lent : S → Option Entry) (ss : List S) (i : ℕ) (t : S)
-    (qs : List ℕ) → is_queued i qs ≡ false → IsQueue (lent_at lent ss) qs
-    → IsQueue (lent_at lent (slice_set ss i t)) qs
-queue_stays lent ss i t qs apart = queue_same (lent_at lent ss) (lent_at lent (slice_set ss i t)) qs
+    (qs : List ℕ) → is_queued i qs ≡ false → IsQueue (lent_of lent ss) qs
+    → IsQueue (lent_of lent (slice_set ss i t)) qs
+queue_stays lent ss i t qs apart = queue_same (lent_of lent ss) (lent_of lent (slice_set ss i t)) qs
     (λ j e. lent_other lent ss i j t (λ same. let no : true ≡ false = sym e
     ∙ ap (λ (k : ℕ). is_queued k qs) (sym same) ∙ apart in absurd cc))
 

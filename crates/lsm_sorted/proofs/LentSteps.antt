@@ -25,7 +25,7 @@ use Rattle.lsm_sorted.specs.declared.lending_merger.Head.{Head}
 use Rattle.lsm_sorted.specs.declared.lending_merger.LendingMerger.{LendingMerger}
 use Rattle.lsm_sorted.specs.merge.Ends.{R}
 use Rattle.lsm_sorted.specs.merge.InPlace.{merge_of}
-use Rattle.lsm_sorted.specs.lending.Lent.{goes_before, is_turn, lent_at, lent_by, lent_first}
+use Rattle.lsm_sorted.specs.lending.Lent.{goes_before, is_turn, lent_of, lent_by, lent_first}
 use Rattle.lsm_sorted.specs.lending.Lent.{IsQueue}
 use Rattle.lsm_sorted.specs.lending.Lent.{IsReady}
 use Rattle.lsm_sorted.specs.lending.Lent.{is_queued, RestIf, Rests, LeavesIf, LeavesLent, Belongs}
@@ -61,8 +61,8 @@ module _ {S : Type 0} (advances : S → Option R → S → Type 0) (can : S → 
       → n.sources.items ≡ slice_set m.sources.items i t
       → vec_capacity m.queue ≤ vec_capacity n.queue
       → All (λ q. q < length m.sources.items) (queued n)
-      → IsQueue (lent_at lent (slice_set m.sources.items i t)) (queued n)
-      → All (IsHead (lent_at lent (slice_set m.sources.items i t))) n.queue.items
+      → IsQueue (lent_of lent (slice_set m.sources.items i t)) (queued n)
+      → All (IsHead (lent_of lent (slice_set m.sources.items i t))) n.queue.items
       → IsReady advances can lent n
   ready_on m n i s t r ready within is step set room known queue heads =
       let long : length n.sources.items ≡ length m.sources.items =
@@ -76,8 +76,8 @@ module _ {S : Type 0} (advances : S → Option R → S → Type 0) (can : S → 
             ready.sources);
         known = subst (λ (n' : ℕ). All (λ q. q < n') (queued n)) (sym long) known;
         room = omega (arith, long, old, room);
-        queue = subst (λ (ss : List S). IsQueue (lent_at lent ss) (queued n)) (sym set) queue;
-        heads = subst (λ (ss : List S). All (IsHead (lent_at lent ss)) n.queue.items) (sym set)
+        queue = subst (λ (ss : List S). IsQueue (lent_of lent ss) (queued n)) (sym set) queue;
+        heads = subst (λ (ss : List S). All (IsHead (lent_of lent ss)) n.queue.items) (sym set)
             heads;
       }
 
@@ -88,7 +88,7 @@ module _ {S : Type 0} (advances : S → Option R → S → Type 0) (can : S → 
       → IsReady advances can lent n × (w.source < length m.sources.items)
       × (is_queued w.source (queued n) ≡ false)
   ready_popped m n w ready items same room =
-      let at : ℕ → Option Entry = lent_at lent m.sources.items in
+      let at : ℕ → Option Entry = lent_of lent m.sources.items in
       let sources : queued m ≡ queued n ++ w.source ∷ [] = queued_popped m n w items in
       let queue : IsQueue at (queued n ++ w.source ∷ []) =
       subst (IsQueue at) sources ready.queue in
@@ -107,9 +107,9 @@ module _ {S : Type 0} (advances : S → Option R → S → Type 0) (can : S → 
               (All-from_recursion (λ q. q < length m.sources.items) (queued n)
               (all_front (λ q. q < length m.sources.items) w.source (queued n) known));
           room = omega (arith, long, old, room);
-          queue = subst (λ (ss : List S). IsQueue (lent_at lent ss) (queued n)) (sym same)
+          queue = subst (λ (ss : List S). IsQueue (lent_of lent ss) (queued n)) (sym same)
               parts.0;
-          heads = subst (λ (ss : List S). All (IsHead (lent_at lent ss)) n.queue.items) (sym same)
+          heads = subst (λ (ss : List S). All (IsHead (lent_of lent ss)) n.queue.items) (sym same)
               (All-from_recursion (IsHead at) n.queue.items
               (all_front (IsHead at) w n.queue.items heads));
         },
@@ -135,9 +135,9 @@ module _ {S : Type 0} (advances : S → Option R → S → Type 0) (can : S → 
         known = subst (All (λ q. q < length n.sources.items)) (sym none)
             (All-nil (λ q. q < length n.sources.items));
         room = omega (arith, long, old, room);
-        queue = subst (IsQueue (lent_at lent n.sources.items)) (sym none) tt;
-        heads = subst (All (IsHead (lent_at lent n.sources.items))) (sym items)
-            (All-nil (IsHead (lent_at lent n.sources.items)));
+        queue = subst (IsQueue (lent_of lent n.sources.items)) (sym none) tt;
+        heads = subst (All (IsHead (lent_of lent n.sources.items))) (sym items)
+            (All-nil (IsHead (lent_of lent n.sources.items)));
       }
 
 -- all are below a bound, with one more
@@ -149,8 +149,8 @@ known_put bound i p qs one all = All-from_recursion (λ q. q < bound) (insert qs
 -- what was put in the queue lends
 pub queue_put : {S : Type 0} (lent : S → Option Entry) (ss : List S) (i p : ℕ) (t : S)
     (qs : List ℕ) → i < length ss → is_some (lent t) ≡ true → is_queued i qs ≡ false
-    → IsQueue (lent_at lent ss) qs → Belongs (lent_at lent (slice_set ss i t)) i qs p
-    → IsQueue (lent_at lent (slice_set ss i t)) (insert qs p i)
+    → IsQueue (lent_of lent ss) qs → Belongs (lent_of lent (slice_set ss i t)) i qs p
+    → IsQueue (lent_of lent (slice_set ss i t)) (insert qs p i)
 queue_put lent ss i p t qs within some apart queue belongs = belongs.keeps
     (queue_stays lent ss i t qs apart queue) (ap is_some (lent_own lent ss i t within) ∙ some) apart
 
@@ -260,7 +260,7 @@ module _ {S : Type 0} (stops : Error → Bool) (advances : S → Option R → S 
   -- the last of the queue has the first entry
   module _ (ss : List S) (ps : List ℕ) (w : ℕ) (lists : List (List R))
       (h : Have (λ j. false) ss (ps ++ w ∷ []) lists)
-      (queue : IsQueue (lent_at lent ss) (ps ++ w ∷ [])) (within : w < length ss) where
+      (queue : IsQueue (lent_of lent ss) (ps ++ w ∷ [])) (within : w < length ss) where
     abbrev pub some : S
     some = some_of ss w within
 
@@ -274,7 +274,7 @@ module _ {S : Type 0} (stops : Error → Bool) (advances : S → Option R → S 
     abbrev pub x : Entry
     x = lead.0
 
-    pub lead_lent : lent_at lent ss w ≡ Some x
+    pub lead_lent : lent_of lent ss w ≡ Some x
     lead_lent = lent_is lent ss w some within ∙ lead.2
 
     sorted_at : (j : ℕ) → Ascends (entries_among (slice_index_or lists j []))
@@ -285,12 +285,12 @@ module _ {S : Type 0} (stops : Error → Bool) (advances : S → Option R → S 
 
     -- what another source of the queue lends comes after x
     turn_of : (j : ℕ) (y : Entry) → (w ≡ j → ⊥) → is_queued j (ps ++ w ∷ []) ≡ true
-        → lent_at lent ss j ≡ Some y → is_turn x w y j ≡ true
+        → lent_of lent ss j ≡ Some y → is_turn x w y j ≡ true
     turn_of j y apart among is =
         let inner : is_queued j ps ≡ true = other (w == j) refl in
         subst (λ (o : Option Entry). goes_before o w (Some y) j ≡ true) lead_lent
-        (subst (λ (o : Option Entry). goes_before (lent_at lent ss w) w o j ≡ true) is
-        (last_before (lent_at lent ss) ps w j queue inner))
+        (subst (λ (o : Option Entry). goes_before (lent_of lent ss w) w o j ≡ true) is
+        (last_before (lent_of lent ss) ps w j queue inner))
       where
         other : (b : Bool) → (w == j) ≡ b → is_queued j ps ≡ true
         other true e = absurd (apart (eqb-true w j e))
@@ -299,7 +299,7 @@ module _ {S : Type 0} (stops : Error → Bool) (advances : S → Option R → S 
 
     -- the entries of another list, by its first
     rest_by : (P : Entry → Type 0) (j : ℕ) → j < length ss
-        → ((y : Entry) → is_queued j (ps ++ w ∷ []) ≡ true → lent_at lent ss j ≡ Some y → P y)
+        → ((y : Entry) → is_queued j (ps ++ w ∷ []) ≡ true → lent_of lent ss j ≡ Some y → P y)
         → ((y z : Entry) → P y → AtMost y z → P z)
         → AllByRecursion P (entries_among (slice_index_or lists j []))
     rest_by P j lt one more = go (is_queued j (ps ++ w ∷ [])) refl (h.each j s lt)
@@ -374,21 +374,21 @@ module _ {S : Type 0} (stops : Error → Bool) (advances : S → Option R → S 
 
   -- what is lent is the first of what is left
   pub lent_answer : (ss : List S) (qs : List ℕ) (lists : List (List R))
-      → Have (λ j. false) ss qs lists → IsQueue (lent_at lent ss) qs
+      → Have (λ j. false) ss qs lists → IsQueue (lent_of lent ss) qs
       → AllByRecursion (λ q. q < length ss) qs
-      → option_map (λ y. Ok y) (lent_by (lent_at lent ss) (slice_get qs (length qs - 1)))
+      → option_map (λ y. Ok y) (lent_by (lent_of lent ss) (slice_get qs (length qs - 1)))
       ≡ first (merge_of lists)
   lent_answer ss qs lists h queue known = elim (last_of_queue qs) [
     | inl e ↦
         let none : merge_of lists ≡ [] = rests_nothing ss lists
         (subst (λ (ps : List ℕ). Have (λ j. false) ss ps lists) e h) in
-        ap (λ (ps : List ℕ). option_map (λ y. Ok y) (lent_by (lent_at lent ss)
+        ap (λ (ps : List ℕ). option_map (λ y. Ok y) (lent_by (lent_of lent ss)
         (slice_get ps (length ps - 1)))) e ∙ sym (ap first none)
     | inr l ↦
         let rests = subst (λ (ps : List ℕ). Have (λ j. false) ss ps lists) l.2 h in
-        let order = subst (IsQueue (lent_at lent ss)) l.2 queue in
+        let order = subst (IsQueue (lent_of lent ss)) l.2 queue in
         let within = end l.0 l.1 (subst (AllByRecursion (λ q. q < length ss)) l.2 known) in
-        ap (λ (o : Option ℕ). option_map (λ y. Ok y) (lent_by (lent_at lent ss) o)) l.3
+        ap (λ (o : Option ℕ). option_map (λ y. Ok y) (lent_by (lent_of lent ss) o)) l.3
         ∙ ap (option_map (λ y. Ok y)) (lead_lent ss l.0 l.1 lists rests order within)
         ∙ sym (ap first (lead_merges ss l.0 l.1 lists rests order within))
   ]
@@ -403,8 +403,8 @@ module _ {S : Type 0} (stops : Error → Bool) (advances : S → Option R → S 
 -- what is lent, by the sources in the queue
 pub first_queued : {S A : Type 0} (lent : S → Option Entry) (n : LendingMerger S A)
     → lent_first lent n
-    ≡ lent_by (lent_at lent n.sources.items) (slice_get (queued n) (length (queued n) - 1))
-first_queued lent n = ap (lent_by (lent_at lent n.sources.items))
+    ≡ lent_by (lent_of lent n.sources.items) (slice_get (queued n) (length (queued n) - 1))
+first_queued lent n = ap (lent_by (lent_of lent n.sources.items))
     (got_source n.queue.items (length n.queue.items - 1)
     ∙ ap (λ (k : ℕ). slice_get (queued n) (k - 1)) (sym (length-map n.queue.items source_of)))
 
@@ -494,7 +494,7 @@ module _ {S : Type 0} (stops : Error → Bool) (advances : S → Option R → S 
     -- what is lent is taken out of the queue
     module _ (started : m.is_started ≡ true) (ps : List ℕ) (w : ℕ)
         (items : queued m ≡ ps ++ w ∷ [])
-        (queue : IsQueue (lent_at lent m.sources.items) (queued m))
+        (queue : IsQueue (lent_of lent m.sources.items) (queued m))
         (within : w < length m.sources.items) (free : is_queued w ps ≡ false) where
       taken : (lists : List (List R))
           × Have stops advances lent (λ j. j == w) m.sources.items ps lists × (ys ≡ merge_of lists)
@@ -502,7 +502,7 @@ module _ {S : Type 0} (stops : Error → Bool) (advances : S → Option R → S 
           let b = behind started in
           let h = subst (λ (qs : List ℕ). Have stops advances lent (λ j. false) m.sources.items qs
           b.0) items b.1 in
-          let order = subst (IsQueue (lent_at lent m.sources.items)) items queue in
+          let order = subst (IsQueue (lent_of lent m.sources.items)) items queue in
           let rest = lead stops advances lent m.sources.items ps w b.0 h order within in (
             slice_set b.0 w rest.1,
             lead_taken stops advances lent m.sources.items ps w b.0 h order within free,
@@ -543,7 +543,7 @@ module _ {S : Type 0} (stops : Error → Bool) (advances : S → Option R → S 
 
   -- what is lent now
   pub answers_lent : {A : Type 0} (n : LendingMerger S A) (ys : List R) → n.is_started ≡ true
-      → IsQueue (lent_at lent n.sources.items) (queued n)
+      → IsQueue (lent_of lent n.sources.items) (queued n)
       → All (λ q. q < length n.sources.items) (queued n)
       → (lists : List (List R))
       → Have stops advances lent (λ j. false) n.sources.items (queued n) lists
@@ -581,10 +581,10 @@ positive n = grind (arith, nat_tests)
 
 -- something is lent where the queue is not empty
 pub queue_lends : {S A : Type 0} (lent : S → Option Entry) (n : LendingMerger S A)
-    → IsQueue (lent_at lent n.sources.items) (queued n)
+    → IsQueue (lent_of lent n.sources.items) (queued n)
     → not (length n.queue.items == 0) ≡ is_some (lent_first lent n)
 queue_lends lent n queue = ap (λ (k : ℕ). not (k == 0)) (sym (length-map n.queue.items source_of))
-    ∙ by_last (queued n) (lent_at lent n.sources.items) queue
+    ∙ by_last (queued n) (lent_of lent n.sources.items) queue
     ∙ sym (ap is_some (first_queued lent n))
   where
     long : (ps : List ℕ) (w : ℕ) → not (length (ps ++ w ∷ []) == 0) ≡ true
@@ -632,7 +632,7 @@ is_positive : (n : ℕ) → not (n == 0) ≡ true → 0 < n
 is_positive n h = grind (arith, nat_tests, h)
 
 pub lowers_lent : {S A : Type 0} (left : S → ℕ) (lent : S → Option Entry) (m n : LendingMerger S A)
-    → n.is_started ≡ true → IsQueue (lent_at lent n.sources.items) (queued n)
+    → n.is_started ≡ true → IsQueue (lent_of lent n.sources.items) (queued n)
     → StepLowers left m n
     → Lowers (option_map {U = R} (λ x. Ok x) (lent_first lent n)) (lent_size left m)
     (lent_size left n)
@@ -681,5 +681,5 @@ no_error (Some x) e is = cc
 pub over_lends : {S A : Type 0} (lent : S → Option Entry) (n : LendingMerger S A)
     → n.queue.items ≡ [] → option_map {U = R} (λ x. Ok x) (lent_first lent n) ≡ None
 over_lends lent n empty = ap (λ (hs : List Head). option_map {U = R} (λ x. Ok x)
-    (lent_by (lent_at lent n.sources.items)
+    (lent_by (lent_of lent n.sources.items)
     (option_map source_of (slice_get hs (length hs - 1))))) empty

@@ -18,7 +18,7 @@ use Rattle.lsm_sorted.specs.merge.Ends.{R}
 use Rattle.lsm_sorted.specs.merge.InPlace.{Placed, places_of, put_in_place, sort_places, all_placed}
 use Rattle.lsm_sorted.specs.merge.InPlace.{up_to_error, merge_of}
 use Rattle.lsm_sorted.specs.lending.Lent.{AdvancesLent, LendsNoMore, LeavesLent, LeavesIf, MayLend}
-use Rattle.lsm_sorted.specs.lending.Lent.{IsHead, IsQueue, Rests, lent_at, queued, source_of}
+use Rattle.lsm_sorted.specs.lending.Lent.{IsHead, IsQueue, Rests, lent_of, queued, source_of}
 use Rattle.lsm_sorted.specs.merge.MergeLaws.{YieldSorted, YieldsInPlace, YieldsMerged}
 use Rattle.lsm_sorted.specs.merge.Union.{item_cmp, entries_among, errors_among, all_entries}
 use Rattle.lsm_sorted.specs.merge.Union.{all_errors}
@@ -159,9 +159,9 @@ module _ {S A : Type 0} (advances : S → Option R → S → Type 0) (can : S �
         known = subst (All (λ q. q < length m.sources.items)) (sym none)
             (All-nil (λ q. q < length m.sources.items));
         room = subst (λ (ss : List S). length ss ≤ vec_capacity m.queue) (sym sources) room;
-        queue = subst (λ (qs : List ℕ). IsQueue (lent_at lent m.sources.items) qs) (sym none) tt;
-        heads = subst (All (IsHead (lent_at lent m.sources.items))) (sym empty)
-            (All-nil (IsHead (lent_at lent m.sources.items)));
+        queue = subst (λ (qs : List ℕ). IsQueue (lent_of lent m.sources.items) qs) (sym none) tt;
+        heads = subst (All (IsHead (lent_of lent m.sources.items))) (sym empty)
+            (All-nil (IsHead (lent_of lent m.sources.items)));
       };
       fresh = λ e. empty;
     }

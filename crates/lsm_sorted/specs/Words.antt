@@ -53,8 +53,8 @@ pub use Rattle.lsm_sorted.specs.declared.compaction.lending.Lends.TheVariants.{N
 pub use Rattle.lsm_sorted.specs.declared.version.optimize.Link.{Link}
 pub use Rattle.lsm_sorted.specs.lending.Lent.{AdvancesLent, AsksOne, Belongs, IsHead, IsPrefix}
 pub use Rattle.lsm_sorted.specs.lending.Lent.{IsReady, LendsNoMore, MayLend, StartsLent, StepLowers}
-pub use Rattle.lsm_sorted.specs.lending.Lent.{StepsOn, goes_before, head_before, is_queued, is_turn}
-pub use Rattle.lsm_sorted.specs.lending.Lent.{lent_at, lent_first, lent_size, lent_total, queued}
+pub use Rattle.lsm_sorted.specs.lending.Lent.{StepsOn, goes_before, is_queued, is_turn}
+pub use Rattle.lsm_sorted.specs.lending.Lent.{sorts_before, lent_of, lent_first, lent_size, lent_total, queued}
 pub use Rattle.lsm_sorted.specs.lending.LentCompaction.{AdvancesCompacted, CompactsLent}
 pub use Rattle.lsm_sorted.specs.lending.LentCompaction.{CompactsLentResults, FetchesCompacted}
 pub use Rattle.lsm_sorted.specs.lending.LentCompaction.{MayLendCompacted, SettlesCompacted}
@@ -95,7 +95,7 @@ pub use Rattle.lsm_sorted.specs.version.LinkedRuns.{AreAtPlaces, AreEarlier, Are
 pub use Rattle.lsm_sorted.specs.version.LinkedRuns.{IsBelow, link_range}
 pub use Rattle.lsm_sorted.specs.version.Links.{IsStack, TableWithPlace, run_with_places}
 pub use Rattle.lsm_sorted.specs.version.Links.{runs_with_places}
-pub use Rattle.lsm_sorted.specs.version.Packed.{IsPackedOf, alone, placed}
+pub use Rattle.lsm_sorted.specs.version.Packed.{IsPackedOf, alone, indexed}
 pub use Rattle.lsm_sorted.specs.version.Packing.{AddsTables, AreDisjointRuns, AreInOrder}
 pub use Rattle.lsm_sorted.specs.version.Packing.{AreNotEmpty, ArePacked, ArePlaced}
 pub use Rattle.lsm_sorted.specs.version.Packing.{AreTablesWellFormed, AreWellFormed, IsChain}

@@ -118,7 +118,7 @@ impl<L: Lending, A: Allocator> LendingMerger<L, A> {
     #[inline(always)]
     fn lent_by(&self, source: usize) -> Option<EntryRef<'_>>
         ensures { spec.option_map spec.entry_of_ref result ≡
-            spec.lent_at L.lent self.now.sources.items source }
+            spec.lent_of L.lent self.now.sources.items source }
     {
         match self.sources.get(source) {
             Some(lender) => lender.entry(),
@@ -131,7 +131,7 @@ impl<L: Lending, A: Allocator> LendingMerger<L, A> {
     #[inline(never)]
     fn comes_before(&self, entry: &EntryRef<'_>, source: usize, other: usize) -> bool
         ensures { result ≡ spec.goes_before (Some (spec.entry_of_ref entry.now)) source
-            (spec.lent_at L.lent self.now.sources.items other) other }
+            (spec.lent_of L.lent self.now.sources.items other) other }
     {
         match self.lent_by(other) {
             Some(other_entry) => is_before(entry, source, &other_entry, other),
@@ -143,8 +143,8 @@ impl<L: Lending, A: Allocator> LendingMerger<L, A> {
     // the prefixes are equal.
     #[inline(always)]
     fn is_ahead(&self, entry: &EntryRef<'_>, head: Head, other: Head) -> bool
-        ensures { result ≡ spec.head_before (Some (spec.entry_of_ref entry.now)) head
-            (spec.lent_at L.lent self.now.sources.items other.source) other }
+        ensures { result ≡ spec.sorts_before (Some (spec.entry_of_ref entry.now)) head
+            (spec.lent_of L.lent self.now.sources.items other.source) other }
     {
         if head.prefix == other.prefix {
             return self.comes_before(entry, head.source, other.source);
@@ -155,13 +155,13 @@ impl<L: Lending, A: Allocator> LendingMerger<L, A> {
     // The index at which to insert a head into a queue without its source.
     #[inline(always)]
     fn index_of(&self, entry: &EntryRef<'_>, head: Head) -> usize
-        requires heads { All (spec.IsHead (spec.lent_at L.lent self.now.sources.items))
+        requires heads { All (spec.IsHead (spec.lent_of L.lent self.now.sources.items))
             self.now.queue.items }
-        requires head { spec.IsHead (spec.lent_at L.lent self.now.sources.items) head }
-        requires entry { spec.lent_at L.lent self.now.sources.items head.source ≡
+        requires head { spec.IsHead (spec.lent_of L.lent self.now.sources.items) head }
+        requires entry { spec.lent_of L.lent self.now.sources.items head.source ≡
             Some (spec.entry_of_ref entry.now) }
         ensures within { result ≤ length self.now.queue.items }
-        ensures belongs { spec.Belongs (spec.lent_at L.lent self.now.sources.items) head.source
+        ensures belongs { spec.Belongs (spec.lent_of L.lent self.now.sources.items) head.source
             (spec.queued self.now) result }
     {
         match self.queue.last() {
@@ -179,12 +179,12 @@ impl<L: Lending, A: Allocator> LendingMerger<L, A> {
     // The head of a source with a current entry, and the index at which to insert it into a queue
     // without that source.
     fn head_of(&self, source: usize) -> (usize, Head)
-        requires heads { All (spec.IsHead (spec.lent_at L.lent self.now.sources.items))
+        requires heads { All (spec.IsHead (spec.lent_of L.lent self.now.sources.items))
             self.now.queue.items }
         ensures within { result.0 ≤ length self.now.queue.items }
         ensures source { result.1.source ≡ source }
-        ensures head { spec.IsHead (spec.lent_at L.lent self.now.sources.items) result.1 }
-        ensures belongs { spec.Belongs (spec.lent_at L.lent self.now.sources.items) source
+        ensures head { spec.IsHead (spec.lent_of L.lent self.now.sources.items) result.1 }
+        ensures belongs { spec.Belongs (spec.lent_of L.lent self.now.sources.items) source
             (spec.queued self.now) result.0 }
     {
         let Some(entry) = self.lent_by(source) else {

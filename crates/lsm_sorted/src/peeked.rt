@@ -30,6 +30,8 @@ impl<I: Iterator<Item = IterItem<A>>, A: Allocator> Peeked<I> {
         }
     }
 
+    // Always inlined: a call that returns an entry by value costs more than the step.
+    #[inline(always)]
     pub(crate) fn next(&mut self) -> Option<IterItem<A>>
         requires { spec.Goes I.next_gives spec.nowhere I.can_next I.can_next I.remaining
             self.old.source }
@@ -67,6 +69,7 @@ impl<I: Iterator<Item = IterItem<A>>, A: Allocator> Peeked<I> {
 }
 
 impl<I: DoubleEndedIterator<Item = IterItem<A>>, A: Allocator> Peeked<I> {
+    #[inline(always)]
     pub(crate) fn next_back(&mut self) -> Option<IterItem<A>>
         requires { spec.Goes I.next_gives I.next_back_gives I.can_next I.can_next_back I.remaining
             self.old.source }

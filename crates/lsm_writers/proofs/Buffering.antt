@@ -15,7 +15,7 @@ use Rattle.sst_blocks.specs.Number.{le4}
 use Rattle.sst_blocks.proofs.Numbers.{wide4}
 use Rattle.sst_entries.specs.declared.error.Error.{Error}
 use Rattle.sst_entries.specs.declared.error.Error.TheVariants.{BlockTooLarge}
-use Rattle.sst_entries.specs.Entry.{Entry, entry}
+use Rattle.sst_entries.specs.Entry.{Entry}
 use Rattle.sst_entries.specs.Strict.{IsStrict, last_of}
 use Rattle.sst_entries.proofs.Lists.{all_append, all_front}
 use Rattle.sst_blocks.specs.Bounds.{data_block_bound_of, entry_bound}
@@ -28,7 +28,7 @@ use Rattle.sst_blocks.proofs.Items.{items_again}
 use Rattle.lsm_writers.specs.declared.writer.block_buffer.Mark.{Mark}
 use Rattle.lsm_writers.specs.declared.writer.block_buffer.Place.{Place}
 use Rattle.lsm_writers.specs.Buffered.{AreBuffered, IsMark, MarksFront, body}
-use Rattle.lsm_writers.specs.Buffered.{entries_behind, placed}
+use Rattle.lsm_writers.specs.Buffered.{buffered_entry, entries_behind}
 use Rattle.lsm_writers.specs.Cut.{IsReadable}
 use Rattle.lsm_writers.proofs.Cutting.{readable_of}
 use Rattle.lsm_writers.proofs.Orders.{last_of-append, nothing_last}
@@ -98,7 +98,7 @@ head_len e = omega (
 -- the last entry lies behind its head
 pub last_placed : (es : List Entry) (e : Entry) (p : Place) → p.key ≡ length (body es) + 17
     → p.value ≡ p.key + length e.user_key → p.seqno ≡ e.seqno → p.value_type ≡ e.kind
-    → placed (body (es ++ e ∷ [])) p ≡ e
+    → buffered_entry (body (es ++ e ∷ [])) p ≡ e
 unfolding spelled
 last_placed es e p k v n t =
     let B = body es in
@@ -153,7 +153,7 @@ pushed_buffered bytes longer m o es e p h ok is k v n t count at last =
           omega (arith, size, length-spelled V4 e, key, v),
         );
         last_is = last_more es e ∙ ap (λ (x : Entry). Some x) (sym (last_placed es e p key v n t))
-            ∙ ap (option_map (placed (body (es ++ e ∷ [])))) (sym last);
+            ∙ ap (option_map (buffered_entry (body (es ++ e ∷ [])))) (sym last);
       };
     }
 

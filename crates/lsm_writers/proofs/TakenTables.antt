@@ -1,14 +1,13 @@
 -- Finished tables that are taken while the writer goes on.
 use Rattle.std.proofs.Common.{◌≡◌, refl, sym, ◌∙◌, ap, subst, ℕ, suc, ◌+◌, ◌-◌, ◌<◌, ◌≤◌, Bool}
-use Rattle.std.proofs.Common.{true, false, List, [], ◌∷◌, ◌++◌, length, append_assoc, append-nil}
+use Rattle.std.proofs.Common.{true, false, List, [], ◌∷◌, ◌++◌, length, append_assoc}
 use Rattle.std.proofs.Common.{◌^◌, arith, length-append, IsTrue}
-use Rattle.std.specs.Prelude.{Option, Some, None, drop, slice_index_or, take, if◌then◌else◌}
+use Rattle.std.specs.Prelude.{Option, Some, None, drop, take, if◌then◌else◌}
 use Rattle.std.specs.Prelude.{◌&&◌, nat_lt}
 use Rattle.std.specs.Option.{option_or, option_to_list}
 use Rattle.std.proofs.Math.Seq.{take-add}
-use Rattle.std.proofs.lemmas.Bool.{cases_Bool}
 use Rattle.std.proofs.lemmas.List.{drop-append-le, drop-drop, drop_all, length-drop, length-map}
-use Rattle.std.proofs.lemmas.List.{length-take-le, take-append-drop, take-append-le}
+use Rattle.std.proofs.lemmas.List.{take-append-drop, take-append-le}
 use Rattle.sst_entries.specs.declared.error.Error.TheVariants.{WriterFailed}
 use Rattle.sst_entries.specs.declared.value_type.ValueType.TheVariants.{Value}
 use Rattle.sst_entries.specs.Entry.{Entry, entry}
@@ -19,7 +18,7 @@ use Rattle.sst_blocks.specs.declared.table.options.Options.{Options}
 use Rattle.sst_blocks.specs.table.Chunks.{joined}
 use Rattle.lsm_writers.specs.declared.writer.FinishedTable.{FinishedTable}
 use Rattle.lsm_writers.specs.Cut.{rest_chunk}
-use Rattle.lsm_writers.specs.Taken.{AreTakenFrom, BegunLaw, FinishedLaw, IsOpen, TakenLaw}
+use Rattle.lsm_writers.specs.Taken.{AreTakenFrom, BegunLaw, FinishedLaw, IsWriting, TakenLaw}
 use Rattle.lsm_writers.specs.Taken.{WrittenLaw, taken}
 use Rattle.lsm_writers.specs.Tables.{AreFinished, AreHeld, GoesOn, TablesWriting, all_written}
 use Rattle.lsm_writers.specs.Tables.{first_label, ids_fault, is_due, label_before, list_in, lists_in}
@@ -35,25 +34,25 @@ use Rattle.lsm_writers.proofs.Turning.{ids_left, state_of}
 
 -- ---- the oldest one
 
-pub removed_first : {X : Type 0} (xs ys : List X) (x : X) → 0 < length xs
-    → x ≡ slice_index_or xs 0 x → ys ≡ take 0 xs ++ drop 1 xs → xs ≡ x ∷ ys
-removed_first {X} [] ys x some is rest = absurd (omega (arith, some))
-removed_first {X} (z ∷ xs) ys x some is rest =
-    ap (λ (y : X). y ∷ xs) (sym is) ∙ ap (λ (zs : List X). x ∷ zs) (sym rest)
+popped_first : {X : Type 0} (xs ys : List X) (o : Option X) → xs ≡ option_to_list o ++ ys
+    → ys ≡ drop 1 xs → take 1 xs ≡ option_to_list o
+popped_first [] ys None is rest = refl
+popped_first [] ys (Some x) is rest = absurd cc
+popped_first (x ∷ xs) ys None is rest = absurd (omega (arith, ap length is, ap length rest))
+popped_first (x ∷ xs) ys (Some y) is rest = ap (take 1) is
 
 next_before : (label : Label) (n : ℕ) → suc n ≤ label.table_id
     → next_label (label_before (suc n) label) ≡ label_before n label
 next_before label n few = ap (λ (k : ℕ). record label { table_id = k }) (omega (arith, few))
 
-pub held_rest : {A : Type 0} (options : Options) (label : Label) (fs gs : List (FinishedTable A))
-    (f : FinishedTable A) → fs ≡ f ∷ gs → AreHeld options label fs → AreHeld options label gs
-held_rest options label fs gs f is held =
-    let old : AreHeld options label (f ∷ gs) = subst (AreHeld options label) is held in
-    record {
-      finished = subst (λ (l : Label). AreFinished options l (lists_in gs) gs)
-          (next_before label (length gs) old.few) old.finished.1;
-      few = omega (arith, old.few);
-    }
+pub held_rest : {A : Type 0} (options : Options) (label : Label) (fs : List (FinishedTable A))
+    → AreHeld options label fs → AreHeld options label (drop 1 fs)
+held_rest options label [] held = held
+held_rest options label (f ∷ fs) held = record {
+  finished = subst (λ (l : Label). AreFinished options l (lists_in fs) fs)
+      (next_before label (length fs) held.few) held.finished.1;
+  few = omega (arith, held.few);
+}
 
 goes_on_behind : (target : ℕ) (ids : Option ℕ) (t : List Entry) (ts : List (List Entry))
     (w : Writing) → GoesOn target ids (t ∷ ts) w → GoesOn target ids ts w
@@ -69,67 +68,67 @@ goes_on_behind target ids t ts w h =
       begun = λ none. absurd (let no : t ∷ ts ≡ [] = h.begun none in cc);
     }
 
-pub goes_on_rest : {A : Type 0} (target : ℕ) (ids : Option ℕ) (fs gs : List (FinishedTable A))
-    (f : FinishedTable A) (w : Writing) → fs ≡ f ∷ gs → GoesOn target ids (lists_in fs) w
-    → GoesOn target ids (lists_in gs) w
-goes_on_rest {A} target ids fs gs f w is h =
-    goes_on_behind target ids (list_in f.bytes) (lists_in gs) w
-    (subst (λ (xs : List (FinishedTable A)). GoesOn target ids (lists_in xs) w) is h)
+pub goes_on_rest : {A : Type 0} (target : ℕ) (ids : Option ℕ) (fs : List (FinishedTable A))
+    (w : Writing) → GoesOn target ids (lists_in fs) w → GoesOn target ids (lists_in (drop 1 fs)) w
+goes_on_rest target ids [] w h = h
+goes_on_rest target ids (f ∷ fs) w h =
+    goes_on_behind target ids (list_in f.bytes) (lists_in fs) w h
 
--- what is told of it
+lists_rest : {A : Type 0} (fs : List (FinishedTable A)) → lists_in (drop 1 fs) ≡ drop 1 (lists_in fs)
+lists_rest [] = refl
+lists_rest (f ∷ fs) = refl
+
+oldest_by : {A : Type 0} (options : Options) (label : Label) (fs : List (FinishedTable A))
+    → AreHeld options label fs
+    → AreFinished options (label_before (length (lists_in fs)) label) (take 1 (lists_in fs))
+    (take 1 fs)
+oldest_by options label [] held = tt
+oldest_by {A} options label (f ∷ fs) held = (
+  subst (λ (n : ℕ). IsTableWith (label_before n label) options (list_in f.bytes) f.id f.checksum.0
+      f.bytes)
+      (sym (length-map (f ∷ fs) (λ (x : FinishedTable A). list_in x.bytes))) held.finished.0,
+  tt,
+)
+
+-- the states before and after
 module _ {A : Type 0} (target : ℕ) (ids : Option ℕ) (fs : List (FinishedTable A)) (w : Writing)
     (failed : Bool) (held : AreHeld w.options w.label fs) where
   pub few_held : length (state_of target ids fs w failed).tables ≤ w.label.table_id
   few_held = few_lists w.options w.label fs held
 
-  module _ (gs : List (FinishedTable A)) (f : FinishedTable A) (is : fs ≡ f ∷ gs) where
-    pub oldest_is : AreFinished w.options (first_label (state_of target ids fs w failed))
-        (take 1 (lists_in fs)) (f ∷ [])
-    oldest_is =
-        let old : AreHeld w.options w.label (f ∷ gs) = subst (AreHeld w.options w.label) is held in
-        let many : length (lists_in (f ∷ gs)) ≡ length (f ∷ gs) =
-        length-map (f ∷ gs) (λ (x : FinishedTable A). list_in x.bytes) in
-        let one : IsTableWith (label_before (length (lists_in (f ∷ gs))) w.label) w.options
-        (list_in f.bytes) f.id f.checksum.0 f.bytes =
-        subst (λ (n : ℕ). IsTableWith (label_before n w.label) w.options (list_in f.bytes) f.id
-        f.checksum.0 f.bytes) (sym many) old.finished.0 in
-        subst (λ (xs : List (FinishedTable A)). AreFinished w.options
-        (label_before (length (lists_in xs)) w.label) (take 1 (lists_in xs)) (f ∷ [])) (sym is)
-        (one, tt)
+  pub oldest_is : (o : Option (FinishedTable A)) (gs : List (FinishedTable A))
+      → fs ≡ option_to_list o ++ gs → gs ≡ drop 1 fs
+      → AreFinished w.options (first_label (state_of target ids fs w failed))
+      (take 1 (lists_in fs)) (option_to_list o)
+  oldest_is o gs is rest =
+      subst (λ (xs : List (FinishedTable A)). AreFinished w.options
+      (first_label (state_of target ids fs w failed)) (take 1 (lists_in fs)) xs)
+      (popped_first fs gs o is rest) (oldest_by w.options w.label fs held)
 
-    pub rest_left : state_of target ids gs w failed ≡ taken 1 (state_of target ids fs w failed)
-    rest_left =
-        ap (λ (ts : List (List Entry)). let m : TablesWriting = record {
-          target = target;
-          ids = ids;
-          tables = ts;
-          present = w;
-          failed = failed;
-        } in m) (ap (λ (xs : List (FinishedTable A)). drop 1 (lists_in xs)) (sym is))
+  pub rest_left : state_of target ids (drop 1 fs) w failed
+      ≡ taken 1 (state_of target ids fs w failed)
+  rest_left =
+      ap (λ (ts : List (List Entry)). let m : TablesWriting = record {
+        target = target;
+        ids = ids;
+        tables = ts;
+        present = w;
+        failed = failed;
+      } in m) (lists_rest fs)
 
-    last_by : (b : Bool) → failed ≡ b → (failed ≡ false → GoesOn target ids (lists_in fs) w)
-        → last_of None (all_written (state_of target ids gs w failed))
-        ≡ last_of None (all_written (state_of target ids fs w failed))
-    last_by true spent goes = rw spent refl
-    last_by false works goes =
-        let h = goes works in
-        let rest = goes_on_rest target ids fs gs f w is h in
-        rw works (last_all target ids (lists_in gs) w rest
-        ∙ sym (last_all target ids (lists_in fs) w h))
+  last_by : (b : Bool) → failed ≡ b → (failed ≡ false → GoesOn target ids (lists_in fs) w)
+      → last_of None (all_written (state_of target ids (drop 1 fs) w failed))
+      ≡ last_of None (all_written (state_of target ids fs w failed))
+  last_by true spent goes = rw spent refl
+  last_by false works goes =
+      let h = goes works in
+      rw works (last_all target ids (lists_in (drop 1 fs)) w (goes_on_rest target ids fs w h)
+      ∙ sym (last_all target ids (lists_in fs) w h))
 
-    pub last_stays : (failed ≡ false → GoesOn target ids (lists_in fs) w)
-        → last_of None (all_written (state_of target ids gs w failed))
-        ≡ last_of None (all_written (state_of target ids fs w failed))
-    last_stays goes = last_by failed refl goes
-
-  -- where none is held
-  module _ (none : fs ≡ []) where
-    pub none_is : AreFinished {A = A} w.options (first_label (state_of target ids fs w failed))
-        (take 1 (lists_in fs)) []
-    none_is = rw none tt
-
-    pub none_left : state_of target ids fs w failed ≡ taken 1 (state_of target ids fs w failed)
-    none_left = rw none refl
+  pub last_stays : (failed ≡ false → GoesOn target ids (lists_in fs) w)
+      → last_of None (all_written (state_of target ids (drop 1 fs) w failed))
+      ≡ last_of None (all_written (state_of target ids fs w failed))
+  last_stays goes = last_by failed refl goes
 
 -- ---- several of them
 
@@ -372,9 +371,9 @@ module _ (m : TablesWriting) (e : Entry) (h : GoesOn m.target m.ids m.tables m.p
   goes_by true is next = goes_on_next m.target m.ids m.tables m.present e h next is
       (id_left m e works is fine)
 
-  open_still : (n : TablesWriting) → last_of None (all_written n) ≡ last_of None (all_written m)
-      → IsTrue (may_be_written (all_written n) e.user_key e.seqno) → IsOpen (took m e)
-  open_still n same next =
+  still_writing : (n : TablesWriting) → last_of None (all_written n) ≡ last_of None (all_written m)
+      → IsTrue (may_be_written (all_written n) e.user_key e.seqno) → IsWriting (took m e)
+  still_writing n same next =
       let all : all_written m ≡ joined m.tables ++ written m.present = rw works refl in
       let same' : last_of None (all_written n) ≡ last_of None (joined m.tables ++ written m.present)
       = same ∙ ap (last_of None) all in
@@ -387,9 +386,9 @@ module _ (m : TablesWriting) (e : Entry) (h : GoesOn m.target m.ids m.tables m.p
       }
 
 pub written_law : (A : Type 0) → WrittenLaw A
-written_law A m n gs e h open_m =
-    let goes = open_m.goes_on in
-    let works = open_m.works in
+written_law A m n gs e h writing =
+    let goes = writing.goes_on in
+    let works = writing.works in
     let at : AreTakenFrom m gs (taken (length gs) m) = subst (AreTakenFrom m gs) h.left h in
     let same : last_of None (all_written n) ≡ last_of None (all_written m) =
     ap (λ (x : TablesWriting). last_of None (all_written x)) h.left
@@ -398,7 +397,7 @@ written_law A m n gs e h open_m =
       ap (λ (x : TablesWriting). took_fault x e) h.left ∙ fault_same m (length gs) e,
       λ fine. subst (λ (x : TablesWriting). AreTakenFrom (took m e) gs (took x e)) (sym h.left)
           (taken_still m e goes works fine h.ids gs at),
-      λ fine next. open_still m e goes works fine h.ids n same next,
+      λ fine next. still_writing m e goes works fine h.ids n same next,
     )
 
 pub begun_law : (A : Type 0) → BegunLaw A

@@ -1,6 +1,6 @@
 -- A call of a writer of many tables, where the next table may begin.
 use Rattle.std.proofs.Common.{◌≡◌, refl, sym, ◌∙◌, ap, subst, ℕ, ◌-◌, ◌^◌, Bool, true, false, List}
-use Rattle.std.proofs.Common.{[], ◌∷◌, ◌++◌, append_assoc, arith, IsTrue, inl, inr, length}
+use Rattle.std.proofs.Common.{[], ◌∷◌, ◌++◌, append_assoc, IsTrue, inl, inr, length}
 use Rattle.std.specs.Prelude.{Option, Some, None, Result, Ok, Err, IsErrAnd, nat_lt, if◌then◌else◌}
 use Rattle.std.specs.Prelude.{◌⊎◌}
 use Rattle.sst_entries.specs.declared.error.Error.{Error}
@@ -17,7 +17,7 @@ use Rattle.sst_entries.proofs.Refusals.{memory_is}
 use Rattle.sst_blocks.specs.table.Chunks.{joined}
 use Rattle.lsm_writers.specs.declared.writer.FinishedTable.{FinishedTable}
 use Rattle.lsm_writers.specs.Cut.{rest_chunk}
-use Rattle.lsm_writers.specs.Taken.{IsLeft, StayHeld, tables_left}
+use Rattle.lsm_writers.specs.Taken.{IsLeft, StayHeld, info_left, tables_left}
 use Rattle.lsm_writers.specs.Tables.{AreHeld, GoesOn, IsFreshRun, IsStanding, TablesWriting}
 use Rattle.lsm_writers.specs.Tables.{all_written, drawn, early_refusal, gained_all, ids_after, ids_fault, is_due, label_before}
 use Rattle.lsm_writers.specs.Tables.{lists_in, new_tables, next_id, next_writing, rotated}
@@ -227,16 +227,19 @@ module _ {A : Type 0} (target : ℕ) (ids ids' : Option ℕ) (fs fs' : List (Fin
 module _ {A : Type 0} (target : ℕ) (ids ids' : Option ℕ) (fs fs' : List (FinishedTable A))
     (w w' : Writing) (e : Entry) (failed now : Bool) where
   abbrev TablesLeft : Error → Type 0
-  TablesLeft x = (lists_in fs' ≡ tables_left (state_of target ids fs w failed) e)
-      ⊎ ((x ≡ OutOfMemory) × (lists_in fs' ≡ lists_in fs))
+  TablesLeft x = ((lists_in fs' ≡ tables_left (state_of target ids fs w failed) e)
+      × (w'.label ≡ info_left (state_of target ids fs w failed) e))
+      ⊎ ((x ≡ OutOfMemory) × (lists_in fs' ≡ lists_in fs) × (w'.label ≡ w.label))
 
   -- the next table was not begun
-  still_by : failed ≡ false → lists_in fs' ≡ lists_in fs → (x : Error) (memory : Bool)
-      → is_memory x ≡ memory → (fault : Option Error) → turn_fault target ids w e ≡ fault
+  still_by : failed ≡ false → lists_in fs' ≡ lists_in fs → w'.label ≡ w.label → (x : Error)
+      (memory : Bool) → is_memory x ≡ memory → (fault : Option Error)
+      → turn_fault target ids w e ≡ fault
       → (is_memory x ≡ false → turn_fault target ids w e ≡ Some x) → TablesLeft x
-  still_by works same x memory is (Some y) at refused = inl (rw (works, at) same)
-  still_by works same x true is None at refused = inr (memory_is x is, same)
-  still_by works same x false is None at refused =
+  still_by works same info x memory is (Some y) at refused =
+      inl (rw (works, at) same, rw (works, at) info)
+  still_by works same info x true is None at refused = inr (memory_is x is, same, info)
+  still_by works same info x false is None at refused =
       absurd (none_some x (sym at ∙ refused is))
 
   -- where no table was finished
@@ -244,8 +247,8 @@ module _ {A : Type 0} (target : ℕ) (ids ids' : Option ℕ) (fs fs' : List (Fin
       → (is_memory x ≡ false → turn_fault target ids w e ≡ Some x)
       → IsLeft (state_of target ids fs w failed) e x (state_of target ids' fs' w' now)
   left_still works s x refused = record {
-    tables = still_by works (ap (λ (x : List (FinishedTable A)). lists_in x) s.0) x _ refl _ refl
-        refused;
+    tables = still_by works (ap (λ (x : List (FinishedTable A)). lists_in x) s.0) s.1 x _ refl _
+        refl refused;
     first = λ some. ap (λ (x : List (FinishedTable A)). label_before (length (lists_in x)) w'.label)
         s.0
         ∙ ap (λ (l : Label). label_before (length (lists_in fs)) l) s.1;
@@ -278,6 +281,11 @@ module _ {A : Type 0} (target : ℕ) (ids ids' : Option ℕ) (fs fs' : List (Fin
       ≡ tables_left (state_of target ids fs w failed) e
   standing_left works fine = rw (works, fine) refl
 
+  standing_info : failed ≡ false → turn_fault target ids w e ≡ None
+      → (standing (state_of target ids fs w failed) e).present.label
+      ≡ info_left (state_of target ids fs w failed) e
+  standing_info works fine = rw (works, fine) refl
+
   -- where the table that was due stands in its place, and the entry failed
   pub left_standing : failed ≡ false → (x : Error)
       → IsStanding (is_due target w e) ids fs w ids' fs' w'
@@ -286,9 +294,12 @@ module _ {A : Type 0} (target : ℕ) (ids ids' : Option ℕ) (fs fs' : List (Fin
       → v.options ≡ w'.options
       → IsLeft (state_of target ids fs w failed) e x (state_of target ids' fs' v now)
   left_standing works x stands fine held old v label options = record {
-    tables = inl (sym (ap (λ (n : TablesWriting). n.tables)
-        (stands_by target ids ids' fs fs' w w' e failed _ refl stands))
-        ∙ standing_left works fine);
+    tables =
+        let is = sym (stands_by target ids ids' fs fs' w w' e failed _ refl stands) in
+        inl (
+          ap (λ (n : TablesWriting). n.tables) is ∙ standing_left works fine,
+          label ∙ (ap (λ (n : TablesWriting). n.present.label) is ∙ standing_info works fine),
+        );
     first = λ some. ap (λ (l : Label). label_before (length (lists_in fs')) l) label
         ∙ label_by _ refl stands fine held old some;
     options = options ∙ options_by _ stands;
@@ -353,4 +364,8 @@ module _ {A : Type 0} (target : ℕ) (ids : Option ℕ) (fs : List (FinishedTabl
 
   pub spent_left : (x : Error) → IsLeft (state_of target ids fs w failed) e x
       (state_of target ids fs w failed)
-  spent_left x = record { tables = inl (rw spent refl); first = λ some. refl; options = refl }
+  spent_left x = record {
+    tables = inl (rw spent refl, rw spent refl);
+    first = λ some. refl;
+    options = refl;
+  }

@@ -21,8 +21,9 @@ abbrev pub body : List Entry → List ℕ
 body es = flat_map (spelled V4) es
 
 -- the entry whose key and value are at these offsets; the value runs to the end of the bytes
-abbrev pub placed : List ℕ → Place → Entry
-placed bytes p = entry (slice_range bytes p.key p.value) (drop p.value bytes) p.seqno p.value_type
+abbrev pub buffered_entry : List ℕ → Place → Entry
+buffered_entry bytes p =
+    entry (slice_range bytes p.key p.value) (drop p.value bytes) p.seqno p.value_type
 
 -- the offsets of an optional entry are within the bytes
 abbrev pub IsWithin : List ℕ → Option Place → Type 0
@@ -35,7 +36,7 @@ pub record IsMark (m : Mark) (es : List Entry) : Type 0 where
   pub count : m.len ≡ length es
   pub ends : m.end ≡ 4 + length (body es)
   pub within : IsWithin (body es) m.last
-  pub last_is : last_of None es ≡ option_map (placed (body es)) m.last
+  pub last_is : last_of None es ≡ option_map (buffered_entry (body es)) m.last
 
 -- the bytes are four bytes for a count, then the encodings of these entries
 pub record AreBuffered (bytes : List ℕ) (m : Mark) (es : List Entry) : Type 0 where

@@ -5,6 +5,7 @@ use Rattle.sst_entries.specs.declared.error.Error.{Error}
 use Rattle.sst_entries.specs.declared.error.Error.TheVariants.{OutOfMemory}
 use Rattle.sst_entries.specs.Entry.{Entry}
 use Rattle.sst_entries.specs.Strict.{last_of}
+use Rattle.sst_blocks.specs.declared.table.label.Label.{Label}
 use Rattle.sst_blocks.specs.declared.table.options.Options.{Options}
 use Rattle.lsm_writers.specs.declared.writer.FinishedTable.{FinishedTable}
 use Rattle.lsm_writers.specs.Tables.{AreFinished, GoesOn, TablesWriting, all_written, first_label}
@@ -36,26 +37,27 @@ FinishedLaw A = (m n : TablesWriting) (gs fs : List (FinishedTable A)) → AreTa
     AreFinished m.present.options (first_label m) (tables_of m) (gs ++ fs)
 
 -- an unfailed writer between its calls
-pub record IsOpen (m : TablesWriting) : Type 0 where
+pub record IsWriting (m : TablesWriting) : Type 0 where
   pub works : m.failed ≡ false
   pub goes_on : GoesOn m.target m.ids m.tables m.present
 
--- a writer without entries is open, and no table was taken from it
+-- a new writer meets the premises of the other laws: it is between its calls, and no table was taken
+-- from it
 abbrev pub BegunLaw : Type 0 → Type 0
 BegunLaw A = (first target level moment : ℕ) (options : Options) →
     let m = with_options (new_tables (Some first) target level moment) options in
-    IsOpen m × AreTakenFrom {A = A} m [] m
+    IsWriting m × AreTakenFrom {A = A} m [] m
 
 -- Whatever was taken, a write has the same bound and the same fault, and does the same. Both premises
 -- hold again after it.
 abbrev pub WrittenLaw : Type 0 → Type 0
 WrittenLaw A = (m n : TablesWriting) (gs : List (FinishedTable A)) (e : Entry) →
-    AreTakenFrom m gs n → IsOpen m →
+    AreTakenFrom m gs n → IsWriting m →
     (last_of None (all_written n) ≡ last_of None (all_written m))
     × (took_fault n e ≡ took_fault m e)
     × (took_fault m e ≡ None → AreTakenFrom (took m e) gs (took n e))
     × (took_fault m e ≡ None → IsTrue (may_be_written (all_written n) e.user_key e.seqno) →
-    IsOpen (took m e))
+    IsWriting (took m e))
 
 -- ---- after an error
 
@@ -66,11 +68,19 @@ tables_left m e =
     if m.failed || is_some (turn_fault m.target m.ids m.present e) then m.tables
     else (standing m e).tables
 
--- the state after writing an entry failed
+-- the table info of the current table then: that of the next one if it was begun
+abbrev pub info_left : TablesWriting → Entry → Label
+info_left m e =
+    if m.failed || is_some (turn_fault m.target m.ids m.present e) then m.present.label
+    else (standing m e).present.label
+
+-- The state after writing an entry failed. The table info of the current table shows whether the
+-- next one was begun. If it was, the table before it is among the finished ones.
 pub record IsLeft (m : TablesWriting) (e : Entry) (error : Error) (n : TablesWriting) : Type 0
   where
     -- `OutOfMemory` can also come before the current table is finished
-    pub tables : (n.tables ≡ tables_left m e) ⊎ ((error ≡ OutOfMemory) × (n.tables ≡ m.tables))
+    pub tables : ((n.tables ≡ tables_left m e) × (n.present.label ≡ info_left m e))
+        ⊎ ((error ≡ OutOfMemory) × (n.tables ≡ m.tables) × (n.present.label ≡ m.present.label))
     pub first : (n.tables ≡ [] → ⊥) → first_label n ≡ first_label m
     pub options : n.present.options ≡ m.present.options
 

@@ -10,6 +10,7 @@ use sst_blocks::{
 };
 use sst_entries::EntryRef;
 use std::alloc::{Allocator, Global};
+use std::collections::VecDeque;
 use std::marker::Model;
 use std::mem;
 
@@ -27,7 +28,7 @@ pub struct MultiWriter<A: Allocator = Global> {
     target_size: u64,
     ids: TableIds,
     // the tables before the current one that were not taken
-    finished: Vec<FinishedTable<A>, A>,
+    finished: VecDeque<FinishedTable<A>, A>,
     // the current table; its options, level and timestamp are those of all tables
     writer: Writer<A>,
     // set while a call runs, so it stays set after an error
@@ -82,7 +83,7 @@ impl<A: Allocator + Clone> MultiWriter<A> {
         Ok(MultiWriter {
             target_size,
             ids,
-            finished: Vec::new(alloc),
+            finished: VecDeque::new(alloc),
             writer,
             failed: false,
         })
@@ -228,10 +229,7 @@ impl<A: Allocator + Clone> MultiWriter<A> {
             ≡ spec.last_of None (spec.all_written self.old) }
         ensures ids { length self.old.tables ≤ self.old.present.label.table_id }
     {
-        if self.finished.is_empty() {
-            return None;
-        }
-        Some(self.finished.remove(0))
+        self.finished.pop_front()
     }
 
     /// Finishes the current table and returns all tables that were not taken, in key order, none if
@@ -274,7 +272,7 @@ impl<A: Allocator + Clone> MultiWriter<A> {
             ..
         } = self;
         add_table(&mut finished, writer)?;
-        Ok(finished)
+        Ok(finished.into_vec())
     }
 
     // Replaces the options of all tables.
@@ -458,7 +456,7 @@ impl<A: Allocator + Clone> MultiWriter<A> {
 /// Finishes a table and appends it to the others, unless it has no entry. Its errors are those of
 /// [`Writer::finish`].
 fn add_table<A: Allocator + Clone>(
-    finished: &mut Vec<FinishedTable<A>, A>,
+    finished: &mut VecDeque<FinishedTable<A>, A>,
     writer: Writer<A>,
 ) -> Result<(), Error>
     ensures ok { OnOk result (spec.AddsTable writer finished.old.items finished.new.items) }
@@ -467,7 +465,7 @@ fn add_table<A: Allocator + Clone>(
     ensures idle { OnErr result (spec.written writer ≡ [] → writer.failed ≡ true) }
 {
     if let Some(table) = writer.finish()? {
-        finished.push(table)?;
+        finished.push_back(table)?;
     }
     Ok(())
 }
@@ -488,7 +486,7 @@ fn is_due<A: Allocator + Clone>(target: u64, writer: &Writer<A>, entry: &EntryRe
 /// drawn. The finished tables stay, and so does the table info of the current one.
 fn rotate<A: Allocator + Clone>(
     ids: &mut TableIds,
-    finished: &mut Vec<FinishedTable<A>, A>,
+    finished: &mut VecDeque<FinishedTable<A>, A>,
     writer: &mut Writer<A>,
 ) -> Result<(), Error>
     ensures ids { ids.new ≡ spec.drawn ids.old }
@@ -512,7 +510,7 @@ fn rotate<A: Allocator + Clone>(
 fn make_ready<A: Allocator + Clone>(
     target: u64,
     ids: &mut TableIds,
-    finished: &mut Vec<FinishedTable<A>, A>,
+    finished: &mut VecDeque<FinishedTable<A>, A>,
     writer: &mut Writer<A>,
     entry: &EntryRef<'_>,
 ) -> Result<(), Error>

@@ -1,5 +1,5 @@
 -- How the program ends.
-use Rattle.std.proofs.Common.{◌≡◌, refl, subst, ℕ, ◌≤◌, Bool, List, inl, inr}
+use Rattle.std.proofs.Common.{◌≡◌, refl, subst, sym, ℕ, ◌≤◌, Bool, List, inl, inr}
 use Rattle.std.specs.Prelude.{IfErr, IfOk, MatchResult, None, Option, Result, Ok, Err}
 use Rattle.std.specs.declared.io.Error.{Error}
 use Rattle.sst_tool.specs.files.Steps.{Step}
@@ -25,6 +25,19 @@ not_passed_on (task.Verify t) input content there known new status e does = (doe
 not_passed_on (task.Get t) input content there known new status e does = does.0
 not_passed_on (task.Dump t) input content there known new status e does = does.1
 not_passed_on (task.Stat t) input content there known new status e does = does.1
+
+-- the status stays
+pub status_stays : (P : ℕ → Type 0) (r : Result ℕ ToolError) (status : ℕ)
+    → IfOk r (λ s. s ≡ status) → P status → IfOk r P
+status_stays P (Ok s) status same p = subst P (sym same) p
+status_stays P (Err e) status same p = tt
+
+-- the error is one of the output
+pub output_fails : (P : ToolError → Type 0) (r : Result ℕ ToolError)
+    → IfErr r (λ e. (o : Error) × (e ≡ error.Output o)) → ((o : Error) → P (error.Output o))
+    → IfErr r P
+output_fails P (Ok s) is all = tt
+output_fails P (Err e) is all = subst P (sym is.1) (all is.0)
 
 -- what a report answers is the status of what was done
 ended : (done : Result ℕ ToolError) (status : ℕ)

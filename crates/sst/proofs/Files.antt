@@ -40,6 +40,12 @@ faulty_so_far content names i d zero found more less is before one some = (
 )
 faulty_so_far content names i d (suc n) found more less is before one some = before (omega arith)
 
+-- a count that is returned early is that of the files so far
+pub so_far : {E : Type 0} (H : Type 0) (faults : ℕ) (r : Result ℕ E)
+    → IfOk r (λ n. (n ≡ faults) × (0 < n)) → (0 < faults → H) → IfOk r (λ n. 0 < n → H)
+so_far H faults (Ok n) is have = λ some. have (subst (λ (k : ℕ). 0 < k) is.0 is.1)
+so_far H faults (Err e) is have = tt
+
 -- a file that is not read is at fault
 pub missed : {E : Type 0} (known : Option (List ℕ)) (memory : Bool) (r : Result ℕ E)
     → (memory ≡ false → known ≡ None) → IfOk r (λ n. memory ≡ false)

@@ -32,7 +32,7 @@ pub record WritesTables (task : WriteTask) (input : Option (List ℕ)) (there : 
   pub tables : List (FinishedTable Global)
   pub many : made.tables ≡ length tables
   pub lines : AreOfLines options input tables made.entries
-  pub placed : AreTablesPlaced task.file.now task.target tables there known new
+  pub placed : AreTablesPlaced task.file.now task.tables.target tables there known new
 
 -- The command failed with this error, or it succeeded and the output failed.
 abbrev pub RefusesWrite : WriteTask → Option (List ℕ) → (List ℕ → Option Bool)

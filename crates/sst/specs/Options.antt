@@ -6,8 +6,10 @@ use Rattle.sst_blocks.specs.declared.filter.policy.BloomConstructionPolicy.TheVa
 use Rattle.sst_tool.specs.declared.make.compact_options.CompactOptions.{CompactOptions}
 use Rattle.sst_tool.specs.declared.lines.entry_line.Format.{Format}
 use Rattle.sst_tool.specs.declared.lines.entry_line.Format.TheVariants.{Lines, Json}
+use Rattle.sst_tool.specs.declared.make.options.TableOptions.{TableOptions}
 use Rattle.sst_tool.specs.declared.make.options.WriteOptions.{WriteOptions}
 use Rattle.tool_options.specs.declared.tasks.CompactTask.{CompactTask}
+use Rattle.tool_options.specs.declared.tasks.TableArguments.{TableArguments}
 use Rattle.tool_options.specs.declared.tasks.WriteTask.{WriteTask}
 
 -- The format of lines.
@@ -22,14 +24,20 @@ index_asked partitioned size = if partitioned then Partitioned size else Full
 abbrev pub tenths : ℕ → ℕ
 tenths bits = min (bits * 10) (2 ^ 32 - 1)
 
+-- The options of new tables, with the given creation time.
+abbrev pub tables_by : TableArguments → TableOptions → TableOptions
+tables_by asked o = record o {
+  index = index_asked asked.partitioned asked.partition_size;
+  filter = BitsPerKey (tenths asked.filter_bits);
+  block_size = asked.block_size;
+  level = asked.level;
+  target = asked.target;
+}
+
 -- The options of a task for writing, with the given creation time.
 abbrev pub write_by : WriteTask → WriteOptions → WriteOptions
 write_by task o = record o {
-  index = index_asked task.partitioned task.partition_size;
-  filter = BitsPerKey (tenths task.filter_bits);
-  block_size = task.block_size;
-  level = task.level;
-  target = task.target;
+  tables = tables_by task.tables o.tables;
   format = format_of task.json;
   sort = task.sort;
 }
@@ -42,5 +50,5 @@ compact_by task o = record o {
     evict = task.evict;
     zeroing = task.zero;
   };
-  target = task.target;
+  tables = tables_by task.tables o.tables;
 }

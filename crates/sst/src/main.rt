@@ -31,8 +31,17 @@ fn has_arguments(rt: &HostRuntime) -> bool {
     !matches!(rt.arg(1, &mut place), Err(FillError::NotPresent))
 }
 
+// Printed before a script is read from a terminal.
+const AT_TERMINAL: &str = "\
+sst: reads a script from standard input, up to its end (Ctrl-D). 'sst --help' lists the commands.
+";
+
 // Runs the script on standard input.
 fn answer_script(rt: &HostRuntime) -> u8 {
+    if rt.stdin().is_terminal() {
+        // If even this cannot be printed, the script is read all the same.
+        let _ = rt.stderr().write_all(AT_TERMINAL.as_bytes());
+    }
     match BufWriter::new(rt.alloc(), rt.stdout()) {
         Ok(mut output) => run_script(rt.alloc(), rt.stdin(), &mut output, &mut rt.stderr()),
         // The answers need no buffer.

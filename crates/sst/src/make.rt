@@ -9,12 +9,13 @@ use sst_blocks::Timestamp;
 use sst_tool::files::{Place, ToolError, print_made};
 use sst_tool::lines::Format;
 use sst_tool::make::{
-    CompactOptions, WriteOptions, compact_files, pack_files, print_packed, write_entries,
+    CompactOptions, TableOptions, WriteOptions, compact_files, pack_files, packed_object,
+    print_packed, write_entries,
 };
 use std::alloc::Global;
 use std::io::{Read, Write};
 use std::rt::{Clock, Files};
-use tool_options::{CompactTask, PackTask, WriteTask};
+use tool_options::{CompactTask, PackTask, TableArguments, WriteTask};
 
 /// Returns the format of lines.
 pub(crate) fn format_of(json: bool) -> Format
@@ -31,21 +32,30 @@ fn now<C: Clock>(clock: &C) -> Timestamp {
     }
 }
 
+// Returns the options of new tables.
+fn table_options(asked: &TableArguments, created_at: Timestamp) -> TableOptions
+    ensures { result ≡ spec.tables_by asked.now result }
+{
+    TableOptions {
+        index: if asked.partitioned {
+            IndexKind::Partitioned(asked.partition_size)
+        } else {
+            IndexKind::Full
+        },
+        filter: BloomConstructionPolicy::BitsPerKey(asked.filter_bits.saturating_mul(10)),
+        block_size: asked.block_size,
+        level: asked.level,
+        target: asked.target,
+        created_at,
+    }
+}
+
 // Returns the options of a task.
 fn write_options(task: &WriteTask<'_>, created_at: Timestamp) -> WriteOptions
     ensures { result ≡ spec.write_by task.now result }
 {
     WriteOptions {
-        index: if task.partitioned {
-            IndexKind::Partitioned(task.partition_size)
-        } else {
-            IndexKind::Full
-        },
-        filter: BloomConstructionPolicy::BitsPerKey(task.filter_bits.saturating_mul(10)),
-        block_size: task.block_size,
-        level: task.level,
-        target: task.target,
-        created_at,
+        tables: table_options(&task.tables, created_at),
         format: format_of(task.json),
         sort: task.sort,
     }
@@ -61,8 +71,7 @@ fn compact_options(task: &CompactTask<'_>, created_at: Timestamp) -> CompactOpti
             evict: task.evict,
             zeroing: task.zero,
         },
-        target: task.target,
-        created_at,
+        tables: table_options(&task.tables, created_at),
     }
 }
 
@@ -82,7 +91,7 @@ pub(crate) fn write<'a, R: Files, C: Clock, P: Place, I: Read + Drop, W: Write>(
 {
     let options = write_options(task, now(system.clock));
     let made = write_entries(place, system.alloc, input, task.file, &options)?;
-    print_made(output, made)?;
+    print_made(output, made, format_of(task.json))?;
     Ok(())
 }
 
@@ -102,7 +111,7 @@ pub(crate) fn compact<'a, R: Files, C: Clock, P: Place, W: Write>(
     let options = compact_options(task, now(system.clock));
     let files = task.files.as_slice();
     let made = compact_files(place, system.alloc, files, task.folder, &options)?;
-    print_made(output, made)?;
+    print_made(output, made, format_of(task.json))?;
     Ok(())
 }
 
@@ -117,6 +126,12 @@ pub(crate) fn pack<'a, P: Place, W: Write>(
 {
     let files = task.files.as_slice();
     let packed = pack_files(place, alloc, files)?;
-    print_packed(output, files, &packed)?;
+    match format_of(task.json) {
+        Format::Lines => print_packed(output, files, &packed)?,
+        Format::Json => {
+            let text = packed_object(alloc, files, &packed)?;
+            output.write_all(&text)?;
+        }
+    }
     Ok(())
 }

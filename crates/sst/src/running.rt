@@ -7,7 +7,7 @@ use sst_tool::files::{Place, ToolError};
 use sst_tool::lines::LineError;
 use std::convert::AsStr;
 use std::io;
-use std::io::{Read, Write};
+use std::io::{ErrorKind, Read, Write};
 use std::rt::{Clock, Files};
 use tool_options::{Parsed, Task, parse};
 
@@ -18,13 +18,22 @@ fn status_of(yes: bool) -> u8
     if yes { 0 } else { 1 }
 }
 
-// The status of an error: 2 if the command line is wrong, else 1.
+/// Returns whether the error says that the reader of the output closed its pipe.
+pub(crate) fn is_closed(error: &io::Error) -> bool
+    ensures { result ≡ spec.is_closed (spec.error_kind error.now) }
+{
+    matches!(error.kind(), ErrorKind::BrokenPipe)
+}
+
+// The status of an error: 2 if the command line is wrong, 0 if the reader of the output closed its
+// pipe, else 1.
 fn status_of_failure(failure: &ToolError<'_>) -> u8
     ensures { result ≡ spec.status_of_failure failure.now }
 {
     match failure {
         ToolError::Key(_, LineError::OutOfMemory) => 1,
         ToolError::Key(_, _) => 2,
+        ToolError::Output(error) if is_closed(error) => 0,
         _ => 1,
     }
 }
@@ -33,7 +42,8 @@ fn status_of_failure(failure: &ToolError<'_>) -> u8
 ///
 /// Returns the exit status: 0; 1 after an error, for a faulty file, and if a key was not found; 2
 /// if the words are wrong. Results go to `output`. Error messages go to `errors`, and so does a
-/// progress bar if `shows_bar`.
+/// progress bar if `shows_bar`. If the reader of the output closes its pipe, the command ends
+/// without a message, and with status 0 or that of what it found so far.
 pub fn run<S: AsStr, R: Files, C: Clock, I: Read + Drop, W: Write, E: Write>(
     system: System<'_, R, C>,
     words: &[S],
@@ -61,17 +71,13 @@ pub fn run<S: AsStr, R: Files, C: Clock, I: Read + Drop, W: Write, E: Write>(
     }
 }
 
-// Prints a whole text. Returns 0, or 1 after an error of the output.
+// Prints a whole text, and returns its status.
 fn print<W: Write, E: Write>(output: &mut W, errors: &mut E, text: &str) -> u8
     ensures { result ≤ 1 }
 {
     match print_whole(output, text) {
         Ok(()) => 0,
-        Err(error) => {
-            let failure = ToolError::Output(error);
-            let _ = writeln!(errors, "sst: {failure}");
-            1
-        }
+        Err(error) => report(Err(ToolError::Output(error)), errors),
     }
 }
 
@@ -80,7 +86,7 @@ fn print_whole<W: Write>(output: &mut W, text: &str) -> io::Result<()> {
     output.flush()
 }
 
-// Returns the status of a command, and prints its error.
+// Returns the status of a command, and prints its error unless that is a closed pipe.
 fn report<E: Write>(done: Result<u8, ToolError<'_>>, errors: &mut E) -> u8
     ensures { MatchResult done.entry (λ status. result ≡ status)
         (λ failure. result ≡ spec.status_of_failure failure) }
@@ -88,9 +94,12 @@ fn report<E: Write>(done: Result<u8, ToolError<'_>>, errors: &mut E) -> u8
     match done {
         Ok(status) => status,
         Err(failure) => {
-            // If even this cannot be printed, only the status is left.
-            let _ = writeln!(errors, "sst: {failure}");
-            status_of_failure(&failure)
+            let status = status_of_failure(&failure);
+            if status != 0 {
+                // If even this cannot be printed, only the status is left.
+                let _ = writeln!(errors, "sst: {failure}");
+            }
+            status
         }
     }
 }
@@ -112,10 +121,27 @@ fn execute<'a, R: Files, C: Clock, P: Place, I: Read + Drop, W: Write, E: Write>
         (P.content place.old) (P.there place.old) (P.done place.old) e (P.done place.new)) }
 {
     let done = perform(system, place, task, input, output, errors, shows_bar);
-    let flushed: io::Result<()> = output.flush();
+    let flushed = output.flush();
     let status = done?;
-    flushed?;
-    Ok(status)
+    status_flushed(status, flushed)
+}
+
+// Returns the status of a task whose output was flushed. It stays if the reader of the output
+// closed its pipe.
+fn status_flushed(status: u8, flushed: io::Result<()>) -> Result<u8, ToolError<'static>>
+    ensures ok { IfOk result (λ s. s ≡ status) }
+    ensures err { IfErr result (λ e. (error : spec.IoError) × (e ≡ spec.Output error)) }
+{
+    match flushed {
+        Ok(()) => Ok(status),
+        Err(error) => {
+            if is_closed(&error) {
+                Ok(status)
+            } else {
+                Err(ToolError::Output(error))
+            }
+        }
+    }
 }
 
 // Runs a task.

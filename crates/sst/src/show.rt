@@ -5,11 +5,15 @@ ghost use Rattle.sst.specs.Words as spec;
 use crate::System;
 use crate::bar::{Bar, Work, behind};
 use crate::make::format_of;
+use crate::running::is_closed;
 use sst_blocks::{Error, Slice};
 use sst_tool::files::{FileFault, KeyWord, Place, ToolError, open_bytes, open_table};
-use sst_tool::lines::parse_bytes;
-use sst_tool::show::{DumpOptions, GetOptions, NamedTable, NoProgress};
+use sst_tool::lines::{Format, parse_bytes};
+use sst_tool::show::{
+    DumpOptions, GetOptions, NamedTable, NoProgress, VerifyLine, print_verify_line,
+};
 use std::alloc::Global;
+use std::io;
 use std::io::Write;
 use std::rt::{Clock, Files};
 use tool_options::{DumpTask, GetTask, StatTask, VerifyTask};
@@ -179,8 +183,22 @@ pub(crate) fn verify<'a, R: Files, C: Clock, P: Place, W: Write, E: Write>(
     } else {
         None
     };
-    let faults = verify_each(system, place, names, output, errors, work)?;
+    let format = format_of(task.json);
+    let faults = verify_each(system, place, names, format, output, errors, work)?;
     Ok(faults == 0)
+}
+
+// Returns the number of faults so far if there are some and the reader of the output closed its
+// pipe, and else the error of the output.
+fn faults_so_far(faults: u64, error: io::Error) -> Result<u64, ToolError<'static>>
+    ensures some { IfOk result (λ count. (count ≡ faults) × (0 < count)) }
+    ensures goes_on { IfErr result spec.NamesNone }
+{
+    if faults > 0 && is_closed(&error) {
+        Ok(faults)
+    } else {
+        Err(ToolError::Output(error))
+    }
 }
 
 // Verifies files one after another. Returns the number of faults.
@@ -188,6 +206,7 @@ fn verify_each<'a, R: Files, C: Clock, P: Place, W: Write, E: Write>(
     system: System<'_, R, C>,
     place: &P,
     names: &[&'a str],
+    format: Format,
     output: &mut W,
     errors: &mut E,
     work: Option<Work>,
@@ -201,10 +220,12 @@ fn verify_each<'a, R: Files, C: Clock, P: Place, W: Write, E: Write>(
     let mut work = work;
     let mut faults = 0u64;
     for name in names {
-        let found = verify_file(system, place, name, output, errors, work)?;
-        // The result of a file is shown before the next is read.
-        output.flush()?;
+        let found = verify_file(system, place, name, format, output, errors, work)?;
         faults = faults.saturating_add(found);
+        // The result of a file is shown before the next is read.
+        if let Err(error) = output.flush() {
+            return faults_so_far(faults, error);
+        }
         work = behind(work, system.files, name);
     }
     Ok(faults)
@@ -215,6 +236,7 @@ fn verify_file<'a, R: Files, C: Clock, P: Place, W: Write, E: Write>(
     system: System<'_, R, C>,
     place: &P,
     name: &'a str,
+    format: Format,
     output: &mut W,
     errors: &mut E,
     work: Option<Work>,
@@ -226,17 +248,19 @@ fn verify_file<'a, R: Files, C: Clock, P: Place, W: Write, E: Write>(
     ensures goes_on { IfErr result spec.NamesNone }
 {
     match place.read(system.alloc, name) {
-        Ok(bytes) => verify_bytes(system, name, bytes, output, errors, work),
-        Err(fault) => print_unread(output, name, &fault),
+        Ok(bytes) => verify_bytes(system, name, bytes, format, output, errors, work),
+        Err(fault) => print_unread(system.alloc, output, name, &fault, format),
     }
 }
 
 // Prints the error of reading a file, which counts as a fault unless memory ran out. Returns the
 // number of faults.
 fn print_unread<'a, W: Write>(
+    alloc: Global,
     output: &mut W,
     name: &str,
     fault: &FileFault,
+    format: Format,
 ) -> Result<u64, ToolError<'a>>
     ensures some { IfOk result (λ faults. 0 < faults) }
     ensures memory { IfOk result (λ _. spec.is_memory_fault fault.now ≡ false) }
@@ -245,7 +269,7 @@ fn print_unread<'a, W: Write>(
     if fault.is_memory() {
         return Err(ToolError::Refused(Error::OutOfMemory));
     }
-    writeln!(output, "{name}: {fault}")?;
+    print_verify_line(alloc, output, name, VerifyLine::Unread(fault), format)?;
     Ok(1)
 }
 
@@ -254,6 +278,7 @@ fn verify_bytes<'a, R: Files, C: Clock, W: Write, E: Write>(
     system: System<'_, R, C>,
     name: &'a str,
     bytes: Slice<Global>,
+    format: Format,
     output: &mut W,
     errors: &mut E,
     work: Option<Work>,
@@ -267,9 +292,9 @@ fn verify_bytes<'a, R: Files, C: Clock, W: Write, E: Write>(
     match open_bytes(system.alloc, shared, false) {
         Ok(table) => {
             let file = NamedTable { name, table };
-            verify_opened(system, &file, output, errors, work)
+            verify_opened(system, &file, format, output, errors, work)
         }
-        Err(error) => print_unopened(system.alloc, name, bytes, error, output),
+        Err(error) => print_unopened(system.alloc, output, name, bytes, error, format),
     }
 }
 
@@ -277,10 +302,11 @@ fn verify_bytes<'a, R: Files, C: Clock, W: Write, E: Write>(
 // block that does not load. Returns the number of faults.
 fn print_unopened<'a, W: Write>(
     alloc: Global,
+    output: &mut W,
     name: &str,
     bytes: Slice<Global>,
     error: Error,
-    output: &mut W,
+    format: Format,
 ) -> Result<u64, ToolError<'a>>
     ensures some { IfOk result (λ faults. 0 < faults) }
     ensures memory { IfOk result (λ _. spec.is_memory error ≡ false) }
@@ -289,9 +315,8 @@ fn print_unopened<'a, W: Write>(
     if is_memory(&error) {
         return Err(ToolError::Refused(Error::OutOfMemory));
     }
-    let number = error.number();
-    writeln!(output, "{name}: {error} ({number})")?;
-    let blocks = sst_tool::show::verify_unopened(alloc, output, name, bytes)?;
+    print_verify_line(alloc, output, name, VerifyLine::Unopened(&error), format)?;
+    let blocks = sst_tool::show::verify_unopened(alloc, output, name, bytes, format)?;
     Ok(blocks.saturating_add(1))
 }
 
@@ -306,6 +331,7 @@ fn is_memory(error: &Error) -> bool
 fn verify_opened<'a, R: Files, C: Clock, W: Write, E: Write>(
     system: System<'_, R, C>,
     file: &NamedTable<'a, Global>,
+    format: Format,
     output: &mut W,
     errors: &mut E,
     work: Option<Work>,
@@ -318,10 +344,10 @@ fn verify_opened<'a, R: Files, C: Clock, W: Write, E: Write>(
         Some(work) => {
             let size = file.table.file_len() as u64;
             let mut bar = Bar::new(errors, system.clock, work, size);
-            let faults = sst_tool::show::verify(system.alloc, output, file, &mut bar);
+            let faults = sst_tool::show::verify(system.alloc, output, file, format, &mut bar);
             bar.clear();
             faults
         }
-        None => sst_tool::show::verify(system.alloc, output, file, &mut NoProgress),
+        None => sst_tool::show::verify(system.alloc, output, file, format, &mut NoProgress),
     }
 }

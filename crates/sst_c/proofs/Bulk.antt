@@ -9,7 +9,7 @@ use Rattle.lsm_iters.specs.Words.{back_of, front_of}
 use Rattle.lsm_readers.specs.Scan.{IsEndedScan, Scan, ScansLent}
 use Rattle.sst_c.proofs.Scanning.{ends_by}
 use Rattle.sst_c.specs.Newest.{LentNewestAt, NewestAt}
-use Rattle.sst_c.specs.Reads.{IsMergedAs, MergedReads, ReadsOn, gives_at}
+use Rattle.sst_c.specs.Reads.{IsMergedAs, MergedReads, ReadsOn, StepsRange, gives_at}
 use Rattle.sst_c.specs.Steps.{StepsAs, StepsBy}
 use Rattle.sst_c.specs.Takes.{EndsWith, ReadsMany, Yields}
 use Rattle.sst_c.specs.What.{IsRangeWhere, IsRunsScanAs, IsScanWhere, MergedStepsBy, is_scan}
@@ -244,19 +244,12 @@ module _ (front back : NewestAt → Option (Result Entry Error) → NewestAt →
   }
 
   pub range_reads : (at_back : Bool) (w v : What) (code : ℕ) (found : Option Entry) → is_scan w ≡ false
-      → ((s : Range Global) → w ≡ RangeOf s → at_back ≡ false
-      → IsRangeWhere (StepsBy (RangeGives front_of front_next) s code found) v)
-      → ((s : Range Global) → w ≡ RangeOf s → at_back ≡ true
-      → IsRangeWhere (StepsBy (RangeGives back_of back_next) s code found) v)
-      → ((s : NewestAt) → w ≡ Merged (Some s) → at_back ≡ false → MergedStepsBy front s code found v)
-      → ((s : NewestAt) → w ≡ Merged (Some s) → at_back ≡ true → MergedStepsBy back s code found v)
-      → (w ≡ Merged None → (code ≡ 0) × (found ≡ None) × (v ≡ Merged None))
-      → ReadsOn front back advances at_back w code found v
-  range_reads at_back w v code found scan first last merged_first merged_last over = record {
+      → StepsRange front back at_back w code found v → ReadsOn front back advances at_back w code found v
+  range_reads at_back w v code found scan steps = record {
     scan = λ s is. absurd (let no : false ≡ true = sym scan ∙ ap is_scan is in let none : ⊥ = cc in none);
     runs_scan = λ m is. absurd (let no : false ≡ true = sym scan ∙ ap is_scan is in let none : ⊥ = cc in none);
-    range = range_read at_back w v code found first last;
-    merged = merged_read at_back w v code found merged_first merged_last over;
+    range = range_read at_back w v code found steps.front steps.back;
+    merged = merged_read at_back w v code found steps.merged_front steps.merged_back steps.over;
   }
 
 -- a bulk read of a scan that found nothing, with places left, is at the end

@@ -1,31 +1,32 @@
--- What several runs have together within bounds. Assumes `Logic`.
+-- What reads of several runs within equal bounds yield. Assumes `Logic`.
 use Rattle.std.proofs.Common.{◌≡◌, ℕ, List, Option, Result, subst}
-use Rattle.std.specs.Prelude.{IfOk, map}
-use Rattle.std.specs.List.{AllByRecursion}
+use Rattle.std.specs.Prelude.{IfOk}
+use Rattle.std.specs.Global.{Global}
 use Rattle.std.specs.declared.ops.Bound.{Bound}
 use Rattle.sst_entries.specs.Entry.{Entry}
 use Rattle.sst_entries.specs.declared.error.Error.{Error}
+use Rattle.lsm_sorted.specs.declared.below.Below.{Below}
 use Rattle.lsm_readers.specs.Words.{OpenTable}
-use Rattle.lsm_runs.specs.Words.{Ascends, YieldsList, LendsResults, below_results, entries_among}
-use Rattle.lsm_runs.specs.Words.{merge_of, newest_results, runs_results_within}
+use Rattle.lsm_runs.specs.RunRange.{RunRange}
+use Rattle.sst_c.specs.Newest.{LentNewestAt, NewestAt}
+use Rattle.sst_c.specs.RunsWithin.{RangesRuns, ScansRuns}
 
--- the same list is dealt
-pub list_same : {S : Type 0} (front back : S → Option (Result Entry Error) → S → Type 0)
-    (r : Result S Error) (found other : List Entry) → found ≡ other
-    → IfOk r (YieldsList front back found) → IfOk r (YieldsList front back other)
-list_same {S} front back r found other same yields =
-    subst (λ (es : List Entry). IfOk r (YieldsList front back es)) same yields
+module _ (seqno : ℕ) (runs : List (List OpenTable)) (from to low high : Bound (List ℕ))
+    (lower : from ≡ low) (upper : to ≡ high) where
+  pub scans_same : (advances : LentNewestAt → Option (Result Entry Error) → LentNewestAt → Type 0)
+      (r : Result LentNewestAt Error) → IfOk r (ScansRuns advances from to seqno runs)
+      → IfOk r (ScansRuns advances low high seqno runs)
+  scans_same advances r scans =
+      subst (λ (a : Bound (List ℕ)). IfOk r (ScansRuns advances a high seqno runs)) lower
+      (subst (λ (b : Bound (List ℕ)). IfOk r (ScansRuns advances from b seqno runs)) upper scans)
 
--- what is lent of the results within bounds is lent of those within the same bounds
-pub lends_same : {S : Type 0} (advances : S → Option (Result Entry Error) → S → Type 0)
-    (r : Result S Error) (runs : List (List OpenTable)) (seqno : ℕ) (from to low high : Bound (List ℕ))
-    → from ≡ low → to ≡ high
-    → (AllByRecursion (λ rs. Ascends (entries_among rs)) (runs_results_within from to runs)
-    → IfOk r (LendsResults advances (newest_results (merge_of (map (below_results seqno) (runs_results_within from to runs))))))
-    → AllByRecursion (λ rs. Ascends (entries_among rs)) (runs_results_within low high runs)
-    → IfOk r (LendsResults advances (newest_results (merge_of (map (below_results seqno) (runs_results_within low high runs)))))
-lends_same {S} advances r runs seqno from to low high lower upper lends =
-    let P : Bound (List ℕ) → Bound (List ℕ) → Type 0 =
-    λ a b. AllByRecursion (λ rs. Ascends (entries_among rs)) (runs_results_within a b runs)
-    → IfOk r (LendsResults advances (newest_results (merge_of (map (below_results seqno) (runs_results_within a b runs))))) in
-    subst (λ (a : Bound (List ℕ)). P a high) lower (subst (P from) upper lends)
+  pub ranges_same : (reads reads_back : Below (RunRange Global) → Option (Result Entry Error)
+      → Below (RunRange Global) → Type 0)
+      (gives back_gives : NewestAt → Option (Result Entry Error) → NewestAt → Type 0)
+      (r : Result NewestAt Error)
+      → IfOk r (RangesRuns reads reads_back gives back_gives from to seqno runs)
+      → IfOk r (RangesRuns reads reads_back gives back_gives low high seqno runs)
+  ranges_same reads reads_back gives back_gives r ranges =
+      subst (λ (a : Bound (List ℕ)). IfOk r (RangesRuns reads reads_back gives back_gives a high seqno runs)) lower
+      (subst (λ (b : Bound (List ℕ)). IfOk r (RangesRuns reads reads_back gives back_gives from b seqno runs)) upper
+      ranges)

@@ -1,22 +1,27 @@
 -- A scan of a table, and one step of it. Assumes `Logic`.
 use Rattle.std.proofs.Common.{◌≡◌, ℕ, ◌<◌, Bool, true, false, List, [], length, refl, sym, ◌∙◌}
-use Rattle.std.proofs.Common.{ap, inl}
-use Rattle.std.specs.Prelude.{IfErr, IfOk, Option, Some, None, Result, Ok, Err}
+use Rattle.std.proofs.Common.{ap, inl, subst}
+use Rattle.std.specs.Prelude.{IfErr, IfOk, IsSomeAnd, Option, Some, None, Result, Ok, Err}
 use Rattle.sst_entries.specs.Entry.{Entry}
 use Rattle.sst_entries.specs.Stream.{YieldsExactly, answer_stops, nowhere, ok_results}
 use Rattle.sst_entries.specs.declared.error.Error.{Error}
 use Rattle.sst_entries.specs.declared.error.Error.TheVariants.{OutOfMemory}
 use Rattle.lsm_readers.specs.point.Answer.{lift}
 use Rattle.lsm_readers.specs.Scan.{IsEndedScan, LendsList, Scan, ScansLent, ScansList, ScansNext}
+use Rattle.lsm_readers.specs.Words.{OpenTable, StoresList}
+use Rattle.lsm_runs.specs.RunScan.{table_scan}
 use Rattle.lsm_readers.proofs.Scans.{ended_left}
 use Rattle.sst_c.specs.Codes.{result_code}
-use Rattle.sst_c.specs.Scans.{YieldsScan}
+use Rattle.sst_c.specs.Scans.{IsBegunScan, ScansHeld, ScansTable, YieldsScan}
 use Rattle.sst_c.specs.Steps.{StepsBy}
 use Rattle.sst_entries.specs.Error.{number_of}
 use Rattle.sst_entries.specs.Lending.{came}
 use Rattle.sst_c.specs.Reported.{found_of, outcome_of}
+use Rattle.sst_c.specs.What.{IsScanWhere}
+use Rattle.sst_c.specs.declared.held.Held.{Held}
 use Rattle.sst_c.specs.declared.held.What.{What}
-use Rattle.sst_c.specs.declared.held.What.TheVariants.{Scan as ScanOf}
+use Rattle.sst_c.specs.declared.held.What.TheVariants.{Scan as ScanOf, Table}
+use Rattle.sst_c.proofs.Verifying.{same_table}
 
 -- a scan of a table deals what its blocks have
 pub all_yielded : (r : Result Scan Error) (rs : List (Result Entry Error))
@@ -34,6 +39,21 @@ pub list_yielded : (r : Result Scan Error) (es : List Entry) (g : ℕ) → Scans
 unfolding YieldsScan
 list_yielded (Ok s) es g yields lends = λ stops memory. (yields stops memory, lends stops memory)
 list_yielded (Err e) es g yields lends = tt
+
+pub all_scans : (t : OpenTable) (r : Result Scan Error) → IfOk r (IsBegunScan t)
+    → IfOk r (YieldsScan (table_scan t))
+    → ((es : List Entry) → StoresList t.bytes es → IfOk r (YieldsScan (ok_results (lift es t.global_seqno))))
+    → IfOk r (ScansTable t)
+all_scans t (Ok s) begun yields list = record { begun = begun; yields = yields; list = list }
+all_scans t (Err e) begun yields list = tt
+
+-- a scan of the table that a handle holds
+pub scan_held : (o : Option Held) (w : What) (u : OpenTable) → w ≡ Table u
+    → IsSomeAnd o (λ k. IsScanWhere (ScansTable u) k.what) → IsSomeAnd o (λ k. ScansHeld w k.what)
+scan_held (Some k) w u is scans = record {
+  scan = λ t same. subst (λ (x : OpenTable). IsScanWhere (ScansTable x) k.what) (same_table w u t is same) scans;
+}
+scan_held None w u is scans = absurd scans
 
 -- and is refused for want of memory alone, where it has an entry
 pub list_refused : (r : Result Scan Error) (es : List Entry) (g : ℕ) → ScansList r es g

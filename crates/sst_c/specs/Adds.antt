@@ -1,11 +1,14 @@
 -- Writing entries in bulk.
 use Rattle.std.specs.Prelude.{◌≡◌, ◌≢◌, ℕ, ◌+◌, ◌⊎◌, true, false, List, [], ◌∷◌, length, take, drop}
-use Rattle.std.specs.Prelude.{None, Some, is_some}
+use Rattle.std.specs.Prelude.{IsSomeAnd, None, Some, is_some, map}
+use Rattle.std.specs.List.{sum}
 use Rattle.sst_entries.specs.Entry.{entry}
 use Rattle.sst_entries.specs.declared.value_type.ValueType.{ValueType}
 use Rattle.lsm_writers.specs.Writing.{Writing, may_be_written, written}
 use Rattle.sst_c.specs.Writing.{TookEntry, decode_kind}
+use Rattle.sst_c.specs.What.{files_held, writer_in}
 use Rattle.sst_c.specs.declared.entries.EntryReport.{EntryReport}
+use Rattle.sst_c.specs.declared.held.What.{What}
 
 -- an entry to be written, with its kind as C passes it
 pub record Row : Type 0 where
@@ -14,9 +17,13 @@ pub record Row : Type 0 where
   pub user_key : List ℕ
   pub value : List ℕ
 
+-- the entry with this kind, sequence number, key and value
+abbrev pub row_of : ℕ → ℕ → List ℕ → List ℕ → Row
+row_of kind seqno k v = record { kind = kind; seqno = seqno; user_key = k; value = v }
+
 -- the entry with this report, key and value
 abbrev pub row : EntryReport → List ℕ → List ℕ → Row
-row t k v = record { kind = t.kind; seqno = t.seqno; user_key = k; value = v }
+row t k v = row_of t.kind t.seqno k v
 
 -- the total length of an entry's key and value
 abbrev pub reported_size : EntryReport → ℕ
@@ -51,3 +58,28 @@ pub record AddsMany (w : Writing) (rows : List Row) (count code : ℕ) (v : Writ
   pub ends : ((count ≡ length rows) × (code ≡ 0) × (last ≡ v))
       ⊎ ((r : Row) × (rest : List Row) × (drop count rows ≡ r ∷ rest) × AddsOne last r code v
       × (code ≢ 0))
+
+-- writing an entry through the held writer leads from the object a to b
+pub record WritesEntry (r : Row) (a : What) (code : ℕ) (b : What) : Type 0 where
+  pub kind : (w : Writing) → writer_in a ≡ Some w → decode_kind r.kind ≡ None
+      → (code ≡ 105) × (b ≡ a)
+  pub order : (w : Writing) → writer_in a ≡ Some w → is_some (decode_kind r.kind) ≡ true
+      → may_be_written (written w) r.user_key r.seqno ≡ false → (code ≡ 104) × (b ≡ a)
+  -- the writer takes an entry in order, or fails with the first fault and stays failed. A fault
+  -- takes precedence over `OutOfMemory`
+  pub took : (w : Writing) (k : ValueType) → writer_in a ≡ Some w → decode_kind r.kind ≡ Some k
+      → may_be_written (written w) r.user_key r.seqno ≡ true
+      → IsSomeAnd (writer_in b) (TookEntry w (entry r.user_key r.value r.seqno k) code)
+  pub tables : files_held b ≡ files_held a
+
+-- writing entries in bulk through the held writer leads from the object a to b, and counts them from
+-- `none` on
+pub record WritesMany (reports : List EntryReport) (bytes : List ℕ) (none count : ℕ) (a : What)
+    (code : ℕ) (b : What) : Type 0 where
+  pub other : writer_in a ≡ None → count ≡ none
+  pub lengths : (w : Writing) → writer_in a ≡ Some w → sum (map reported_size reports) ≢ length bytes
+      → (code ≡ 105) × (b ≡ a) × (count ≡ none)
+  -- each entry is added as by `sst_writer_add`, up to the first that fails
+  pub added : (w : Writing) → writer_in a ≡ Some w → sum (map reported_size reports) ≡ length bytes
+      → IsSomeAnd (writer_in b) (AddsMany w (rows_of_reports reports bytes) count code)
+  pub tables : files_held b ≡ files_held a

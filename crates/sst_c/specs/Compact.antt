@@ -1,5 +1,5 @@
 -- Compactions as reported to C.
-use Rattle.std.specs.Prelude.{◌≡◌, ◌⊎◌, ℕ, false, List, IfErr, IfOk, IsSomeAnd, None, Option, Some}
+use Rattle.std.specs.Prelude.{◌≡◌, ◌⊎◌, ℕ, false, true, List, IfErr, IfOk, IsSomeAnd, None, Option, Some}
 use Rattle.std.specs.Prelude.{Result, Ok, Err, unwrap_or}
 use Rattle.std.specs.Result.{IsErrAnd}
 use Rattle.std.specs.Global.{Global}
@@ -24,10 +24,11 @@ use Rattle.lsm_runs.specs.declared.compaction.any_runs.CompactionOutcome.{Compac
 use Rattle.lsm_runs.specs.declared.compaction.any_runs.CompactionOutcome.TheVariants.{Tables}
 use Rattle.lsm_runs.specs.declared.compaction.any_runs.CompactionOutcome.TheVariants.{OutOfOrder}
 use Rattle.lsm_runs.specs.declared.compaction.any_runs.CompactionOutcome.TheVariants.{Stopped}
-use Rattle.sst_c.specs.Options.{decode_options}
+use Rattle.sst_c.specs.Options.{are_usable, decode_options}
 use Rattle.sst_c.specs.Reported.{found_by}
-use Rattle.sst_c.specs.What.{HoldsFiles}
+use Rattle.sst_c.specs.What.{HoldsFiles, are_runs, runs_held}
 use Rattle.sst_c.specs.declared.held.Held.{Held}
+use Rattle.sst_c.specs.declared.held.What.{What}
 use Rattle.sst_c.specs.declared.options.TableOptions.{TableOptions}
 
 -- a writer of tables that has written nothing, with ids counting up from that of the options
@@ -77,3 +78,12 @@ abbrev pub IsReportedOf : (Result (CompactionOutcome Global) Error → Type 0) �
     → Type 0
 IsReportedOf holds code held next = (came : Result (CompactionOutcome Global) Error) × holds came
     × ReportsOutcome code held next came
+
+-- the call compacts the runs in the object into tables of a target size, and reports the result. The
+-- code is 105 if the options are out of range
+pub record CompactsHeld (options : TableOptions) (rules : Rules) (target : ℕ) (w : What) (code : ℕ)
+    (after : Option Held) (next : ℕ) : Type 0 where
+  pub unusable : are_runs w ≡ true → are_usable options ≡ false → code ≡ 105
+  -- else it is the result of the library's compaction of any tables
+  pub returned : are_runs w ≡ true → are_usable options ≡ true → IsReportedOf
+      (IsCompactionOf (runs_held w) rules (decode_compactor options target)) code after next

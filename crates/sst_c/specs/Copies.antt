@@ -1,5 +1,5 @@
 -- A found entry as C gets it: copied or borrowed.
-use Rattle.std.specs.Prelude.{ℕ, List, length, drop, ◌++◌, Option, Some, None}
+use Rattle.std.specs.Prelude.{◌≡◌, ◌≢◌, ℕ, List, length, drop, ◌++◌, Option, Some, None}
 use Rattle.std.specs.Prelude.{Bool, ◌||◌, nat_lt, if◌then◌else◌}
 use Rattle.sst_entries.specs.Entry.{Entry}
 
@@ -21,3 +21,15 @@ copy_code (Some e) key value =
 abbrev pub lend_code : Option Entry → ℕ
 lend_code None = 106
 lend_code (Some e) = 0
+
+-- the key and the value of a found entry are copied to two buffers, which an error leaves unchanged
+pub record CopiesEntry (found : Option Entry) (code : ℕ) (key key_after value value_after : List ℕ)
+    : Type 0 where
+  pub copied : (e : Entry) → found ≡ Some e → code ≡ 0
+      → (key_after ≡ laid_over e.user_key key) × (value_after ≡ laid_over e.value value)
+  pub left : code ≢ 0 → (key_after ≡ key) × (value_after ≡ value)
+
+-- a found entry is borrowed: a key and a value of these lengths
+pub record LendsEntry (found : Option Entry) (key_len value_len : ℕ) : Type 0 where
+  pub lens : (e : Entry) → found ≡ Some e
+      → (key_len ≡ length e.user_key) × (value_len ≡ length e.value)

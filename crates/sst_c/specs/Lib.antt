@@ -7,10 +7,14 @@ pub mod What
 pub mod Options
 pub mod Writing
 pub mod Steps
+pub mod Handles
+pub mod RunsWithin
 pub mod Scans
 pub mod Takes
 pub mod Reads
 pub mod Adds
+pub mod PointReads
+pub mod RunsAdded
 pub mod Facts
 pub mod Memory
 pub mod Many

@@ -1,5 +1,5 @@
 -- A verification by steps, as C sees it.
-use Rattle.std.specs.Prelude.{◌≡◌, ℕ, ◌+◌, List, length, true, IfErr, IfNone, IfOk, IfSome}
+use Rattle.std.specs.Prelude.{◌≡◌, ℕ, ◌+◌, List, length, false, true, IfErr, IfNone, IfOk, IfSome}
 use Rattle.std.specs.Prelude.{Option, Some, None, Result, Ok, Err}
 use Rattle.sst_entries.specs.Entry.{Entry}
 use Rattle.sst_blocks.specs.Sections.{body_of}
@@ -13,6 +13,9 @@ use Rattle.lsm_readers.specs.declared.verify.Verified.{Verified}
 use Rattle.lsm_readers.specs.declared.verify.VerifyError.{VerifyError}
 use Rattle.lsm_readers.specs.declared.verify.VerifyError.TheVariants.{Found, OutOfMemory}
 use Rattle.sst_c.specs.Verify.{finding_result, no_finding, verified_result}
+use Rattle.sst_c.specs.What.{IsVerificationWhere, is_verification}
+use Rattle.sst_c.specs.declared.held.What.{What}
+use Rattle.sst_c.specs.declared.held.What.TheVariants.{Verification}
 use Rattle.sst_c.specs.declared.verifier.ProgressReport.{ProgressReport}
 use Rattle.sst_c.specs.declared.verify.VerifyReport.{VerifyReport}
 
@@ -91,3 +94,12 @@ abbrev pub ReportsStep : Verifying → ℕ → ProgressReport → VerifyReport �
 ReportsStep v code progress returned w = (answer : StepAnswer) × IsStepOf v answer w
     × (code ≡ step_code answer) × (returned ≡ step_result answer)
     × (progress ≡ progress_result w (step_end answer))
+
+-- a step leads from the object w to v, with a code and reports. If w is no verification, they are zero
+pub record StepsVerification (w : What) (code : ℕ) (progress : ProgressReport)
+    (returned : VerifyReport) (v : What) : Type 0 where
+  pub other : is_verification w ≡ false → (code ≡ 102) × (progress ≡ no_progress)
+      × (returned ≡ no_finding) × (v ≡ w)
+  -- it is one step of the library's verification
+  pub steps : (x : Verifying) → w ≡ Verification x
+      → IsVerificationWhere (ReportsStep x code progress returned) v

@@ -1,11 +1,13 @@
 -- Bulk reads: entries read one after another and copied back to back.
-use Rattle.std.specs.Prelude.{◌≡◌, ℕ, ◌+◌, ◌<◌, ◌⊎◌, List, [], ◌∷◌, ◌++◌, length, map}
+use Rattle.std.specs.Prelude.{◌≡◌, ℕ, ◌+◌, ◌<◌, ◌≤◌, ◌⊎◌, List, [], ◌∷◌, ◌++◌, length, map}
 use Rattle.std.specs.Prelude.{Option, Some, None, take, drop}
 use Rattle.std.specs.List.{flat_map}
 use Rattle.sst_entries.specs.Entry.{Entry}
 use Rattle.sst_c.specs.Copies.{laid_over}
 use Rattle.sst_c.specs.Reported.{entry_facts}
+use Rattle.sst_c.specs.What.{many_in}
 use Rattle.sst_c.specs.declared.entries.EntryReport.{EntryReport}
+use Rattle.sst_c.specs.declared.held.What.{What}
 
 -- the bytes of an entry: its key, then its value
 abbrev pub bytes_of : Entry → List ℕ
@@ -59,3 +61,11 @@ pub record CopiesMany (found : List (Option Entry)) (room copied : List ℕ) (co
   pub ends : (count ≡ length found)
       ⊎ ((x : Option Entry) × (rest : List (Option Entry)) × (drop count found ≡ x ∷ rest)
       × (length room < length (flat_map bytes_found (take count found)) + length (bytes_found x)))
+
+-- the held results from an index on are copied, as many as fit. The code is 105 if there are fewer
+-- results
+pub record TakesMany (w : What) (first : ℕ) (room copied : List ℕ) (count code : ℕ) : Type 0 where
+  pub past : (found : List (Option Entry)) → many_in w ≡ Some found → length found < first
+      → code ≡ 105
+  pub copies : (found : List (Option Entry)) → many_in w ≡ Some found → first ≤ length found
+      → (code ≡ 0) × CopiesMany (drop first found) room copied count

@@ -1,7 +1,10 @@
 -- Verification results as reported to C.
-use Rattle.std.specs.Prelude.{◌≡◌, ℕ, ◌+◌, ◌⊎◌, List, length, Option, Some, Result, Ok, Err}
+use Rattle.std.specs.Prelude.{◌≡◌, ◌≢◌, ℕ, ◌+◌, ◌⊎◌, List, length, Option, Some, Result, Ok, Err}
 use Rattle.sst_entries.specs.Error.{number_of}
-use Rattle.sst_blocks.specs.Sections.{slot_index}
+use Rattle.sst_blocks.specs.Sections.{body_of, slot_index}
+use Rattle.lsm_readers.specs.Findings.{IsFirstFinding}
+use Rattle.lsm_readers.specs.Verify.{table_early, table_found}
+use Rattle.lsm_readers.specs.point.Table.{OpenTable}
 use Rattle.lsm_readers.specs.Words.{Entry, StoresList}
 use Rattle.lsm_readers.specs.declared.verify.Fault.{Fault}
 use Rattle.lsm_readers.specs.declared.verify.Fault.TheVariants.{Unloaded, Hollow, Misplaced}
@@ -105,3 +108,17 @@ ReportsWrong is_first code returned =
 abbrev pub ReportsCounts : List ℕ → VerifyReport → Type 0
 ReportsCounts bytes returned = (es : List Entry) × (t : StoresList bytes es)
     × (returned.item_count ≡ length es) × (returned.data_block_count ≡ length t.handles)
+
+-- a verification of a table returns a code and a report
+pub record VerifiesTable (t : OpenTable) (code : ℕ) (returned : VerifyReport) : Type 0 where
+  -- except for `OutOfMemory`, it reports the first fault
+  pub answers : VerifyAnswers code returned (table_found (body_of t.bytes) t.parts)
+  -- a fault of the first loaded block that is found without allocating takes precedence over
+  -- `OutOfMemory`
+  pub early : ReportsFinding code returned (table_early (body_of t.bytes) t.parts)
+  -- the reported block has this fault, and all blocks read before it are valid
+  pub first : ReportsWrong (IsFirstFinding (body_of t.bytes) t.parts) code returned
+  -- a verified table stores a list, and the report has its number of entries and data blocks
+  pub sound : code ≡ 0 → ReportsCounts t.bytes returned
+  -- it finds no fault in a table that stores a list
+  pub complete : (es : List Entry) → StoresList t.bytes es → code ≢ 107

@@ -9,10 +9,11 @@ use Rattle.sst_entries.specs.declared.error.Error.{Error}
 use Rattle.lsm_iters.specs.Range.{Range, RangeGives, back_next, front_next}
 use Rattle.lsm_iters.specs.Words.{back_of, front_of}
 use Rattle.lsm_readers.specs.point.Parts.{recovered_result}
-use Rattle.lsm_readers.specs.Ranges.{YieldsWithin}
+use Rattle.lsm_readers.specs.Ranges.{IsRangeOf, YieldsWithin}
 use Rattle.lsm_readers.specs.Scan.{Scan}
+use Rattle.lsm_readers.specs.Stored.{StoresList}
 use Rattle.lsm_readers.specs.point.Table.{OpenTable}
-use Rattle.lsm_readers.specs.Verification.{Verifying}
+use Rattle.lsm_readers.specs.Verification.{Verifying, verifying}
 use Rattle.lsm_writers.specs.declared.writer.FinishedTable.{FinishedTable}
 use Rattle.lsm_writers.specs.Writing.{Writing}
 use Rattle.sst_c.specs.declared.held.FoundEntry.TheVariants.{Kept}
@@ -24,6 +25,9 @@ use Rattle.sst_c.specs.declared.held.What.TheVariants.{Answers as AnswersOf, Sca
 use Rattle.sst_c.specs.declared.held.What.TheVariants.{RunsScan as RunsScanOf}
 use Rattle.sst_c.specs.declared.held.What.TheVariants.{Packing as PackingOf}
 use Rattle.sst_c.specs.declared.held.What.TheVariants.{Verification as VerificationOf}
+use Rattle.lsm_runs.specs.Words.{range_of}
+use Rattle.lsm_sorted.specs.version.Packed.{IsPackedOf}
+use Rattle.lsm_sorted.specs.version.Packing.{tables_in}
 use Rattle.lsm_sorted.specs.declared.version.packed.Packed.{Packed}
 use Rattle.lsm_sorted.specs.declared.version.packed.Placed.{Placed}
 use Rattle.sst_c.specs.Newest.{LentNewestAt, NewestAt}
@@ -168,3 +172,23 @@ decode_bound kind key =
 unfoldable pub YieldsTable : Bound (List ℕ) → Bound (List ℕ) → List Entry → ℕ → Range Global → Type 0
 YieldsTable low high es g s =
     YieldsWithin (RangeGives front_of front_next) (RangeGives back_of back_next) low high es g s
+
+-- a range reads a table within bounds, and has not been stepped
+pub record RangesTable (low high : Bound (List ℕ)) (t : OpenTable) (s : Range Global) : Type 0 where
+  pub range : IsRangeOf t low high s
+  -- for bytes that store a list, both ends yield its entries within the bounds
+  pub list : (es : List Entry) → StoresList t.bytes es → YieldsTable low high es t.global_seqno s
+
+-- if the object w is a table, v is a range of it within bounds as C passes them
+pub record RangesHeld (lower_kind : ℕ) (lower : List ℕ) (upper_kind : ℕ) (upper : List ℕ) (w v : What)
+    : Type 0 where
+  pub range : (t : OpenTable) → w ≡ Table t → IsRangeWhere
+      (RangesTable (decode_bound lower_kind lower) (decode_bound upper_kind upper) t) v
+
+-- if the object w is a table, v is a verification of it that has read nothing yet
+pub record VerifiesHeld (w v : What) : Type 0 where
+  pub begun : (t : OpenTable) → w ≡ Table t → v ≡ VerificationOf (verifying t)
+
+-- the object v is a packing of the tables of the runs w
+abbrev pub PacksHeld : What → What → Type 0
+PacksHeld w v = IsPackingWhere (IsPackedOf range_of (tables_in (runs_held w))) v

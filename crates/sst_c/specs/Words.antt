@@ -1,5 +1,5 @@
 -- Definitions that the contracts cite, from this crate and those below it.
-pub use Rattle.core.specs.List.{AllByRecursion, slice_get, sum}
+pub use Rattle.core.specs.List.{slice_get, sum}
 pub use Rattle.std.specs.List.{All}
 pub use Rattle.core.specs.Option.{option_and_then, option_map}
 pub use Rattle.core.specs.Ptr.{as_ptr}
@@ -8,9 +8,8 @@ pub use Rattle.std.specs.Global.{Global as Heap}
 pub use Rattle.sst_entries.specs.Entry.{Entry, entry}
 pub use Rattle.sst_entries.specs.Error.{Faults, FaultsFirst, Gives, number_of}
 pub use Rattle.sst_entries.specs.Lending.{came, entry_of_ref}
-pub use Rattle.sst_entries.specs.Point.{within}
 unfoldable pub use Rattle.sst_entries.specs.Point.{point}
-pub use Rattle.sst_entries.specs.Stream.{CanYield, nowhere, ok_results}
+pub use Rattle.sst_entries.specs.Stream.{CanYield, nowhere}
 pub use Rattle.sst_entries.specs.declared.error.Error.{Error as ErrorValue}
 pub use Rattle.sst_entries.specs.declared.error.Error.TheVariants.{OutOfMemory}
 pub use Rattle.sst_entries.specs.declared.value_type.ValueType.{ValueType as Kind}
@@ -20,10 +19,6 @@ pub use Rattle.lsm_sorted.specs.version.KeyRange.{is_well_formed}
 pub use Rattle.lsm_sorted.specs.version.Packed.{IsPackedOf}
 pub use Rattle.lsm_sorted.specs.version.Packing.{AreInOrder, tables_in}
 pub use Rattle.lsm_sorted.specs.declared.version.packed.Placed.{Placed as PlacedTable}
-pub use Rattle.lsm_sorted.specs.merge.InPlace.{merge_of}
-pub use Rattle.lsm_sorted.specs.merge.Union.{Ascends, entries_among, newest}
-pub use Rattle.lsm_sorted.specs.Below.{below_results, numbered_below}
-pub use Rattle.lsm_sorted.specs.lending.LentNewest.{newest_results}
 pub use Rattle.lsm_writers.specs.Filtering.{IsSmallFilter}
 pub use Rattle.lsm_writers.specs.Tables.{IsFreshRun}
 pub use Rattle.lsm_writers.specs.Writing.{IsSmallIndex, Writing as WritingValue, may_be_written}
@@ -37,60 +32,66 @@ pub use Rattle.lsm_readers.specs.point.Many.{many_results}
 pub use Rattle.lsm_readers.specs.point.Parts.{early_fault, recovered_result}
 pub use Rattle.lsm_readers.specs.point.Table.{OpenTable}
 pub use Rattle.lsm_readers.specs.Findings.{IsFirstFinding}
-pub use Rattle.lsm_readers.specs.Ranges.{IsRangeOf}
 pub use Rattle.lsm_readers.specs.Scan.{IsEndedScan, Scan, ScansLent}
 pub use Rattle.lsm_readers.specs.Stored.{StoresList, fits_result}
 pub use Rattle.lsm_readers.specs.Verification.{Verifying, verifying}
 pub use Rattle.lsm_readers.specs.Verify.{table_early}
 unfoldable pub use Rattle.lsm_readers.specs.Verify.{table_found}
-pub use Rattle.lsm_runs.specs.LentNewestRuns.{LendsResults, runs_results_within}
-pub use Rattle.lsm_runs.specs.RunLists.{YieldsList, RunsHoldLists}
+pub use Rattle.lsm_runs.specs.RunLists.{RunsHoldLists}
 pub use Rattle.lsm_runs.specs.RunPlaces.{placed_in_runs}
-pub use Rattle.lsm_runs.specs.RunScan.{early_scan_fault, scan_fault, table_scan}
+pub use Rattle.lsm_runs.specs.RunScan.{early_scan_fault, scan_fault}
 pub use Rattle.lsm_runs.specs.SeveralRuns.{runs_read, runs_result, union_in}
-pub use Rattle.lsm_runs.specs.SpansRead.{IsOverSpansBelow}
 pub use Rattle.lsm_runs.specs.Words.{range_of}
 pub use Rattle.lsm_runs.specs.compaction.AnyRuns.{GoesThrough}
 pub use Rattle.lsm_runs.specs.compaction.Compacted.{rules_by}
-pub use Rattle.sst_c.specs.Adds.{AddsOne, AddsMany, row, rows_of_reports, reported_size}
+pub use Rattle.sst_c.specs.Adds.{AddsOne, AddsMany, WritesEntry, WritesMany, row, row_of}
+pub use Rattle.sst_c.specs.Adds.{rows_of_reports, reported_size}
 pub use Rattle.sst_c.specs.Codes.{ReportsCode, ReportsFirst, result_code}
-pub use Rattle.sst_c.specs.Compact.{IsCompactionOf, IsReportedOf, decode_compactor}
+pub use Rattle.sst_c.specs.Compact.{CompactsHeld, IsCompactionOf, IsReportedOf, decode_compactor}
 unfoldable pub use Rattle.sst_c.specs.Compact.{ReportsOutcome}
-pub use Rattle.sst_c.specs.Copies.{copy_code, laid_over, lend_code}
+pub use Rattle.sst_c.specs.Copies.{CopiesEntry, LendsEntry, copy_code, laid_over, lend_code}
 pub use Rattle.sst_c.specs.Facts.{table_facts}
-pub use Rattle.sst_c.specs.Files.{file_at}
+pub use Rattle.sst_c.specs.Files.{CopiesFile, CopiesPart, TellsFile, file_at}
 unfoldable pub use Rattle.sst_c.specs.Files.{file_facts}
-pub use Rattle.sst_c.specs.Many.{answer_at, copy_at_code, keys_cut, lend_at_code, many_kept}
+pub use Rattle.sst_c.specs.Handles.{OpensNew, OpensNewWithin, OpensFrom, OpensHandle, OpensWithin}
+pub use Rattle.sst_c.specs.Handles.{QueriesHandle, ReadsThrough, TakesThrough, UsesSource}
+pub use Rattle.sst_c.specs.Handles.{WritesThrough}
+pub use Rattle.sst_c.specs.Many.{AnswersHeld, AnswersKeys, GetsMany, GivesMany, ManyResult, answer_at}
+pub use Rattle.sst_c.specs.Many.{copy_at_code, keys_cut, lend_at_code, many_kept, points_asked, points_of}
 pub use Rattle.sst_c.specs.Many.{queries_for}
 unfoldable pub use Rattle.sst_c.specs.Many.{AnswersMany}
 pub use Rattle.sst_c.specs.Memory.{ReportsMemory}
 pub use Rattle.sst_c.specs.Newest.{LentNewestAt, NewestAt, newest_lent}
 pub use Rattle.sst_c.specs.Options.{are_usable, decode_default, decode_filter_kind, decode_index_kind}
 pub use Rattle.sst_c.specs.Options.{decode_options, decode_writing}
-pub use Rattle.sst_c.specs.Packed.{ArePackedOf}
-pub use Rattle.sst_c.specs.Reads.{IsMergedAs, MergedReads, ReadsOn, gives_at}
-pub use Rattle.sst_c.specs.Scans.{IsBegunScan}
-unfoldable pub use Rattle.sst_c.specs.Scans.{YieldsScan}
+pub use Rattle.sst_c.specs.Packed.{ArePackedOf, CountsRun, FindsLink, FindsPacked}
+pub use Rattle.sst_c.specs.PointReads.{GetsFromRuns, GetsFromTable}
+pub use Rattle.sst_c.specs.Reads.{IsMergedAs, MergedReads, ReadsOn, StepsRange, StepsScan, TakesRange}
+pub use Rattle.sst_c.specs.Reads.{TakesScan, gives_at}
+pub use Rattle.sst_c.specs.RunsAdded.{AddsToRuns}
+pub use Rattle.sst_c.specs.RunsWithin.{RangesRuns, RangesRunsHeld, ScansRuns, ScansRunsHeld}
+pub use Rattle.sst_c.specs.Scans.{ReportsScan, ScansHeld, ScansTable}
 pub use Rattle.sst_c.specs.Sentences.{sentence_of}
 pub use Rattle.sst_c.specs.Steps.{StepsAs, StepsBy, StepsUntil}
 pub use Rattle.sst_c.specs.Stepwise.{ReportsStep, no_progress, progress_result, step_code, step_end}
-pub use Rattle.sst_c.specs.Stepwise.{step_result}
-pub use Rattle.sst_c.specs.Takes.{CopiesMany, ReadsMany, bytes_found, bytes_of}
+pub use Rattle.sst_c.specs.Stepwise.{StepsVerification, step_result}
+pub use Rattle.sst_c.specs.Takes.{CopiesMany, ReadsMany, TakesMany, bytes_found, bytes_of}
 pub use Rattle.sst_c.specs.Reported.{AnswersRead, entry_facts, found_at, found_by, found_in, found_of}
 pub use Rattle.sst_c.specs.Reported.{in_runs, in_table, is_settled, kept_in_runs, kept_in_table}
 pub use Rattle.sst_c.specs.Reported.{borrowed_in, outcome_of}
-pub use Rattle.sst_c.specs.Verify.{ReportsCounts, ReportsFinding, ReportsWrong, detail_of, fault_number}
+pub use Rattle.sst_c.specs.Verify.{ReportsCounts, ReportsFinding, ReportsWrong, VerifiesTable, detail_of}
+pub use Rattle.sst_c.specs.Verify.{fault_number}
 pub use Rattle.sst_c.specs.Verify.{finding_result, no_finding, verified_result, verify_code}
 pub use Rattle.sst_c.specs.Verify.{verify_result}
 unfoldable pub use Rattle.sst_c.specs.Verify.{VerifyAnswers}
 pub use Rattle.sst_c.specs.What.{HoldsFiles, IsMergedWhere, IsOpenedAs, IsPackingWhere}
+pub use Rattle.sst_c.specs.What.{PacksHeld, RangesHeld, RangesTable, VerifiesHeld}
 pub use Rattle.sst_c.specs.What.{IsRangeWhere, IsRunsScanAs, IsRunsScanWhere, IsScanWhere}
 pub use Rattle.sst_c.specs.What.{IsVerificationWhere, MergedStepsBy, are_files, are_runs, begun}
 pub use Rattle.sst_c.specs.What.{decode_bound, files_held, is_packing, is_range, is_scan, is_table}
 pub use Rattle.sst_c.specs.What.{is_verification, many_in, packed_chain, packed_runs, runs_held}
 pub use Rattle.sst_c.specs.What.{writer_in}
-unfoldable pub use Rattle.sst_c.specs.What.{YieldsTable}
-pub use Rattle.sst_c.specs.Writing.{decode_kind}
+pub use Rattle.sst_c.specs.Writing.{Finishes, decode_kind}
 unfoldable pub use Rattle.sst_c.specs.Writing.{AddsFileOf, FaultReported, FinishReported, TookEntry}
 pub use Rattle.sst_c.specs.declared.held.FoundEntry.TheVariants.{Lent as IsLent, Kept}
 pub use Rattle.sst_c.specs.declared.held.Held.{Held as HeldValue}

@@ -12,6 +12,8 @@ use Rattle.sst_blocks.specs.table.Failed.{failed_fault}
 use Rattle.lsm_writers.specs.Writing.{IsFinished, Writing, finish_fault, gained, write_fault}
 use Rattle.lsm_writers.specs.Writing.{written}
 use Rattle.sst_c.specs.Codes.{ReportsFirst, fault_code}
+use Rattle.sst_c.specs.What.{are_files, files_held, writer_in}
+use Rattle.sst_c.specs.declared.held.What.{What}
 
 -- the value type of a kind as C passes it: one more than its tag
 abbrev pub decode_kind : ℕ → Option ValueType
@@ -44,3 +46,14 @@ unfoldable pub AddsFileOf : Writing → List (FinishedTable Global) → List (Fi
     → Type 0
 AddsFileOf w old new = ((written w ≡ []) × (new ≡ old)) ⊎ ((f : FinishedTable Global)
     × IsFinished w f.id f.checksum.0 f.bytes × (new ≡ old ++ f ∷ []))
+
+-- finishing the held writer leads from the object a to b, which holds no writer
+pub record Finishes (a : What) (code : ℕ) (b : What) : Type 0 where
+  -- `OutOfMemory` replaces neither the error of a failed writer nor the success of an empty one
+  pub returned : (w : Writing) → writer_in a ≡ Some w → FinishReported code w
+  pub given : (w : Writing) → writer_in a ≡ Some w → writer_in b ≡ None
+  pub kind : are_files b ≡ are_files a
+  -- the table has all entries written
+  pub finished : (w : Writing) → writer_in a ≡ Some w → code ≡ 0
+      → AddsFileOf w (files_held a) (files_held b)
+  pub refused : (w : Writing) → writer_in a ≡ Some w → code ≢ 0 → files_held b ≡ files_held a

@@ -67,15 +67,9 @@ fn add_fitting(writer: &mut Writer, entries: &[EntryReport], bytes: &[u8], count
 
 fn add_many(held: &mut Held, entries: &[EntryReport], bytes: &[u8], count: &mut u64) -> u32
     ensures other { spec.writer_in held.old.what ≡ None →
-        (result ≡ 102) × (held.new.what ≡ held.old.what) × (count.new ≡ count.old) }
-    ensures lengths { (w : spec.WritingValue) → spec.writer_in held.old.what ≡ Some w →
-        spec.sum (map spec.reported_size entries.now) ≢ length bytes.now →
-        (result ≡ 105) × (held.new.what ≡ held.old.what) × (count.new ≡ count.old) }
-    ensures added { (w : spec.WritingValue) → spec.writer_in held.old.what ≡ Some w →
-        spec.sum (map spec.reported_size entries.now) ≡ length bytes.now →
-        IsSomeAnd (spec.writer_in held.new.what)
-        (spec.AddsMany w (spec.rows_of_reports entries.now bytes.now) count.new result) }
-    ensures tables { spec.files_held held.new.what ≡ spec.files_held held.old.what }
+        (result ≡ 102) × (held.new.what ≡ held.old.what) }
+    ensures writes { spec.WritesMany entries.now bytes.now count.old count.new held.old.what result
+        held.new.what }
     ensures found { spec.found_by held.new ≡ spec.found_by held.old }
 {
     match &mut held.what {
@@ -109,29 +103,11 @@ pub extern "C" fn sst_writer_add_many(
     bytes: &[u8],
     count: &mut u64,
 ) -> u32
-    ensures shut { writer.old.boxed.value ≡ None →
-        (result ≡ 100) × (writer.new.boxed.value ≡ None) × (count.new ≡ 0) }
-    ensures other { (h : spec.HeldValue) → writer.old.boxed.value ≡ Some h →
-        spec.writer_in h.what ≡ None →
-        (result ≡ 102) × IsSomeAnd writer.new.boxed.value (λ k. k.what ≡ h.what)
-        × (count.new ≡ 0) }
-    ensures lengths { (h : spec.HeldValue) (w : spec.WritingValue) →
-        writer.old.boxed.value ≡ Some h →
-        spec.writer_in h.what ≡ Some w →
-        spec.sum (map spec.reported_size entries.now) ≢ length bytes.now →
-        (result ≡ 105) × IsSomeAnd writer.new.boxed.value (λ k. k.what ≡ h.what)
-        × (count.new ≡ 0) }
-    // Each entry is added as by `sst_writer_add`, up to the first that fails.
-    ensures added { (h : spec.HeldValue) (w : spec.WritingValue) → writer.old.boxed.value ≡ Some h →
-        spec.writer_in h.what ≡ Some w →
-        spec.sum (map spec.reported_size entries.now) ≡ length bytes.now →
-        IsSomeAnd writer.new.boxed.value (λ k. IsSomeAnd (spec.writer_in k.what)
-        (spec.AddsMany w (spec.rows_of_reports entries.now bytes.now) count.new result)) }
-    ensures tables { (h : spec.HeldValue) → writer.old.boxed.value ≡ Some h →
-        IsSomeAnd writer.new.boxed.value (λ k. spec.files_held k.what ≡ spec.files_held h.what) }
-    // The entry found by the last read is unchanged.
-    ensures found { (h : spec.HeldValue) → writer.old.boxed.value ≡ Some h →
-        IsSomeAnd writer.new.boxed.value (λ k. spec.found_by k ≡ spec.found_by h) }
+    ensures through { spec.WritesThrough writer.old.boxed.value writer.new.boxed.value result }
+    ensures shut { writer.old.boxed.value ≡ None → count.new ≡ 0 }
+    ensures writes { (h : spec.HeldValue) → writer.old.boxed.value ≡ Some h →
+        IsSomeAnd writer.new.boxed.value (λ k.
+        spec.WritesMany entries.now bytes.now 0 count.new h.what result k.what) }
 {
     *count = 0;
     let Some(mut held) = writer.take(alloc) else {

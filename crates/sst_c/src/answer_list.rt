@@ -42,12 +42,9 @@ impl AnswerList {
 
     /// Reads a table for some queries. Fails as `get_many`.
     pub(crate) fn read(table: &Table, queries: &[Query]) -> Result<AnswerList, Error>
-        ensures returned { spec.Gives (λ (found : List (Option spec.Entry)). found) result
-            (spec.many_results table.now queries.now) }
+        ensures returned { spec.GivesMany result (spec.many_results table.now queries.now) }
         ensures list { (es : List spec.Entry) → spec.StoresList table.now.bytes es →
-            let all = spec.lift es table.now.global_seqno in
-            spec.Gives (λ (found : List (Option spec.Entry)). found) result
-            (Ok (map (λ q. spec.point all q.key q.seqno) queries.now)) }
+            spec.GivesMany result (Ok (spec.points_asked es table.now.global_seqno queries.now)) }
     {
         match get_many_places(table, queries) {
             Ok(places) => AnswerList::placed(table, places),

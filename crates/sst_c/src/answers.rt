@@ -1,5 +1,5 @@
 //! Copying the results of many reads at once.
-ghost use Rattle.std.specs.Prelude.{◌≡◌, ◌≢◌, ◌<◌, ◌≤◌, List, None, Option, Some, drop, length};
+ghost use Rattle.std.specs.Prelude.{◌≡◌, ◌≢◌, ◌≤◌, None, Some, drop, length};
 ghost use Rattle.sst_c.specs.Words as spec;
 
 use crate::answer_list::AnswerList;
@@ -27,11 +27,7 @@ fn lay_each(found: &AnswerList, first: usize, bytes: &mut [u8], count: &mut u64)
 
 fn take(held: &Held, first: u64, bytes: &mut [u8], count: &mut u64) -> u32
     ensures other { spec.many_in held.now.what ≡ None → result ≡ 102 }
-    ensures past { (found : List (Option spec.Entry)) → spec.many_in held.now.what ≡ Some found →
-        length found < first → result ≡ 105 }
-    ensures copied { (found : List (Option spec.Entry)) → spec.many_in held.now.what ≡ Some found →
-        first ≤ length found →
-        (result ≡ 0) × spec.CopiesMany (drop first found) bytes.old bytes.new count.new }
+    ensures takes { spec.TakesMany held.now.what first bytes.old bytes.new count.new result }
     ensures left { result ≢ 0 → (bytes.new ≡ bytes.old) × (count.new ≡ count.old) }
 {
     let What::Answers(found) = &held.what else {
@@ -69,12 +65,8 @@ pub extern "C" fn sst_answers_take(
     ensures shut { answers.old.boxed.value ≡ None → result ≡ 100 }
     ensures other { (h : spec.HeldValue) → answers.old.boxed.value ≡ Some h →
         spec.many_in h.what ≡ None → result ≡ 102 }
-    ensures past { (h : spec.HeldValue) (found : List (Option spec.Entry)) →
-        answers.old.boxed.value ≡ Some h → spec.many_in h.what ≡ Some found → length found < first →
-        result ≡ 105 }
-    ensures copied { (h : spec.HeldValue) (found : List (Option spec.Entry)) →
-        answers.old.boxed.value ≡ Some h → spec.many_in h.what ≡ Some found → first ≤ length found →
-        (result ≡ 0) × spec.CopiesMany (drop first found) bytes.old bytes.new count.new }
+    ensures takes { (h : spec.HeldValue) → answers.old.boxed.value ≡ Some h →
+        spec.TakesMany h.what first bytes.old bytes.new count.new result }
     ensures left { result ≢ 0 → (bytes.new ≡ bytes.old) × (count.new ≡ count.old) }
 {
     let Some(held) = answers.take(alloc) else {

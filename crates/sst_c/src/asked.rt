@@ -8,12 +8,15 @@ use sst_blocks::IterItem;
 use std::alloc::Global;
 use std::marker::Model;
 
+/// A stream of the newest versions visible at a snapshot of several runs, read from both ends.
+pub(crate) type NewestAt = NewestOfRunsAt<Global>;
+
 /// The newest versions visible at a snapshot of several runs, read from both ends.
 ///
 /// It can be stepped any number of times, also after the end. Contracts see the stream.
 #[derive(Drop)]
 pub struct Asked {
-    newest: NewestOfRunsAt<Global>,
+    newest: NewestAt,
 }
 
 impl Model for Asked {
@@ -24,19 +27,19 @@ impl Model for Asked {
 
     ghost view = { λ a. a.newest };
 
-    ghost invariant = { λ a. CanYield ⟦<NewestOfRunsAt<Global> as Iterator>⟧.next_gives
-        ⟦<NewestOfRunsAt<Global> as DoubleEndedIterator>⟧.next_back_gives
-        ⟦<NewestOfRunsAt<Global> as Iterator>⟧.can_next
-        ⟦<NewestOfRunsAt<Global> as DoubleEndedIterator>⟧.can_next_back a.newest };
+    ghost invariant = { λ a. CanYield ⟦<NewestAt as Iterator>⟧.next_gives
+        ⟦<NewestAt as DoubleEndedIterator>⟧.next_back_gives
+        ⟦<NewestAt as Iterator>⟧.can_next
+        ⟦<NewestAt as DoubleEndedIterator>⟧.can_next_back a.newest };
 }
 
 impl Asked {
     /// Wraps a stream that can be stepped any number of times.
-    pub(crate) fn new(newest: NewestOfRunsAt<Global>) -> Asked
-        requires { spec.CanYield ⟦<NewestOfRunsAt<Global> as Iterator>⟧.next_gives
-            ⟦<NewestOfRunsAt<Global> as DoubleEndedIterator>⟧.next_back_gives
-            ⟦<NewestOfRunsAt<Global> as Iterator>⟧.can_next
-            ⟦<NewestOfRunsAt<Global> as DoubleEndedIterator>⟧.can_next_back newest }
+    pub(crate) fn new(newest: NewestAt) -> Asked
+        requires { spec.CanYield ⟦<NewestAt as Iterator>⟧.next_gives
+            ⟦<NewestAt as DoubleEndedIterator>⟧.next_back_gives
+            ⟦<NewestAt as Iterator>⟧.can_next
+            ⟦<NewestAt as DoubleEndedIterator>⟧.can_next_back newest }
         ensures { result ≡ newest }
     {
         Asked { newest }
@@ -45,9 +48,9 @@ impl Asked {
     /// Returns the next entry, from the back if `back` is set, else from the front.
     pub(crate) fn step(&mut self, back: bool) -> Option<IterItem<Global>>
         ensures front { back ≡ false →
-            ⟦<NewestOfRunsAt<Global> as Iterator>⟧.next_gives self.old result self.new }
+            ⟦<NewestAt as Iterator>⟧.next_gives self.old result self.new }
         ensures back { back ≡ true →
-            ⟦<NewestOfRunsAt<Global> as DoubleEndedIterator>⟧.next_back_gives
+            ⟦<NewestAt as DoubleEndedIterator>⟧.next_back_gives
             self.old result self.new }
     {
         step_of(&mut self.newest, back)

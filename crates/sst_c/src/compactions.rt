@@ -1,6 +1,6 @@
 //! Compacting a list of runs into finished tables.
-ghost use Rattle.std.specs.Prelude.{◌≡◌, ◌≢◌, ◌⊎◌, false, IfErr, IfOk, IsSomeAnd, None, Ok, Some};
-ghost use Rattle.std.specs.Prelude.{is_some, true, unwrap_or};
+ghost use Rattle.std.specs.Prelude.{◌≡◌, ◌≢◌, ◌⊎◌, false, IfErr, IfOk, IsSomeAnd, None, Some, true};
+ghost use Rattle.std.specs.Prelude.{unwrap_or};
 ghost use Rattle.sst_c.specs.Words as spec;
 
 use crate::codes::{CLOSED, NO_SUCH, OPEN, OTHER_KIND, OUT_OF_ORDER};
@@ -146,12 +146,8 @@ fn compact_held(
 ) -> u32
     requires empty { files.old.boxed.value ≡ None }
     ensures kind { spec.are_runs held.now.what ≡ false → result ≡ 102 }
-    ensures unusable { spec.are_runs held.now.what ≡ true → spec.are_usable options.now ≡ false →
-        result ≡ 105 }
-    ensures returned { spec.are_runs held.now.what ≡ true → spec.are_usable options.now ≡ true →
-        let writer = spec.decode_compactor options.now target_size in
-        spec.IsReportedOf (spec.IsCompactionOf (spec.runs_held held.now.what) rules writer)
-        result files.new.boxed.value next_id.new }
+    ensures compacts { spec.CompactsHeld options.now rules target_size held.now.what result
+        files.new.boxed.value next_id.new }
     ensures left { result ≢ 0 →
         (next_id.new ≡ next_id.old) × (files.new.boxed.value ≡ None) }
 {
@@ -197,24 +193,13 @@ pub extern "C" fn sst_compact(
     files: &mut Handle,
     next_id: &mut u64,
 ) -> u32
-    ensures kept { runs.new.boxed.value ≡ runs.old.boxed.value }
-    ensures open { is_some files.old.boxed.value ≡ true → result ≡ 101 }
-    ensures shut { files.old.boxed.value ≡ None → runs.old.boxed.value ≡ None → result ≡ 100 }
-    ensures kind { (h : spec.HeldValue) → files.old.boxed.value ≡ None →
-        runs.old.boxed.value ≡ Some h → spec.are_runs h.what ≡ false → result ≡ 102 }
-    ensures unusable { (h : spec.HeldValue) → files.old.boxed.value ≡ None →
-        runs.old.boxed.value ≡ Some h → spec.are_runs h.what ≡ true →
-        spec.are_usable options.now ≡ false → result ≡ 105 }
-    // Else the call reports the result of the library's compaction of any tables.
-    ensures returned { (h : spec.HeldValue) → files.old.boxed.value ≡ None →
-        runs.old.boxed.value ≡ Some h →
-        spec.are_runs h.what ≡ true → spec.are_usable options.now ≡ true →
-        let rules = spec.rules_by watermark evict_tombstones zero_seqnos in
-        let writer = spec.decode_compactor options.now target_size in
-        spec.IsReportedOf (spec.IsCompactionOf (spec.runs_held h.what) rules writer)
-        result files.new.boxed.value next_id.new }
-    ensures left { result ≢ 0 →
-        (next_id.new ≡ next_id.old) × (files.new.boxed.value ≡ files.old.boxed.value) }
+    ensures uses { spec.UsesSource spec.are_runs runs.old.boxed.value runs.new.boxed.value
+        files.old.boxed.value files.new.boxed.value result }
+    ensures compacts { (h : spec.HeldValue) → files.old.boxed.value ≡ None →
+        runs.old.boxed.value ≡ Some h → spec.CompactsHeld options.now
+        (spec.rules_by watermark evict_tombstones zero_seqnos) target_size h.what result
+        files.new.boxed.value next_id.new }
+    ensures left { result ≢ 0 → next_id.new ≡ next_id.old }
 {
     if files.is_open() {
         return OPEN;

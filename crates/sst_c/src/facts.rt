@@ -1,5 +1,5 @@
 //! Table info: the facts in a table's meta block.
-ghost use Rattle.std.specs.Prelude.{◌≡◌, ◌≢◌, false, None, Some};
+ghost use Rattle.std.specs.Prelude.{◌≡◌, ◌≢◌, false, Some};
 ghost use Rattle.sst_c.specs.Words as spec;
 
 use crate::codes::{CLOSED, OTHER_KIND};
@@ -80,10 +80,8 @@ fn tell_facts(held: &Held, facts: &mut TableFacts) -> u32
 /// On error, `facts` is unchanged.
 #[unsafe(no_mangle)]
 pub extern "C" fn sst_table_facts(alloc: Global, table: &mut Handle, facts: &mut TableFacts) -> u32
-    ensures kept { table.new.boxed.value ≡ table.old.boxed.value }
-    ensures shut { table.old.boxed.value ≡ None → result ≡ 100 }
-    ensures other { (h : spec.HeldValue) → table.old.boxed.value ≡ Some h →
-        spec.is_table h.what ≡ false → result ≡ 102 }
+    ensures queries { spec.QueriesHandle spec.is_table table.old.boxed.value table.new.boxed.value
+        result }
     ensures returned { (h : spec.HeldValue) (t : spec.OpenTable) → table.old.boxed.value ≡ Some h →
         h.what ≡ spec.TableOf t → (result ≡ 0) × (facts.new ≡ spec.table_facts t) }
     ensures left { result ≢ 0 → facts.new ≡ facts.old }

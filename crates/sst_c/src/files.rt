@@ -1,6 +1,5 @@
 //! Finished tables: their ids, checksums, lengths and bytes.
-ghost use Rattle.std.specs.Prelude.{◌≡◌, ◌≢◌, ◌<◌, ◌≤◌, None, Some, drop, false, length, take};
-ghost use Rattle.std.specs.Prelude.{true};
+ghost use Rattle.std.specs.Prelude.{◌≡◌, ◌≢◌, Some, false, length, true};
 ghost use Rattle.sst_c.specs.Words as spec;
 
 use crate::codes::{CLOSED, NO_SUCH, OTHER_KIND};
@@ -34,12 +33,7 @@ fn describe(file: &FinishedTable) -> FileReport
 }
 
 fn tell_file(held: &Held, index: u64, returned: &mut FileReport) -> u32
-    ensures some { (f : spec.Finished spec.Heap) → spec.file_at held.now.what index ≡ Some f →
-        result ≡ 0 }
-    ensures returned { (f : spec.Finished spec.Heap) → spec.file_at held.now.what index ≡ Some f →
-        returned.new ≡ spec.file_facts f }
-    ensures none { spec.file_at held.now.what index ≡ None → spec.are_files held.now.what ≡ true →
-        result ≡ 105 }
+    ensures tells { spec.TellsFile held.now.what index result returned.new }
     ensures other { spec.are_files held.now.what ≡ false → result ≡ 102 }
     ensures left { result ≢ 0 → returned.new ≡ returned.old }
 {
@@ -71,17 +65,10 @@ pub extern "C" fn sst_files_tell(
     index: u64,
     returned: &mut FileReport,
 ) -> u32
-    ensures kept { files.new.boxed.value ≡ files.old.boxed.value }
-    ensures shut { files.old.boxed.value ≡ None → result ≡ 100 }
-    ensures other { (h : spec.HeldValue) → files.old.boxed.value ≡ Some h →
-        spec.are_files h.what ≡ false → result ≡ 102 }
-    ensures none { (h : spec.HeldValue) → files.old.boxed.value ≡ Some h →
-        spec.are_files h.what ≡ true → spec.file_at h.what index ≡ None → result ≡ 105 }
-    ensures some { (h : spec.HeldValue) (f : spec.Finished spec.Heap) →
-        files.old.boxed.value ≡ Some h → spec.file_at h.what index ≡ Some f → result ≡ 0 }
-    ensures returned { (h : spec.HeldValue) (f : spec.Finished spec.Heap) →
-        files.old.boxed.value ≡ Some h →
-        spec.file_at h.what index ≡ Some f → returned.new ≡ spec.file_facts f }
+    ensures queries { spec.QueriesHandle spec.are_files files.old.boxed.value files.new.boxed.value
+        result }
+    ensures tells { (h : spec.HeldValue) → files.old.boxed.value ≡ Some h →
+        spec.TellsFile h.what index result returned.new }
     ensures left { result ≢ 0 → returned.new ≡ returned.old }
 {
     let Some(held) = files.take(alloc) else {
@@ -94,10 +81,7 @@ pub extern "C" fn sst_files_tell(
 
 // Copies the bytes from an offset on, as many as fit.
 fn copy_part(bytes: &[u8], offset: u64, room: &mut [u8], count: &mut u64) -> u32
-    ensures past { length bytes.now < offset → result ≡ 105 }
-    ensures copied { offset ≤ length bytes.now →
-        let part = take (length room.old) (drop offset bytes.now) in
-        (result ≡ 0) × (count.new ≡ length part) × (room.new ≡ spec.laid_over part room.old) }
+    ensures copies { spec.CopiesPart bytes.now offset room.old room.new count.new result }
     ensures left { result ≢ 0 → (room.new ≡ room.old) × (count.new ≡ count.old) }
 {
     if offset > bytes.len() as u64 {
@@ -112,13 +96,7 @@ fn copy_part(bytes: &[u8], offset: u64, room: &mut [u8], count: &mut u64) -> u32
 
 fn copy_file(held: &Held, index: u64, offset: u64, room: &mut [u8], count: &mut u64) -> u32
     ensures other { spec.are_files held.now.what ≡ false → result ≡ 102 }
-    ensures none { spec.file_at held.now.what index ≡ None → spec.are_files held.now.what ≡ true →
-        result ≡ 105 }
-    ensures past { (f : spec.Finished spec.Heap) → spec.file_at held.now.what index ≡ Some f →
-        length f.bytes < offset → result ≡ 105 }
-    ensures copied { (f : spec.Finished spec.Heap) → spec.file_at held.now.what index ≡ Some f →
-        offset ≤ length f.bytes → let part = take (length room.old) (drop offset f.bytes) in
-        (result ≡ 0) × (count.new ≡ length part) × (room.new ≡ spec.laid_over part room.old) }
+    ensures copies { spec.CopiesFile held.now.what index offset room.old room.new count.new result }
     ensures left { result ≢ 0 → (room.new ≡ room.old) × (count.new ≡ count.old) }
 {
     match &held.what {
@@ -150,20 +128,10 @@ pub extern "C" fn sst_files_copy(
     room: &mut [u8],
     count: &mut u64,
 ) -> u32
-    ensures kept { files.new.boxed.value ≡ files.old.boxed.value }
-    ensures shut { files.old.boxed.value ≡ None → result ≡ 100 }
-    ensures other { (h : spec.HeldValue) → files.old.boxed.value ≡ Some h →
-        spec.are_files h.what ≡ false → result ≡ 102 }
-    ensures none { (h : spec.HeldValue) → files.old.boxed.value ≡ Some h →
-        spec.are_files h.what ≡ true → spec.file_at h.what index ≡ None → result ≡ 105 }
-    ensures past { (h : spec.HeldValue) (f : spec.Finished spec.Heap) →
-        files.old.boxed.value ≡ Some h →
-        spec.file_at h.what index ≡ Some f → length f.bytes < offset → result ≡ 105 }
-    ensures copied { (h : spec.HeldValue) (f : spec.Finished spec.Heap) →
-        files.old.boxed.value ≡ Some h →
-        spec.file_at h.what index ≡ Some f → offset ≤ length f.bytes →
-        let part = take (length room.old) (drop offset f.bytes) in
-        (result ≡ 0) × (count.new ≡ length part) × (room.new ≡ spec.laid_over part room.old) }
+    ensures queries { spec.QueriesHandle spec.are_files files.old.boxed.value files.new.boxed.value
+        result }
+    ensures copies { (h : spec.HeldValue) → files.old.boxed.value ≡ Some h →
+        spec.CopiesFile h.what index offset room.old room.new count.new result }
     ensures left { result ≢ 0 → (room.new ≡ room.old) × (count.new ≡ count.old) }
 {
     let Some(held) = files.take(alloc) else {
@@ -202,10 +170,8 @@ fn count_files(held: &Held, count: &mut u64) -> u32
 /// On error, `count` is unchanged.
 #[unsafe(no_mangle)]
 pub extern "C" fn sst_files_count(alloc: Global, files: &mut Handle, count: &mut u64) -> u32
-    ensures kept { files.new.boxed.value ≡ files.old.boxed.value }
-    ensures shut { files.old.boxed.value ≡ None → result ≡ 100 }
-    ensures other { (h : spec.HeldValue) → files.old.boxed.value ≡ Some h →
-        spec.are_files h.what ≡ false → result ≡ 102 }
+    ensures queries { spec.QueriesHandle spec.are_files files.old.boxed.value files.new.boxed.value
+        result }
     ensures some { (h : spec.HeldValue) → files.old.boxed.value ≡ Some h →
         spec.are_files h.what ≡ true → result ≡ 0 }
     ensures count { (h : spec.HeldValue) → files.old.boxed.value ≡ Some h →

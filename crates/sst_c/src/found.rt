@@ -36,10 +36,8 @@ pub(crate) fn copy_item(item: &EntryRef<'_>, key: &mut [u8], value: &mut [u8]) -
 
 fn copy_found(held: &Held, key: &mut [u8], value: &mut [u8]) -> u32
     ensures code { result ≡ spec.copy_code (spec.found_by held.now) key.old value.old }
-    ensures copied { (e : spec.Entry) → spec.found_by held.now ≡ Some e → result ≡ 0 →
-        (key.new ≡ spec.laid_over e.user_key key.old)
-        × (value.new ≡ spec.laid_over e.value value.old) }
-    ensures left { result ≢ 0 → (key.new ≡ key.old) × (value.new ≡ value.old) }
+    ensures copies { spec.CopiesEntry (spec.found_by held.now) result key.old key.new value.old
+        value.new }
 {
     match held.found_entry() {
         Some(item) => copy_item(&item, key, value),
@@ -69,10 +67,8 @@ pub extern "C" fn sst_found_copy(
     ensures shut { handle.old.boxed.value ≡ None → result ≡ 100 }
     ensures code { IsSome handle.old.boxed.value →
         result ≡ spec.copy_code (spec.found_in handle.old.boxed.value) key.old value.old }
-    ensures copied { (e : spec.Entry) → spec.found_in handle.old.boxed.value ≡ Some e → result ≡ 0 →
-        (key.new ≡ spec.laid_over e.user_key key.old)
-        × (value.new ≡ spec.laid_over e.value value.old) }
-    ensures left { result ≢ 0 → (key.new ≡ key.old) × (value.new ≡ value.old) }
+    ensures copies { spec.CopiesEntry (spec.found_in handle.old.boxed.value) result key.old key.new
+        value.old value.new }
 {
     let Some(held) = handle.take(alloc) else {
         return CLOSED;
@@ -107,8 +103,7 @@ pub(crate) fn lend_item(item: &EntryRef<'_>, lent: &mut Lent)
 
 fn lend_found(held: &Held, lent: &mut Lent) -> u32
     ensures code { result ≡ spec.lend_code (spec.found_by held.now) }
-    ensures lent { (e : spec.Entry) → spec.found_by held.now ≡ Some e →
-        (lent.new.key_len ≡ length e.user_key) × (lent.new.value_len ≡ length e.value) }
+    ensures lends { spec.LendsEntry (spec.found_by held.now) lent.new.key_len lent.new.value_len }
     ensures left { result ≢ 0 → lent.new ≡ lent.old }
 {
     match held.found_entry() {
@@ -137,8 +132,8 @@ pub extern "C" fn sst_found_lend(alloc: Global, handle: &mut Handle, lent: &mut 
     ensures shut { handle.old.boxed.value ≡ None → result ≡ 100 }
     ensures code { IsSome handle.old.boxed.value →
         result ≡ spec.lend_code (spec.found_in handle.old.boxed.value) }
-    ensures lent { (e : spec.Entry) → spec.found_in handle.old.boxed.value ≡ Some e →
-        (lent.new.key_len ≡ length e.user_key) × (lent.new.value_len ≡ length e.value) }
+    ensures lends { spec.LendsEntry (spec.found_in handle.old.boxed.value) lent.new.key_len
+        lent.new.value_len }
     ensures left { result ≢ 0 → lent.new ≡ lent.old }
 {
     let Some(held) = handle.take(alloc) else {

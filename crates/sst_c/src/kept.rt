@@ -1,5 +1,5 @@
 //! Tables over bytes that the caller keeps.
-ghost use Rattle.std.specs.Prelude.{◌≡◌, ◌≢◌, IsSomeAnd, List, None, is_some, true};
+ghost use Rattle.std.specs.Prelude.{◌≡◌, IsSomeAnd, List, None};
 ghost use Rattle.sst_c.specs.Words as spec;
 
 use crate::codes::OPEN;
@@ -28,7 +28,7 @@ pub extern "C" fn sst_table_open_kept(
     pin_index: bool,
     table: &mut Handle,
 ) -> u32
-    ensures open { is_some table.old.boxed.value ≡ true → result ≡ 101 }
+    ensures opens { spec.OpensHandle table.old.boxed.value table.new.boxed.value result }
     ensures opened { result ≡ 0 → IsSomeAnd table.new.boxed.value
         (spec.IsOpenedAs file.now global_seqno pin_filter pin_index) }
     ensures returned { table.old.boxed.value ≡ None →
@@ -39,7 +39,6 @@ pub extern "C" fn sst_table_open_kept(
     // Bytes that store a list are opened if the highest sequence number fits.
     ensures list { table.old.boxed.value ≡ None → (es : List spec.Entry) →
         spec.StoresList file.now es → spec.ReportsCode result (spec.fits_result es global_seqno) }
-    ensures left { result ≢ 0 → table.new.boxed.value ≡ table.old.boxed.value }
 {
     if table.is_open() {
         return OPEN;

@@ -1,7 +1,6 @@
 //! Point reads of many keys in one table.
 ghost use Rattle.std.specs.Prelude.{◌≡◌, ◌≢◌, ◌<◌, ◌≤◌, ◌==◌, ◌⊎◌, false, true, IfErr, IfOk, List};
-ghost use Rattle.std.specs.Prelude.{IsSomeAnd, None, Ok, Option, Result, Some, is_some, length};
-ghost use Rattle.std.specs.Prelude.{map};
+ghost use Rattle.std.specs.Prelude.{IsSomeAnd, None, Ok, Some, length, map};
 ghost use Rattle.sst_c.specs.Words as spec;
 
 use crate::answer_list::AnswerList;
@@ -54,13 +53,10 @@ fn found_of(
     seqno: SeqNo,
 ) -> Result<AnswerList, Error>
     requires { spec.sum lens.now ≡ length keys.now }
-    ensures returned { let returned = spec.many_results table.now
-        (spec.queries_for keys.now lens.now seqno) in
-        spec.Gives (λ (found : List (Option spec.Entry)). found) result returned }
-    ensures list { (es : List spec.Entry) → spec.StoresList table.now.bytes es →
-        let all = spec.lift es table.now.global_seqno in
-        let each = map (λ k. spec.point all k seqno) (spec.keys_cut lens.now keys.now) in
-        spec.Gives (λ (found : List (Option spec.Entry)). found) result (Ok each) }
+    ensures returned { spec.GivesMany result
+        (spec.many_results table.now (spec.queries_for keys.now lens.now seqno)) }
+    ensures list { (es : List spec.Entry) → spec.StoresList table.now.bytes es → spec.GivesMany result
+        (Ok (spec.points_of es table.now.global_seqno keys.now lens.now seqno)) }
     ensures count { IfOk result (λ found. length found ≡ length lens.now) }
 {
     let queries = queries_of(alloc, keys, lens, seqno)?;
@@ -125,10 +121,9 @@ fn keep_found(
     requires empty { answers.old.boxed.value ≡ None }
     requires room { IfOk found (λ each. length each ≤ length entries.old) }
     ensures refused { IfErr found (λ e. result ≡ spec.number_of e) }
-    ensures returned { (returned : Result (List (Option spec.Entry)) spec.ErrorValue) →
-        spec.Gives (λ (each : List (Option spec.Entry)). each) found returned →
-        let kept = spec.many_kept answers.new.boxed.value in
-        spec.AnswersMany result kept entries.old entries.new returned }
+    ensures returned { (returned : spec.ManyResult) → spec.GivesMany found returned →
+        spec.AnswersMany result (spec.many_kept answers.new.boxed.value) entries.old entries.new
+        returned }
     ensures new { result ≡ 0 → IsSomeAnd answers.new.boxed.value (λ k. spec.found_by k ≡ None) }
     ensures left { result ≢ 0 →
         (entries.new ≡ entries.old) × (answers.new.boxed.value ≡ None) }
@@ -151,15 +146,8 @@ fn read_each(
     requires empty { answers.old.boxed.value ≡ None }
     requires sum { spec.sum lens.now ≡ length keys.now }
     requires room { length lens.now ≤ length entries.old }
-    ensures returned { let returned = spec.many_results table.now
-        (spec.queries_for keys.now lens.now seqno) in
-        let kept = spec.many_kept answers.new.boxed.value in
-        spec.AnswersMany result kept entries.old entries.new returned }
-    ensures list { (es : List spec.Entry) → spec.StoresList table.now.bytes es →
-        let all = spec.lift es table.now.global_seqno in
-        let each = map (λ k. spec.point all k seqno) (spec.keys_cut lens.now keys.now) in
-        let kept = spec.many_kept answers.new.boxed.value in
-        spec.AnswersMany result kept entries.old entries.new (Ok each) }
+    ensures returned { spec.AnswersKeys table.now keys.now lens.now seqno result
+        (spec.many_kept answers.new.boxed.value) entries.old entries.new }
     ensures new { result ≡ 0 → IsSomeAnd answers.new.boxed.value (λ k. spec.found_by k ≡ None) }
     ensures left { result ≢ 0 →
         (entries.new ≡ entries.old) × (answers.new.boxed.value ≡ None) }
@@ -183,17 +171,8 @@ fn get_each(
         result ≡ 105 }
     ensures room { spec.is_table held.now.what ≡ true → spec.sum lens.now ≡ length keys.now →
         length entries.old < length lens.now → result ≡ 103 }
-    ensures returned { (t : spec.OpenTable) → held.now.what ≡ spec.TableOf t →
-        spec.sum lens.now ≡ length keys.now → length lens.now ≤ length entries.old →
-        let returned = spec.many_results t (spec.queries_for keys.now lens.now seqno) in
-        let kept = spec.many_kept answers.new.boxed.value in
-        spec.AnswersMany result kept entries.old entries.new returned }
-    ensures list { (t : spec.OpenTable) (es : List spec.Entry) → held.now.what ≡ spec.TableOf t →
-        spec.sum lens.now ≡ length keys.now → length lens.now ≤ length entries.old →
-        spec.StoresList t.bytes es → let all = spec.lift es t.global_seqno in
-        let each = map (λ k. spec.point all k seqno) (spec.keys_cut lens.now keys.now) in
-        let kept = spec.many_kept answers.new.boxed.value in
-        spec.AnswersMany result kept entries.old entries.new (Ok each) }
+    ensures returned { spec.AnswersHeld held.now.what keys.now lens.now seqno result
+        answers.new.boxed.value entries.old entries.new }
     ensures new { result ≡ 0 → IsSomeAnd answers.new.boxed.value (λ k. spec.found_by k ≡ None) }
     ensures left { result ≢ 0 →
         (entries.new ≡ entries.old) × (answers.new.boxed.value ≡ None) }
@@ -236,37 +215,12 @@ pub extern "C" fn sst_table_get_many(
     entries: &mut [EntryReport],
     answers: &mut Handle,
 ) -> u32
-    ensures kept { table.new.boxed.value ≡ table.old.boxed.value }
-    ensures open { is_some answers.old.boxed.value ≡ true → result ≡ 101 }
-    ensures shut { answers.old.boxed.value ≡ None → table.old.boxed.value ≡ None → result ≡ 100 }
-    ensures kind { (h : spec.HeldValue) → answers.old.boxed.value ≡ None →
-        table.old.boxed.value ≡ Some h → spec.is_table h.what ≡ false → result ≡ 102 }
-    ensures lengths { (h : spec.HeldValue) → answers.old.boxed.value ≡ None →
-        table.old.boxed.value ≡ Some h → spec.is_table h.what ≡ true →
-        spec.sum key_lens.now ≢ length keys.now → result ≡ 105 }
-    ensures room { (h : spec.HeldValue) → answers.old.boxed.value ≡ None →
-        table.old.boxed.value ≡ Some h → spec.is_table h.what ≡ true →
-        spec.sum key_lens.now ≡ length keys.now → length entries.old < length key_lens.now →
-        result ≡ 103 }
-    // For any bytes it is the result of each read, or the first error.
-    ensures returned { (h : spec.HeldValue) (t : spec.OpenTable) → answers.old.boxed.value ≡ None →
-        table.old.boxed.value ≡ Some h → h.what ≡ spec.TableOf t →
-        spec.sum key_lens.now ≡ length keys.now → length key_lens.now ≤ length entries.old →
-        let returned = spec.many_results t (spec.queries_for keys.now key_lens.now seqno) in
-        let kept = spec.many_kept answers.new.boxed.value in
-        spec.AnswersMany result kept entries.old entries.new returned }
-    // For bytes that store a list it is each key's newest visible version in the list, global seqno
-    // applied.
-    ensures list { (h : spec.HeldValue) (t : spec.OpenTable) (es : List spec.Entry) →
-        answers.old.boxed.value ≡ None → table.old.boxed.value ≡ Some h → h.what ≡ spec.TableOf t →
-        spec.sum key_lens.now ≡ length keys.now → length key_lens.now ≤ length entries.old →
-        spec.StoresList t.bytes es → let all = spec.lift es t.global_seqno in
-        let each = map (λ k. spec.point all k seqno) (spec.keys_cut key_lens.now keys.now) in
-        let kept = spec.many_kept answers.new.boxed.value in
-        spec.AnswersMany result kept entries.old entries.new (Ok each) }
-    ensures new { result ≡ 0 → IsSomeAnd answers.new.boxed.value (λ k. spec.found_by k ≡ None) }
-    ensures left { result ≢ 0 →
-        (entries.new ≡ entries.old) × (answers.new.boxed.value ≡ answers.old.boxed.value) }
+    ensures opens { spec.OpensFrom spec.is_table table.old.boxed.value table.new.boxed.value
+        answers.old.boxed.value answers.new.boxed.value result }
+    ensures gets { (h : spec.HeldValue) → answers.old.boxed.value ≡ None →
+        table.old.boxed.value ≡ Some h → spec.GetsMany h.what keys.now key_lens.now seqno result
+        answers.new.boxed.value entries.old entries.new }
+    ensures left { result ≢ 0 → entries.new ≡ entries.old }
 {
     if answers.is_open() {
         return OPEN;
@@ -281,8 +235,8 @@ pub extern "C" fn sst_table_get_many(
 
 fn lend_at(held: &Held, index: u64, lent: &mut Lent) -> u32
     ensures code { result ≡ spec.lend_at_code (spec.many_in held.now.what) index }
-    ensures lent { (e : spec.Entry) → spec.answer_at (spec.many_in held.now.what) index ≡ Some e →
-        (lent.new.key_len ≡ length e.user_key) × (lent.new.value_len ≡ length e.value) }
+    ensures lends { spec.LendsEntry (spec.answer_at (spec.many_in held.now.what) index)
+        lent.new.key_len lent.new.value_len }
     ensures left { result ≢ 0 → lent.new ≡ lent.old }
 {
     let What::Answers(found) = &held.what else {
@@ -323,9 +277,8 @@ pub extern "C" fn sst_answers_lend(
     ensures shut { answers.old.boxed.value ≡ None → result ≡ 100 }
     ensures code { (h : spec.HeldValue) → answers.old.boxed.value ≡ Some h →
         result ≡ spec.lend_at_code (spec.many_in h.what) index }
-    ensures lent { (h : spec.HeldValue) (e : spec.Entry) → answers.old.boxed.value ≡ Some h →
-        spec.answer_at (spec.many_in h.what) index ≡ Some e →
-        (lent.new.key_len ≡ length e.user_key) × (lent.new.value_len ≡ length e.value) }
+    ensures lends { (h : spec.HeldValue) → answers.old.boxed.value ≡ Some h → spec.LendsEntry
+        (spec.answer_at (spec.many_in h.what) index) lent.new.key_len lent.new.value_len }
     ensures left { result ≢ 0 → lent.new ≡ lent.old }
 {
     let Some(held) = answers.take(alloc) else {
@@ -338,11 +291,8 @@ pub extern "C" fn sst_answers_lend(
 
 fn copy_at(held: &Held, index: u64, key: &mut [u8], value: &mut [u8]) -> u32
     ensures code { result ≡ spec.copy_at_code (spec.many_in held.now.what) index key.old value.old }
-    ensures copied { (e : spec.Entry) → spec.answer_at (spec.many_in held.now.what) index ≡ Some e →
-        result ≡ 0 →
-        (key.new ≡ spec.laid_over e.user_key key.old)
-        × (value.new ≡ spec.laid_over e.value value.old) }
-    ensures left { result ≢ 0 → (key.new ≡ key.old) × (value.new ≡ value.old) }
+    ensures copies { spec.CopiesEntry (spec.answer_at (spec.many_in held.now.what) index) result
+        key.old key.new value.old value.new }
 {
     let What::Answers(found) = &held.what else {
         return OTHER_KIND;
@@ -379,10 +329,9 @@ pub extern "C" fn sst_answers_copy(
     ensures shut { answers.old.boxed.value ≡ None → result ≡ 100 }
     ensures code { (h : spec.HeldValue) → answers.old.boxed.value ≡ Some h →
         result ≡ spec.copy_at_code (spec.many_in h.what) index key.old value.old }
-    ensures copied { (h : spec.HeldValue) (e : spec.Entry) → answers.old.boxed.value ≡ Some h →
-        spec.answer_at (spec.many_in h.what) index ≡ Some e → result ≡ 0 →
-        (key.new ≡ spec.laid_over e.user_key key.old)
-        × (value.new ≡ spec.laid_over e.value value.old) }
+    ensures copies { (h : spec.HeldValue) → answers.old.boxed.value ≡ Some h →
+        spec.CopiesEntry (spec.answer_at (spec.many_in h.what) index) result
+        key.old key.new value.old value.new }
     ensures left { result ≢ 0 → (key.new ≡ key.old) × (value.new ≡ value.old) }
 {
     let Some(held) = answers.take(alloc) else {

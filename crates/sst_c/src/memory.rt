@@ -1,5 +1,5 @@
 //! The memory of a table.
-ghost use Rattle.std.specs.Prelude.{◌≡◌, ◌≢◌, false, None, Some};
+ghost use Rattle.std.specs.Prelude.{◌≡◌, ◌≢◌, false, Some};
 ghost use Rattle.sst_c.specs.Words as spec;
 
 use crate::codes::{CLOSED, OTHER_KIND};
@@ -68,10 +68,8 @@ pub extern "C" fn sst_table_memory(
     table: &mut Handle,
     memory: &mut TableMemory,
 ) -> u32
-    ensures kept { table.new.boxed.value ≡ table.old.boxed.value }
-    ensures shut { table.old.boxed.value ≡ None → result ≡ 100 }
-    ensures other { (h : spec.HeldValue) → table.old.boxed.value ≡ Some h →
-        spec.is_table h.what ≡ false → result ≡ 102 }
+    ensures queries { spec.QueriesHandle spec.is_table table.old.boxed.value table.new.boxed.value
+        result }
     ensures returned { (h : spec.HeldValue) (t : spec.OpenTable) → table.old.boxed.value ≡ Some h →
         h.what ≡ spec.TableOf t → (result ≡ 0) × spec.ReportsMemory t memory.new }
     ensures left { result ≢ 0 → memory.new ≡ memory.old }

@@ -1,19 +1,21 @@
 //! Ranges of several runs, read from both ends.
-ghost use Rattle.std.specs.Prelude.{◌≡◌, ◌≢◌, ◌<◌, ◌⊎◌, ◌||◌, false, IfErr, IfOk, IsSomeAnd, List};
-ghost use Rattle.std.specs.Prelude.{None, Ok, Some, is_some, nat_lt, true};
+ghost use Rattle.std.specs.Prelude.{◌≡◌, ◌<◌, false, IfErr, IfOk, IsSomeAnd, None, Ok, Some, true};
 ghost use Rattle.sst_c.specs.Words as spec;
 
-use crate::asked::Asked;
+use crate::asked::{Asked, NewestAt};
 use crate::codes::{CLOSED, NO_SUCH, OPEN, OTHER_KIND};
 use crate::handle::Handle;
 use crate::held::{Held, What};
 use crate::ranges::{bounds, outcome_of};
 use crate::run_list::RunList;
-use lsm_runs::{NewestOfRunsAt, RunReader, range_runs_at};
+use lsm_runs::{RunReader, range_runs_at};
 use lsm_sorted::Below;
 use sst_blocks::{Error, InternalValue, SeqNo, Slice};
 use std::alloc::Global;
 use std::ops::Bound;
+
+// A reader of a run that yields the entries visible at a sequence number.
+type ReaderAt = Below<RunReader<Global>>;
 
 // The newest versions visible at `seqno` within two bounds.
 fn newest_within(
@@ -22,19 +24,12 @@ fn newest_within(
     range: (Bound<Slice>, Bound<Slice>),
     seqno: SeqNo,
 ) -> Result<Asked, Error>
-    ensures steps { IfOk result (λ s.
-        spec.IsOverSpansBelow ⟦<Below<RunReader<Global>> as Iterator>⟧.next_gives
-        ⟦<Below<RunReader<Global>> as DoubleEndedIterator>⟧.next_back_gives
-        ⟦<NewestOfRunsAt<Global> as Iterator>⟧.next_gives
-        ⟦<NewestOfRunsAt<Global> as DoubleEndedIterator>⟧.next_back_gives
-        range.0 range.1 seqno runs.now s) }
-    ensures list { let gives = ⟦<NewestOfRunsAt<Global> as Iterator>⟧.next_gives in
-        let back_gives = ⟦<NewestOfRunsAt<Global> as DoubleEndedIterator>⟧.next_back_gives in
-        (lists : List (List (List spec.Entry))) →
-        spec.RunsHoldLists runs.now lists →
-        let found = spec.newest
-        (spec.numbered_below seqno (spec.within range.0 range.1 (spec.union_in lists))) in
-        IfOk result (λ s. spec.YieldsList gives back_gives found s) }
+    ensures ranges { IfOk result
+        (spec.RangesRuns ⟦<ReaderAt as Iterator>⟧.next_gives
+        ⟦<ReaderAt as DoubleEndedIterator>⟧.next_back_gives
+        ⟦<NewestAt as Iterator>⟧.next_gives
+        ⟦<NewestAt as DoubleEndedIterator>⟧.next_back_gives
+        range.0 range.1 seqno runs.now) }
     ensures err { IfErr result (λ e. e ≡ spec.OutOfMemory) }
 {
     Ok(Asked::new(range_runs_at(alloc, runs.as_slice(), range, seqno)?))
@@ -52,21 +47,13 @@ fn merged_within(
 ) -> Result<Asked, Error>
     requires lower { lower_kind < 3 }
     requires upper { upper_kind < 3 }
-    ensures steps { let low = spec.decode_bound lower_kind lower.now in
-        let high = spec.decode_bound upper_kind upper.now in IfOk result
-        (spec.IsOverSpansBelow ⟦<Below<RunReader<Global>> as Iterator>⟧.next_gives
-        ⟦<Below<RunReader<Global>> as DoubleEndedIterator>⟧.next_back_gives
-        ⟦<NewestOfRunsAt<Global> as Iterator>⟧.next_gives
-        ⟦<NewestOfRunsAt<Global> as DoubleEndedIterator>⟧.next_back_gives
-        low high seqno runs.now) }
-    ensures list { let gives = ⟦<NewestOfRunsAt<Global> as Iterator>⟧.next_gives in
-        let back_gives = ⟦<NewestOfRunsAt<Global> as DoubleEndedIterator>⟧.next_back_gives in
-        let low = spec.decode_bound lower_kind lower.now in
-        let high = spec.decode_bound upper_kind upper.now in (lists : List (List (List spec.Entry))) →
-        spec.RunsHoldLists runs.now lists →
-        let found = spec.newest
-        (spec.numbered_below seqno (spec.within low high (spec.union_in lists))) in
-        IfOk result (spec.YieldsList gives back_gives found) }
+    ensures ranges { IfOk result
+        (spec.RangesRuns ⟦<ReaderAt as Iterator>⟧.next_gives
+        ⟦<ReaderAt as DoubleEndedIterator>⟧.next_back_gives
+        ⟦<NewestAt as Iterator>⟧.next_gives
+        ⟦<NewestAt as DoubleEndedIterator>⟧.next_back_gives
+        (spec.decode_bound lower_kind lower.now) (spec.decode_bound upper_kind upper.now) seqno
+        runs.now) }
     ensures err { IfErr result (λ e. e ≡ spec.OutOfMemory) }
 {
     let range = bounds(alloc, lower_kind, lower, upper_kind, upper)?;
@@ -85,32 +72,14 @@ fn begin_merged(
     range: &mut Handle,
 ) -> u32
     requires { range.old.boxed.value ≡ None }
-    ensures other { spec.are_runs held.now.what ≡ false → result ≡ 102 }
-    ensures kinds { spec.are_runs held.now.what ≡ true →
-        nat_lt 2 lower_kind || nat_lt 2 upper_kind ≡ true → result ≡ 105 }
-    ensures memory { spec.are_runs held.now.what ≡ true →
-        nat_lt 2 lower_kind || nat_lt 2 upper_kind ≡ false → (result ≡ 0) ⊎ (result ≡ 1) }
-    ensures new { result ≡ 0 → IsSomeAnd range.new.boxed.value (λ r. spec.found_by r ≡ None) }
-    ensures steps { result ≡ 0 →
-        let low = spec.decode_bound lower_kind lower.now in
-        let high = spec.decode_bound upper_kind upper.now in
-        IsSomeAnd range.new.boxed.value (λ r. spec.IsMergedWhere
-        (spec.IsOverSpansBelow ⟦<Below<RunReader<Global>> as Iterator>⟧.next_gives
-        ⟦<Below<RunReader<Global>> as DoubleEndedIterator>⟧.next_back_gives
-        ⟦<NewestOfRunsAt<Global> as Iterator>⟧.next_gives
-        ⟦<NewestOfRunsAt<Global> as DoubleEndedIterator>⟧.next_back_gives
-        low high seqno (spec.runs_held held.now.what)) r.what) }
-    ensures list { let gives = ⟦<NewestOfRunsAt<Global> as Iterator>⟧.next_gives in
-        let back_gives = ⟦<NewestOfRunsAt<Global> as DoubleEndedIterator>⟧.next_back_gives in
-        let low = spec.decode_bound lower_kind lower.now in
-        let high = spec.decode_bound upper_kind upper.now in
-        (lists : List (List (List spec.Entry))) → result ≡ 0 →
-        spec.RunsHoldLists (spec.runs_held held.now.what) lists →
-        let found = spec.newest
-        (spec.numbered_below seqno (spec.within low high (spec.union_in lists))) in
-        IsSomeAnd range.new.boxed.value (λ r.
-        spec.IsMergedWhere (spec.YieldsList gives back_gives found) r.what) }
-    ensures left { result ≢ 0 → range.new.boxed.value ≡ None }
+    ensures begins { spec.OpensNewWithin lower_kind upper_kind spec.are_runs held.now.what
+        range.new.boxed.value result }
+    ensures ranges { result ≡ 0 → IsSomeAnd range.new.boxed.value (λ r.
+        spec.RangesRunsHeld ⟦<ReaderAt as Iterator>⟧.next_gives
+        ⟦<ReaderAt as DoubleEndedIterator>⟧.next_back_gives
+        ⟦<NewestAt as Iterator>⟧.next_gives
+        ⟦<NewestAt as DoubleEndedIterator>⟧.next_back_gives
+        lower_kind lower.now upper_kind upper.now seqno held.now.what r.what) }
 {
     let What::Runs(runs) = &held.what else {
         return OTHER_KIND;
@@ -152,44 +121,16 @@ pub extern "C" fn sst_runs_range_open(
     seqno: u64,
     range: &mut Handle,
 ) -> u32
-    ensures kept { runs.new.boxed.value ≡ runs.old.boxed.value }
-    ensures left { result ≢ 0 → range.new.boxed.value ≡ range.old.boxed.value }
-    ensures open { is_some range.old.boxed.value ≡ true → result ≡ 101 }
-    ensures shut { range.old.boxed.value ≡ None → runs.old.boxed.value ≡ None → result ≡ 100 }
-    ensures other { (h : spec.HeldValue) → range.old.boxed.value ≡ None →
-        runs.old.boxed.value ≡ Some h → spec.are_runs h.what ≡ false → result ≡ 102 }
-    ensures kinds { (h : spec.HeldValue) → range.old.boxed.value ≡ None →
-        runs.old.boxed.value ≡ Some h → spec.are_runs h.what ≡ true →
-        nat_lt 2 lower_kind || nat_lt 2 upper_kind ≡ true → result ≡ 105 }
-    ensures memory { (h : spec.HeldValue) → range.old.boxed.value ≡ None →
-        runs.old.boxed.value ≡ Some h → spec.are_runs h.what ≡ true →
-        nat_lt 2 lower_kind || nat_lt 2 upper_kind ≡ false → (result ≡ 0) ⊎ (result ≡ 1) }
-    ensures new { result ≡ 0 → IsSomeAnd range.new.boxed.value (λ r. spec.found_by r ≡ None) }
-    // For any bytes, it merges readers of the runs. Each covers the tables of its run whose ranges
-    // overlap the bounds, and seqnos below `seqno`. An error of a reader is yielded at its
-    // position.
-    ensures steps { (h : spec.HeldValue) → runs.old.boxed.value ≡ Some h → result ≡ 0 →
-        let low = spec.decode_bound lower_kind lower.now in
-        let high = spec.decode_bound upper_kind upper.now in
-        IsSomeAnd range.new.boxed.value (λ r. spec.IsMergedWhere
-        (spec.IsOverSpansBelow ⟦<Below<RunReader<Global>> as Iterator>⟧.next_gives
-        ⟦<Below<RunReader<Global>> as DoubleEndedIterator>⟧.next_back_gives
-        ⟦<NewestOfRunsAt<Global> as Iterator>⟧.next_gives
-        ⟦<NewestOfRunsAt<Global> as DoubleEndedIterator>⟧.next_back_gives
-        low high seqno (spec.runs_held h.what)) r.what) }
-    // For tables of lists, it yields, from both ends, the newest versions within the bounds and
-    // below `seqno`. It applies the global sequence numbers first.
-    ensures list { let gives = ⟦<NewestOfRunsAt<Global> as Iterator>⟧.next_gives in
-        let back_gives = ⟦<NewestOfRunsAt<Global> as DoubleEndedIterator>⟧.next_back_gives in
-        let low = spec.decode_bound lower_kind lower.now in
-        let high = spec.decode_bound upper_kind upper.now in
-        (h : spec.HeldValue) (lists : List (List (List spec.Entry))) →
-        runs.old.boxed.value ≡ Some h →
-        result ≡ 0 → spec.RunsHoldLists (spec.runs_held h.what) lists →
-        let found = spec.newest
-        (spec.numbered_below seqno (spec.within low high (spec.union_in lists))) in
+    ensures opens { spec.OpensWithin lower_kind upper_kind spec.are_runs runs.old.boxed.value
+        runs.new.boxed.value range.old.boxed.value range.new.boxed.value result }
+    // It yields the newest versions within the bounds and below `seqno`, from both ends.
+    ensures ranges { (h : spec.HeldValue) → runs.old.boxed.value ≡ Some h → result ≡ 0 →
         IsSomeAnd range.new.boxed.value (λ r.
-        spec.IsMergedWhere (spec.YieldsList gives back_gives found) r.what) }
+        spec.RangesRunsHeld ⟦<ReaderAt as Iterator>⟧.next_gives
+        ⟦<ReaderAt as DoubleEndedIterator>⟧.next_back_gives
+        ⟦<NewestAt as Iterator>⟧.next_gives
+        ⟦<NewestAt as DoubleEndedIterator>⟧.next_back_gives
+        lower_kind lower.now upper_kind upper.now seqno h.what r.what) }
 {
     if range.is_open() {
         return OPEN;
@@ -218,9 +159,9 @@ pub(crate) fn step_merged(
 ) -> Result<Option<InternalValue>, Error>
     ensures over { merged.old ≡ None → (result ≡ Ok None) × (merged.new ≡ None) }
     ensures front { (s : spec.NewestAt) → merged.old ≡ Some s → back ≡ false →
-        spec.StepsUntil ⟦<NewestOfRunsAt<Global> as Iterator>⟧.next_gives s result merged.new }
+        spec.StepsUntil ⟦<NewestAt as Iterator>⟧.next_gives s result merged.new }
     ensures back { (s : spec.NewestAt) → merged.old ≡ Some s → back ≡ true →
-        spec.StepsUntil ⟦<NewestOfRunsAt<Global> as DoubleEndedIterator>⟧.next_back_gives
+        spec.StepsUntil ⟦<NewestAt as DoubleEndedIterator>⟧.next_back_gives
         s result merged.new }
 {
     let Some(asked) = merged else {

@@ -1,6 +1,5 @@
 //! Packing the tables of a list of runs into the fewest runs.
-ghost use Rattle.std.specs.Prelude.{◌≡◌, ◌≢◌, ◌⊎◌, false, IsSomeAnd, List, None, Some};
-ghost use Rattle.std.specs.Prelude.{ℕ, is_some, length, slice_get, true};
+ghost use Rattle.std.specs.Prelude.{◌≡◌, ◌≢◌, ◌⊎◌, false, IsSomeAnd, None, Some, length, true};
 ghost use Rattle.sst_c.specs.Words as spec;
 
 use crate::codes::{CLOSED, NO_SUCH, OPEN, OTHER_KIND};
@@ -12,14 +11,12 @@ use std::alloc::Global;
 // Puts the packed runs into a closed handle.
 fn pack(alloc: Global, held: &Held, packed: &mut Handle) -> u32
     requires { packed.old.boxed.value ≡ None }
-    ensures other { spec.are_runs held.now.what ≡ false → result ≡ 102 }
+    ensures begins { spec.OpensNew spec.are_runs held.now.what packed.new.boxed.value result }
     ensures memory { spec.are_runs held.now.what ≡ true → (result ≡ 0) ⊎ (result ≡ 1) }
-    ensures new { result ≡ 0 → IsSomeAnd packed.new.boxed.value (λ k. spec.found_by k ≡ None) }
     ensures kind { result ≡ 0 →
         IsSomeAnd packed.new.boxed.value (λ k. spec.are_runs k.what ≡ true) }
     ensures packed { result ≡ 0 → IsSomeAnd packed.new.boxed.value (λ k.
         spec.ArePackedOf (spec.runs_held held.now.what) (spec.runs_held k.what)) }
-    ensures left { result ≢ 0 → packed.new.boxed.value ≡ None }
 {
     let What::Runs(runs) = &held.what else {
         return OTHER_KIND;
@@ -46,15 +43,10 @@ fn pack(alloc: Global, held: &Held, packed: &mut Handle) -> u32
 /// On error, both handles are unchanged.
 #[unsafe(no_mangle)]
 pub extern "C" fn sst_runs_pack(alloc: Global, runs: &mut Handle, packed: &mut Handle) -> u32
-    ensures kept { runs.new.boxed.value ≡ runs.old.boxed.value }
-    ensures left { result ≢ 0 → packed.new.boxed.value ≡ packed.old.boxed.value }
-    ensures open { is_some packed.old.boxed.value ≡ true → result ≡ 101 }
-    ensures shut { packed.old.boxed.value ≡ None → runs.old.boxed.value ≡ None → result ≡ 100 }
-    ensures other { (h : spec.HeldValue) → packed.old.boxed.value ≡ None →
-        runs.old.boxed.value ≡ Some h → spec.are_runs h.what ≡ false → result ≡ 102 }
+    ensures opens { spec.OpensFrom spec.are_runs runs.old.boxed.value runs.new.boxed.value
+        packed.old.boxed.value packed.new.boxed.value result }
     ensures memory { (h : spec.HeldValue) → packed.old.boxed.value ≡ None →
         runs.old.boxed.value ≡ Some h → spec.are_runs h.what ≡ true → (result ≡ 0) ⊎ (result ≡ 1) }
-    ensures new { result ≡ 0 → IsSomeAnd packed.new.boxed.value (λ k. spec.found_by k ≡ None) }
     ensures kind { result ≡ 0 →
         IsSomeAnd packed.new.boxed.value (λ k. spec.are_runs k.what ≡ true) }
     // They are the packed runs of the list. If the tables store lists, they hold the same entries.
@@ -76,13 +68,10 @@ pub extern "C" fn sst_runs_pack(alloc: Global, runs: &mut Handle, packed: &mut H
 // Puts the packing of the tables of runs into a closed handle.
 fn show_packing(alloc: Global, held: &Held, packing: &mut Handle) -> u32
     requires { packing.old.boxed.value ≡ None }
-    ensures other { spec.are_runs held.now.what ≡ false → result ≡ 102 }
+    ensures begins { spec.OpensNew spec.are_runs held.now.what packing.new.boxed.value result }
     ensures memory { spec.are_runs held.now.what ≡ true → (result ≡ 0) ⊎ (result ≡ 1) }
-    ensures new { result ≡ 0 → IsSomeAnd packing.new.boxed.value (λ k. spec.found_by k ≡ None) }
-    ensures packed { result ≡ 0 → IsSomeAnd packing.new.boxed.value (λ k.
-        spec.IsPackingWhere (spec.IsPackedOf spec.range_of
-        (spec.tables_in (spec.runs_held held.now.what))) k.what) }
-    ensures left { result ≢ 0 → packing.new.boxed.value ≡ None }
+    ensures packed { result ≡ 0 →
+        IsSomeAnd packing.new.boxed.value (λ k. spec.PacksHeld held.now.what k.what) }
 {
     let What::Runs(runs) = &held.what else {
         return OTHER_KIND;
@@ -109,21 +98,14 @@ fn show_packing(alloc: Global, held: &Held, packing: &mut Handle) -> u32
 /// On error, both handles are unchanged.
 #[unsafe(no_mangle)]
 pub extern "C" fn sst_packing_open(alloc: Global, runs: &mut Handle, packing: &mut Handle) -> u32
-    ensures kept { runs.new.boxed.value ≡ runs.old.boxed.value }
-    ensures left { result ≢ 0 → packing.new.boxed.value ≡ packing.old.boxed.value }
-    ensures open { is_some packing.old.boxed.value ≡ true → result ≡ 101 }
-    ensures shut { packing.old.boxed.value ≡ None → runs.old.boxed.value ≡ None → result ≡ 100 }
-    ensures other { (h : spec.HeldValue) → packing.old.boxed.value ≡ None →
-        runs.old.boxed.value ≡ Some h → spec.are_runs h.what ≡ false → result ≡ 102 }
+    ensures opens { spec.OpensFrom spec.are_runs runs.old.boxed.value runs.new.boxed.value
+        packing.old.boxed.value packing.new.boxed.value result }
     ensures memory { (h : spec.HeldValue) → packing.old.boxed.value ≡ None →
         runs.old.boxed.value ≡ Some h → spec.are_runs h.what ≡ true → (result ≡ 0) ⊎ (result ≡ 1) }
-    ensures new { result ≡ 0 → IsSomeAnd packing.new.boxed.value (λ k. spec.found_by k ≡ None) }
     // The tables are those of the list, and the order of each key's tables is kept. No fewer runs
     // suffice, and the chain has as many tables as there are runs.
     ensures packed { (h : spec.HeldValue) → runs.old.boxed.value ≡ Some h → result ≡ 0 →
-        IsSomeAnd packing.new.boxed.value (λ k.
-        spec.IsPackingWhere (spec.IsPackedOf spec.range_of (spec.tables_in (spec.runs_held h.what)))
-        k.what) }
+        IsSomeAnd packing.new.boxed.value (λ k. spec.PacksHeld h.what k.what) }
 {
     if packing.is_open() {
         return OPEN;
@@ -161,10 +143,8 @@ fn count(held: &Held, runs: &mut u64) -> u32
 /// On error, `runs` is unchanged.
 #[unsafe(no_mangle)]
 pub extern "C" fn sst_packing_count(alloc: Global, packing: &mut Handle, runs: &mut u64) -> u32
-    ensures kept { packing.new.boxed.value ≡ packing.old.boxed.value }
-    ensures shut { packing.old.boxed.value ≡ None → result ≡ 100 }
-    ensures other { (h : spec.HeldValue) → packing.old.boxed.value ≡ Some h →
-        spec.is_packing h.what ≡ false → result ≡ 102 }
+    ensures queries { spec.QueriesHandle spec.is_packing packing.old.boxed.value
+        packing.new.boxed.value result }
     ensures returned { (h : spec.HeldValue) → packing.old.boxed.value ≡ Some h →
         spec.is_packing h.what ≡ true →
         (result ≡ 0) × (runs.new ≡ length (spec.packed_runs h.what)) }
@@ -180,11 +160,7 @@ pub extern "C" fn sst_packing_count(alloc: Global, packing: &mut Handle, runs: &
 
 fn count_run(held: &Held, run: u64, tables: &mut u64) -> u32
     ensures other { spec.is_packing held.now.what ≡ false → result ≡ 102 }
-    ensures none { spec.is_packing held.now.what ≡ true →
-        slice_get (spec.packed_runs held.now.what) run ≡ None → result ≡ 105 }
-    ensures returned { (ts : List (spec.PlacedTable spec.OpenTable)) →
-        slice_get (spec.packed_runs held.now.what) run ≡ Some ts →
-        (result ≡ 0) × (tables.new ≡ length ts) }
+    ensures counts { spec.CountsRun held.now.what run result tables.new }
     ensures left { result ≢ 0 → tables.new ≡ tables.old }
 {
     let What::Packing(packed) = &held.what else {
@@ -215,16 +191,10 @@ pub extern "C" fn sst_packing_run(
     run: u64,
     tables: &mut u64,
 ) -> u32
-    ensures kept { packing.new.boxed.value ≡ packing.old.boxed.value }
-    ensures shut { packing.old.boxed.value ≡ None → result ≡ 100 }
-    ensures other { (h : spec.HeldValue) → packing.old.boxed.value ≡ Some h →
-        spec.is_packing h.what ≡ false → result ≡ 102 }
-    ensures none { (h : spec.HeldValue) → packing.old.boxed.value ≡ Some h →
-        spec.is_packing h.what ≡ true → slice_get (spec.packed_runs h.what) run ≡ None →
-        result ≡ 105 }
-    ensures returned { (h : spec.HeldValue) (ts : List (spec.PlacedTable spec.OpenTable)) →
-        packing.old.boxed.value ≡ Some h → slice_get (spec.packed_runs h.what) run ≡ Some ts →
-        (result ≡ 0) × (tables.new ≡ length ts) }
+    ensures queries { spec.QueriesHandle spec.is_packing packing.old.boxed.value
+        packing.new.boxed.value result }
+    ensures counts { (h : spec.HeldValue) → packing.old.boxed.value ≡ Some h →
+        spec.CountsRun h.what run result tables.new }
     ensures left { result ≢ 0 → tables.new ≡ tables.old }
 {
     let Some(held) = packing.take(alloc) else {
@@ -237,15 +207,7 @@ pub extern "C" fn sst_packing_run(
 
 fn tell_table(held: &Held, run: u64, place: u64, table: &mut u64) -> u32
     ensures other { spec.is_packing held.now.what ≡ false → result ≡ 102 }
-    ensures no_run { spec.is_packing held.now.what ≡ true →
-        slice_get (spec.packed_runs held.now.what) run ≡ None → result ≡ 105 }
-    ensures none { (ts : List (spec.PlacedTable spec.OpenTable)) →
-        slice_get (spec.packed_runs held.now.what) run ≡ Some ts → slice_get ts place ≡ None →
-        result ≡ 105 }
-    ensures returned { (ts : List (spec.PlacedTable spec.OpenTable))
-        (t : spec.PlacedTable spec.OpenTable) →
-        slice_get (spec.packed_runs held.now.what) run ≡ Some ts → slice_get ts place ≡ Some t →
-        (result ≡ 0) × (table.new ≡ t.place) }
+    ensures finds { spec.FindsPacked held.now.what run place result table.new }
     ensures left { result ≢ 0 → table.new ≡ table.old }
 {
     let What::Packing(packed) = &held.what else {
@@ -282,20 +244,10 @@ pub extern "C" fn sst_packing_table(
     place: u64,
     table: &mut u64,
 ) -> u32
-    ensures kept { packing.new.boxed.value ≡ packing.old.boxed.value }
-    ensures shut { packing.old.boxed.value ≡ None → result ≡ 100 }
-    ensures other { (h : spec.HeldValue) → packing.old.boxed.value ≡ Some h →
-        spec.is_packing h.what ≡ false → result ≡ 102 }
-    ensures no_run { (h : spec.HeldValue) → packing.old.boxed.value ≡ Some h →
-        spec.is_packing h.what ≡ true → slice_get (spec.packed_runs h.what) run ≡ None →
-        result ≡ 105 }
-    ensures none { (h : spec.HeldValue) (ts : List (spec.PlacedTable spec.OpenTable)) →
-        packing.old.boxed.value ≡ Some h → slice_get (spec.packed_runs h.what) run ≡ Some ts →
-        slice_get ts place ≡ None → result ≡ 105 }
-    ensures returned { (h : spec.HeldValue) (ts : List (spec.PlacedTable spec.OpenTable))
-        (t : spec.PlacedTable spec.OpenTable) → packing.old.boxed.value ≡ Some h →
-        slice_get (spec.packed_runs h.what) run ≡ Some ts → slice_get ts place ≡ Some t →
-        (result ≡ 0) × (table.new ≡ t.place) }
+    ensures queries { spec.QueriesHandle spec.is_packing packing.old.boxed.value
+        packing.new.boxed.value result }
+    ensures finds { (h : spec.HeldValue) → packing.old.boxed.value ≡ Some h →
+        spec.FindsPacked h.what run place result table.new }
     ensures left { result ≢ 0 → table.new ≡ table.old }
 {
     let Some(held) = packing.take(alloc) else {
@@ -308,10 +260,7 @@ pub extern "C" fn sst_packing_table(
 
 fn tell_link(held: &Held, place: u64, table: &mut u64) -> u32
     ensures other { spec.is_packing held.now.what ≡ false → result ≡ 102 }
-    ensures none { spec.is_packing held.now.what ≡ true →
-        slice_get (spec.packed_chain held.now.what) place ≡ None → result ≡ 105 }
-    ensures returned { (p : ℕ × ℕ) → slice_get (spec.packed_chain held.now.what) place ≡ Some p →
-        (result ≡ 0) × (table.new ≡ p.0) }
+    ensures finds { spec.FindsLink held.now.what place result table.new }
     ensures left { result ≢ 0 → table.new ≡ table.old }
 {
     let What::Packing(packed) = &held.what else {
@@ -345,15 +294,10 @@ pub extern "C" fn sst_packing_chain(
     place: u64,
     table: &mut u64,
 ) -> u32
-    ensures kept { packing.new.boxed.value ≡ packing.old.boxed.value }
-    ensures shut { packing.old.boxed.value ≡ None → result ≡ 100 }
-    ensures other { (h : spec.HeldValue) → packing.old.boxed.value ≡ Some h →
-        spec.is_packing h.what ≡ false → result ≡ 102 }
-    ensures none { (h : spec.HeldValue) → packing.old.boxed.value ≡ Some h →
-        spec.is_packing h.what ≡ true → slice_get (spec.packed_chain h.what) place ≡ None →
-        result ≡ 105 }
-    ensures returned { (h : spec.HeldValue) (p : ℕ × ℕ) → packing.old.boxed.value ≡ Some h →
-        slice_get (spec.packed_chain h.what) place ≡ Some p → (result ≡ 0) × (table.new ≡ p.0) }
+    ensures queries { spec.QueriesHandle spec.is_packing packing.old.boxed.value
+        packing.new.boxed.value result }
+    ensures finds { (h : spec.HeldValue) → packing.old.boxed.value ≡ Some h →
+        spec.FindsLink h.what place result table.new }
     ensures left { result ≢ 0 → table.new ≡ table.old }
 {
     let Some(held) = packing.take(alloc) else {

@@ -1,8 +1,9 @@
 //! Ranges, read from both ends, and opening a range of a table.
-ghost use Rattle.std.specs.Prelude.{◌≡◌, ◌≢◌, ◌<◌, ◌⊎◌, ◌||◌, false, IfErr, IfOk, IsSomeAnd, List};
-ghost use Rattle.std.specs.Prelude.{None, Option, Result, Some, is_some, nat_lt, true};
+ghost use Rattle.std.specs.Prelude.{◌≡◌, ◌≢◌, ◌<◌, ◌⊎◌, false, IfErr, IfOk, IsSomeAnd, None, Some};
+ghost use Rattle.std.specs.Prelude.{is_some, true};
 ghost use Rattle.sst_c.specs.Words as spec;
 
+use crate::asked::NewestAt;
 use crate::codes::{CLOSED, NO_SUCH, OPEN, OTHER_KIND};
 use crate::entries::{EntryReport, tell};
 use crate::handle::Handle;
@@ -12,7 +13,6 @@ use crate::reads::take_held;
 use crate::tables::keep;
 use lsm_iters::Iter;
 use lsm_readers::Table;
-use lsm_runs::NewestOfRunsAt;
 use sst_blocks::{Error, InternalValue, IterItem, Lending, Slice};
 use std::alloc::Global;
 use std::ops::Bound;
@@ -49,7 +49,6 @@ pub(crate) fn bounds(
 }
 
 // A range of a table, for bounds as C passes them.
-#[tactic(auto, unfolding(crate::specs::What::YieldsTable))]
 fn range_within(
     alloc: Global,
     table: &Table,
@@ -60,13 +59,8 @@ fn range_within(
 ) -> Result<Iter, Error>
     requires lower { lower_kind < 3 }
     requires upper { upper_kind < 3 }
-    ensures range { let low = spec.decode_bound lower_kind lower.now in
-        let high = spec.decode_bound upper_kind upper.now in
-        IfOk result (spec.IsRangeOf table.now low high) }
-    ensures list { let low = spec.decode_bound lower_kind lower.now in
-        let high = spec.decode_bound upper_kind upper.now in
-        (es : List spec.Entry) → spec.StoresList table.now.bytes es →
-        let g = table.now.global_seqno in IfOk result (spec.YieldsTable low high es g) }
+    ensures ranges { IfOk result (spec.RangesTable (spec.decode_bound lower_kind lower.now)
+        (spec.decode_bound upper_kind upper.now) table.now) }
     ensures err { IfErr result (λ e. e ≡ spec.OutOfMemory) }
 {
     let (lower, upper) = bounds(alloc, lower_kind, lower, upper_kind, upper)?;
@@ -88,16 +82,9 @@ fn begin_within(
     requires upper { upper_kind < 3 }
     ensures memory { (result ≡ 0) ⊎ (result ≡ 1) }
     ensures new { result ≡ 0 → IsSomeAnd range.new.boxed.value (λ r. spec.found_by r ≡ None) }
-    ensures range { result ≡ 0 →
-        let low = spec.decode_bound lower_kind lower.now in
-        let high = spec.decode_bound upper_kind upper.now in
-        IsSomeAnd range.new.boxed.value
-        (λ r. spec.IsRangeWhere (spec.IsRangeOf table.now low high) r.what) }
-    ensures list { (es : List spec.Entry) → spec.StoresList table.now.bytes es → result ≡ 0 →
-        let low = spec.decode_bound lower_kind lower.now in
-        let high = spec.decode_bound upper_kind upper.now in let g = table.now.global_seqno in
-        IsSomeAnd range.new.boxed.value
-        (λ r. spec.IsRangeWhere (spec.YieldsTable low high es g) r.what) }
+    ensures ranges { result ≡ 0 → IsSomeAnd range.new.boxed.value (λ r.
+        spec.IsRangeWhere (spec.RangesTable (spec.decode_bound lower_kind lower.now)
+        (spec.decode_bound upper_kind upper.now) table.now) r.what) }
     ensures left { result ≢ 0 → range.new.boxed.value ≡ None }
 {
     match range_within(alloc, table, lower_kind, lower, upper_kind, upper) {
@@ -116,23 +103,10 @@ fn begin(
     range: &mut Handle,
 ) -> u32
     requires { range.old.boxed.value ≡ None }
-    ensures other { spec.is_table held.now.what ≡ false → result ≡ 102 }
-    ensures kinds { (t : spec.OpenTable) → held.now.what ≡ spec.TableOf t →
-        nat_lt 2 lower_kind || nat_lt 2 upper_kind ≡ true → result ≡ 105 }
-    ensures memory { (t : spec.OpenTable) → held.now.what ≡ spec.TableOf t →
-        nat_lt 2 lower_kind || nat_lt 2 upper_kind ≡ false → (result ≡ 0) ⊎ (result ≡ 1) }
-    ensures new { result ≡ 0 → IsSomeAnd range.new.boxed.value (λ r. spec.found_by r ≡ None) }
-    ensures range { (t : spec.OpenTable) → held.now.what ≡ spec.TableOf t → result ≡ 0 →
-        let low = spec.decode_bound lower_kind lower.now in
-        let high = spec.decode_bound upper_kind upper.now in
-        IsSomeAnd range.new.boxed.value
-        (λ r. spec.IsRangeWhere (spec.IsRangeOf t low high) r.what) }
-    ensures list { (t : spec.OpenTable) (es : List spec.Entry) → held.now.what ≡ spec.TableOf t →
-        result ≡ 0 → spec.StoresList t.bytes es →
-        let low = spec.decode_bound lower_kind lower.now in
-        let high = spec.decode_bound upper_kind upper.now in IsSomeAnd range.new.boxed.value (λ r.
-        spec.IsRangeWhere (spec.YieldsTable low high es t.global_seqno) r.what) }
-    ensures left { result ≢ 0 → range.new.boxed.value ≡ None }
+    ensures begins { spec.OpensNewWithin lower_kind upper_kind spec.is_table held.now.what
+        range.new.boxed.value result }
+    ensures ranges { result ≡ 0 → IsSomeAnd range.new.boxed.value (λ r.
+        spec.RangesHeld lower_kind lower.now upper_kind upper.now held.now.what r.what) }
 {
     let What::Table(table) = &held.what else {
         return OTHER_KIND;
@@ -167,34 +141,12 @@ pub extern "C" fn sst_range_open(
     upper: &[u8],
     range: &mut Handle,
 ) -> u32
-    ensures kept { table.new.boxed.value ≡ table.old.boxed.value }
-    ensures left { result ≢ 0 → range.new.boxed.value ≡ range.old.boxed.value }
-    ensures open { is_some range.old.boxed.value ≡ true → result ≡ 101 }
-    ensures shut { range.old.boxed.value ≡ None → table.old.boxed.value ≡ None → result ≡ 100 }
-    ensures other { (h : spec.HeldValue) → range.old.boxed.value ≡ None →
-        table.old.boxed.value ≡ Some h → spec.is_table h.what ≡ false → result ≡ 102 }
-    ensures kinds { (h : spec.HeldValue) (t : spec.OpenTable) → range.old.boxed.value ≡ None →
-        table.old.boxed.value ≡ Some h → h.what ≡ spec.TableOf t →
-        nat_lt 2 lower_kind || nat_lt 2 upper_kind ≡ true → result ≡ 105 }
-    ensures memory { (h : spec.HeldValue) (t : spec.OpenTable) → range.old.boxed.value ≡ None →
-        table.old.boxed.value ≡ Some h → h.what ≡ spec.TableOf t →
-        nat_lt 2 lower_kind || nat_lt 2 upper_kind ≡ false → (result ≡ 0) ⊎ (result ≡ 1) }
-    ensures new { result ≡ 0 → IsSomeAnd range.new.boxed.value (λ r. spec.found_by r ≡ None) }
-    // It reads the table within the bounds, and has not been stepped.
-    ensures range { (h : spec.HeldValue) (t : spec.OpenTable) → table.old.boxed.value ≡ Some h →
-        h.what ≡ spec.TableOf t → result ≡ 0 →
-        let low = spec.decode_bound lower_kind lower.now in
-        let high = spec.decode_bound upper_kind upper.now in
-        IsSomeAnd range.new.boxed.value
-        (λ r. spec.IsRangeWhere (spec.IsRangeOf t low high) r.what) }
-    // On bytes that store a list, it yields the list's entries within the bounds, global sequence
-    // number applied.
-    ensures list { (h : spec.HeldValue) (t : spec.OpenTable) (es : List spec.Entry) →
-        table.old.boxed.value ≡ Some h → h.what ≡ spec.TableOf t → result ≡ 0 →
-        spec.StoresList t.bytes es →
-        let low = spec.decode_bound lower_kind lower.now in
-        let high = spec.decode_bound upper_kind upper.now in IsSomeAnd range.new.boxed.value (λ r.
-        spec.IsRangeWhere (spec.YieldsTable low high es t.global_seqno) r.what) }
+    ensures opens { spec.OpensWithin lower_kind upper_kind spec.is_table table.old.boxed.value
+        table.new.boxed.value range.old.boxed.value range.new.boxed.value result }
+    // It reads the table within the bounds, from both ends.
+    ensures ranges { (h : spec.HeldValue) → table.old.boxed.value ≡ Some h → result ≡ 0 →
+        IsSomeAnd range.new.boxed.value (λ r.
+        spec.RangesHeld lower_kind lower.now upper_kind upper.now h.what r.what) }
 {
     if range.is_open() {
         return OPEN;
@@ -266,21 +218,9 @@ fn step_of(iter: &mut Iter, back: bool, found: &mut FoundEntry) -> u32
 pub(crate) fn step(held: &mut Held, back: bool) -> u32
     ensures other { spec.is_range held.old.what ≡ false →
         (result ≡ 102) × (spec.found_by held.new ≡ None) × (held.new.what ≡ held.old.what) }
-    ensures front { (s : spec.RangeValue spec.Heap) → held.old.what ≡ spec.RangeOf s →
-        back ≡ false → let gives = ⟦<Iter<Global> as Iterator>⟧.next_gives in
-        spec.IsRangeWhere (spec.StepsBy gives s result (spec.found_by held.new)) held.new.what }
-    ensures back { (s : spec.RangeValue spec.Heap) → held.old.what ≡ spec.RangeOf s → back ≡ true →
-        let gives = ⟦<Iter<Global> as DoubleEndedIterator>⟧.next_back_gives in
-        spec.IsRangeWhere (spec.StepsBy gives s result (spec.found_by held.new)) held.new.what }
-    ensures merged_front { (s : spec.NewestAt) → held.old.what ≡ spec.MergedOf (Some s) →
-        back ≡ false → let gives = ⟦<NewestOfRunsAt<Global> as Iterator>⟧.next_gives in
-        spec.MergedStepsBy gives s result (spec.found_by held.new) held.new.what }
-    ensures merged_back { (s : spec.NewestAt) → held.old.what ≡ spec.MergedOf (Some s) →
-        back ≡ true →
-        let gives = ⟦<NewestOfRunsAt<Global> as DoubleEndedIterator>⟧.next_back_gives in
-        spec.MergedStepsBy gives s result (spec.found_by held.new) held.new.what }
-    ensures over { held.old.what ≡ spec.MergedOf None →
-        (result ≡ 0) × (spec.found_by held.new ≡ None) × (held.new.what ≡ spec.MergedOf None) }
+    ensures steps { spec.StepsRange ⟦<NewestAt as Iterator>⟧.next_gives
+        ⟦<NewestAt as DoubleEndedIterator>⟧.next_back_gives back held.old.what result
+        (spec.found_by held.new) held.new.what }
     ensures fine { is_some (spec.found_by held.new) ≡ true → result ≡ 0 }
 {
     match &mut held.what {
@@ -314,38 +254,14 @@ pub extern "C" fn sst_range_next(
     back: bool,
     entry: &mut EntryReport,
 ) -> u32
-    ensures shut { range.old.boxed.value ≡ None →
-        (result ≡ 100) × (range.new.boxed.value ≡ None) }
-    ensures other { (h : spec.HeldValue) → range.old.boxed.value ≡ Some h →
-        spec.is_range h.what ≡ false → (result ≡ 102) × IsSomeAnd range.new.boxed.value (λ k.
-        (spec.found_by k ≡ None) × (k.what ≡ h.what)) }
-    ensures entry { entry.new ≡ spec.entry_facts (spec.found_in range.new.boxed.value) }
+    ensures reads { spec.ReadsThrough spec.is_range range.old.boxed.value range.new.boxed.value
+        result entry.new }
     // It is one step of the range from that end.
-    ensures front { (h : spec.HeldValue) (s : spec.RangeValue spec.Heap) →
-        range.old.boxed.value ≡ Some h →
-        h.what ≡ spec.RangeOf s → back ≡ false →
-        let gives = ⟦<Iter<Global> as Iterator>⟧.next_gives in IsSomeAnd range.new.boxed.value (λ k.
-        spec.IsRangeWhere (spec.StepsBy gives s result (spec.found_by k)) k.what) }
-    ensures back { (h : spec.HeldValue) (s : spec.RangeValue spec.Heap) →
-        range.old.boxed.value ≡ Some h → h.what ≡ spec.RangeOf s → back ≡ true →
-        let gives = ⟦<Iter<Global> as DoubleEndedIterator>⟧.next_back_gives in
+    ensures steps { (h : spec.HeldValue) → range.old.boxed.value ≡ Some h →
         IsSomeAnd range.new.boxed.value (λ k.
-        spec.IsRangeWhere (spec.StepsBy gives s result (spec.found_by k)) k.what) }
-    // It is one step of a range of several runs, which is dropped if the step fails.
-    ensures merged_front { (h : spec.HeldValue) (s : spec.NewestAt) →
-        range.old.boxed.value ≡ Some h → h.what ≡ spec.MergedOf (Some s) → back ≡ false →
-        let gives = ⟦<NewestOfRunsAt<Global> as Iterator>⟧.next_gives in
-        IsSomeAnd range.new.boxed.value
-        (λ k. spec.MergedStepsBy gives s result (spec.found_by k) k.what) }
-    ensures merged_back { (h : spec.HeldValue) (s : spec.NewestAt) →
-        range.old.boxed.value ≡ Some h → h.what ≡ spec.MergedOf (Some s) → back ≡ true →
-        let gives = ⟦<NewestOfRunsAt<Global> as DoubleEndedIterator>⟧.next_back_gives in
-        IsSomeAnd range.new.boxed.value
-        (λ k. spec.MergedStepsBy gives s result (spec.found_by k) k.what) }
-    // After that, the range is at its end.
-    ensures over { (h : spec.HeldValue) → range.old.boxed.value ≡ Some h →
-        h.what ≡ spec.MergedOf None → (result ≡ 0) × IsSomeAnd range.new.boxed.value (λ k.
-        (spec.found_by k ≡ None) × (k.what ≡ spec.MergedOf None)) }
+        spec.StepsRange ⟦<NewestAt as Iterator>⟧.next_gives
+        ⟦<NewestAt as DoubleEndedIterator>⟧.next_back_gives back h.what result
+        (spec.found_by k) k.what) }
 {
     *entry = tell(None);
     let Some(mut held) = range.take(alloc) else {
@@ -369,18 +285,10 @@ fn take(
         (result ≡ 102) × (spec.found_by held.new ≡ None) × (held.new.what ≡ held.old.what) }
     ensures none { spec.is_range held.old.what ≡ false → (count.new ≡ count.old)
         × (entries.new ≡ entries.old) × (bytes.new ≡ bytes.old) }
-    ensures reads { (s : spec.RangeValue spec.Heap) → held.old.what ≡ spec.RangeOf s →
-        let front = ⟦<Iter<Global> as Iterator>⟧.next_gives in
-        let last = ⟦<Iter<Global> as DoubleEndedIterator>⟧.next_back_gives in
-        spec.IsRangeWhere (spec.ReadsMany (spec.StepsBy (spec.gives_at front last back)) s
-        entries.old entries.new
-        bytes.old bytes.new count.new result (spec.found_by held.new)) held.new.what }
-    ensures merged { (m : Option spec.NewestAt) → held.old.what ≡ spec.MergedOf m →
-        let front = ⟦<NewestOfRunsAt<Global> as Iterator>⟧.next_gives in
-        let last = ⟦<NewestOfRunsAt<Global> as DoubleEndedIterator>⟧.next_back_gives in
-        spec.IsMergedAs (spec.ReadsMany (spec.MergedReads (spec.gives_at front last back)) m
-        entries.old entries.new
-        bytes.old bytes.new count.new result (spec.found_by held.new)) held.new.what }
+    ensures takes { spec.TakesRange ⟦<NewestAt as Iterator>⟧.next_gives
+        ⟦<NewestAt as DoubleEndedIterator>⟧.next_back_gives back entries.old
+        entries.new bytes.old bytes.new count.new held.old.what result (spec.found_by held.new)
+        held.new.what }
 {
     if !held.is_range() {
         held.found.clear();
@@ -422,34 +330,14 @@ pub extern "C" fn sst_range_take(
     count: &mut u64,
     found: &mut EntryReport,
 ) -> u32
-    ensures shut { range.old.boxed.value ≡ None →
-        (result ≡ 100) × (range.new.boxed.value ≡ None) }
-    ensures other { (h : spec.HeldValue) → range.old.boxed.value ≡ Some h →
-        spec.is_range h.what ≡ false → (result ≡ 102) × IsSomeAnd range.new.boxed.value (λ k.
-        (spec.found_by k ≡ None) × (k.what ≡ h.what)) }
-    // If the handle is closed or holds another kind, nothing is copied.
-    ensures closed { range.old.boxed.value ≡ None → (count.new ≡ 0)
-        × (entries.new ≡ entries.old) × (bytes.new ≡ bytes.old) }
-    ensures none { (h : spec.HeldValue) → range.old.boxed.value ≡ Some h →
-        spec.is_range h.what ≡ false →
-        (count.new ≡ 0) × (entries.new ≡ entries.old) × (bytes.new ≡ bytes.old) }
-    ensures found { found.new ≡ spec.entry_facts (spec.found_in range.new.boxed.value) }
-    // It makes as many steps of a table's range as needed, each as `sst_range_next` does.
-    ensures reads { (h : spec.HeldValue) (s : spec.RangeValue spec.Heap) →
-        range.old.boxed.value ≡ Some h →
-        h.what ≡ spec.RangeOf s → let front = ⟦<Iter<Global> as Iterator>⟧.next_gives in
-        let last = ⟦<Iter<Global> as DoubleEndedIterator>⟧.next_back_gives in
-        IsSomeAnd range.new.boxed.value (λ k. spec.IsRangeWhere
-        (spec.ReadsMany (spec.StepsBy (spec.gives_at front last back)) s entries.old entries.new
-        bytes.old bytes.new count.new result (spec.found_by k)) k.what) }
-    // It does the same with a range of several runs.
-    ensures merged { (h : spec.HeldValue) (m : Option spec.NewestAt) →
-        range.old.boxed.value ≡ Some h →
-        h.what ≡ spec.MergedOf m → let front = ⟦<NewestOfRunsAt<Global> as Iterator>⟧.next_gives in
-        let last = ⟦<NewestOfRunsAt<Global> as DoubleEndedIterator>⟧.next_back_gives in
-        IsSomeAnd range.new.boxed.value (λ k. spec.IsMergedAs
-        (spec.ReadsMany (spec.MergedReads (spec.gives_at front last back)) m entries.old entries.new
-        bytes.old bytes.new count.new result (spec.found_by k)) k.what) }
+    ensures through { spec.TakesThrough spec.is_range range.old.boxed.value range.new.boxed.value
+        entries.old entries.new bytes.old bytes.new count.new result found.new }
+    // It makes as many steps as needed, each as `sst_range_next` does.
+    ensures takes { (h : spec.HeldValue) → range.old.boxed.value ≡ Some h →
+        IsSomeAnd range.new.boxed.value (λ k.
+        spec.TakesRange ⟦<NewestAt as Iterator>⟧.next_gives
+        ⟦<NewestAt as DoubleEndedIterator>⟧.next_back_gives back entries.old
+        entries.new bytes.old bytes.new count.new h.what result (spec.found_by k) k.what) }
 {
     *count = 0;
     *found = tell(None);

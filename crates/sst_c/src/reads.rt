@@ -2,13 +2,13 @@
 ghost use Rattle.std.specs.Prelude.{◌≡◌, true};
 ghost use Rattle.sst_c.specs.Words as spec;
 
+use crate::asked::NewestAt;
 use crate::entries::EntryReport;
 use crate::held::{Held, What};
+use crate::runs_scan::LentAt;
 use crate::takes::{Reads, take_from};
 use crate::{ranges, scans};
-use lsm_runs::{LentNewestOfRunsAt, NewestOfRunsAt};
 use sst_blocks::{EntryRef, Lending};
-use std::alloc::Global;
 
 impl Held {
     /// Returns whether it is a scan.
@@ -29,9 +29,9 @@ impl Held {
 #[tactic(auto, using(crate::proofs::Bulk::one_read))]
 impl Reads for Held {
     ghost reads = { λ back h code found k. spec.ReadsOn
-        ⟦<NewestOfRunsAt<Global> as Iterator>⟧.next_gives
-        ⟦<NewestOfRunsAt<Global> as DoubleEndedIterator>⟧.next_back_gives
-        ⟦<LentNewestOfRunsAt<Global> as Lending>⟧.advances
+        ⟦<NewestAt as Iterator>⟧.next_gives
+        ⟦<NewestAt as DoubleEndedIterator>⟧.next_back_gives
+        ⟦<LentAt as Lending>⟧.advances
         back h.what code found k.what };
 
     ghost found = { spec.found_by };
@@ -59,9 +59,9 @@ pub(crate) fn take_held(
     bytes: &mut [u8],
     count: &mut u64,
 ) -> u32
-    ensures { let front = ⟦<NewestOfRunsAt<Global> as Iterator>⟧.next_gives in
-        let last = ⟦<NewestOfRunsAt<Global> as DoubleEndedIterator>⟧.next_back_gives in
-        let advances = ⟦<LentNewestOfRunsAt<Global> as Lending>⟧.advances in
+    ensures { let front = ⟦<NewestAt as Iterator>⟧.next_gives in
+        let last = ⟦<NewestAt as DoubleEndedIterator>⟧.next_back_gives in
+        let advances = ⟦<LentAt as Lending>⟧.advances in
         spec.ReadsMany (spec.ReadsOn front last advances back) held.old.what entries.old entries.new
         bytes.old bytes.new count.new result (spec.found_by held.new) held.new.what }
 {

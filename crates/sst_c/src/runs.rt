@@ -1,6 +1,6 @@
 //! Several tables read as one: a list of runs, the newest first.
-ghost use Rattle.std.specs.Prelude.{◌≡◌, ◌≢◌, ◌∷◌, ◌⊎◌, ◌++◌, [], false, IsSomeAnd};
-ghost use Rattle.std.specs.Prelude.{List, None, Ok, Some, is_some, true};
+ghost use Rattle.std.specs.Prelude.{◌≡◌, ◌≢◌, ◌∷◌, ◌⊎◌, ◌++◌, [], false, IsSomeAnd, None, Some};
+ghost use Rattle.std.specs.Prelude.{true};
 ghost use Rattle.sst_c.specs.Words as spec;
 
 use crate::codes::{CLOSED, OPEN, OTHER_KIND, OUT_OF_ORDER};
@@ -26,12 +26,11 @@ use std::alloc::Global;
 /// On error, `runs` is unchanged.
 #[unsafe(no_mangle)]
 pub extern "C" fn sst_runs_open(alloc: Global, runs: &mut Handle) -> u32
-    ensures open { is_some runs.old.boxed.value ≡ true → result ≡ 101 }
+    ensures opens { spec.OpensHandle runs.old.boxed.value runs.new.boxed.value result }
     ensures memory { runs.old.boxed.value ≡ None → result ≢ 0 → result ≡ 1 }
     ensures new { result ≡ 0 → IsSomeAnd runs.new.boxed.value (λ h. spec.found_by h ≡ None) }
     ensures kind { result ≡ 0 → IsSomeAnd runs.new.boxed.value (λ h. spec.are_runs h.what ≡ true) }
     ensures none { result ≡ 0 → IsSomeAnd runs.new.boxed.value (λ h. spec.runs_held h.what ≡ []) }
-    ensures left { result ≢ 0 → runs.new.boxed.value ≡ runs.old.boxed.value }
 {
     if runs.is_open() {
         return OPEN;
@@ -78,20 +77,9 @@ fn add_table(alloc: Global, held: &mut Held, table: &Table) -> u32
 }
 
 fn add_held(alloc: Global, held: &mut Held, table: &Held) -> u32
-    ensures other { spec.is_table table.now.what ≡ false →
-        (result ≡ 102) × (held.new.what ≡ held.old.what) }
-    ensures no_runs { spec.are_runs held.old.what ≡ false →
-        (result ≡ 102) × (held.new.what ≡ held.old.what) }
-    ensures turned { (t : spec.OpenTable) → table.now.what ≡ spec.TableOf t →
-        spec.are_runs held.old.what ≡ true →
-        spec.is_well_formed (spec.range_of t) ≡ false → result ≡ 104 }
-    ensures memory { (t : spec.OpenTable) → table.now.what ≡ spec.TableOf t →
-        spec.are_runs held.old.what ≡ true →
-        spec.is_well_formed (spec.range_of t) ≡ true → (result ≡ 0) ⊎ (result ≡ 1) }
+    ensures adds { spec.AddsToRuns table.now.what held.old.what result held.new.what }
     ensures kind { spec.are_runs held.new.what ≡ spec.are_runs held.old.what }
     ensures found { spec.found_by held.new ≡ spec.found_by held.old }
-    ensures added { (t : spec.OpenTable) → table.now.what ≡ spec.TableOf t → result ≡ 0 →
-        spec.runs_held held.new.what ≡ spec.runs_held held.old.what ++ (t ∷ []) ∷ [] }
     ensures left { result ≢ 0 → spec.runs_held held.new.what ≡ spec.runs_held held.old.what }
 {
     match &table.what {
@@ -103,25 +91,12 @@ fn add_held(alloc: Global, held: &mut Held, table: &Held) -> u32
 fn add_to(alloc: Global, runs: &mut Handle, table: &Held) -> u32
     ensures shut { runs.old.boxed.value ≡ None →
         (result ≡ 100) × (runs.new.boxed.value ≡ None) }
-    ensures other { (h : spec.HeldValue) → runs.old.boxed.value ≡ Some h →
-        spec.is_table table.now.what ≡ false →
-        (result ≡ 102) × IsSomeAnd runs.new.boxed.value (λ k. k.what ≡ h.what) }
-    ensures no_runs { (h : spec.HeldValue) → runs.old.boxed.value ≡ Some h →
-        spec.are_runs h.what ≡ false →
-        (result ≡ 102) × IsSomeAnd runs.new.boxed.value (λ k. k.what ≡ h.what) }
-    ensures turned { (h : spec.HeldValue) (t : spec.OpenTable) → runs.old.boxed.value ≡ Some h →
-        table.now.what ≡ spec.TableOf t → spec.are_runs h.what ≡ true →
-        spec.is_well_formed (spec.range_of t) ≡ false → result ≡ 104 }
-    ensures memory { (h : spec.HeldValue) (t : spec.OpenTable) → runs.old.boxed.value ≡ Some h →
-        table.now.what ≡ spec.TableOf t → spec.are_runs h.what ≡ true →
-        spec.is_well_formed (spec.range_of t) ≡ true → (result ≡ 0) ⊎ (result ≡ 1) }
+    ensures adds { (h : spec.HeldValue) → runs.old.boxed.value ≡ Some h →
+        IsSomeAnd runs.new.boxed.value (λ k. spec.AddsToRuns table.now.what h.what result k.what) }
     ensures kind { (h : spec.HeldValue) → runs.old.boxed.value ≡ Some h →
         IsSomeAnd runs.new.boxed.value (λ k. spec.are_runs k.what ≡ spec.are_runs h.what) }
     ensures found { (h : spec.HeldValue) → runs.old.boxed.value ≡ Some h →
         IsSomeAnd runs.new.boxed.value (λ k. spec.found_by k ≡ spec.found_by h) }
-    ensures added { (h : spec.HeldValue) (t : spec.OpenTable) → runs.old.boxed.value ≡ Some h →
-        table.now.what ≡ spec.TableOf t → result ≡ 0 → IsSomeAnd runs.new.boxed.value (λ k.
-        spec.runs_held k.what ≡ spec.runs_held h.what ++ (t ∷ []) ∷ []) }
     ensures left { (h : spec.HeldValue) → runs.old.boxed.value ≡ Some h → result ≢ 0 →
         IsSomeAnd runs.new.boxed.value (λ k. spec.runs_held k.what ≡ spec.runs_held h.what) }
 {
@@ -152,27 +127,14 @@ pub extern "C" fn sst_runs_add(alloc: Global, runs: &mut Handle, table: &mut Han
         (result ≡ 100) × (runs.new.boxed.value ≡ None) }
     ensures table_shut { table.old.boxed.value ≡ None →
         (result ≡ 100) × (runs.new.boxed.value ≡ runs.old.boxed.value) }
-    ensures other { (h t : spec.HeldValue) → runs.old.boxed.value ≡ Some h →
-        table.old.boxed.value ≡ Some t → spec.is_table t.what ≡ false →
-        (result ≡ 102) × IsSomeAnd runs.new.boxed.value (λ k. k.what ≡ h.what) }
-    ensures no_runs { (h t : spec.HeldValue) → runs.old.boxed.value ≡ Some h →
-        table.old.boxed.value ≡ Some t → spec.are_runs h.what ≡ false →
-        (result ≡ 102) × IsSomeAnd runs.new.boxed.value (λ k. k.what ≡ h.what) }
-    ensures turned { (h t : spec.HeldValue) (of : spec.OpenTable) → runs.old.boxed.value ≡ Some h →
-        table.old.boxed.value ≡ Some t → t.what ≡ spec.TableOf of → spec.are_runs h.what ≡ true →
-        spec.is_well_formed (spec.range_of of) ≡ false → result ≡ 104 }
-    ensures memory { (h t : spec.HeldValue) (of : spec.OpenTable) → runs.old.boxed.value ≡ Some h →
-        table.old.boxed.value ≡ Some t → t.what ≡ spec.TableOf of → spec.are_runs h.what ≡ true →
-        spec.is_well_formed (spec.range_of of) ≡ true → (result ≡ 0) ⊎ (result ≡ 1) }
+    ensures adds { (h t : spec.HeldValue) → runs.old.boxed.value ≡ Some h →
+        table.old.boxed.value ≡ Some t →
+        IsSomeAnd runs.new.boxed.value (λ k. spec.AddsToRuns t.what h.what result k.what) }
     // It stays a list of runs. The entry found by its last read is unchanged.
     ensures kind { (h : spec.HeldValue) → runs.old.boxed.value ≡ Some h →
         IsSomeAnd runs.new.boxed.value (λ k. spec.are_runs k.what ≡ spec.are_runs h.what) }
     ensures found { (h : spec.HeldValue) → runs.old.boxed.value ≡ Some h →
         IsSomeAnd runs.new.boxed.value (λ k. spec.found_by k ≡ spec.found_by h) }
-    ensures added { (h t : spec.HeldValue) (of : spec.OpenTable) → runs.old.boxed.value ≡ Some h →
-        table.old.boxed.value ≡ Some t → t.what ≡ spec.TableOf of → result ≡ 0 →
-        IsSomeAnd runs.new.boxed.value (λ k.
-        spec.runs_held k.what ≡ spec.runs_held h.what ++ (of ∷ []) ∷ []) }
     ensures left { (h : spec.HeldValue) → runs.old.boxed.value ≡ Some h → result ≢ 0 →
         IsSomeAnd runs.new.boxed.value (λ k. spec.runs_held k.what ≡ spec.runs_held h.what) }
 {
@@ -206,16 +168,9 @@ fn keep_place(found: &mut FoundEntry, outcome: Result<Option<RunPlace>, Error>) 
 }
 
 // Reads a key in a list of runs, and keeps the position of the entry that it finds.
-#[tactic(auto, using(crate::proofs::Answering::reads))]
 fn get_in(runs: &RunList, key: &[u8], seqno: SeqNo, found: &mut FoundEntry) -> u32
-    ensures returned { let entry = spec.found_at found.new (spec.RunsOf runs.now) in
-        spec.AnswersRead result entry (spec.runs_result key.now seqno None runs.now) }
-    ensures early { spec.ReportsFirst result (spec.runs_read key.now seqno None runs.now).early }
-    ensures calm { (spec.runs_read key.now seqno None runs.now).loads ≡ [] → result ≡ 0 }
-    ensures list { (lists : List (List (List spec.Entry))) →
-        spec.RunsHoldLists runs.now lists →
-        let entry = spec.found_at found.new (spec.RunsOf runs.now) in
-        spec.AnswersRead result entry (Ok (spec.point (spec.union_in lists) key.now seqno)) }
+    ensures { spec.GetsFromRuns runs.now key.now seqno result
+        (spec.found_at found.new (spec.RunsOf runs.now)) }
 {
     keep_place(found, place_in_runs(runs.as_slice(), key, seqno))
 }
@@ -224,18 +179,8 @@ fn get(held: &mut Held, key: &[u8], seqno: SeqNo) -> u32
     ensures kept { held.new.what ≡ held.old.what }
     ensures other { spec.are_runs held.old.what ≡ false →
         (result ≡ 102) × (spec.found_by held.new ≡ None) }
-    ensures returned { spec.are_runs held.old.what ≡ true →
-        spec.AnswersRead result (spec.found_by held.new)
-        (spec.runs_result key.now seqno None (spec.runs_held held.old.what)) }
-    ensures early { spec.are_runs held.old.what ≡ true →
-        spec.ReportsFirst result
-        (spec.runs_read key.now seqno None (spec.runs_held held.old.what)).early }
-    ensures calm { spec.are_runs held.old.what ≡ true →
-        (spec.runs_read key.now seqno None (spec.runs_held held.old.what)).loads ≡ [] → result ≡ 0 }
-    ensures list { (lists : List (List (List spec.Entry))) → spec.are_runs held.old.what ≡ true →
-        spec.RunsHoldLists (spec.runs_held held.old.what) lists →
-        spec.AnswersRead result (spec.found_by held.new)
-        (Ok (spec.point (spec.union_in lists) key.now seqno)) }
+    ensures gets { spec.are_runs held.old.what ≡ true → spec.GetsFromRuns
+        (spec.runs_held held.old.what) key.now seqno result (spec.found_by held.new) }
 {
     match &held.what {
         What::Runs(runs) => get_in(runs, key, seqno, &mut held.found),
@@ -267,34 +212,13 @@ pub extern "C" fn sst_runs_get(
     seqno: u64,
     entry: &mut EntryReport,
 ) -> u32
-    ensures shut { runs.old.boxed.value ≡ None →
-        (result ≡ 100) × (runs.new.boxed.value ≡ None) }
+    ensures reads { spec.ReadsThrough spec.are_runs runs.old.boxed.value runs.new.boxed.value result
+        entry.new }
     ensures kept { (h : spec.HeldValue) → runs.old.boxed.value ≡ Some h →
         IsSomeAnd runs.new.boxed.value (λ k. k.what ≡ h.what) }
-    ensures other { (h : spec.HeldValue) → runs.old.boxed.value ≡ Some h →
-        spec.are_runs h.what ≡ false →
-        (result ≡ 102) × (spec.found_in runs.new.boxed.value ≡ None) }
-    ensures entry { entry.new ≡ spec.entry_facts (spec.found_in runs.new.boxed.value) }
-    // For any bytes, it is the result of the tables.
-    ensures returned { (h : spec.HeldValue) → runs.old.boxed.value ≡ Some h →
-        spec.are_runs h.what ≡ true → let found = spec.found_in runs.new.boxed.value in
-        spec.AnswersRead result found (spec.runs_result key.now seqno None (spec.runs_held h.what)) }
-    // If a fault of the first loaded block is found without allocating, it takes precedence over
-    // `OutOfMemory`.
-    ensures early { (h : spec.HeldValue) → runs.old.boxed.value ≡ Some h →
-        spec.are_runs h.what ≡ true →
-        spec.ReportsFirst result (spec.runs_read key.now seqno None (spec.runs_held h.what)).early }
-    // If no block is loaded, it does not fail.
-    ensures calm { (h : spec.HeldValue) → runs.old.boxed.value ≡ Some h →
-        spec.are_runs h.what ≡ true →
-        (spec.runs_read key.now seqno None (spec.runs_held h.what)).loads ≡ [] → result ≡ 0 }
-    // For tables of lists, it is the first match in all entries together, global sequence numbers
-    // applied.
-    ensures list { (h : spec.HeldValue) (lists : List (List (List spec.Entry))) →
-        runs.old.boxed.value ≡ Some h → spec.are_runs h.what ≡ true →
-        spec.RunsHoldLists (spec.runs_held h.what) lists →
-        let found = spec.found_in runs.new.boxed.value in
-        spec.AnswersRead result found (Ok (spec.point (spec.union_in lists) key.now seqno)) }
+    ensures got { (h : spec.HeldValue) → runs.old.boxed.value ≡ Some h →
+        spec.are_runs h.what ≡ true → spec.GetsFromRuns (spec.runs_held h.what) key.now seqno result
+        (spec.found_in runs.new.boxed.value) }
 {
     *entry = tell(None);
     let Some(mut held) = runs.take(alloc) else {

@@ -8,12 +8,15 @@ use sst_blocks::{EntryRef, Error, Lending};
 use std::alloc::Global;
 use std::marker::Model;
 
+/// A stream of the newest versions visible at a snapshot of several runs, borrowed one by one.
+pub(crate) type LentAt = LentNewestOfRunsAt<Global>;
+
 /// The newest versions visible at a snapshot of several runs, borrowed from the tables one by one.
 ///
 /// It can be advanced any number of times, also after the end. Contracts see the stream.
 #[derive(Drop)]
 pub struct RunsScan {
-    newest: LentNewestOfRunsAt<Global>,
+    newest: LentAt,
 }
 
 impl Model for RunsScan {
@@ -24,17 +27,17 @@ impl Model for RunsScan {
 
     ghost view = { λ s. s.newest };
 
-    ghost invariant = { λ s. CanYield ⟦<LentNewestOfRunsAt<Global> as Lending>⟧.advances nowhere
-        ⟦<LentNewestOfRunsAt<Global> as Lending>⟧.can_advance
-        ⟦<LentNewestOfRunsAt<Global> as Lending>⟧.can_advance s.newest };
+    ghost invariant = { λ s. CanYield ⟦<LentAt as Lending>⟧.advances nowhere
+        ⟦<LentAt as Lending>⟧.can_advance
+        ⟦<LentAt as Lending>⟧.can_advance s.newest };
 }
 
 impl RunsScan {
     /// Wraps a stream that can be advanced any number of times.
-    pub(crate) fn new(newest: LentNewestOfRunsAt<Global>) -> RunsScan
-        requires { spec.CanYield ⟦<LentNewestOfRunsAt<Global> as Lending>⟧.advances spec.nowhere
-            ⟦<LentNewestOfRunsAt<Global> as Lending>⟧.can_advance
-            ⟦<LentNewestOfRunsAt<Global> as Lending>⟧.can_advance newest }
+    pub(crate) fn new(newest: LentAt) -> RunsScan
+        requires { spec.CanYield ⟦<LentAt as Lending>⟧.advances spec.nowhere
+            ⟦<LentAt as Lending>⟧.can_advance
+            ⟦<LentAt as Lending>⟧.can_advance newest }
         ensures { result ≡ newest }
     {
         RunsScan { newest }
@@ -42,7 +45,7 @@ impl RunsScan {
 
     // Advances to the next entry.
     fn advance(&mut self) -> Result<bool, Error>
-        ensures goes { let advances = ⟦<LentNewestOfRunsAt<Global> as Lending>⟧.advances in
+        ensures goes { let advances = ⟦<LentAt as Lending>⟧.advances in
             advances self.old (spec.came result (spec.newest_lent self.new)) self.new }
         ensures err { OnErr result (spec.newest_lent self.new ≡ None) }
     {
@@ -85,8 +88,8 @@ pub(crate) fn lent_by(scan: &Option<RunsScan>) -> Option<EntryRef<'_>>
 pub(crate) fn step_runs(scan: &mut Option<RunsScan>) -> u32
     ensures over { scan.old ≡ None → (result ≡ 0) × (scan.new ≡ None) }
     ensures steps { (s : spec.LentNewestAt) → scan.old ≡ Some s →
-        let advances = ⟦<LentNewestOfRunsAt<Global> as Lending>⟧.advances in
-        spec.StepsAs advances s result (spec.option_and_then spec.newest_lent scan.new) scan.new }
+        spec.StepsAs ⟦<LentAt as Lending>⟧.advances s result
+        (spec.option_and_then spec.newest_lent scan.new) scan.new }
     ensures fine { is_some (spec.option_and_then spec.newest_lent scan.new) ≡ true → result ≡ 0 }
 {
     let Some(source) = scan else {

@@ -1,6 +1,6 @@
 //! Scans of a table, block after block, and the steps of scans of several runs.
-ghost use Rattle.std.specs.Prelude.{◌≡◌, ◌≢◌, ◌<◌, ◌⊎◌, false, IfErr, IfOk, IsSomeAnd, List};
-ghost use Rattle.std.specs.Prelude.{None, Option, Some, is_some, length, true};
+ghost use Rattle.std.specs.Prelude.{◌≡◌, ◌≢◌, ◌<◌, ◌⊎◌, false, IfErr, IfOk, IsSomeAnd, List, None};
+ghost use Rattle.std.specs.Prelude.{Some, is_some, length, true};
 ghost use Rattle.sst_c.specs.Words as spec;
 
 use crate::codes::{CLOSED, OPEN, OTHER_KIND};
@@ -8,17 +8,13 @@ use crate::entries::{EntryReport, tell};
 use crate::handle::Handle;
 use crate::held::{Held, What};
 use crate::reads::take_held;
-use crate::runs_scan::step_runs;
+use crate::runs_scan::{LentAt, step_runs};
 use lsm_readers::{Scanner, Table};
-use lsm_runs::LentNewestOfRunsAt;
 use sst_blocks::{Error, Lending};
 use std::alloc::Global;
 
 fn scan_of(table: &Table) -> Result<Scanner, Error>
-    ensures begun { IfOk result (spec.IsBegunScan table.now) }
-    ensures yields { IfOk result (spec.YieldsScan (spec.table_scan table.now)) }
-    ensures list { (es : List spec.Entry) → spec.StoresList table.now.bytes es →
-        IfOk result (spec.YieldsScan (spec.ok_results (spec.lift es table.now.global_seqno))) }
+    ensures scans { IfOk result (spec.ScansTable table.now) }
     ensures refused { spec.Faults result (spec.scan_fault table.now) }
     ensures early { spec.FaultsFirst result (spec.early_scan_fault table.now) }
     ensures fine { (es : List spec.Entry) → spec.StoresList table.now.bytes es → 0 < length es →
@@ -36,13 +32,8 @@ fn begin_scan(alloc: Global, table: &Table, scan: &mut Handle) -> u32
     ensures fine { (es : List spec.Entry) → spec.StoresList table.now.bytes es → 0 < length es →
         (result ≡ 0) ⊎ (result ≡ 1) }
     ensures new { result ≡ 0 → IsSomeAnd scan.new.boxed.value (λ k. spec.found_by k ≡ None) }
-    ensures begun { result ≡ 0 → IsSomeAnd scan.new.boxed.value (λ k.
-        spec.IsScanWhere (spec.IsBegunScan table.now) k.what) }
-    ensures yields { result ≡ 0 → IsSomeAnd scan.new.boxed.value (λ k.
-        spec.IsScanWhere (spec.YieldsScan (spec.table_scan table.now)) k.what) }
-    ensures list { (es : List spec.Entry) → spec.StoresList table.now.bytes es → result ≡ 0 →
-        let g = table.now.global_seqno in IsSomeAnd scan.new.boxed.value (λ k.
-        spec.IsScanWhere (spec.YieldsScan (spec.ok_results (spec.lift es g))) k.what) }
+    ensures scans { result ≡ 0 → IsSomeAnd scan.new.boxed.value (λ k.
+        spec.IsScanWhere (spec.ScansTable table.now) k.what) }
     ensures left { result ≢ 0 → scan.new.boxed.value ≡ None }
 {
     match scan_of(table) {
@@ -53,23 +44,11 @@ fn begin_scan(alloc: Global, table: &Table, scan: &mut Handle) -> u32
 
 fn begin(alloc: Global, held: &Held, scan: &mut Handle) -> u32
     requires { scan.old.boxed.value ≡ None }
-    ensures other { spec.is_table held.now.what ≡ false → result ≡ 102 }
-    ensures returned { (t : spec.OpenTable) → held.now.what ≡ spec.TableOf t →
-        spec.FaultReported result (spec.scan_fault t) }
-    ensures early { (t : spec.OpenTable) → held.now.what ≡ spec.TableOf t →
-        spec.ReportsFirst result (spec.early_scan_fault t) }
-    ensures fine { (t : spec.OpenTable) (es : List spec.Entry) → held.now.what ≡ spec.TableOf t →
-        spec.StoresList t.bytes es → 0 < length es → (result ≡ 0) ⊎ (result ≡ 1) }
-    ensures new { result ≡ 0 → IsSomeAnd scan.new.boxed.value (λ k. spec.found_by k ≡ None) }
-    ensures begun { (t : spec.OpenTable) → held.now.what ≡ spec.TableOf t → result ≡ 0 →
-        IsSomeAnd scan.new.boxed.value (λ k. spec.IsScanWhere (spec.IsBegunScan t) k.what) }
-    ensures yields { (t : spec.OpenTable) → held.now.what ≡ spec.TableOf t → result ≡ 0 →
-        IsSomeAnd scan.new.boxed.value (λ k. spec.IsScanWhere (spec.YieldsScan (spec.table_scan t))
-        k.what) }
-    ensures list { (t : spec.OpenTable) (es : List spec.Entry) → held.now.what ≡ spec.TableOf t →
-        result ≡ 0 → spec.StoresList t.bytes es → IsSomeAnd scan.new.boxed.value (λ k.
-        spec.IsScanWhere (spec.YieldsScan (spec.ok_results (spec.lift es t.global_seqno))) k.what) }
-    ensures left { result ≢ 0 → scan.new.boxed.value ≡ None }
+    ensures begins { spec.OpensNew spec.is_table held.now.what scan.new.boxed.value result }
+    ensures reports { (t : spec.OpenTable) → held.now.what ≡ spec.TableOf t →
+        spec.ReportsScan t result }
+    ensures scans { result ≡ 0 →
+        IsSomeAnd scan.new.boxed.value (λ k. spec.ScansHeld held.now.what k.what) }
 {
     let What::Table(table) = &held.what else {
         return OTHER_KIND;
@@ -93,39 +72,14 @@ fn begin(alloc: Global, held: &Held, scan: &mut Handle) -> u32
 /// On error, both handles are unchanged.
 #[unsafe(no_mangle)]
 pub extern "C" fn sst_scan_open(alloc: Global, table: &mut Handle, scan: &mut Handle) -> u32
-    ensures kept { table.new.boxed.value ≡ table.old.boxed.value }
-    ensures left { result ≢ 0 → scan.new.boxed.value ≡ scan.old.boxed.value }
-    ensures open { is_some scan.old.boxed.value ≡ true → result ≡ 101 }
-    ensures shut { scan.old.boxed.value ≡ None → table.old.boxed.value ≡ None → result ≡ 100 }
-    ensures other { (h : spec.HeldValue) → scan.old.boxed.value ≡ None →
-        table.old.boxed.value ≡ Some h → spec.is_table h.what ≡ false → result ≡ 102 }
+    ensures opens { spec.OpensFrom spec.is_table table.old.boxed.value table.new.boxed.value
+        scan.old.boxed.value scan.new.boxed.value result }
     // Except for `OutOfMemory`, it fails only with the fault of the first block.
-    ensures returned { (h : spec.HeldValue) (t : spec.OpenTable) → scan.old.boxed.value ≡ None →
-        table.old.boxed.value ≡ Some h → h.what ≡ spec.TableOf t →
-        spec.FaultReported result (spec.scan_fault t) }
-    // A fault of the block's header, checksum or count takes precedence over `OutOfMemory`.
-    ensures early { (h : spec.HeldValue) (t : spec.OpenTable) → scan.old.boxed.value ≡ None →
-        table.old.boxed.value ≡ Some h → h.what ≡ spec.TableOf t →
-        spec.ReportsFirst result (spec.early_scan_fault t) }
-    // On bytes that store a list with an entry, it fails only with `OutOfMemory`.
-    ensures fine { (h : spec.HeldValue) (t : spec.OpenTable) (es : List spec.Entry) →
-        scan.old.boxed.value ≡ None → table.old.boxed.value ≡ Some h → h.what ≡ spec.TableOf t →
-        spec.StoresList t.bytes es → 0 < length es → (result ≡ 0) ⊎ (result ≡ 1) }
-    ensures new { result ≡ 0 → IsSomeAnd scan.new.boxed.value (λ k. spec.found_by k ≡ None) }
-    // It covers all blocks of the table, and has not been stepped. For any bytes, its steps yield
-    // the entries of the blocks, up to the first fault.
-    ensures begun { (h : spec.HeldValue) (t : spec.OpenTable) → table.old.boxed.value ≡ Some h →
-        h.what ≡ spec.TableOf t → result ≡ 0 → IsSomeAnd scan.new.boxed.value (λ k.
-        spec.IsScanWhere (spec.IsBegunScan t) k.what) }
-    ensures yields { (h : spec.HeldValue) (t : spec.OpenTable) → table.old.boxed.value ≡ Some h →
-        h.what ≡ spec.TableOf t → result ≡ 0 → IsSomeAnd scan.new.boxed.value (λ k.
-        spec.IsScanWhere (spec.YieldsScan (spec.table_scan t)) k.what) }
-    // On bytes that store a list, it yields each entry once, in order, global sequence number
-    // applied.
-    ensures list { (h : spec.HeldValue) (t : spec.OpenTable) (es : List spec.Entry) →
-        table.old.boxed.value ≡ Some h → h.what ≡ spec.TableOf t → result ≡ 0 →
-        spec.StoresList t.bytes es → IsSomeAnd scan.new.boxed.value (λ k.
-        spec.IsScanWhere (spec.YieldsScan (spec.ok_results (spec.lift es t.global_seqno))) k.what) }
+    ensures reports { (h : spec.HeldValue) (t : spec.OpenTable) → scan.old.boxed.value ≡ None →
+        table.old.boxed.value ≡ Some h → h.what ≡ spec.TableOf t → spec.ReportsScan t result }
+    // It yields all entries of the table, in order.
+    ensures scans { (h : spec.HeldValue) → table.old.boxed.value ≡ Some h → result ≡ 0 →
+        IsSomeAnd scan.new.boxed.value (λ k. spec.ScansHeld h.what k.what) }
 {
     if scan.is_open() {
         return OPEN;
@@ -162,8 +116,8 @@ pub(crate) fn step(held: &mut Held) -> u32
     ensures over { (s : spec.Scan) → held.old.what ≡ spec.ScanOf s → spec.IsEndedScan s →
         (result ≡ 0) × (spec.found_by held.new ≡ None) }
     ensures runs { (s : spec.LentNewestAt) → held.old.what ≡ spec.RunsScanOf (Some s) →
-        let advances = ⟦<LentNewestOfRunsAt<Global> as Lending>⟧.advances in
-        spec.IsRunsScanAs (spec.StepsAs advances s result (spec.found_by held.new)) held.new.what }
+        spec.IsRunsScanAs (spec.StepsAs ⟦<LentAt as Lending>⟧.advances s result
+        (spec.found_by held.new)) held.new.what }
     ensures over_runs { held.old.what ≡ spec.RunsScanOf None →
         (result ≡ 0) × (spec.found_by held.new ≡ None) × (held.new.what ≡ spec.RunsScanOf None) }
     ensures fine { is_some (spec.found_by held.new) ≡ true → result ≡ 0 }
@@ -199,35 +153,12 @@ pub(crate) fn step(held: &mut Held) -> u32
 /// On error nothing is found, and `entry` is zero.
 #[unsafe(no_mangle)]
 pub extern "C" fn sst_scan_next(alloc: Global, scan: &mut Handle, entry: &mut EntryReport) -> u32
-    ensures shut { scan.old.boxed.value ≡ None →
-        (result ≡ 100) × (scan.new.boxed.value ≡ None) }
-    ensures other { (h : spec.HeldValue) → scan.old.boxed.value ≡ Some h →
-        spec.is_scan h.what ≡ false → (result ≡ 102) × IsSomeAnd scan.new.boxed.value (λ k.
-        (spec.found_by k ≡ None) × (k.what ≡ h.what)) }
-    ensures entry { entry.new ≡ spec.entry_facts (spec.found_in scan.new.boxed.value) }
-    // It is one step of the scanner as a lending iterator.
-    ensures steps { (h : spec.HeldValue) (s : spec.Scan) → scan.old.boxed.value ≡ Some h →
-        h.what ≡ spec.ScanOf s → IsSomeAnd scan.new.boxed.value (λ k.
-        spec.IsScanWhere (spec.StepsBy spec.ScansLent s result (spec.found_by k)) k.what) }
-    // If it finds nothing, at the end or at an error, nothing is left to read.
-    ensures ends { (h : spec.HeldValue) (s : spec.Scan) → scan.old.boxed.value ≡ Some h →
-        h.what ≡ spec.ScanOf s → spec.found_in scan.new.boxed.value ≡ None →
-        IsSomeAnd scan.new.boxed.value (λ k. spec.IsScanWhere spec.IsEndedScan k.what) }
-    // If nothing is left, it finds nothing and returns 0.
-    ensures over { (h : spec.HeldValue) (s : spec.Scan) → scan.old.boxed.value ≡ Some h →
-        h.what ≡ spec.ScanOf s → spec.IsEndedScan s →
-        (result ≡ 0) × (spec.found_in scan.new.boxed.value ≡ None) }
-    // For several runs, it is one step of the stream that `lend_runs_at` returns. The stream is
-    // dropped if the step fails.
-    ensures runs { (h : spec.HeldValue) (s : spec.LentNewestAt) → scan.old.boxed.value ≡ Some h →
-        h.what ≡ spec.RunsScanOf (Some s) →
-        let advances = ⟦<LentNewestOfRunsAt<Global> as Lending>⟧.advances in
+    ensures reads { spec.ReadsThrough spec.is_scan scan.old.boxed.value scan.new.boxed.value result
+        entry.new }
+    ensures steps { (h : spec.HeldValue) → scan.old.boxed.value ≡ Some h →
         IsSomeAnd scan.new.boxed.value (λ k.
-        spec.IsRunsScanAs (spec.StepsAs advances s result (spec.found_by k)) k.what) }
-    // After that, the scan is at its end.
-    ensures over_runs { (h : spec.HeldValue) → scan.old.boxed.value ≡ Some h →
-        h.what ≡ spec.RunsScanOf None → (result ≡ 0) × IsSomeAnd scan.new.boxed.value (λ k.
-        (spec.found_by k ≡ None) × (k.what ≡ spec.RunsScanOf None)) }
+        spec.StepsScan ⟦<LentAt as Lending>⟧.advances h.what result
+        (spec.found_by k) k.what) }
 {
     *entry = tell(None);
     let Some(mut held) = scan.take(alloc) else {
@@ -245,15 +176,9 @@ fn take(held: &mut Held, entries: &mut [EntryReport], bytes: &mut [u8], count: &
         (result ≡ 102) × (spec.found_by held.new ≡ None) × (held.new.what ≡ held.old.what) }
     ensures none { spec.is_scan held.old.what ≡ false → (count.new ≡ count.old)
         × (entries.new ≡ entries.old) × (bytes.new ≡ bytes.old) }
-    ensures reads { (s : spec.Scan) → held.old.what ≡ spec.ScanOf s → spec.IsScanWhere
-        (spec.ReadsMany (spec.StepsBy spec.ScansLent) s entries.old entries.new bytes.old bytes.new
-        count.new result (spec.found_by held.new)) held.new.what }
-    ensures ends { (s : spec.Scan) → held.old.what ≡ spec.ScanOf s → spec.found_by held.new ≡ None →
-        count.new < length entries.old → spec.IsScanWhere spec.IsEndedScan held.new.what }
-    ensures runs { (m : Option spec.LentNewestAt) → held.old.what ≡ spec.RunsScanOf m →
-        let advances = ⟦<LentNewestOfRunsAt<Global> as Lending>⟧.advances in
-        spec.IsRunsScanAs (spec.ReadsMany (spec.MergedReads advances) m entries.old entries.new
-        bytes.old bytes.new count.new result (spec.found_by held.new)) held.new.what }
+    ensures takes { spec.TakesScan ⟦<LentAt as Lending>⟧.advances entries.old
+        entries.new bytes.old bytes.new count.new held.old.what result (spec.found_by held.new)
+        held.new.what }
 {
     if !held.is_scan() {
         held.found.clear();
@@ -294,36 +219,13 @@ pub extern "C" fn sst_scan_take(
     count: &mut u64,
     found: &mut EntryReport,
 ) -> u32
-    ensures shut { scan.old.boxed.value ≡ None →
-        (result ≡ 100) × (scan.new.boxed.value ≡ None) }
-    ensures other { (h : spec.HeldValue) → scan.old.boxed.value ≡ Some h →
-        spec.is_scan h.what ≡ false → (result ≡ 102) × IsSomeAnd scan.new.boxed.value (λ k.
-        (spec.found_by k ≡ None) × (k.what ≡ h.what)) }
-    // If the handle is closed or holds another kind, nothing is copied.
-    ensures closed { scan.old.boxed.value ≡ None → (count.new ≡ 0)
-        × (entries.new ≡ entries.old) × (bytes.new ≡ bytes.old) }
-    ensures none { (h : spec.HeldValue) → scan.old.boxed.value ≡ Some h →
-        spec.is_scan h.what ≡ false →
-        (count.new ≡ 0) × (entries.new ≡ entries.old) × (bytes.new ≡ bytes.old) }
-    ensures found { found.new ≡ spec.entry_facts (spec.found_in scan.new.boxed.value) }
-    // It makes as many steps of the scanner as needed, each as `sst_scan_next` does.
-    ensures reads { (h : spec.HeldValue) (s : spec.Scan) → scan.old.boxed.value ≡ Some h →
-        h.what ≡ spec.ScanOf s → IsSomeAnd scan.new.boxed.value (λ k. spec.IsScanWhere
-        (spec.ReadsMany (spec.StepsBy spec.ScansLent) s entries.old entries.new bytes.old bytes.new
-        count.new result (spec.found_by k)) k.what) }
-    // If `entries` is not full and nothing is found, nothing is left to read.
-    ensures ends { (h : spec.HeldValue) (s : spec.Scan) → scan.old.boxed.value ≡ Some h →
-        h.what ≡ spec.ScanOf s → spec.found_in scan.new.boxed.value ≡ None →
-        count.new < length entries.old →
-        IsSomeAnd scan.new.boxed.value (λ k. spec.IsScanWhere spec.IsEndedScan k.what) }
-    // It does the same with a scan of several runs.
-    ensures runs { (h : spec.HeldValue) (m : Option spec.LentNewestAt) →
-        scan.old.boxed.value ≡ Some h →
-        h.what ≡ spec.RunsScanOf m →
-        let advances = ⟦<LentNewestOfRunsAt<Global> as Lending>⟧.advances in
-        IsSomeAnd scan.new.boxed.value (λ k. spec.IsRunsScanAs
-        (spec.ReadsMany (spec.MergedReads advances) m entries.old entries.new
-        bytes.old bytes.new count.new result (spec.found_by k)) k.what) }
+    ensures through { spec.TakesThrough spec.is_scan scan.old.boxed.value scan.new.boxed.value
+        entries.old entries.new bytes.old bytes.new count.new result found.new }
+    // It makes as many steps as needed, each as `sst_scan_next` does.
+    ensures takes { (h : spec.HeldValue) → scan.old.boxed.value ≡ Some h →
+        IsSomeAnd scan.new.boxed.value (λ k.
+        spec.TakesScan ⟦<LentAt as Lending>⟧.advances entries.old entries.new
+        bytes.old bytes.new count.new h.what result (spec.found_by k) k.what) }
 {
     *count = 0;
     *found = tell(None);

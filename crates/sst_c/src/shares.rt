@@ -1,6 +1,5 @@
 //! Further handles of one table.
-ghost use Rattle.std.specs.Prelude.{◌≡◌, ◌≢◌, ◌⊎◌, false, IsSomeAnd, None, Some};
-ghost use Rattle.std.specs.Prelude.{is_some, true};
+ghost use Rattle.std.specs.Prelude.{◌≡◌, ◌⊎◌, true, IsSomeAnd, None, Some};
 ghost use Rattle.sst_c.specs.Words as spec;
 
 use crate::codes::{CLOSED, NO_MEMORY, OPEN, OTHER_KIND};
@@ -10,11 +9,9 @@ use std::alloc::Global;
 
 fn share(alloc: Global, held: &Held, other: &mut Handle) -> u32
     requires { other.old.boxed.value ≡ None }
-    ensures kind { spec.is_table held.now.what ≡ false → result ≡ 102 }
+    ensures begins { spec.OpensNew spec.is_table held.now.what other.new.boxed.value result }
     ensures memory { spec.is_table held.now.what ≡ true → (result ≡ 0) ⊎ (result ≡ 1) }
-    ensures new { result ≡ 0 → IsSomeAnd other.new.boxed.value (λ k. spec.found_by k ≡ None) }
     ensures shared { result ≡ 0 → IsSomeAnd other.new.boxed.value (λ k. k.what ≡ held.now.what) }
-    ensures left { result ≢ 0 → other.new.boxed.value ≡ None }
 {
     let What::Table(table) = &held.what else {
         return OTHER_KIND;
@@ -39,15 +36,10 @@ fn share(alloc: Global, held: &Held, other: &mut Handle) -> u32
 /// On error, both handles are unchanged.
 #[unsafe(no_mangle)]
 pub extern "C" fn sst_table_share(alloc: Global, table: &mut Handle, other: &mut Handle) -> u32
-    ensures kept { table.new.boxed.value ≡ table.old.boxed.value }
-    ensures left { result ≢ 0 → other.new.boxed.value ≡ other.old.boxed.value }
-    ensures open { is_some other.old.boxed.value ≡ true → result ≡ 101 }
-    ensures shut { other.old.boxed.value ≡ None → table.old.boxed.value ≡ None → result ≡ 100 }
-    ensures kind { (h : spec.HeldValue) → other.old.boxed.value ≡ None →
-        table.old.boxed.value ≡ Some h → spec.is_table h.what ≡ false → result ≡ 102 }
+    ensures opens { spec.OpensFrom spec.is_table table.old.boxed.value table.new.boxed.value
+        other.old.boxed.value other.new.boxed.value result }
     ensures memory { (h : spec.HeldValue) → other.old.boxed.value ≡ None →
         table.old.boxed.value ≡ Some h → spec.is_table h.what ≡ true → (result ≡ 0) ⊎ (result ≡ 1) }
-    ensures new { result ≡ 0 → IsSomeAnd other.new.boxed.value (λ k. spec.found_by k ≡ None) }
     // It holds the same table.
     ensures shared { (h : spec.HeldValue) → table.old.boxed.value ≡ Some h → result ≡ 0 →
         IsSomeAnd other.new.boxed.value (λ k. k.what ≡ h.what) }

@@ -1,6 +1,5 @@
 //! Opening tables, and point reads.
-ghost use Rattle.std.specs.Prelude.{◌≡◌, ◌≢◌, [], false, IsSomeAnd, List};
-ghost use Rattle.std.specs.Prelude.{None, Ok, Result, Some, is_some, true};
+ghost use Rattle.std.specs.Prelude.{◌≡◌, ◌≢◌, false, IsSomeAnd, List, None, Some, is_some, true};
 ghost use Rattle.sst_c.specs.Words as spec;
 
 use crate::codes::{CLOSED, NO_MEMORY, OPEN, OTHER_KIND};
@@ -65,7 +64,7 @@ pub extern "C" fn sst_table_open(
     pin_index: bool,
     table: &mut Handle,
 ) -> u32
-    ensures open { is_some table.old.boxed.value ≡ true → result ≡ 101 }
+    ensures opens { spec.OpensHandle table.old.boxed.value table.new.boxed.value result }
     ensures opened { result ≡ 0 → IsSomeAnd table.new.boxed.value
         (spec.IsOpenedAs file.now global_seqno pin_filter pin_index) }
     ensures returned { table.old.boxed.value ≡ None →
@@ -73,7 +72,6 @@ pub extern "C" fn sst_table_open(
     // Bytes that store a list are opened if the highest sequence number fits.
     ensures list { table.old.boxed.value ≡ None → (es : List spec.Entry) →
         spec.StoresList file.now es → spec.ReportsCode result (spec.fits_result es global_seqno) }
-    ensures left { result ≢ 0 → table.new.boxed.value ≡ table.old.boxed.value }
 {
     if table.is_open() {
         return OPEN;
@@ -125,16 +123,9 @@ fn keep_place(found: &mut FoundEntry, outcome: Result<Option<EntryPlace>, Error>
 }
 
 // Reads a key of a table, and keeps the position of the entry that it finds.
-#[tactic(auto, using(crate::proofs::Answering::reads))]
 fn get_in(table: &Table, key: &[u8], seqno: SeqNo, found: &mut FoundEntry) -> u32
-    ensures returned { let entry = spec.found_at found.new (spec.TableOf table.now) in
-        spec.AnswersRead result entry (spec.table_answer table.now key.now seqno).returned }
-    ensures early { spec.ReportsFirst result (spec.table_answer table.now key.now seqno).early }
-    ensures calm { (spec.table_answer table.now key.now seqno).loads ≡ [] → result ≡ 0 }
-    ensures list { (es : List spec.Entry) → spec.StoresList table.now.bytes es →
-        let entry = spec.found_at found.new (spec.TableOf table.now) in
-        spec.AnswersRead result entry
-        (Ok (spec.point (spec.lift es table.now.global_seqno) key.now seqno)) }
+    ensures { spec.GetsFromTable table.now key.now seqno result
+        (spec.found_at found.new (spec.TableOf table.now)) }
 {
     let hash = Table::<Global>::key_hash(key);
     keep_place(found, table.get_place(key, seqno, hash).0)
@@ -144,16 +135,8 @@ fn get(held: &mut Held, key: &[u8], seqno: SeqNo) -> u32
     ensures kept { held.new.what ≡ held.old.what }
     ensures other { spec.is_table held.old.what ≡ false →
         (result ≡ 102) × (spec.found_by held.new ≡ None) }
-    ensures returned { (t : spec.OpenTable) → held.old.what ≡ spec.TableOf t →
-        spec.AnswersRead result (spec.found_by held.new) (spec.table_answer t key.now seqno).returned }
-    ensures early { (t : spec.OpenTable) → held.old.what ≡ spec.TableOf t →
-        spec.ReportsFirst result (spec.table_answer t key.now seqno).early }
-    ensures calm { (t : spec.OpenTable) → held.old.what ≡ spec.TableOf t →
-        (spec.table_answer t key.now seqno).loads ≡ [] → result ≡ 0 }
-    ensures list { (t : spec.OpenTable) (es : List spec.Entry) → held.old.what ≡ spec.TableOf t →
-        spec.StoresList t.bytes es →
-        spec.AnswersRead result (spec.found_by held.new)
-        (Ok (spec.point (spec.lift es t.global_seqno) key.now seqno)) }
+    ensures gets { (t : spec.OpenTable) → held.old.what ≡ spec.TableOf t →
+        spec.GetsFromTable t key.now seqno result (spec.found_by held.new) }
 {
     match &held.what {
         What::Table(table) => get_in(table, key, seqno, &mut held.found),
@@ -185,32 +168,13 @@ pub extern "C" fn sst_table_get(
     seqno: u64,
     entry: &mut EntryReport,
 ) -> u32
-    ensures shut { table.old.boxed.value ≡ None →
-        (result ≡ 100) × (table.new.boxed.value ≡ None) }
+    ensures reads { spec.ReadsThrough spec.is_table table.old.boxed.value table.new.boxed.value
+        result entry.new }
     ensures kept { (h : spec.HeldValue) → table.old.boxed.value ≡ Some h →
         IsSomeAnd table.new.boxed.value (λ k. k.what ≡ h.what) }
-    ensures other { (h : spec.HeldValue) → table.old.boxed.value ≡ Some h →
-        spec.is_table h.what ≡ false →
-        (result ≡ 102) × (spec.found_in table.new.boxed.value ≡ None) }
-    ensures entry { entry.new ≡ spec.entry_facts (spec.found_in table.new.boxed.value) }
-    // For any bytes, it is the result of the table.
-    ensures returned { (h : spec.HeldValue) (t : spec.OpenTable) → table.old.boxed.value ≡ Some h →
-        h.what ≡ spec.TableOf t → let found = spec.found_in table.new.boxed.value in
-        spec.AnswersRead result found (spec.table_answer t key.now seqno).returned }
-    // If a fault of the first loaded block is found without allocating, it takes precedence over
-    // `OutOfMemory`.
-    ensures early { (h : spec.HeldValue) (t : spec.OpenTable) → table.old.boxed.value ≡ Some h →
-        h.what ≡ spec.TableOf t → spec.ReportsFirst result (spec.table_answer t key.now seqno).early }
-    // If no block is loaded, it does not fail.
-    ensures calm { (h : spec.HeldValue) (t : spec.OpenTable) → table.old.boxed.value ≡ Some h →
-        h.what ≡ spec.TableOf t → (spec.table_answer t key.now seqno).loads ≡ [] → result ≡ 0 }
-    // On bytes that store a list, it is the first match in the list, global sequence number
-    // applied.
-    ensures list { (h : spec.HeldValue) (t : spec.OpenTable) (es : List spec.Entry) →
-        table.old.boxed.value ≡ Some h → h.what ≡ spec.TableOf t → spec.StoresList t.bytes es →
-        let found = spec.found_in table.new.boxed.value in
-        spec.AnswersRead result found
-        (Ok (spec.point (spec.lift es t.global_seqno) key.now seqno)) }
+    ensures gets { (h : spec.HeldValue) (t : spec.OpenTable) → table.old.boxed.value ≡ Some h →
+        h.what ≡ spec.TableOf t →
+        spec.GetsFromTable t key.now seqno result (spec.found_in table.new.boxed.value) }
 {
     *entry = tell(None);
     let Some(mut held) = table.take(alloc) else {

@@ -1,6 +1,5 @@
 //! Verifying a table by steps.
-ghost use Rattle.std.specs.Prelude.{◌≡◌, ◌≢◌, ◌⊎◌, false, IsSomeAnd, None, Some};
-ghost use Rattle.std.specs.Prelude.{is_some, true};
+ghost use Rattle.std.specs.Prelude.{◌≡◌, ◌⊎◌, true, IsSomeAnd, None, Some};
 ghost use Rattle.sst_c.specs.Words as spec;
 
 use crate::codes::{CLOSED, OPEN, OTHER_KIND};
@@ -14,14 +13,10 @@ use std::alloc::Global;
 // Puts a verification of a table into a closed handle.
 fn begin(alloc: Global, held: &Held, verification: &mut Handle) -> u32
     requires { verification.old.boxed.value ≡ None }
-    ensures kind { spec.is_table held.now.what ≡ false → result ≡ 102 }
+    ensures begins { spec.OpensNew spec.is_table held.now.what verification.new.boxed.value result }
     ensures memory { spec.is_table held.now.what ≡ true → (result ≡ 0) ⊎ (result ≡ 1) }
-    ensures new { result ≡ 0 →
-        IsSomeAnd verification.new.boxed.value (λ k. spec.found_by k ≡ None) }
-    ensures begun { (t : spec.OpenTable) → held.now.what ≡ spec.TableOf t → result ≡ 0 →
-        IsSomeAnd verification.new.boxed.value
-        (λ k. k.what ≡ spec.VerificationOf (spec.verifying t)) }
-    ensures left { result ≢ 0 → verification.new.boxed.value ≡ None }
+    ensures begun { result ≡ 0 →
+        IsSomeAnd verification.new.boxed.value (λ k. spec.VerifiesHeld held.now.what k.what) }
 {
     let What::Table(table) = &held.what else {
         return OTHER_KIND;
@@ -51,21 +46,13 @@ pub extern "C" fn sst_verification_open(
     table: &mut Handle,
     verification: &mut Handle,
 ) -> u32
-    ensures kept { table.new.boxed.value ≡ table.old.boxed.value }
-    ensures left { result ≢ 0 → verification.new.boxed.value ≡ verification.old.boxed.value }
-    ensures open { is_some verification.old.boxed.value ≡ true → result ≡ 101 }
-    ensures shut { verification.old.boxed.value ≡ None → table.old.boxed.value ≡ None →
-        result ≡ 100 }
-    ensures kind { (h : spec.HeldValue) → verification.old.boxed.value ≡ None →
-        table.old.boxed.value ≡ Some h → spec.is_table h.what ≡ false → result ≡ 102 }
+    ensures opens { spec.OpensFrom spec.is_table table.old.boxed.value table.new.boxed.value
+        verification.old.boxed.value verification.new.boxed.value result }
     ensures memory { (h : spec.HeldValue) → verification.old.boxed.value ≡ None →
         table.old.boxed.value ≡ Some h → spec.is_table h.what ≡ true → (result ≡ 0) ⊎ (result ≡ 1) }
-    ensures new { result ≡ 0 →
-        IsSomeAnd verification.new.boxed.value (λ k. spec.found_by k ≡ None) }
     // It verifies the table, and has read nothing yet.
-    ensures begun { (h : spec.HeldValue) (t : spec.OpenTable) → table.old.boxed.value ≡ Some h →
-        h.what ≡ spec.TableOf t → result ≡ 0 → IsSomeAnd verification.new.boxed.value (λ k.
-        k.what ≡ spec.VerificationOf (spec.verifying t)) }
+    ensures begun { (h : spec.HeldValue) → table.old.boxed.value ≡ Some h → result ≡ 0 →
+        IsSomeAnd verification.new.boxed.value (λ k. spec.VerifiesHeld h.what k.what) }
 {
     if verification.is_open() {
         return OPEN;
@@ -82,11 +69,8 @@ pub extern "C" fn sst_verification_open(
 fn step(held: &mut Held, progress: &mut ProgressReport, returned: &mut VerifyReport) -> u32
     requires progress { progress.old ≡ spec.no_progress }
     requires returned { returned.old ≡ spec.no_finding }
-    ensures other { spec.is_verification held.old.what ≡ false → (result ≡ 102) ×
-        (progress.new ≡ spec.no_progress) × (returned.new ≡ spec.no_finding) ×
-        (held.new.what ≡ held.old.what) }
-    ensures steps { (v : spec.Verifying) → held.old.what ≡ spec.VerificationOf v →
-        spec.IsVerificationWhere (spec.ReportsStep v result progress.new returned.new) held.new.what }
+    ensures steps { spec.StepsVerification held.old.what result progress.new returned.new
+        held.new.what }
     ensures found { spec.found_by held.new ≡ spec.found_by held.old }
 {
     match &mut held.what {
@@ -119,15 +103,9 @@ pub extern "C" fn sst_verification_step(
     ensures shut { verification.old.boxed.value ≡ None → (result ≡ 100) ×
         (progress.new ≡ spec.no_progress) × (returned.new ≡ spec.no_finding) ×
         (verification.new.boxed.value ≡ None) }
-    ensures other { (h : spec.HeldValue) → verification.old.boxed.value ≡ Some h →
-        spec.is_verification h.what ≡ false → (result ≡ 102) × (progress.new ≡ spec.no_progress) ×
-        (returned.new ≡ spec.no_finding) × IsSomeAnd verification.new.boxed.value
-        (λ k. k.what ≡ h.what) }
-    // It is one step of the library's verification.
-    ensures steps { (h : spec.HeldValue) (v : spec.Verifying) →
-        verification.old.boxed.value ≡ Some h →
-        h.what ≡ spec.VerificationOf v → IsSomeAnd verification.new.boxed.value (λ k.
-        spec.IsVerificationWhere (spec.ReportsStep v result progress.new returned.new) k.what) }
+    ensures steps { (h : spec.HeldValue) → verification.old.boxed.value ≡ Some h →
+        IsSomeAnd verification.new.boxed.value (λ k.
+        spec.StepsVerification h.what result progress.new returned.new k.what) }
     // The entry found by the last read is unchanged.
     ensures found { (h : spec.HeldValue) → verification.old.boxed.value ≡ Some h →
         IsSomeAnd verification.new.boxed.value (λ k. spec.found_by k ≡ spec.found_by h) }

@@ -1,5 +1,5 @@
 //! Verifying a table.
-ghost use Rattle.std.specs.Prelude.{◌≡◌, ◌≢◌, List, None, Some, false};
+ghost use Rattle.std.specs.Prelude.{◌≡◌, None, Some, false};
 ghost use Rattle.sst_c.specs.Words as spec;
 
 use crate::codes::{CLOSED, FAULTY, NO_MEMORY, OTHER_KIND};
@@ -23,20 +23,10 @@ pub struct VerifyReport {
     /// 1 data blocks, 2 index partitions, 3 index, 4 filter, 5 top level of the filter, 6 version,
     /// 7 meta block.
     pub section: u32,
-    /// The fault, or 0 if there is none.
+    /// The fault, or 0 if there is none: the position of its variant in [`Fault`], from 1 on.
     ///
-    /// - 1: a block cannot be loaded.
-    /// - 2: a block has no entry, or no handle.
-    /// - 3: a block does not start at the end of the one before it.
-    /// - 4: an entry has the sequence number `u64::MAX`.
-    /// - 5: an entry is not in order after the one before it.
-    /// - 6: filter false negative.
-    /// - 7: a filter block cannot be loaded.
-    /// - 8: a block does not end with the key in its handle.
-    /// - 9: a block does not end with the sequence number in its handle.
-    /// - 10: an item of the meta block does not match the entries.
-    /// - 11: a data block has no handle.
-    /// - 12: the file has another checksum.
+    /// `include/sst.h` has a name for each (`SST_FAULT_UNLOADED` to `SST_FAULT_UNNAMED`), except
+    /// for 12, another checksum of the file.
     pub fault: u32,
     /// The error code of the load for faults 1 and 7, else 0.
     pub detail: u32,
@@ -120,14 +110,7 @@ pub(crate) fn tell_verified(verified: Verified) -> VerifyReport
 
 fn verify(table: &Table, returned: &mut VerifyReport) -> u32
     requires { returned.old ≡ spec.no_finding }
-    ensures returned { spec.VerifyAnswers result returned.new
-        (spec.table_found (spec.body_of table.now.bytes) table.now.parts) }
-    ensures early { let body = spec.body_of table.now.bytes in
-        spec.ReportsFinding result returned.new (spec.table_early body table.now.parts) }
-    ensures first { let body = spec.body_of table.now.bytes in
-        spec.ReportsWrong (spec.IsFirstFinding body table.now.parts) result returned.new }
-    ensures sound { result ≡ 0 → spec.ReportsCounts table.now.bytes returned.new }
-    ensures complete { (es : List spec.Entry) → spec.StoresList table.now.bytes es → result ≢ 107 }
+    ensures { spec.VerifiesTable table.now result returned.new }
 {
     tell(&table.verify(), returned)
 }
@@ -155,16 +138,8 @@ fn verify_held(held: &Held, returned: &mut VerifyReport) -> u32
     requires { returned.old ≡ spec.no_finding }
     ensures other { spec.is_table held.now.what ≡ false →
         (result ≡ 102) × (returned.new ≡ spec.no_finding) }
-    ensures returned { (t : spec.OpenTable) → held.now.what ≡ spec.TableOf t →
-        spec.VerifyAnswers result returned.new (spec.table_found (spec.body_of t.bytes) t.parts) }
-    ensures early { (t : spec.OpenTable) → held.now.what ≡ spec.TableOf t →
-        spec.ReportsFinding result returned.new (spec.table_early (spec.body_of t.bytes) t.parts) }
-    ensures first { (t : spec.OpenTable) → held.now.what ≡ spec.TableOf t →
-        spec.ReportsWrong (spec.IsFirstFinding (spec.body_of t.bytes) t.parts) result returned.new }
-    ensures sound { (t : spec.OpenTable) → held.now.what ≡ spec.TableOf t → result ≡ 0 →
-        spec.ReportsCounts t.bytes returned.new }
-    ensures complete { (t : spec.OpenTable) (es : List spec.Entry) →
-        held.now.what ≡ spec.TableOf t → spec.StoresList t.bytes es → result ≢ 107 }
+    ensures verifies { (t : spec.OpenTable) → held.now.what ≡ spec.TableOf t →
+        spec.VerifiesTable t result returned.new }
 {
     match &held.what {
         What::Table(table) => verify(table, returned),
@@ -194,26 +169,9 @@ pub extern "C" fn sst_table_verify(
     ensures shut { table.old.boxed.value ≡ None → (result ≡ 100) × (returned.new ≡ spec.no_finding) }
     ensures other { (h : spec.HeldValue) → table.old.boxed.value ≡ Some h →
         spec.is_table h.what ≡ false → (result ≡ 102) × (returned.new ≡ spec.no_finding) }
-    // Except for `OutOfMemory`, it reports the first fault.
-    ensures returned { (h : spec.HeldValue) (t : spec.OpenTable) → table.old.boxed.value ≡ Some h →
-        h.what ≡ spec.TableOf t →
-        spec.VerifyAnswers result returned.new (spec.table_found (spec.body_of t.bytes) t.parts) }
-    // If a fault of the first loaded block is found without allocating, it takes precedence over
-    // `OutOfMemory`.
-    ensures early { (h : spec.HeldValue) (t : spec.OpenTable) → table.old.boxed.value ≡ Some h →
-        h.what ≡ spec.TableOf t →
-        spec.ReportsFinding result returned.new (spec.table_early (spec.body_of t.bytes) t.parts) }
-    // The reported block has this fault, and all blocks read before it are valid.
-    ensures first { (h : spec.HeldValue) (t : spec.OpenTable) → table.old.boxed.value ≡ Some h →
-        h.what ≡ spec.TableOf t →
-        spec.ReportsWrong (spec.IsFirstFinding (spec.body_of t.bytes) t.parts) result returned.new }
-    // A verified table stores a list, and the report has its number of entries and data blocks.
-    ensures sound { (h : spec.HeldValue) (t : spec.OpenTable) → table.old.boxed.value ≡ Some h →
-        h.what ≡ spec.TableOf t → result ≡ 0 → spec.ReportsCounts t.bytes returned.new }
-    // It finds no fault in a table that stores a list.
-    ensures complete { (h : spec.HeldValue) (t : spec.OpenTable) (es : List spec.Entry) →
-        table.old.boxed.value ≡ Some h → h.what ≡ spec.TableOf t → spec.StoresList t.bytes es →
-        result ≢ 107 }
+    // It reports the first fault, or the counts of a table that stores a list.
+    ensures verifies { (h : spec.HeldValue) (t : spec.OpenTable) → table.old.boxed.value ≡ Some h →
+        h.what ≡ spec.TableOf t → spec.VerifiesTable t result returned.new }
 {
     *returned = nothing();
     let Some(held) = table.take(alloc) else {

@@ -1,6 +1,6 @@
 //! Writing a table.
 ghost use Rattle.std.specs.Prelude.{◌≡◌, ◌≢◌, ◌⊎◌, [], false, IfErr, IfOk, IsSomeAnd, IsTrue, None};
-ghost use Rattle.std.specs.Prelude.{Some, is_some, true};
+ghost use Rattle.std.specs.Prelude.{Some, true};
 ghost use Rattle.sst_c.specs.Words as spec;
 
 use crate::codes::{CLOSED, NO_MEMORY, NO_SUCH, OPEN, OTHER_KIND, OUT_OF_ORDER};
@@ -56,7 +56,7 @@ fn begin(alloc: Global, options: &TableOptions, writer: &mut Handle) -> u32
 /// On error, `writer` is unchanged.
 #[unsafe(no_mangle)]
 pub extern "C" fn sst_writer_open(alloc: Global, options: &TableOptions, writer: &mut Handle) -> u32
-    ensures open { is_some writer.old.boxed.value ≡ true → result ≡ 101 }
+    ensures opens { spec.OpensHandle writer.old.boxed.value writer.new.boxed.value result }
     ensures unusable { writer.old.boxed.value ≡ None → spec.are_usable options.now ≡ false →
         result ≡ 105 }
     ensures memory { writer.old.boxed.value ≡ None → spec.are_usable options.now ≡ true →
@@ -64,7 +64,6 @@ pub extern "C" fn sst_writer_open(alloc: Global, options: &TableOptions, writer:
     ensures opened { result ≡ 0 → IsSomeAnd writer.new.boxed.value (λ h. (spec.found_by h ≡ None)
         × (spec.writer_in h.what ≡ Some (spec.decode_writing options.now))
         × (spec.files_held h.what ≡ [])) }
-    ensures left { result ≢ 0 → writer.new.boxed.value ≡ writer.old.boxed.value }
 {
     if writer.is_open() {
         return OPEN;
@@ -134,13 +133,7 @@ pub(crate) fn add_kind(
     kind: u64,
     value: &[u8],
 ) -> u32
-    ensures kind { spec.decode_kind kind ≡ None → (result ≡ 105) × (writer.new ≡ writer.old) }
-    ensures order { is_some (spec.decode_kind kind) ≡ true →
-        spec.may_be_written (spec.written writer.old) key.now seqno ≡ false →
-        (result ≡ 104) × (writer.new ≡ writer.old) }
-    ensures took { (k : spec.Kind) → spec.decode_kind kind ≡ Some k →
-        spec.may_be_written (spec.written writer.old) key.now seqno ≡ true →
-        spec.TookEntry writer.old (spec.entry key.now value.now seqno k) result writer.new }
+    ensures { spec.AddsOne writer.old (spec.row_of kind seqno key.now value.now) result writer.new }
 {
     match kind_of(kind) {
         Some(kind) => write_next(writer, key, seqno, kind, value),
@@ -151,17 +144,8 @@ pub(crate) fn add_kind(
 fn add(held: &mut Held, key: &[u8], seqno: SeqNo, kind: u64, value: &[u8]) -> u32
     ensures other { spec.writer_in held.old.what ≡ None →
         (result ≡ 102) × (held.new.what ≡ held.old.what) }
-    ensures kind { (w : spec.WritingValue) → spec.writer_in held.old.what ≡ Some w →
-        spec.decode_kind kind ≡ None → (result ≡ 105) × (held.new.what ≡ held.old.what) }
-    ensures order { (w : spec.WritingValue) → spec.writer_in held.old.what ≡ Some w →
-        is_some (spec.decode_kind kind) ≡ true →
-        spec.may_be_written (spec.written w) key.now seqno ≡ false →
-        (result ≡ 104) × (held.new.what ≡ held.old.what) }
-    ensures took { (w : spec.WritingValue) (k : spec.Kind) → spec.writer_in held.old.what ≡ Some w →
-        spec.decode_kind kind ≡ Some k → spec.may_be_written (spec.written w) key.now seqno ≡ true →
-        let e = spec.entry key.now value.now seqno k in
-        IsSomeAnd (spec.writer_in held.new.what) (spec.TookEntry w e result) }
-    ensures tables { spec.files_held held.new.what ≡ spec.files_held held.old.what }
+    ensures writes { spec.WritesEntry (spec.row_of kind seqno key.now value.now) held.old.what result
+        held.new.what }
     ensures found { spec.found_by held.new ≡ spec.found_by held.old }
 {
     match &mut held.what {
@@ -197,32 +181,10 @@ pub extern "C" fn sst_writer_add(
     kind: u32,
     value: &[u8],
 ) -> u32
-    ensures shut { writer.old.boxed.value ≡ None →
-        (result ≡ 100) × (writer.new.boxed.value ≡ None) }
-    ensures other { (h : spec.HeldValue) → writer.old.boxed.value ≡ Some h →
-        spec.writer_in h.what ≡ None →
-        (result ≡ 102) × IsSomeAnd writer.new.boxed.value (λ k. k.what ≡ h.what) }
-    ensures kind { (h : spec.HeldValue) (w : spec.WritingValue) → writer.old.boxed.value ≡ Some h →
-        spec.writer_in h.what ≡ Some w → spec.decode_kind kind ≡ None →
-        (result ≡ 105) × IsSomeAnd writer.new.boxed.value (λ k. k.what ≡ h.what) }
-    ensures order { (h : spec.HeldValue) (w : spec.WritingValue) → writer.old.boxed.value ≡ Some h →
-        spec.writer_in h.what ≡ Some w → is_some (spec.decode_kind kind) ≡ true →
-        spec.may_be_written (spec.written w) key.now seqno ≡ false →
-        (result ≡ 104) × IsSomeAnd writer.new.boxed.value (λ k. k.what ≡ h.what) }
-    // The writer takes an entry in order, or fails with the first fault and stays failed. A fault
-    // takes precedence over `OutOfMemory`.
-    ensures took { (h : spec.HeldValue) (w : spec.WritingValue) (k : spec.Kind) →
-        writer.old.boxed.value ≡ Some h →
-        spec.writer_in h.what ≡ Some w → spec.decode_kind kind ≡ Some k →
-        spec.may_be_written (spec.written w) key.now seqno ≡ true →
-        let e = spec.entry key.now value.now seqno k in
+    ensures through { spec.WritesThrough writer.old.boxed.value writer.new.boxed.value result }
+    ensures writes { (h : spec.HeldValue) → writer.old.boxed.value ≡ Some h →
         IsSomeAnd writer.new.boxed.value (λ k.
-        IsSomeAnd (spec.writer_in k.what) (spec.TookEntry w e result)) }
-    ensures tables { (h : spec.HeldValue) → writer.old.boxed.value ≡ Some h →
-        IsSomeAnd writer.new.boxed.value (λ k. spec.files_held k.what ≡ spec.files_held h.what) }
-    // The entry found by the last read is unchanged.
-    ensures found { (h : spec.HeldValue) → writer.old.boxed.value ≡ Some h →
-        IsSomeAnd writer.new.boxed.value (λ k. spec.found_by k ≡ spec.found_by h) }
+        spec.WritesEntry (spec.row_of kind seqno key.now value.now) h.what result k.what) }
 {
     let Some(mut held) = writer.take(alloc) else {
         return CLOSED;
@@ -271,16 +233,7 @@ fn finish_files(files: &mut Files) -> u32
 fn finish(held: &mut Held) -> u32
     ensures other { spec.writer_in held.old.what ≡ None →
         (result ≡ 102) × (held.new.what ≡ held.old.what) }
-    ensures returned { (w : spec.WritingValue) → spec.writer_in held.old.what ≡ Some w →
-        spec.FinishReported result w }
-    ensures given { (w : spec.WritingValue) → spec.writer_in held.old.what ≡ Some w →
-        spec.writer_in held.new.what ≡ None }
-    ensures kind { spec.are_files held.new.what ≡ spec.are_files held.old.what }
-    ensures finished { (w : spec.WritingValue) → spec.writer_in held.old.what ≡ Some w →
-        result ≡ 0 →
-        spec.AddsFileOf w (spec.files_held held.old.what) (spec.files_held held.new.what) }
-    ensures refused { (w : spec.WritingValue) → spec.writer_in held.old.what ≡ Some w → result ≢ 0 →
-        spec.files_held held.new.what ≡ spec.files_held held.old.what }
+    ensures finishes { spec.Finishes held.old.what result held.new.what }
     ensures found { spec.found_by held.new ≡ spec.found_by held.old }
 {
     match &mut held.what {
@@ -300,31 +253,9 @@ fn finish(held: &mut Held) -> u32
 /// - An error code of `Writer::finish`. The entries written are dropped then.
 #[unsafe(no_mangle)]
 pub extern "C" fn sst_writer_finish(alloc: Global, writer: &mut Handle) -> u32
-    ensures shut { writer.old.boxed.value ≡ None →
-        (result ≡ 100) × (writer.new.boxed.value ≡ None) }
-    ensures other { (h : spec.HeldValue) → writer.old.boxed.value ≡ Some h →
-        spec.writer_in h.what ≡ None →
-        (result ≡ 102) × IsSomeAnd writer.new.boxed.value (λ k. k.what ≡ h.what) }
-    // `OutOfMemory` replaces neither the error of a failed writer nor the success of an empty one.
-    ensures returned { (h : spec.HeldValue) (w : spec.WritingValue) → writer.old.boxed.value ≡ Some h →
-        spec.writer_in h.what ≡ Some w → spec.FinishReported result w }
-    ensures given { (h : spec.HeldValue) (w : spec.WritingValue) → writer.old.boxed.value ≡ Some h →
-        spec.writer_in h.what ≡ Some w →
-        IsSomeAnd writer.new.boxed.value (λ k. spec.writer_in k.what ≡ None) }
-    ensures kind { (h : spec.HeldValue) → writer.old.boxed.value ≡ Some h →
-        IsSomeAnd writer.new.boxed.value (λ k. spec.are_files k.what ≡ spec.are_files h.what) }
-    // The table has all entries written.
-    ensures finished { (h : spec.HeldValue) (w : spec.WritingValue) →
-        writer.old.boxed.value ≡ Some h →
-        spec.writer_in h.what ≡ Some w → result ≡ 0 → IsSomeAnd writer.new.boxed.value (λ k.
-        spec.AddsFileOf w (spec.files_held h.what) (spec.files_held k.what)) }
-    ensures refused { (h : spec.HeldValue) (w : spec.WritingValue) →
-        writer.old.boxed.value ≡ Some h →
-        spec.writer_in h.what ≡ Some w → result ≢ 0 → IsSomeAnd writer.new.boxed.value (λ k.
-        spec.files_held k.what ≡ spec.files_held h.what) }
-    // The entry found by the last read is unchanged.
-    ensures found { (h : spec.HeldValue) → writer.old.boxed.value ≡ Some h →
-        IsSomeAnd writer.new.boxed.value (λ k. spec.found_by k ≡ spec.found_by h) }
+    ensures through { spec.WritesThrough writer.old.boxed.value writer.new.boxed.value result }
+    ensures finishes { (h : spec.HeldValue) → writer.old.boxed.value ≡ Some h →
+        IsSomeAnd writer.new.boxed.value (λ k. spec.Finishes h.what result k.what) }
 {
     let Some(mut held) = writer.take(alloc) else {
         return CLOSED;

@@ -23,7 +23,8 @@ use Rattle.sst_tool.specs.declared.files.error.ToolError.{ToolError}
 use Rattle.sst_tool.specs.declared.files.error.ToolError.TheVariants as error
 use Rattle.sst_tool.specs.declared.make.compact_options.CompactOptions.{CompactOptions}
 use Rattle.sst_tool.specs.make.Blamed.{BlamesNoneForMemory, IsBlame, KeepsRefusal, NamesBlame}
-use Rattle.sst_tool.specs.make.Compacted.{HasNoTables, TellsLibrary, compactor_by}
+use Rattle.sst_tool.specs.make.Compacted.{HasNoTables, TellsLibrary}
+use Rattle.sst_tool.specs.make.Written.{writer_by}
 use Rattle.sst_tool.specs.make.Compacted.{each_alone}
 use Rattle.sst_tool.specs.make.Scanned.{path_or_mark}
 use Rattle.sst_tool.specs.make.Scanned.{StoresNoEntries}
@@ -86,20 +87,20 @@ pub refused_so : (o : CompactOptions) (paths : List (Bor (List ℕ))) (opened : 
     → (fault ≡ OutOfMemory → e ≡ error.Refused OutOfMemory) → BlamesNoneForMemory e
     → (AreCompactable (each_alone opened) → (lists : List (List (List Entry)))
     → RunsHoldLists (each_alone opened) lists → is_memory fault ≡ false
-    → run_with_fault (compactor_by o) (kept_in o.rules lists) 0 ≡ Some fault)
+    → run_with_fault (writer_by o.tables) (kept_in o.rules lists) 0 ≡ Some fault)
     → (AreCompactable (each_alone opened) → (lists : List (List (List Entry)))
-    → RunsHoldLists (each_alone opened) lists → FitsBy (compactor_by o) (kept_in o.rules lists)
+    → RunsHoldLists (each_alone opened) lists → FitsBy (writer_by o.tables) (kept_in o.rules lists)
     → highest_seqno (kept_in o.rules lists) + 0 < 2 ^ 64 → fault ≡ OutOfMemory)
     → TellsLibrary o opened e
 refused_so o paths opened fault (error.Refused f) kept blame memory other refused taken =
     λ able lists hold. record {
-      returned = told_by (run_with_fault (compactor_by o) (kept_in o.rules lists) 0) fault f kept
+      returned = told_by (run_with_fault (writer_by o.tables) (kept_in o.rules lists) 0) fault f kept
           (refused able lists hold);
       taken = λ fits low. memory (taken able lists hold fits low);
     }
 refused_so o paths opened fault (error.Unplaced f) kept blame memory other refused taken =
     λ able lists hold. record {
-      returned = told_by (run_with_fault (compactor_by o) (kept_in o.rules lists) 0) fault f kept
+      returned = told_by (run_with_fault (writer_by o.tables) (kept_in o.rules lists) 0) fault f kept
           (refused able lists hold) other;
       taken = λ fits low. memory (taken able lists hold fits low);
     }
@@ -116,7 +117,7 @@ pub none_so : {A : Type 0} (o : CompactOptions) (opened : List OpenTable)
     (outcome : CompactionOutcome A) (e : ToolError) → HasNoTables outcome
     → (AreCompactable (each_alone opened) → (lists : List (List (List Entry)))
     → RunsHoldLists (each_alone opened) lists
-    → AreTablesBy (compactor_by o) (kept_in o.rules lists) outcome)
+    → AreTablesBy (writer_by o.tables) (kept_in o.rules lists) outcome)
     → TellsLibrary o opened e
 none_so o opened (Tables tables left) e none made = absurd none
 none_so o opened OutOfOrder e none made = λ able lists hold. absurd (made able lists hold)

@@ -2,6 +2,7 @@ pub mod EmptyLine
 pub mod EscapeLemmas
 pub mod ObjectLemmas
 pub mod WordLemmas
+pub mod FileNumbers
 pub mod FilesMore
 pub mod Modes
 pub mod NewFolders

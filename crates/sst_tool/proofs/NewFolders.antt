@@ -18,7 +18,7 @@ use Rattle.sst_tool.specs.declared.files.file_error.FileFault.TheVariants.{After
 use Rattle.sst_tool.specs.declared.files.file_error.FileFault.TheVariants.{Io, Left, NamesTaken, NotPlain}
 use Rattle.sst_tool.specs.declared.files.file_error.FileFault.TheVariants.{NotSynced, Refused, Taken}
 use Rattle.sst_tool.specs.files.Ended.{behind_front, files_left, moved_by, path_behind, path_moved}
-use Rattle.sst_tool.specs.files.Files.{path_text}
+use Rattle.sst_tool.specs.files.Files.{file_number, path_text}
 use Rattle.sst_tool.specs.files.NewFolders.{IsBesideFolder, IsEmptied, IsFolderGivenUp, IsFolderNotPlaced}
 use Rattle.sst_tool.specs.files.NewFolders.{IsFolderPlaced, IsNamingFault, IsNotFilled, IsStemOf}
 use Rattle.sst_tool.specs.files.NewFolders.{IsMakingFault, IsWritingFault, LiesWithin, MaySyncNames}
@@ -228,7 +228,7 @@ front_found (b ∷ front) rest =
 moved_within : (from to : List ℕ) (number : ℕ)
     → path_moved from to (path_within from number) ≡ path_within to number
 moved_within from to number =
-    let rest : List ℕ = decimal number ++ codes ".sst" in
+    let rest : List ℕ = file_number number ++ codes ".sst" in
     let split : path_within from number ≡ (from ++ codes "/") ++ rest =
     sym (append_assoc from (codes "/") rest) in
     ap (moved_by to (path_within from number))
@@ -331,7 +331,7 @@ elsewhere_one folder beside number named =
     let kept : folder ≡ stem ++ slashes = named.1.1 in
     let are : AllByRecursion (λ c. c ≡ slash) slashes = named.1.2 in
     let mark : List ℕ = decimal named.2.0 ++ codes ".tmp" in
-    let end : List ℕ = codes "/" ++ (decimal number ++ codes ".sst") in
+    let end : List ℕ = codes "/" ++ (file_number number ++ codes ".sst") in
     let split : path_within beside number ≡ stem ++ (codes "." ++ (mark ++ end)) =
     ap (λ (l : List ℕ). l ++ end) named.2.1
     ∙ append_assoc stem (codes "." ++ mark) end
@@ -472,7 +472,7 @@ name_filled folder beside old new named same = same folder (apart_beside folder 
 pub same_behind : (folder path : List ℕ) (number : ℕ) (old new : List ℕ → Option Bool)
     → path ≡ path_within folder number → SameElsewhere path old new → SameButBehind folder old new
 same_behind folder path number old new is same other apart =
-    let end : List ℕ = codes "/" ++ (decimal number ++ codes ".sst") in (same other (
+    let end : List ℕ = codes "/" ++ (file_number number ++ codes ".sst") in (same other (
       λ e. apart end (e ∙ is),
       λ rest e. apart (end ++ (codes "/" ++ rest))
           (e ∙ ap (λ (l : List ℕ). l ++ (codes "/" ++ rest)) is
@@ -524,7 +524,7 @@ name_found (Err fault) old new same h =
 pub within_taken : (folder : List ℕ) (number : ℕ) (fault : FileFault) (there : Option Bool)
     → path_within folder number ≡ folder → TellsTaken fault there
 within_taken folder number fault there same =
-    let rest : List ℕ = decimal number ++ codes ".sst" in
+    let rest : List ℕ = file_number number ++ codes ".sst" in
     let end : List ℕ = codes "/" ++ rest in
     let one : length (codes "/") ≡ 1 = refl in
     let long : length folder ≡ length (folder ++ end) = ap length (sym same) in

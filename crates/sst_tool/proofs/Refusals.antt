@@ -46,7 +46,7 @@ memory_refused o input = memory_told o input OutOfMemory refl
 
 -- sizes that are too large
 pub sizes_refused : (o : WriteOptions) (input : Option (List ℕ)) (error : ToolError)
-    → TellsSizes o error → RefusesLines o input error
+    → TellsSizes o.tables error → RefusesLines o input error
 sizes_refused o input SizeTooLarge h = h
 sizes_refused o input (Refused e) h = memory_told o input e h
 sizes_refused o input error h = absurd h
@@ -63,7 +63,7 @@ of_lines true format input w error other h = h
 of_lines false format input w error other h = h
 
 pub lines_refused : (o : WriteOptions) (input : Option (List ℕ)) (w : TablesWriting)
-    (error : ToolError) → w ≡ writer_by o → StopsLines o.sort o.format input w error
+    (error : ToolError) → w ≡ writer_by o.tables → StopsLines o.sort o.format input w error
     → RefusesLines o input error
 lines_refused o input w (Line n wrong) is h =
     subst (λ (x : TablesWriting). StopsLines o.sort o.format input x (Line n wrong)) is h
@@ -77,7 +77,7 @@ lines_refused o input w error is h = absurd
 -- ---- the writer's end
 
 end_refused : (o : WriteOptions) (input : Option (List ℕ)) (w m : TablesWriting) (count : ℕ)
-    (error : ToolError) → w ≡ writer_by o → TookLines o input w m count → TellsEnd m error
+    (error : ToolError) → w ≡ writer_by o.tables → TookLines o input w m count → TellsEnd m error
     → RefusesLines o input error
 end_refused o input w m count (Refused e) is taken h = λ not. record {
   writer = m;
@@ -88,7 +88,7 @@ end_refused o input w m count (Refused e) is taken h = λ not. record {
 end_refused o input w m count error is taken h = absurd h
 
 pub told_end : {R : Type 0} (returned : Result R ToolError) (o : WriteOptions)
-    (input : Option (List ℕ)) (w m : TablesWriting) (count : ℕ) → w ≡ writer_by o
+    (input : Option (List ℕ)) (w m : TablesWriting) (count : ℕ) → w ≡ writer_by o.tables
     → TookLines o input w m count → IfErr returned (TellsEnd m) → IfErr returned (RefusesLines o input)
 told_end (Ok r) o input w m count is taken h = tt
 told_end (Err e) o input w m count is taken h = end_refused o input w m count e is taken h
@@ -116,8 +116,8 @@ pub none_spelled : {A : Type 0} (o : WriteOptions) (input : Option (List ℕ))
     → HasEntries o.format input []
 none_spelled {A} o input fs count h none =
     subst (λ (es : List Entry). HasEntries o.format input es)
-    (none_sorted A o.sort (writer_by o) h.entries
-    (subst (λ (xs : List (FinishedTable A)). WritesSorted o.sort (writer_by o) h.entries xs) none
+    (none_sorted A o.sort (writer_by o.tables) h.entries
+    (subst (λ (xs : List (FinishedTable A)). WritesSorted o.sort (writer_by o.tables) h.entries xs) none
     h.written)) h.spelled
 
 -- ---- a line that is told as repeated, or out of order
@@ -147,12 +147,12 @@ order_line false format (Some bytes) w n fresh h =
 pub told_order : (o : WriteOptions) (input : Option (List ℕ)) (error : ToolError)
     → RefusesLines o input error → TellsLineOrder o.format input error
 told_order o input (Line n fault.Repeated) h =
-    repeated_line o.sort o.format input (writer_by o) n
-    (nothing_yet (writer_by o) (refl, (refl, refl, refl), refl)) h
+    repeated_line o.sort o.format input (writer_by o.tables) n
+    (nothing_yet (writer_by o.tables) (refl, (refl, refl, refl), refl)) h
 told_order o input (Line n (fault.Spelling e)) h = tt
 told_order o input (Line n fault.TooHigh) h = tt
 told_order o input (Line n fault.OutOfOrder) h =
-    order_line o.sort o.format input (writer_by o) n
-    (nothing_yet (writer_by o) (refl, (refl, refl, refl), refl)) h
+    order_line o.sort o.format input (writer_by o.tables) n
+    (nothing_yet (writer_by o.tables) (refl, (refl, refl, refl), refl)) h
 told_order o input (Line n (fault.Refused e)) h = tt
 told_order o input error h = tt

@@ -258,22 +258,22 @@ taken_sorted true w m es fs fresh next taken are =
 
 -- the tables of lines
 of_lines : {A : Type 0} (o : WriteOptions) (input : Option (List ℕ)) (w m : TablesWriting)
-    (fs : List (FinishedTable A)) (count n : ℕ) → w ≡ writer_by o → TookLines o input w m n
+    (fs : List (FinishedTable A)) (count n : ℕ) → w ≡ writer_by o.tables → TookLines o input w m n
     → n ≡ count → AreTablesOf m fs → AreOfLines o input fs count
 of_lines o input w m fs count n is taken same are =
-    let by : TookSorted o.sort (writer_by o) taken.entries m =
+    let by : TookSorted o.sort (writer_by o.tables) taken.entries m =
     subst (λ (x : TablesWriting). TookSorted o.sort x taken.entries m) is taken.taken in
     record {
       entries = taken.entries;
       spelled = taken.spelled;
       counted = sym same ∙ taken.counted;
-      written = taken_sorted o.sort (writer_by o) m taken.entries fs
+      written = taken_sorted o.sort (writer_by o.tables) m taken.entries fs
           (refl, (refl, refl, refl), refl) refl by are;
     }
 
 pub told_lines : {A R E : Type 0} (o : WriteOptions) (input : Option (List ℕ))
     (w m : TablesWriting) (n : ℕ) (fs : R → List (FinishedTable A)) (count : R → ℕ)
-    (returned : Result R E) → w ≡ writer_by o → TookLines o input w m n
+    (returned : Result R E) → w ≡ writer_by o.tables → TookLines o input w m n
     → IfOk returned (λ r. (count r ≡ n) × AreTablesOf m (fs r))
     → IfOk returned (λ r. AreOfLines o input (fs r) (count r))
 told_lines o input w m n fs count (Ok r) is taken made =

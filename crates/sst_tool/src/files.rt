@@ -1,6 +1,7 @@
 //! Table files: reads, opens and writes them, each write complete before it gets its name.
 
 mod error;
+mod escaped;
 mod file_error;
 mod file_name;
 mod free;
@@ -14,6 +15,7 @@ mod target;
 mod write;
 
 pub use error::{BlockPlace, KeyWord, LineFault, RefusedAt, ToolError, section_name};
+pub use escaped::Escaped;
 pub use file_error::{FileError, FileFault};
 pub use file_name::FileName;
 pub use free::check_free;

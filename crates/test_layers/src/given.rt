@@ -15,7 +15,7 @@ pub(crate) enum Given {
     ByReference,
 }
 
-/// Stands for an error code where an entry may not be written next.
+/// In place of an error code: an entry may not be written next.
 pub(crate) const MAY_NOT_FOLLOW: u8 = u8::MAX;
 
 /// A table: its id, the checksum of all its bytes, and their number.
@@ -26,8 +26,8 @@ pub(crate) type Tables = (usize, [Seen; 8]);
 
 pub(crate) const NO_TABLES: Tables = (0, [(0, 0, 0); 8]);
 
-/// The error codes of a new writer, of the first entry that fails, of a further entry and another
-/// call after it, and of `finish`; 0 for none.
+/// Error codes, 0 for none: of a new writer, of the first entry that fails, of a further entry and
+/// another call after it, and of `finish`.
 pub(crate) type Refusals = [u8; 5];
 
 /// The error code of `finish`, the id of the next table if any, whether no entry was written
@@ -164,8 +164,8 @@ impl<A: Allocator + Copy> Takes for MultiWriter<A> {
 /// The row that is written after one that fails.
 const BEHIND: Row<'static> = (b"d", 1, ValueType::Value, b"");
 
-/// The error codes of the first of some rows that fails, of a further row after it, and of another
-/// call; 0 for none.
+/// Error codes, 0 for none: of the first row that fails, of a further row after it, and of another
+/// call.
 pub(crate) fn put_rows<T: Takes>(taking: &mut T, rows: &[Row<'static>], given: Given) -> [u8; 3] {
     for row in rows {
         let first = taking.take(row, given);

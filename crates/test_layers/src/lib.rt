@@ -1,6 +1,6 @@
-//! Worked examples of what stands below tables: sections, filters, blocks and their writers; key
-//! ranges and runs, queues with two ends, merging, newest versions and compaction. Nothing here is
-//! for use.
+//! Tests of the layers below tables: sections, filters, blocks and their writers; key ranges and
+//! runs; queues with two ends, merging, newest versions and compaction. No other crate uses this
+//! one.
 #![tactic(auto)]
 
 #[cfg(test)]

@@ -20,7 +20,7 @@ const FRONT: &[u8] = b"front";
 // The error codes where bytes that were written are lost.
 const LOST: Refusals = [u8::MAX; 5];
 
-/// The error codes of writing a part of a table; and the id 0, and the checksum and length of all
+/// The error codes of writing a part of a table. Then the id 0, and the checksum and length of all
 /// bytes of the section writer.
 pub(crate) type Part = (Refusals, Seen);
 

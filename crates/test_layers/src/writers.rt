@@ -104,12 +104,16 @@ fn writes_the_sections_without_gaps(rt: HostRuntime) {
     assert!(rt; asked(one_entry_by_default(rt.alloc()), layout) == Ok((FILTERED, 1_353)));
 }
 
-// The counts of a writer, in four parts:
-// - entries and blocks cut; keys, tombstones, weak tombstones and reclaimable values written; and
-//   the bytes of keys and values pending;
-// - the lowest and the highest sequence number, the length of the blocks and of their payloads;
-// - the first bytes of the first and of the last key;
-// - whether no entry was written.
+// The counts of a writer, in four parts.
+//
+// 1. Entries and blocks cut; keys, tombstones, weak tombstones and reclaimable values written; and
+//    the bytes of pending keys and values.
+//
+// 2. The lowest and the highest sequence number, the length of the blocks and of their payloads.
+//
+// 3. The first byte of the first and of the last key.
+//
+// 4. Whether no entry was written.
 type Counts = ([usize; 7], [u64; 4], [u8; 2], bool);
 
 // The first byte of a key, `u8::MAX` where the key is empty.
@@ -152,7 +156,7 @@ fn counts(writer: &Writer) -> Counts {
     )
 }
 
-// The error codes of some rows, of one after the first that fails, of a cut and of `finish`; and
+// The error codes of some rows, of one after the first that fails, of a cut and of `finish`. Then
 // the counts before and after the cut.
 type Counted = (Refusals, Counts, Counts);
 
@@ -206,8 +210,8 @@ const F1: Row<'static> = (b"f", 1, ValueType::Value, b"");
 const NOTHING: Counts = ([0; 7], [SeqNo::MAX, 0, 0, 0], [0, 0], true);
 
 // The data block size, the rows, the errors, and the counts after the rows: before the pending
-// block is cut, and after. A block has a header of 24 bytes and a payload: a count of 4 bytes and,
-// for each entry, 17 bytes, the key and the value.
+// block is cut, and after. A block has a header of 24 bytes and a payload. The payload is a count
+// of 4 bytes and, for each entry, 17 bytes, the key and the value.
 static COUNTS: [(u32, &[Row<'static>], Refusals, Counts, Counts); 9] = [
     (4_096, &[], [0; 5], NOTHING, NOTHING),
     // the first write sets the first key, and a cut the last key

@@ -1,5 +1,5 @@
-//! Worked examples of tables and of runs of tables, in one crate because they share their data.
-//! Nothing here is for use.
+//! Tests of tables and of runs of tables, in one crate because they share their data. No other
+//! crate uses this one.
 #![tactic(auto)]
 
 #[cfg(test)]

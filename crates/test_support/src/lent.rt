@@ -1,5 +1,5 @@
-//! What tests of streams share: lists that are lent, lists that look random, and the comparison of
-//! what lends with what gives by value.
+//! Shared by tests of streams: lists as lending iterators, lists that look random, and comparisons
+//! of lending iterators with those by value.
 mod agreeing;
 mod entries;
 mod lists;

@@ -1,4 +1,4 @@
-//! What the tests of several crates share. Nothing here is for use.
+//! Code that the tests of several crates share. The library does not use it.
 #![tactic(auto)]
 
 mod lent;

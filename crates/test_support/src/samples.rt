@@ -1,5 +1,4 @@
-//! What tests of tables share: rows and the tables of them, stored tables, runs, and what is read
-//! of these.
+//! Shared by tests of tables: rows and their tables, stored tables, runs, and reads of these.
 pub mod large;
 pub mod lending;
 pub mod lists;

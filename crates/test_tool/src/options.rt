@@ -4,17 +4,18 @@ use std::test::Fail;
 use tool_options::{Parsed, parse};
 
 /// Command lines, and the first text of their results.
-const LINES: [(&str, &str); 35] = [
+const LINES: [(&str, &str); 38] = [
     (
         "sst write f",
-        "Write(WriteTask { file: \"f\", partitioned: false, filter_bits: 10, block_size: 4096, \
-         partition_size: 4096, level: 0, target: None, sort: false, json: false })",
+        "Write(WriteTask { file: \"f\", tables: TableArguments { partitioned: false, filter_bits: \
+         10, block_size: 4096, partition_size: 4096, level: 0, target: None }, sort: false, json: \
+         false })",
     ),
     (
         "sst write --index partitioned f --filter none --block-size 7 --partition-size=8 --level \
          3 --target 9 --sort --json",
-        "Write(WriteTask { file: \"f\", partitioned: true, filter_bits: 0, block_size: 7, \
-         partition_size: 8, level: 3, target: Some(9), sort: true, json: true })",
+        "Write(WriteTask { file: \"f\", tables: TableArguments { partitioned: true, filter_bits: \
+         0, block_size: 7, partition_size: 8, level: 3, target: Some(9) }, sort: true, json: true })",
     ),
     (
         "sst dump a b --from x --to=y --reverse --limit 3 --json",
@@ -48,15 +49,32 @@ const LINES: [(&str, &str); 35] = [
     (
         "sst compact --evict a --to c b",
         "Compact(CompactTask { files: [\"a\", \"b\"], folder: \"c\", watermark: 0, evict: true, zero: \
-         false, target: None })",
+         false, tables: TableArguments { partitioned: false, filter_bits: 10, block_size: 4096, \
+         partition_size: 4096, level: 0, target: None }, json: false })",
     ),
-    ("sst verify a", "Verify(VerifyTask { files: [\"a\"] })"),
     (
-        "sst compact a b --to c --watermark 4 --evict --zero --target 5",
-        "Compact(CompactTask { files: [\"a\", \"b\"], folder: \"c\", watermark: 4, evict: true, \
-         zero: true, target: Some(5) })",
+        "sst verify a",
+        "Verify(VerifyTask { files: [\"a\"], json: false })",
     ),
-    ("sst pack a b", "Pack(PackTask { files: [\"a\", \"b\"] })"),
+    (
+        "sst verify --json a b",
+        "Verify(VerifyTask { files: [\"a\", \"b\"], json: true })",
+    ),
+    (
+        "sst compact a b --to c --watermark 4 --evict --zero --index partitioned --filter none \
+         --block-size 7 --partition-size 8 --level 3 --target 5 --json",
+        "Compact(CompactTask { files: [\"a\", \"b\"], folder: \"c\", watermark: 4, evict: true, \
+         zero: true, tables: TableArguments { partitioned: true, filter_bits: 0, block_size: 7, \
+         partition_size: 8, level: 3, target: Some(5) }, json: true })",
+    ),
+    (
+        "sst pack a b",
+        "Pack(PackTask { files: [\"a\", \"b\"], json: false })",
+    ),
+    (
+        "sst pack a --json b",
+        "Pack(PackTask { files: [\"a\", \"b\"], json: true })",
+    ),
     (
         "sst write f --filter 101",
         "mistaken error: invalid value for '--filter <BITS>': neither 1 to 100 nor none\n",
@@ -100,11 +118,16 @@ const LINES: [(&str, &str); 35] = [
     ),
     (
         "sst write f --filter 100",
-        "Write(WriteTask { file: \"f\", partitioned: false, filter_bits: 100,",
+        "Write(WriteTask { file: \"f\", tables: TableArguments { partitioned: false, filter_bits: 100,",
     ),
     (
         "sst write f --block-size 0",
         "mistaken error: invalid value '0' for '--block-size <BYTES>'",
+    ),
+    (
+        "sst compact a --to c --filter 101",
+        "mistaken error: invalid value for '--filter <BITS>': neither 1 to 100 nor none\n\nFor more \
+         information, try 'sst compact --help'.\n",
     ),
     (
         "sst compact a --to c --target 0",
@@ -140,7 +163,7 @@ const LINES: [(&str, &str); 35] = [
     ("sst --version", "shown sst 1.0.0\n"),
     (
         "sst help pack",
-        "shown Prints the fewest runs of tables\n\nUsage: sst pack <FILE>...\n",
+        "shown Prints the fewest runs of tables\n\nUsage: sst pack [OPTIONS] <FILE>...\n",
     ),
 ];
 

@@ -1,4 +1,4 @@
-//! Tests of scripts: what they print, what they report and their status.
+//! Tests of scripts: their output, their errors and their status.
 mod ends;
 mod runs;
 mod scripts;

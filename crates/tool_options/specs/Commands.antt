@@ -1,5 +1,5 @@
 -- The program's commands, as the parser has them.
-use Rattle.std.specs.Prelude.{◌∷◌, List, [], Option, Some, None, true, codes, map}
+use Rattle.std.specs.Prelude.{◌∷◌, ◌++◌, List, [], Option, Some, None, true, codes, map}
 use Rattle.clap.specs.Lexer.{usize_max}
 use Rattle.clap.specs.Simple.{Shape}
 use Rattle.clap.specs.Words.{App, Rule, Text, new_rule}
@@ -33,20 +33,23 @@ placed_some = record (new_rule (codes "files")) {
   required = true;
 }
 
+-- The options of new tables.
+abbrev pub table_options : List Rule
+table_options =
+    defaulted (codes "index") (codes "full")
+    ∷ defaulted (codes "filter") (codes "10")
+    ∷ defaulted (codes "block-size") (codes "4096")
+    ∷ defaulted (codes "partition-size") (codes "4096")
+    ∷ defaulted (codes "level") (codes "0")
+    ∷ valued (codes "target")
+    ∷ []
+
 -- Each command with its arguments.
 unfoldable pub commands : List (Text × List Rule)
 commands = (
   codes "write",
   placed_one (codes "file")
-      ∷ defaulted (codes "index") (codes "full")
-      ∷ defaulted (codes "filter") (codes "10")
-      ∷ defaulted (codes "block-size") (codes "4096")
-      ∷ defaulted (codes "partition-size") (codes "4096")
-      ∷ defaulted (codes "level") (codes "0")
-      ∷ valued (codes "target")
-      ∷ flag (codes "sort")
-      ∷ flag (codes "json")
-      ∷ [],
+      ∷ (table_options ++ (flag (codes "sort") ∷ flag (codes "json") ∷ [])),
 )
     ∷ (
       codes "dump",
@@ -60,7 +63,7 @@ commands = (
     )
     ∷ (codes "get", placed_some ∷ valued (codes "at") ∷ flag (codes "loads") ∷ flag (codes "json") ∷ [])
     ∷ (codes "stat", placed_some ∷ flag (codes "json") ∷ [])
-    ∷ (codes "verify", placed_some ∷ [])
+    ∷ (codes "verify", placed_some ∷ flag (codes "json") ∷ [])
     ∷ (
       codes "compact",
       placed_some
@@ -68,10 +71,9 @@ commands = (
           ∷ defaulted (codes "watermark") (codes "0")
           ∷ flag (codes "evict")
           ∷ flag (codes "zero")
-          ∷ valued (codes "target")
-          ∷ [],
+          ∷ (table_options ++ (flag (codes "json") ∷ [])),
     )
-    ∷ (codes "pack", placed_some ∷ [])
+    ∷ (codes "pack", placed_some ∷ flag (codes "json") ∷ [])
     ∷ (codes "completion", placed_one (codes "shell") ∷ [])
     ∷ (codes "man", [])
     ∷ []

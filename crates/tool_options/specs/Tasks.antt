@@ -12,6 +12,9 @@ use Rattle.tool_options.specs.declared.tasks.DumpTask.{DumpTask}
 use Rattle.tool_options.specs.declared.tasks.GetTask.{GetTask}
 use Rattle.tool_options.specs.declared.tasks.StatTask.{StatTask}
 use Rattle.tool_options.specs.declared.tasks.CompactTask.{CompactTask}
+use Rattle.tool_options.specs.declared.tasks.PackTask.{PackTask}
+use Rattle.tool_options.specs.declared.tasks.TableArguments.{TableArguments}
+use Rattle.tool_options.specs.declared.tasks.VerifyTask.{VerifyTask}
 
 -- The texts of references.
 abbrev pub texts_of : List (Bor Text) → List Text
@@ -42,14 +45,18 @@ named_files rows = unwrap_or (all_of (codes "files") rows) []
 abbrev pub Has : List Row → Text → Type 0
 Has rows name = first_of name rows ≡ Some (codes "true")
 
-pub record AsksToWrite (rows : List Row) (t : WriteTask) : Type 0 where
-  pub file : first_of (codes "file") rows ≡ Some t.file.now
+-- The options of new tables.
+pub record AsksForTables (rows : List Row) (t : TableArguments) : Type 0 where
   pub partitioned : IsTrue t.partitioned ↔ (first_of (codes "index") rows ≡ Some (codes "partitioned"))
   pub filter : (text : Text) × (first_of (codes "filter") rows ≡ Some text) × SpellsBits text t.filter_bits
   pub block_size : Spells 32 (one_of (codes "block-size") rows) (Some t.block_size)
   pub partition_size : Spells 32 (one_of (codes "partition-size") rows) (Some t.partition_size)
   pub level : Spells 8 (one_of (codes "level") rows) (Some t.level)
   pub target : Spells 64 (one_of (codes "target") rows) t.target
+
+pub record AsksToWrite (rows : List Row) (t : WriteTask) : Type 0 where
+  pub file : first_of (codes "file") rows ≡ Some t.file.now
+  pub tables : AsksForTables rows t.tables
   pub sort : IsTrue t.sort ↔ Has rows (codes "sort")
   pub json : IsTrue t.json ↔ Has rows (codes "json")
 
@@ -73,13 +80,22 @@ pub record AsksForStat (rows : List Row) (t : StatTask) : Type 0 where
   pub files : texts_of t.files.items ≡ named_files rows
   pub json : IsTrue t.json ↔ Has rows (codes "json")
 
+pub record AsksToVerify (rows : List Row) (t : VerifyTask) : Type 0 where
+  pub files : texts_of t.files.items ≡ named_files rows
+  pub json : IsTrue t.json ↔ Has rows (codes "json")
+
 pub record AsksToCompact (rows : List Row) (t : CompactTask) : Type 0 where
   pub files : texts_of t.files.items ≡ named_files rows
   pub folder : first_of (codes "to") rows ≡ Some t.folder.now
   pub watermark : Spells 64 (one_of (codes "watermark") rows) (Some t.watermark)
   pub evict : IsTrue t.evict ↔ Has rows (codes "evict")
   pub zero : IsTrue t.zero ↔ Has rows (codes "zero")
-  pub target : Spells 64 (one_of (codes "target") rows) t.target
+  pub tables : AsksForTables rows t.tables
+  pub json : IsTrue t.json ↔ Has rows (codes "json")
+
+pub record AsksToPack (rows : List Row) (t : PackTask) : Type 0 where
+  pub files : texts_of t.files.items ≡ named_files rows
+  pub json : IsTrue t.json ↔ Has rows (codes "json")
 
 -- The command of this name with these arguments asks for the task.
 abbrev pub AsksFor : Text → List Row → Task → Type 0
@@ -87,6 +103,6 @@ AsksFor name rows (task.Write t) = (name ≡ codes "write") × AsksToWrite rows 
 AsksFor name rows (task.Dump t) = (name ≡ codes "dump") × AsksToDump rows t
 AsksFor name rows (task.Get t) = (name ≡ codes "get") × AsksToGet rows t
 AsksFor name rows (task.Stat t) = (name ≡ codes "stat") × AsksForStat rows t
-AsksFor name rows (task.Verify t) = (name ≡ codes "verify") × (texts_of t.files.items ≡ named_files rows)
+AsksFor name rows (task.Verify t) = (name ≡ codes "verify") × AsksToVerify rows t
 AsksFor name rows (task.Compact t) = (name ≡ codes "compact") × AsksToCompact rows t
-AsksFor name rows (task.Pack t) = (name ≡ codes "pack") × (texts_of t.files.items ≡ named_files rows)
+AsksFor name rows (task.Pack t) = (name ≡ codes "pack") × AsksToPack rows t

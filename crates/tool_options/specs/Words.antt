@@ -6,5 +6,5 @@ pub use Rattle.clap.specs.declared.builder.command.Command.TheViews.{out-Command
 pub use Rattle.tool_options.specs.Asks.{AsksBy, AsksFrom}
 pub use Rattle.tool_options.specs.Program.{argument_rule, bare_program, command_app, parser_of}
 pub use Rattle.tool_options.specs.Program.{program_of, unformed, value_of}
-pub use Rattle.tool_options.specs.Tasks.{AsksFor, Has, Spells, SpellsBits, named_files, text_in}
-pub use Rattle.tool_options.specs.Tasks.{texts_of}
+pub use Rattle.tool_options.specs.Tasks.{AsksFor, AsksForTables, Has, Spells, SpellsBits, named_files}
+pub use Rattle.tool_options.specs.Tasks.{text_in, texts_of}

@@ -10,5 +10,7 @@ mod tasks;
 mod texts;
 mod words;
 
-pub use tasks::{CompactTask, DumpTask, GetTask, PackTask, StatTask, Task, VerifyTask, WriteTask};
+pub use tasks::{
+    CompactTask, DumpTask, GetTask, PackTask, StatTask, TableArguments, Task, VerifyTask, WriteTask,
+};
 pub use words::{Parsed, parse};

@@ -26,13 +26,15 @@ malformed or out of order, and if its input or output fails.",
 // Notes on standard output and on the files that are left.
 const OUTPUT: &str = "\
 Results go to standard output, and errors to standard error. If the reader of
-a pipe ends early, as head does, the command ends early too. It ends by the
-signal SIGPIPE, or with status 1 if that signal is ignored. The commands write
+a pipe ends early, as head does, the command ends early too. It ends without a
+message, and with status 0 or that of what it found so far. The commands write
 and compact print their line last. If that fails, the new files are there.
 
 With --json, write reads an object from each line. The commands dump and get
 print an object for each entry, and stat prints one for each table. With
---loads too, get prints a further object for each file.";
+--loads too, get prints a further object for each file. In place of their
+lines, verify prints an object for each, and write, compact and pack print one
+object.";
 
 const LEFT: &str = "\
 After an error, write and compact remove what has a temporary name, as far as
@@ -62,7 +64,7 @@ Read a key in both, and then as a snapshot at 2 sees it:
 Merge both into a new folder without tombstones, and check the new table:
 
     sst compact updates.sst bookworm.sst --to merged --watermark 3 --evict
-    sst verify merged/1.sst";
+    sst verify merged/000001.sst";
 
 /// Returns the manual page of these commands, in the language of `man`.
 ///

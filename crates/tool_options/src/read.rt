@@ -3,7 +3,7 @@ ghost use Rattle.std.specs.Prelude.{◌≡◌, ◌↔◌, IfOk, IfSome, IsTrue, 
 ghost use Rattle.tool_options.specs.Words as spec;
 
 use crate::tasks::{
-    CompactTask, DumpTask, GetTask, PackTask, StatTask, Task, VerifyTask, WriteTask,
+    CompactTask, DumpTask, GetTask, PackTask, StatTask, TableArguments, Task, VerifyTask, WriteTask,
 };
 use clap::ArgMatches;
 use std::alloc::{AllocError, Global};
@@ -59,12 +59,7 @@ fn read_write<'a>(matches: &ArgMatches<'a>) -> Result<Task<'a>, Misread>
 {
     Ok(Task::Write(WriteTask {
         file: text(matches, "file").ok_or(Misread::Absent)?,
-        partitioned: says(matches, "index", "partitioned"),
-        filter_bits: filter(matches).ok_or(Misread::Filter)?,
-        block_size: size(matches, "block-size").ok_or(Misread::Absent)?,
-        partition_size: size(matches, "partition-size").ok_or(Misread::Absent)?,
-        level: small(matches, "level").ok_or(Misread::Absent)?,
-        target: number(matches, "target"),
+        tables: tables(matches)?,
         sort: flag(matches, "sort"),
         json: flag(matches, "json"),
     }))
@@ -119,6 +114,7 @@ fn read_verify<'a>(alloc: Global, matches: &ArgMatches<'a>) -> Result<Task<'a>, 
 {
     Ok(Task::Verify(VerifyTask {
         files: files(alloc, matches)?,
+        json: flag(matches, "json"),
     }))
 }
 
@@ -134,7 +130,8 @@ fn read_compact<'a>(alloc: Global, matches: &ArgMatches<'a>) -> Result<Task<'a>,
         watermark,
         evict: flag(matches, "evict"),
         zero: flag(matches, "zero"),
-        target: number(matches, "target"),
+        tables: tables(matches)?,
+        json: flag(matches, "json"),
     }))
 }
 
@@ -144,7 +141,22 @@ fn read_pack<'a>(alloc: Global, matches: &ArgMatches<'a>) -> Result<Task<'a>, Mi
 {
     Ok(Task::Pack(PackTask {
         files: files(alloc, matches)?,
+        json: flag(matches, "json"),
     }))
+}
+
+// Returns the options of new tables.
+fn tables(matches: &ArgMatches<'_>) -> Result<TableArguments, Misread>
+    ensures { IfOk result (spec.AsksForTables (spec.rows_of (spec.found_of matches.now))) }
+{
+    Ok(TableArguments {
+        partitioned: says(matches, "index", "partitioned"),
+        filter_bits: filter(matches).ok_or(Misread::Filter)?,
+        block_size: size(matches, "block-size").ok_or(Misread::Absent)?,
+        partition_size: size(matches, "partition-size").ok_or(Misread::Absent)?,
+        level: small(matches, "level").ok_or(Misread::Absent)?,
+        target: number(matches, "target"),
+    })
 }
 
 // Returns the value of an argument.

@@ -19,11 +19,9 @@ pub enum Task<'a> {
     Pack(PackTask<'a>),
 }
 
-/// Write the entries on standard input into tables. Options that are left out have their defaults.
+/// The options of new tables. Those that are left out have their defaults.
 #[derive(Clone, Copy, Debug, PartialEq, Eq)]
-pub struct WriteTask<'a> {
-    /// The file to write, or with a target the prefix of the files' names.
-    pub file: &'a str,
+pub struct TableArguments {
     /// Whether the index has partitions.
     pub partitioned: bool,
     /// The bits of the filter for each key, 1 to 100, or 0 for no filter.
@@ -36,9 +34,18 @@ pub struct WriteTask<'a> {
     pub level: u8,
     /// Target size of a table in bytes, 1 or more. Without it there is one table.
     pub target: Option<u64>,
+}
+
+/// Write the entries on standard input into tables.
+#[derive(Clone, Copy, Debug, PartialEq, Eq)]
+pub struct WriteTask<'a> {
+    /// The file to write, or with a target the prefix of the files' names.
+    pub file: &'a str,
+    /// The options of the tables.
+    pub tables: TableArguments,
     /// Whether the entries are sorted first.
     pub sort: bool,
-    /// Whether lines are JSON objects.
+    /// Whether lines are JSON objects, and the result is one.
     pub json: bool,
 }
 
@@ -88,6 +95,8 @@ pub struct StatTask<'a> {
 pub struct VerifyTask<'a> {
     /// The table files, one or more.
     pub files: Vec<&'a str>,
+    /// Whether lines are JSON objects.
+    pub json: bool,
 }
 
 /// Compact tables.
@@ -103,8 +112,10 @@ pub struct CompactTask<'a> {
     pub evict: bool,
     /// Whether sequence numbers below the watermark become 0.
     pub zero: bool,
-    /// Target size of a table in bytes, 1 or more. Without it there is one table.
-    pub target: Option<u64>,
+    /// The options of the new tables.
+    pub tables: TableArguments,
+    /// Whether the result is a JSON object.
+    pub json: bool,
 }
 
 /// Pack tables into the fewest runs.
@@ -112,4 +123,6 @@ pub struct CompactTask<'a> {
 pub struct PackTask<'a> {
     /// The table files, one or more, newest first.
     pub files: Vec<&'a str>,
+    /// Whether the result is a JSON object.
+    pub json: bool,
 }

@@ -96,9 +96,9 @@ ASCII are written \\xNN in lower case. The word - is the empty key or value,
 and \\x2d is a single hyphen. Keys on the command line are written the same
 way. A key that begins with a hyphen comes after the word --.
 
-With --json each line is an object. Bytes that are not UTF-8 are
-{\"hex\":\"ff00\"}. The kinds are value, tombstone, weak_tombstone and
-indirection:
+With --json each line is an object, and errors stay sentences. Bytes that
+are not UTF-8 are {\"hex\":\"ff00\"}. The kinds are value, tombstone,
+weak_tombstone and indirection:
 
     {\"key\":\"alice\",\"seqno\":7,\"kind\":\"value\",\"value\":\"red\"}
 
@@ -140,6 +140,11 @@ const JSON: ArgumentText = ArgumentText {
     help: "Print JSON objects",
 };
 
+const JSON_RESULT: ArgumentText = ArgumentText {
+    help: "Print a JSON object",
+    ..JSON
+};
+
 const TARGET: ArgumentText = ArgumentText {
     name: "target",
     form: Form::Option(Takes::Number(1, u64::MAX)),
@@ -149,48 +154,58 @@ const TARGET: ArgumentText = ArgumentText {
     help: "Target size of a table. There may be several",
 };
 
+const INDEX: ArgumentText = ArgumentText {
+    name: "index",
+    form: Form::Option(Takes::Names(&["full", "partitioned"])),
+    values: &["KIND"],
+    required: false,
+    standard: &["full"],
+    help: "Kind of index: full or partitioned",
+};
+
+const FILTER: ArgumentText = ArgumentText {
+    name: "filter",
+    form: Form::Option(Takes::Text),
+    values: &["BITS"],
+    required: false,
+    standard: &["10"],
+    help: "Bloom filter bits for a key, 1 to 100, or none",
+};
+
+const BLOCK_SIZE: ArgumentText = ArgumentText {
+    name: "block-size",
+    form: Form::Option(Takes::Number(1, 4_194_304)),
+    values: &["BYTES"],
+    required: false,
+    standard: &["4096"],
+    help: "Target size of a data block",
+};
+
+const PARTITION_SIZE: ArgumentText = ArgumentText {
+    name: "partition-size",
+    form: Form::Option(Takes::Number(1, 4_194_304)),
+    values: &["BYTES"],
+    required: false,
+    standard: &["4096"],
+    help: "Target size of a partition of the index",
+};
+
+const LEVEL: ArgumentText = ArgumentText {
+    name: "level",
+    form: Form::Option(Takes::Number(0, 255)),
+    values: &["N"],
+    required: false,
+    standard: &["0"],
+    help: "Level that the table records",
+};
+
 const WRITE: [ArgumentText; 9] = [
     FILE,
-    ArgumentText {
-        name: "index",
-        form: Form::Option(Takes::Names(&["full", "partitioned"])),
-        values: &["KIND"],
-        required: false,
-        standard: &["full"],
-        help: "Kind of index: full or partitioned",
-    },
-    ArgumentText {
-        name: "filter",
-        form: Form::Option(Takes::Text),
-        values: &["BITS"],
-        required: false,
-        standard: &["10"],
-        help: "Bloom filter bits for a key, 1 to 100, or none",
-    },
-    ArgumentText {
-        name: "block-size",
-        form: Form::Option(Takes::Number(1, 4_194_304)),
-        values: &["BYTES"],
-        required: false,
-        standard: &["4096"],
-        help: "Target size of a data block",
-    },
-    ArgumentText {
-        name: "partition-size",
-        form: Form::Option(Takes::Number(1, 4_194_304)),
-        values: &["BYTES"],
-        required: false,
-        standard: &["4096"],
-        help: "Target size of a partition of the index",
-    },
-    ArgumentText {
-        name: "level",
-        form: Form::Option(Takes::Number(0, 255)),
-        values: &["N"],
-        required: false,
-        standard: &["0"],
-        help: "Level that the table records",
-    },
+    INDEX,
+    FILTER,
+    BLOCK_SIZE,
+    PARTITION_SIZE,
+    LEVEL,
     TARGET,
     ArgumentText {
         name: "sort",
@@ -201,7 +216,7 @@ const WRITE: [ArgumentText; 9] = [
         help: "Sort the entries first",
     },
     ArgumentText {
-        help: "Read JSON objects",
+        help: "Read JSON objects, and print the result as one",
         ..JSON
     },
 ];
@@ -272,7 +287,7 @@ const STAT: [ArgumentText; 2] = [
     },
 ];
 
-const COMPACT: [ArgumentText; 6] = [
+const COMPACT: [ArgumentText; 12] = [
     FILES,
     ArgumentText {
         name: "to",
@@ -306,8 +321,18 @@ const COMPACT: [ArgumentText; 6] = [
         standard: &[],
         help: "Set sequence numbers below the watermark to 0",
     },
+    INDEX,
+    FILTER,
+    BLOCK_SIZE,
+    PARTITION_SIZE,
+    LEVEL,
     TARGET,
+    JSON_RESULT,
 ];
+
+const VERIFY: [ArgumentText; 2] = [FILES, JSON];
+
+const PACK: [ArgumentText; 2] = [FILES, JSON_RESULT];
 
 const SHELL: ArgumentText = ArgumentText {
     name: "shell",
@@ -331,8 +356,8 @@ the largest first. A line out of order is an error, and nothing is written.
 
 A data block ends once its keys and values have the target size. With --target
 a table ends before the next key once its data blocks have that size. The
-files are then FILE.1, FILE.2 and so on. It is an error if the next number has
-a file already, as from an earlier write.
+files are then FILE.000001, FILE.000002 and so on. It is an error if the
+next number has a file already, as from an earlier write.
 
 Files are written under temporary names, such as FILE.1.tmp. Once all are
 complete and synced, they are renamed. After an error before that, the old
@@ -369,8 +394,8 @@ JSON object has each data block by itself.",
     CommandText {
         name: "verify",
         about: "Verifies tables and prints their faults",
-        usage: "sst verify <FILE>...",
-        arguments: &[FILES],
+        usage: "sst verify [OPTIONS] <FILE>...",
+        arguments: &VERIFY,
         notes: "\
 Reads every block, the index and the filter. Compares the entries with the
 table's metadata: keys, sequence numbers, and the counts of data blocks,
@@ -394,16 +419,16 @@ watermark it keeps all. A weak tombstone below the watermark is dropped with
 the value that it hides. With --evict a tombstone that is the newest version
 below the watermark is dropped too.
 
-The new tables are 1.sst, 2.sst and so on in FOLDER, with the default options
-of write. The folder has a temporary name first, such as FOLDER.1.tmp. Once
-all files are complete and synced, it is renamed. It is an error if FOLDER
-exists already.",
+The new tables are 000001.sst, 000002.sst and so on in FOLDER. Their options
+are those of write. The folder has a temporary name first, such as
+FOLDER.1.tmp. Once all files are complete and synced, it is renamed. It is an
+error if FOLDER exists already.",
     },
     CommandText {
         name: "pack",
         about: "Prints the fewest runs of tables",
-        usage: "sst pack <FILE>...",
-        arguments: &[FILES],
+        usage: "sst pack [OPTIONS] <FILE>...",
+        arguments: &PACK,
         notes: "\
 The tables of a run do not overlap. Prints the files of each run, and a chain
 of tables that each overlap the next, so that fewer runs do not suffice.",

@@ -174,7 +174,7 @@ pub struct sst_lent {
     pub value_len: u64,
 }
 
-/// What a table claims about itself.
+/// The metadata that a table claims.
 #[repr(C)]
 #[derive(Clone, Copy, Debug, Default)]
 pub struct sst_facts {

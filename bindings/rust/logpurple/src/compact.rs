@@ -8,8 +8,8 @@ use logpurple_sys as sys;
 
 /// Options of [`Runs::compact`](crate::Runs::compact).
 ///
-/// Of each key, the versions that are not below the watermark are kept, and the newest version
-/// below it. All older ones, which no reader sees, are dropped. Of those that are kept, only the
+/// For each key, the versions that are not below the watermark are kept, and the newest version
+/// below it. All older ones, which no reader sees, are dropped. Among the kept versions, only the
 /// oldest may be dropped too:
 ///
 /// - A weak tombstone is dropped if the version directly after it is dropped, and is a

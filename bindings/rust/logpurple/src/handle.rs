@@ -62,8 +62,8 @@ impl<'f> Handle<'f> {
 #[derive(Debug)]
 pub(crate) struct Handles<'f> {
     all: Mutex<All>,
-    // What the handles read may be borrowed for `'f`. In the lock they are `'static`, so that a
-    // table of a longer lifetime is also one of a shorter.
+    // The handles may read bytes borrowed for `'f`. In the lock they are `'static`, so that a table
+    // of a longer lifetime is also one of a shorter.
     kept: PhantomData<&'f [u8]>,
 }
 
@@ -80,7 +80,7 @@ impl<'f> Handles<'f> {
     ///
     /// # Safety
     ///
-    /// What it reads is valid for `'f`.
+    /// The bytes that it reads are valid for `'f`.
     pub(crate) unsafe fn of(first: Handle<'static>) -> Handles<'f> {
         Handles { all: Mutex::new(All { first, spare: Vec::new() }), kept: PhantomData }
     }

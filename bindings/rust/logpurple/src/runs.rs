@@ -11,8 +11,8 @@ use std::ops::{Bound, RangeBounds};
 
 /// Several tables as one, the newest first. It owns them.
 ///
-/// A read keeps in it what it found, so it is `Send` and not `Sync`: each thread makes its own of
-/// clones of the tables.
+/// Each read stores its result in the object. So it is `Send` and not `Sync`: each thread makes a
+/// list of its own, from clones of the tables.
 ///
 /// ```compile_fail,E0277
 /// fn is_sync<T: Sync>() {}
@@ -51,7 +51,7 @@ impl<'f> Runs<'f> {
         Ok(runs)
     }
 
-    /// Makes a list of several runs, the newest first. Each is some tables that do not overlap, and a
+    /// Makes a list of several runs, the newest first. The tables of a run do not overlap, so a
     /// read searches one of them.
     ///
     /// If tables of one run overlap, the first of them is read as the newest, and they are searched
@@ -235,8 +235,8 @@ impl<'f> Runs<'f> {
         self.range::<&[u8], _>(.., seqno)
     }
 
-    /// Finds the fewest runs into which the tables go, so that each key keeps the order of its
-    /// tables, and why there cannot be fewer.
+    /// Finds the fewest runs in which each key keeps the order of its tables. The result also shows
+    /// why there cannot be fewer.
     ///
     /// # Errors
     ///

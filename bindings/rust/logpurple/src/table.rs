@@ -33,10 +33,11 @@ use std::ops::{Bound, RangeBounds};
 /// # }
 /// ```
 ///
-/// A read of the library keeps in its handle what it found. So each read through `&self` takes a
-/// handle of its own, which the table keeps for the next one: as many as there were reads at once.
-/// Threads wait for each other only while they take and return it. A thread with a clone of its own
-/// never waits. [`get_lent`](Table::get_lent) has the table alone, and takes none.
+/// A read of the library keeps its result in a handle. So each read through `&self` uses a handle
+/// of its own. The table keeps these handles for later reads: as many as there were reads at once.
+/// Threads wait for each other only while they take and return a handle. A thread with a clone of
+/// its own never waits. [`get_lent`](Table::get_lent) borrows the table mutably, and needs no other
+/// handle.
 #[derive(Debug)]
 pub struct Table<'f> {
     pub(crate) handles: Handles<'f>,
@@ -128,7 +129,7 @@ impl OpenOptions {
 /// A call that opens a table.
 type Open = unsafe extern "C" fn(*const u8, usize, u64, bool, bool, *mut sys::sst_handle) -> u32;
 
-/// What a table claims about itself. Sequence numbers are as stored, without the global one.
+/// The metadata that a table claims. Sequence numbers are as stored, without the global one.
 #[derive(Clone, Copy, Debug, PartialEq, Eq)]
 pub struct Metadata {
     /// The table's id.
@@ -444,10 +445,10 @@ impl<'f> Table<'f> {
     /// Reads all blocks of the table once, and verifies that its bytes store a list of entries in
     /// order, whoever wrote them.
     ///
-    /// Bytes that no read needs are not checked: the byte of the version section, and the trailer's
-    /// positions of that section, the data blocks and partitions. A file that differs only there
-    /// may open and be verified. The checksum of a [`FinishedTable`](crate::FinishedTable) covers
-    /// every byte.
+    /// Bytes that no read needs are not checked. These are the byte of the version section, and the
+    /// trailer's positions of that section, the data blocks and partitions. A file that differs
+    /// only there may open and be verified. The checksum of a
+    /// [`FinishedTable`](crate::FinishedTable) covers every byte.
     ///
     /// # Errors
     ///

@@ -23,7 +23,7 @@ fn bytes_that_are_kept_are_read() {
     assert!(matches!(Table::open_kept(b"no table"), Err(Error::InvalidTrailer)));
 }
 
-/// What was opened from a table reads the bytes after the table is dropped.
+/// Ranges, runs and other objects opened from a table read the bytes after the table is dropped.
 #[test]
 fn what_was_opened_from_the_table_reads_them_too() {
     let entries = random_entries(5, 150);

@@ -35,9 +35,9 @@ fn item_of(words: &[&str]) -> InternalValue {
     InternalValue::from_components(key, value, words[1].parse().unwrap(), value_type)
 }
 
-/// Returns the options of a list of words: id, level and timestamp. If there are more, they are the
-/// kinds of index and filter, the sizes of partitions and blocks, tenths of a bit a key, and the
-/// restart interval.
+/// Returns the options of a list of words: id, level and timestamp. More words are the kinds of
+/// index and filter, the sizes of partitions and blocks, tenths of a bit per key, and the restart
+/// interval.
 fn options_of(words: &[&str]) -> Options {
     let number = |at: usize| words[at].parse::<u64>().unwrap();
     let told = Options {

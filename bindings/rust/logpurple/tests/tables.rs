@@ -285,7 +285,8 @@ fn each_refusal_is_told() {
     assert_eq!((Error::ChecksumMismatch.number(), Error::Faulty.number()), (5, 107));
 }
 
-/// Damages each byte in turn. What opens may be read, and what verifies has the same entries.
+/// Damages each byte in turn. Damaged bytes that open may be read, and those that verify have the
+/// same entries.
 #[test]
 fn damage_is_refused_or_found() {
     let written = items(&random_entries(12, 5));

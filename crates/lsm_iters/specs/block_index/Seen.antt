@@ -22,3 +22,16 @@ pub record PlaceGives (end : List Handle → Option Handle × List Handle) (s : 
   pub returned : place ≡ option_map place_of (end (rest_in s)).0
   pub rest : rest_in t ≡ (end (rest_in s)).1
   pub list : t.list ≡ s.list
+
+-- A step's result with the block's offset and size in place of the handle.
+abbrev pub placed : Option (Result Handle Error) → Option (Result Place Error)
+placed None = None
+placed (Some (Ok h)) = Some (Ok (place_of h))
+placed (Some (Err e)) = Some (Err e)
+
+-- A step that returns the offset and size of the block whose handle is taken.
+pub record TakesPlace {S : Type 0} (takes : S → Option (Result Handle Error) → S → Type 0) (s : S)
+    (place : Option (Result Place Error)) (t : S) : Type 0 where
+  pub handle : Option (Result Handle Error)
+  pub step : takes s handle t
+  pub returned : place ≡ placed handle

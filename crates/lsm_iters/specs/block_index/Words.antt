@@ -19,5 +19,5 @@ pub use Rattle.lsm_iters.specs.block_index.Left.{with_index_loads, new_on_demand
 pub use Rattle.lsm_iters.specs.block_index.Left.{on_demand_left, span_left, two_level_left}
 pub use Rattle.lsm_iters.specs.block_index.Left.{TwoLevel, TwoLevelGives, back_early, back_needs}
 pub use Rattle.lsm_iters.specs.block_index.Left.{fault_at, front_early, front_needs, needs_at}
-pub use Rattle.lsm_iters.specs.block_index.Seen.{PartGives, PlaceGives, rest_of}
+pub use Rattle.lsm_iters.specs.block_index.Seen.{PartGives, PlaceGives, TakesPlace, rest_of}
 pub use Rattle.lsm_iters.specs.walk.Ends.{span_remains, taken_at}

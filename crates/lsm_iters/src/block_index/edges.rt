@@ -1,5 +1,5 @@
 //! The bounds that were sought in an index.
-ghost use Rattle.std.specs.Prelude.{◌≡◌, ◌↔◌, IsTrue, Some, None, OnOk, OnErr, IfErr};
+ghost use Rattle.std.specs.Prelude.{◌≡◌, ◌↔◌, IsTrue, Some, None, IfOk, IfErr};
 ghost use Rattle.lsm_iters.specs.Words as spec;
 
 use crate::block_index::iter::OwnedIndexBlockIter;
@@ -42,34 +42,30 @@ impl<A: Allocator + Clone> Edges<A> {
         self.lower.is_none() && self.upper.is_none()
     }
 
-    /// Stores a copy of the lower edge.
+    /// Returns a copy of a key, to store as an edge.
     ///
     /// # Errors
     ///
-    /// [`Error::OutOfMemory`] only; the edges are then unchanged.
-    pub fn set_lower(&mut self, key: &[u8], seqno: SeqNo) -> Result<(), Error>
-        ensures ok { OnOk result (self.new ≡ (Some (key.now, seqno), self.old.1)) }
-        ensures unchanged { OnErr result (self.new ≡ self.old) }
+    /// [`Error::OutOfMemory`] only.
+    pub fn copy(&self, key: &[u8]) -> Result<UserKey<A>, Error>
+        ensures ok { IfOk result (λ copy. copy ≡ key.now) }
         ensures err { IfErr result (λ e. e ≡ spec.OutOfMemory) }
     {
-        let key = Slice::from(self.alloc.clone()?, key)?;
-        drop(self.lower.replace((key, seqno)));
-        Ok(())
+        Slice::from(self.alloc.clone()?, key)
     }
 
-    /// Stores a copy of the upper edge.
-    ///
-    /// # Errors
-    ///
-    /// [`Error::OutOfMemory`] only; the edges are then unchanged.
-    pub fn set_upper(&mut self, key: &[u8]) -> Result<(), Error>
-        ensures ok { OnOk result (self.new ≡ (self.old.0, Some key.now)) }
-        ensures unchanged { OnErr result (self.new ≡ self.old) }
-        ensures err { IfErr result (λ e. e ≡ spec.OutOfMemory) }
+    /// Stores the lower edge.
+    pub fn set_lower(&mut self, key: UserKey<A>, seqno: SeqNo)
+        ensures { self.new ≡ (Some (key, seqno), self.old.1) }
     {
-        let key = Slice::from(self.alloc.clone()?, key)?;
+        drop(self.lower.replace((key, seqno)));
+    }
+
+    /// Stores the upper edge.
+    pub fn set_upper(&mut self, key: UserKey<A>)
+        ensures { self.new ≡ (self.old.0, Some key) }
+    {
         drop(self.upper.replace(key));
-        Ok(())
     }
 
     /// Returns the handles of a block from the lower edge on.

@@ -5,7 +5,8 @@ ghost use Rattle.lsm_iters.specs.Words as spec;
 
 use crate::block_index::iter::OwnedIndexBlockIter;
 use crate::block_index::kinds::BlockIndexIter;
-use sst_blocks::{Error, IndexBlock, KeyedBlockHandle, Opened, SeqNo};
+use sst_blocks::{BlockHandle, Error, IndexBlock, KeyedBlockHandle, Opened, SeqNo};
+use sst_entries::Direction;
 use std::alloc::{Allocator, Global};
 use std::marker::Model;
 
@@ -109,6 +110,16 @@ impl<A: Allocator> Iter<A> {
         ensures { IsTrue result ↔ spec.IsSpanSought self.now None None }
     {
         self.0.is_whole()
+    }
+
+    /// Takes the handle at an end and returns its block's offset and size.
+    ///
+    /// It does not allocate, so it returns no error.
+    pub(crate) fn take_place(&mut self, at: Direction) -> Option<Result<BlockHandle, Error>>
+        ensures { spec.TakesPlace (spec.LeftGives (spec.taken_at at)) (spec.span_left self.old)
+            result (spec.span_left self.new) }
+    {
+        self.0.step_place(at)
     }
 }
 

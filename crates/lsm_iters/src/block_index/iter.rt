@@ -120,6 +120,20 @@ impl<A: Allocator> OwnedIndexBlockIter<A> {
         }
     }
 
+    /// Takes the handle at an end and returns its block's offset and size, as a step's result.
+    ///
+    /// It does not allocate, so it returns no error.
+    pub(crate) fn step_place(&mut self, at: Direction) -> Option<Result<BlockHandle, Error>>
+        ensures step { spec.TakesPlace (spec.PartGives (spec.taken_at at)) (spec.rest_in self.old)
+            result (spec.rest_in self.new) }
+        ensures list { self.new.list ≡ self.old.list }
+    {
+        match self.take_place(at) {
+            Some(place) => Some(Ok(place)),
+            None => None,
+        }
+    }
+
     /// Returns whether all handles of the block are left.
     pub(crate) fn is_whole(&self) -> bool
         ensures { IsTrue result ↔ (spec.rest_in self.now ≡ self.now.list) }

@@ -1,12 +1,13 @@
 //! The traits of block indexes and their three kinds.
 ghost use Rattle.std.specs.Prelude.{◌≡◌, ℕ, Bool, List, Option, [], Some, None, false, MatchOption};
-ghost use Rattle.std.specs.Prelude.{◌↔◌, IsTrue, OnOk, OnErr, IfOk, IfErr};
+ghost use Rattle.std.specs.Prelude.{◌↔◌, ◌-◌, ◌^◌, IsTrue, OnOk, OnErr, IfOk, IfErr};
 ghost use Rattle.lsm_iters.specs.Words as spec;
 
 use crate::block_index::full::{self, FullBlockIndex};
 use crate::block_index::two_level::{self, TwoLevelBlockIndex};
 use crate::block_index::volatile::{self, VolatileBlockIndex};
-use sst_blocks::{Error, KeyedBlockHandle, Opened, SeqNo};
+use sst_blocks::{BlockHandle, Error, KeyedBlockHandle, Opened, SeqNo, UserKey};
+use sst_entries::Direction;
 use std::alloc::{Allocator, Global};
 
 /// A double-ended iterator over the handles of an index, between edges that may be sought.
@@ -204,6 +205,77 @@ impl<A: Allocator + Clone> BlockIndexIterImpl<A> {
             BlockIndexIterImpl::Full(iter) => iter.is_unsought(),
             BlockIndexIterImpl::Volatile(iter) => iter.is_unsought(),
             BlockIndexIterImpl::TwoLevel(iter) => iter.is_unsought(),
+        }
+    }
+
+    /// Seeks a lower edge at any sequence number. An index that is not loaded shares the key.
+    ///
+    /// # Errors
+    ///
+    /// [`Error::OutOfMemory`] only, and never with a pinned full index. The edges are then
+    /// unchanged.
+    pub(crate) fn keep_lower(&mut self, key: &UserKey<A>) -> Result<(), Error>
+        ensures sought { spec.IsSought self.old None None →
+            OnOk result (spec.IsSought self.new (Some (key.now, 2 ^ 64 - 1)) None) }
+        ensures none { spec.LoadsNone (spec.left_of self.old) (spec.left_of self.new) }
+        ensures refused { OnErr result (spec.TakesMemory self.old) }
+        ensures wants { spec.TakesMemory self.new → spec.TakesMemory self.old }
+        ensures err { IfErr result (λ e. e ≡ spec.OutOfMemory) }
+    {
+        match self {
+            BlockIndexIterImpl::Full(iter) => {
+                iter.seek_lower(key.as_slice(), SeqNo::MAX).and(Ok(()))
+            }
+            BlockIndexIterImpl::Volatile(iter) => {
+                iter.keep_lower(key.clone()?, SeqNo::MAX);
+                Ok(())
+            }
+            BlockIndexIterImpl::TwoLevel(iter) => {
+                iter.keep_lower(key.clone()?, SeqNo::MAX);
+                Ok(())
+            }
+        }
+    }
+
+    /// Seeks an upper edge. An index that is not loaded shares the key.
+    ///
+    /// # Errors
+    ///
+    /// Those of [`Self::keep_lower`].
+    pub(crate) fn keep_upper(&mut self, key: &UserKey<A>) -> Result<(), Error>
+        ensures sought { (low : Option (List ℕ × ℕ)) → spec.IsSought self.old low None →
+            OnOk result (spec.IsSought self.new low (Some key.now)) }
+        ensures none { spec.LoadsNone (spec.left_of self.old) (spec.left_of self.new) }
+        ensures refused { OnErr result (spec.TakesMemory self.old) }
+        ensures err { IfErr result (λ e. e ≡ spec.OutOfMemory) }
+    {
+        match self {
+            BlockIndexIterImpl::Full(iter) => {
+                iter.seek_upper(key.as_slice(), SeqNo::MAX).and(Ok(()))
+            }
+            BlockIndexIterImpl::Volatile(iter) => {
+                iter.keep_upper(key.clone()?);
+                Ok(())
+            }
+            BlockIndexIterImpl::TwoLevel(iter) => {
+                iter.keep_upper(key.clone()?);
+                Ok(())
+            }
+        }
+    }
+
+    /// Takes the handle at an end and returns its block's offset and size.
+    ///
+    /// Only a two-level index shares the handle's end key meanwhile. After an error it is
+    /// exhausted at both ends.
+    pub(crate) fn take_place(&mut self, at: Direction) -> Option<Result<BlockHandle, Error>>
+        ensures { spec.TakesPlace (spec.LeftGives (spec.taken_at at)) (spec.left_of self.old)
+            result (spec.left_of self.new) }
+    {
+        match self {
+            BlockIndexIterImpl::Full(iter) => iter.take_place(at),
+            BlockIndexIterImpl::Volatile(iter) => iter.take_place(at),
+            BlockIndexIterImpl::TwoLevel(iter) => iter.take_place(at),
         }
     }
 

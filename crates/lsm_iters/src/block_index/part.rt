@@ -7,6 +7,7 @@ use crate::block_index::iter::OwnedIndexBlockIter;
 use sst_blocks::{
     BlockHandle, BlockSource, BlockType, Error, IndexBlock, KeyedBlockHandle, Opened,
 };
+use sst_entries::Direction;
 use std::alloc::Allocator;
 use std::marker::Model;
 
@@ -61,6 +62,18 @@ impl<A: Allocator> Part<A> {
     {
         match &mut self.iter {
             Some(iter) => iter.next_back(),
+            None => None,
+        }
+    }
+
+    /// Takes the handle at an end and returns its block's offset and size.
+    ///
+    /// It does not allocate, so it returns no error.
+    pub fn take_place(&mut self, at: Direction) -> Option<Result<BlockHandle, Error>>
+        ensures { spec.TakesPlace (spec.PartGives (spec.taken_at at)) self.old result self.new }
+    {
+        match &mut self.iter {
+            Some(iter) => iter.step_place(at),
             None => None,
         }
     }

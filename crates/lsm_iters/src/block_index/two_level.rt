@@ -1,5 +1,6 @@
 //! The two-level index: a pinned top level over partitions that each iterator loads one by one.
 ghost use Rattle.std.specs.Prelude.{◌≡◌, ◌↔◌, [], IsTrue, Some, None, IfOk, IfErr};
+ghost use Rattle.std.specs.Prelude.{ℕ, List, Option};
 ghost use Rattle.lsm_iters.specs.Words as spec;
 
 use crate::block_index::edges::Edges;
@@ -7,7 +8,9 @@ use crate::block_index::iter::OwnedIndexBlockIter;
 use crate::block_index::kinds::BlockIndexIter;
 use crate::block_index::partitions::Partitions;
 use crate::{Ends, Walk};
-use sst_blocks::{BlockSource, Error, IndexBlock, KeyedBlockHandle, Opened, SeqNo};
+use sst_blocks::{
+    BlockHandle, BlockSource, Error, IndexBlock, KeyedBlockHandle, Opened, SeqNo, UserKey,
+};
 use sst_entries::Direction;
 use std::alloc::{Allocator, Global};
 use std::marker::Model;
@@ -147,6 +150,32 @@ impl<A: Allocator + Clone> Iter<A> {
         whole && is_over(&self.walk.front) && is_over(&self.walk.back)
     }
 
+    /// Seeks a lower edge and stores it. It does not allocate.
+    pub(crate) fn keep_lower(&mut self, key: UserKey<A>, seqno: SeqNo)
+        ensures sought { (upper : Option (List ℕ)) → spec.IsTwoLevelSought self.old None upper →
+            spec.IsTwoLevelSought self.new (Some (key, seqno)) upper }
+        ensures over { spec.IsEnded (spec.two_level_left self.old) →
+            spec.IsEnded (spec.two_level_left self.new) }
+        ensures none { spec.LoadsNone (spec.two_level_left self.old)
+            (spec.two_level_left self.new) }
+    {
+        self.walk.parts.tops.seek_lower(key.as_slice(), seqno);
+        self.walk.parts.edges.set_lower(key, seqno);
+    }
+
+    /// Seeks an upper edge and stores it. It does not allocate.
+    pub(crate) fn keep_upper(&mut self, key: UserKey<A>)
+        ensures sought { (lower : Option (List ℕ × ℕ)) → spec.IsTwoLevelSought self.old lower None →
+            spec.IsTwoLevelSought self.new lower (Some key) }
+        ensures over { spec.IsEnded (spec.two_level_left self.old) →
+            spec.IsEnded (spec.two_level_left self.new) }
+        ensures none { spec.LoadsNone (spec.two_level_left self.old)
+            (spec.two_level_left self.new) }
+    {
+        self.walk.parts.tops.seek_upper(key.as_slice(), 0);
+        self.walk.parts.edges.set_upper(key);
+    }
+
     /// Returns the next item at an end.
     #[inline(always)]
     fn answer(&mut self, at: Direction) -> Option<Result<KeyedBlockHandle<A>, Error>>
@@ -154,6 +183,21 @@ impl<A: Allocator + Clone> Iter<A> {
             self.old result self.new }
     {
         self.walk.step(at)
+    }
+
+    /// Takes the handle at an end and returns its block's offset and size.
+    ///
+    /// After an error it is exhausted at both ends.
+    pub(crate) fn take_place(&mut self, at: Direction) -> Option<Result<BlockHandle, Error>>
+        ensures { spec.TakesPlace
+            (spec.TwoLevelGives (spec.taken_at at) (spec.needs_at at) (spec.fault_at at))
+            self.old result self.new }
+    {
+        match self.answer(at) {
+            Some(Ok(handle)) => Some(Ok(handle.into_inner())),
+            Some(Err(error)) => Some(Err(error)),
+            None => None,
+        }
     }
 
     /// Drops the handles that are left.
@@ -198,9 +242,9 @@ impl<A: Allocator + Clone> BlockIndexIter<A> for Iter<A> {
     ghost takes_memory = { λ _. Unit {0} };
 
     fn seek_lower(&mut self, key: &[u8], seqno: SeqNo) -> Result<bool, Error> {
-        match self.walk.parts.edges.set_lower(key, seqno) {
-            Ok(()) => {
-                self.walk.parts.tops.seek_lower(key, seqno);
+        match self.walk.parts.edges.copy(key) {
+            Ok(key) => {
+                self.keep_lower(key, seqno);
                 Ok(true)
             }
             Err(refusal) => {
@@ -210,10 +254,10 @@ impl<A: Allocator + Clone> BlockIndexIter<A> for Iter<A> {
         }
     }
 
-    fn seek_upper(&mut self, key: &[u8], seqno: SeqNo) -> Result<bool, Error> {
-        match self.walk.parts.edges.set_upper(key) {
-            Ok(()) => {
-                self.walk.parts.tops.seek_upper(key, seqno);
+    fn seek_upper(&mut self, key: &[u8], _seqno: SeqNo) -> Result<bool, Error> {
+        match self.walk.parts.edges.copy(key) {
+            Ok(key) => {
+                self.keep_upper(key);
                 Ok(true)
             }
             Err(refusal) => {

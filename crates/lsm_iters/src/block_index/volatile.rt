@@ -1,11 +1,15 @@
 //! The volatile index: one block with the handle of every data block, loaded by each iterator.
 ghost use Rattle.std.specs.Prelude.{◌≡◌, ◌↔◌, [], IsTrue, Some, None, IfOk, IfErr};
+ghost use Rattle.std.specs.Prelude.{ℕ, List, Option};
 ghost use Rattle.lsm_iters.specs.Words as spec;
 
 use crate::block_index::edges::Edges;
 use crate::block_index::kinds::BlockIndexIter;
 use crate::block_index::part::{Part, load_part};
-use sst_blocks::{BlockHandle, BlockSource, Error, KeyedBlockHandle, Opened, SeqNo};
+use sst_blocks::{
+    BlockHandle, BlockSource, Error, KeyedBlockHandle, Opened, SeqNo, Slice, UserKey,
+};
+use sst_entries::Direction;
 use std::alloc::{Allocator, Global};
 use std::marker::Model;
 
@@ -63,9 +67,10 @@ impl<A: Allocator + Clone> VolatileBlockIndex<A> {
             (spec.on_demand_left i).results) }
         ensures err { IfErr result (λ e. e ≡ spec.OutOfMemory) }
     {
+        let key = Slice::from(self.alloc.clone()?, key)?;
         let mut iter = self.iter()?;
-        let sought = iter.edges.set_lower(key, seqno);
-        sought.and(Ok(iter))
+        iter.edges.set_lower(key, seqno);
+        Ok(iter)
     }
 
     /// Returns an iterator over all handles.
@@ -132,6 +137,52 @@ impl<A: Allocator + Clone> Iter<A> {
         ensures { IsTrue result ↔ spec.IsDemandSought self.now None None }
     {
         self.part.is_none() && self.edges.are_none()
+    }
+
+    /// Stores a lower edge, as a seek does. It does not allocate.
+    pub(crate) fn keep_lower(&mut self, key: UserKey<A>, seqno: SeqNo)
+        ensures sought { (upper : Option (List ℕ)) → spec.IsDemandSought self.old None upper →
+            spec.IsDemandSought self.new (Some (key, seqno)) upper }
+        ensures over { spec.IsEnded (spec.on_demand_left self.old) →
+            spec.IsEnded (spec.on_demand_left self.new) }
+        ensures none { spec.LoadsNone (spec.on_demand_left self.old)
+            (spec.on_demand_left self.new) }
+    {
+        self.edges.set_lower(key, seqno);
+    }
+
+    /// Stores an upper edge, as a seek does. It does not allocate.
+    pub(crate) fn keep_upper(&mut self, key: UserKey<A>)
+        ensures sought { (lower : Option (List ℕ × ℕ)) → spec.IsDemandSought self.old lower None →
+            spec.IsDemandSought self.new lower (Some key) }
+        ensures over { spec.IsEnded (spec.on_demand_left self.old) →
+            spec.IsEnded (spec.on_demand_left self.new) }
+        ensures none { spec.LoadsNone (spec.on_demand_left self.old)
+            (spec.on_demand_left self.new) }
+    {
+        self.edges.set_upper(key);
+    }
+
+    /// Takes the handle at an end and returns its block's offset and size.
+    ///
+    /// The handle's end key is not shared. After an error it is exhausted at both ends.
+    pub(crate) fn take_place(&mut self, at: Direction) -> Option<Result<BlockHandle, Error>>
+        ensures { spec.TakesPlace (spec.OnDemandGives (spec.taken_at at)) self.old result self.new }
+    {
+        if let Some(part) = &mut self.part {
+            return part.take_place(at);
+        }
+        match load_part(&self.source, &self.handle, &self.edges, &mut self.opened) {
+            Ok(mut part) => {
+                let place = part.take_place(at);
+                drop(self.part.replace(part));
+                place
+            }
+            Err(error) => {
+                self.end();
+                Some(Err(error))
+            }
+        }
     }
 }
 
@@ -204,8 +255,11 @@ impl<A: Allocator + Clone> BlockIndexIter<A> for Iter<A> {
     ghost takes_memory = { λ _. Unit {0} };
 
     fn seek_lower(&mut self, key: &[u8], seqno: SeqNo) -> Result<bool, Error> {
-        match self.edges.set_lower(key, seqno) {
-            Ok(()) => Ok(true),
+        match self.edges.copy(key) {
+            Ok(key) => {
+                self.keep_lower(key, seqno);
+                Ok(true)
+            }
             Err(refusal) => {
                 self.end();
                 Err(refusal)
@@ -214,8 +268,11 @@ impl<A: Allocator + Clone> BlockIndexIter<A> for Iter<A> {
     }
 
     fn seek_upper(&mut self, key: &[u8], _seqno: SeqNo) -> Result<bool, Error> {
-        match self.edges.set_upper(key) {
-            Ok(()) => Ok(true),
+        match self.edges.copy(key) {
+            Ok(key) => {
+                self.keep_upper(key);
+                Ok(true)
+            }
             Err(refusal) => {
                 self.end();
                 Err(refusal)

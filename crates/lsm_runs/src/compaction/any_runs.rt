@@ -78,9 +78,9 @@ pub fn compact_any_runs<A: Allocator + Clone>(
         spec.RunsHoldLists (map spec.arc_value runs.now) lists →
         spec.AllByRecursion spec.HaveEntries lists → IfErr result (λ e. spec.is_memory e ≡ false →
         spec.RefusesOf writer (spec.ok_results (spec.kept_in rules lists)) e) }
-    // For any tables whose scans come in order in each run, it is the result of writing what is
-    // kept of the merged scans, the first error in its position. Or it is the error of the first
-    // run whose first data block cannot be loaded.
+    // For any tables whose scans come in order in each run, the rules are applied to the merged
+    // scans. The result is that of writing what is kept, up to the first error. Or it is the error
+    // of the first run whose first data block cannot be loaded.
     ensures any { let scans = spec.scans_of (map spec.arc_value runs.now) in
         spec.AllByRecursion (λ rs. spec.Ascends (spec.entries_among rs)) scans →
         spec.CameOf writer (spec.lent_outs rules (spec.merge_of scans)) result

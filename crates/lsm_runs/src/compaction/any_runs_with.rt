@@ -277,10 +277,10 @@ pub fn compact_any_runs_with<
         (lists : List (List (List spec.Entry))) →
         spec.RunsHoldLists (map spec.arc_value runs.now) lists → IfOk result (λ r.
         spec.CameTo F.gives C.gets rules filter callback (spec.union_in lists) writer r.0 r.1) }
-    // For tables of lists that have entries, also if a key has one seqno twice: the outcome is the
-    // tables of all that is kept. Or it ends at the first kept entry that may not follow, or as
-    // soon as the observer returns so. The callback got what is reported until then, and the
-    // observer was called for what was written.
+    // For tables of lists that have entries, the outcome is the tables of all that is kept. This
+    // holds also if a key has one seqno twice. Or it ends at the first kept entry that may not
+    // follow, or as soon as the observer returns so. The callback got what is reported until then,
+    // and the observer was called for what was written.
     ensures merged { (lists : List (List (List spec.Entry))) →
         spec.RunsHoldLists (map spec.arc_value runs.now) lists →
         spec.AllByRecursion spec.HaveEntries lists →
@@ -319,8 +319,8 @@ pub fn compact_any_runs_with<
         spec.AllByRecursion spec.HaveEntries lists → IfErr result (λ e. spec.is_memory e ≡ false →
         spec.RefusesBy F.gives C.gets rules filter callback (spec.ok_results (spec.union_in lists))
         writer e) }
-    // If the filter fails with `OutOfMemory` only, and whatever may be kept fits as tables with
-    // enough ids left, the compaction fails with `OutOfMemory` only.
+    // The compaction fails with `OutOfMemory` only, if the filter does and whatever may be kept
+    // fits as tables with enough ids left.
     ensures taken { spec.AreCompactable (map spec.arc_value runs.now) →
         (lists : List (List (List spec.Entry))) →
         spec.RunsHoldLists (map spec.arc_value runs.now) lists →

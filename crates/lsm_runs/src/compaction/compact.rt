@@ -189,8 +189,9 @@ fn write_all<L: Lending + Drop, A: Allocator + Clone>(
 /// blocks. It returns the finished tables, none if nothing is kept, and the writer's id counter
 /// after them. The runs are not changed. The writer is dropped, also if the call fails.
 ///
-/// Set `evict` in the rules only if no other run has an older version of these keys. Otherwise a
-/// deleted key can come back.
+/// `gc_seqno_threshold` is the watermark, the least snapshot that is still read. Set
+/// `evict_tombstones` only if no other run has an older version of these keys. Otherwise a deleted
+/// key can come back.
 ///
 /// Conditions:
 ///
@@ -246,8 +247,8 @@ pub fn compact_runs<A: Allocator + Clone>(
 /// Conditions:
 ///
 /// - no key had one seqno twice;
-/// - nothing is evicted or zeroed and the part has no weak tombstone, or of each key all entries of
-///   the rest are newer.
+/// - nothing is evicted or zeroed and the part has no weak tombstone; or for each key, all entries
+///   of the rest are newer.
 ///
 /// A point read whose bound is the watermark or above sees the same of each key before and after.
 /// So does a range of the newest versions within any bounds. Again no key has one seqno twice. If

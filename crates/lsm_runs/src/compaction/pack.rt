@@ -10,11 +10,11 @@ use std::sync::Arc;
 
 /// States that the same tables in other runs, each in order, hold the same entries.
 ///
-/// If runs in order hold together a strict list, in which no key has one seqno twice, any runs in
-/// order of their tables hold that list. So a point read and a range yield the same of them.
+/// If runs in order hold a strict list together, any runs in order of their tables hold that list.
+/// In a strict list no key has one seqno twice. So a point read and a range yield the same of both.
 ///
 /// A list that is not strict is still held by runs in which each key has its tables in the same
-/// order. The tables of runs hold one list each: two clauses about their lists are about the same
+/// order. Each table holds exactly one list, so two clauses about the lists are about the same
 /// ones.
 ///
 /// The call does nothing: its contract states the law.
@@ -87,8 +87,8 @@ pub fn pack_runs<A: Allocator + Clone>(
     ensures holders { IfOk result
         (λ packed. spec.AreInOrder spec.range_of (map spec.arc_value runs.now) →
         spec.SameHolders spec.range_of (map spec.arc_value runs.now) packed.items) }
-    // For runs in order, more than one with a table: each table is one run after the last run of an
-    // earlier table that it overlaps, or in the first.
+    // For runs in order, if more than one has a table: a table is one run after the last run with
+    // an earlier table that it overlaps. Without such a table it is in the first run.
     ensures placed { let given = map spec.arc_value runs.now in IfOk result (λ packed.
         spec.AreInOrder spec.range_of given → 1 < length (filter spec.has_table given) →
         spec.ArePlaced spec.range_of (spec.tables_in given) packed.items) }

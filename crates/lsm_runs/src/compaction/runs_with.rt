@@ -1,68 +1,17 @@
-//! Runs of tables that the caller's writer makes, returned with the finished tables.
+//! A run of the tables of a compaction, opened with options.
 ghost use Rattle.std.specs.Prelude.{◌≡◌, ◌∷◌, ◌+◌, ◌^◌, ◌<◌, [], IfErr, IfOk, IfSome, List};
 ghost use Rattle.std.specs.Prelude.{MatchOption, map};
 ghost use Rattle.lsm_runs.specs.compaction.Words as spec;
 
 use crate::compaction::open_options::open_all;
-use crate::compaction::written_run::write_by;
 use crate::{CompactionOutcome, OpenOptions, compact_any_runs};
 use lsm_readers::Table;
 use lsm_sorted::Run;
 use lsm_sorted::compaction::Rules;
-use lsm_writers::{FinishedTable, MultiWriter, TableIds};
-use sst_blocks::{Error, InternalValue};
+use lsm_writers::MultiWriter;
+use sst_blocks::Error;
 use std::alloc::Allocator;
 use std::sync::Arc;
-
-/// Writes a list with `writer`, opens each table with the options `how`, and puts them in a run.
-///
-/// The writer cuts the list, with its options, level and timestamp. The run has the tables in
-/// order; there is none if the list has no entry. The finished tables are returned too, so that a
-/// store can keep their bytes, and the writer's id counter after them.
-///
-/// # Errors
-///
-/// The errors of [`MultiWriter::write`] and [`MultiWriter::finish`], then those of
-/// [`OpenOptions::open`] of the first table:
-///
-/// - [`Error::UnsupportedIndexInterval`] if the writer's index restart interval is not 1;
-/// - then [`Error::GlobalSeqNoTooLarge`] if the highest seqno plus the global one passes `u64`.
-///
-/// Each call may fail with [`Error::OutOfMemory`].
-pub fn write_run_with<A: Allocator + Clone>(
-    alloc: A,
-    writer: MultiWriter<A>,
-    items: Vec<InternalValue<A>, A>,
-    how: &OpenOptions,
-) -> Result<(Vec<FinishedTable<A>, A>, Option<Run<Table<A>, A>>, TableIds), Error>
-    requires fresh { spec.IsFreshRun writer }
-    requires list { spec.IsWritable items.items }
-    // The finished tables are those of the list, as the writer cuts it.
-    ensures tables { IfOk result (λ r. spec.AreWrittenBy writer items.items r.0.items r.2) }
-    // The run has exactly these, opened with the options `how`, in their order.
-    ensures opened { IfOk result (λ r. spec.IsRunBy how.now r.0.items r.1) }
-    // Together they hold the list, one after another, and are in order.
-    ensures run { IfOk result (λ r. MatchOption r.1 (items.items ≡ [])
-        (λ run. spec.IsRunOfList items.items how.now.global_seqno run)) }
-    // If the list, the global seqno applied, can be written, the run may be compacted.
-    ensures able { spec.IsWritable (spec.lift items.items how.now.global_seqno) →
-        IfOk result (λ r. IfSome r.1 (λ run. spec.AreCompactable (run ∷ []))) }
-    // Except for `OutOfMemory`, the error is the writer's first one, or else an index restart
-    // interval other than 1, or else a seqno that is too large.
-    ensures refused { spec.Faults result
-        (spec.run_with_fault writer items.items how.now.global_seqno) }
-    // With an interval of 1, if the tables fit, enough ids remain and no seqno is too large, the
-    // only error is `OutOfMemory`.
-    ensures taken { writer.present.options.index_block_restart_interval ≡ 1 →
-        spec.FitsBy writer items.items →
-        spec.highest_seqno items.items + how.now.global_seqno < 2 ^ 64 →
-        IfErr result (λ e. e ≡ spec.OutOfMemory) }
-{
-    let own = alloc.clone()?;
-    let (tables, left) = write_by(writer, items)?;
-    let opened = open_all(own, &tables, how)?;
-    Ok((tables, Run::new(opened), left))
-}
 
 // Opens the tables of a compaction and puts them in a run; none if there is no table.
 fn open_outcome<A: Allocator + Clone>(
@@ -124,15 +73,15 @@ pub fn compact_to_run_with<A: Allocator + Clone>(
     // Without a global seqno, the run may be compacted again, whatever the tables held.
     ensures able { how.now.global_seqno ≡ 0 →
         IfOk result (λ r. IfSome r.1 (λ run. spec.AreCompactable (run ∷ []))) }
-    // Except for `OutOfMemory`, the error is the writer's first one, or else an index restart
-    // interval other than 1, or else a seqno that is too large.
+    // Except for `OutOfMemory`, the error is the writer's first one. Or else it reports an index
+    // restart interval other than 1, or else a seqno that is too large.
     ensures refused { spec.AreCompactable (map spec.arc_value runs.now) →
         (lists : List (List (List spec.Entry))) →
         spec.RunsHoldLists (map spec.arc_value runs.now) lists →
         spec.Faults result (spec.run_with_fault writer (spec.kept_in rules lists)
         how.now.global_seqno) }
-    // With an interval of 1, if the tables of what is kept fit, enough ids remain and no seqno is
-    // too large, the only error is `OutOfMemory`.
+    // With an interval of 1, the only error is `OutOfMemory` if the tables of what is kept fit,
+    // enough ids remain and no seqno is too large.
     ensures taken { spec.AreCompactable (map spec.arc_value runs.now) →
         (lists : List (List (List spec.Entry))) →
         spec.RunsHoldLists (map spec.arc_value runs.now) lists →

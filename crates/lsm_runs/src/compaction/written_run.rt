@@ -28,7 +28,7 @@ fn write_items<A: Allocator + Clone>(
 }
 
 // Writes a list and finishes. Fails as the writer does.
-pub(crate) fn write_by<A: Allocator + Clone>(
+fn write_by<A: Allocator + Clone>(
     mut writer: MultiWriter<A>,
     items: Vec<InternalValue<A>, A>,
 ) -> Result<(Vec<FinishedTable<A>, A>, TableIds), Error>

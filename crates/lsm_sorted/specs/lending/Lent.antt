@@ -31,8 +31,8 @@ goes_before (Some x) i None j = false
 goes_before (Some x) i (Some y) j = is_turn x i y j
 
 -- the entry borrowed from source i of several
-abbrev pub lent_at : {S : Type 0} → (S → Option Entry) → List S → ℕ → Option Entry
-lent_at lent ss i = slice_index_or (map lent ss) i None
+abbrev pub lent_of : {S : Type 0} → (S → Option Entry) → List S → ℕ → Option Entry
+lent_of lent ss i = slice_index_or (map lent ss) i None
 
 -- each of these sources has a borrowed entry, which sorts after those of all later sources in the
 -- queue
@@ -63,8 +63,8 @@ pub record IsHead (at : ℕ → Option Entry) (h : Head) : Type 0 where
   pub prefix : (x : Entry) → at h.source ≡ Some x → IsPrefix h.prefix x.user_key
 
 -- whether one head sorts before another: by their prefixes, or by their entries if these are equal
-abbrev pub head_before : Option Entry → Head → Option Entry → Head → Bool
-head_before o h p k = cond (h.prefix == k.prefix) (goes_before o h.source p k.source)
+abbrev pub sorts_before : Option Entry → Head → Option Entry → Head → Bool
+sorts_before o h p k = cond (h.prefix == k.prefix) (goes_before o h.source p k.source)
     (nat_lt h.prefix k.prefix)
 
 abbrev pub source_of : Head → ℕ
@@ -81,7 +81,7 @@ lent_by at (Some q) = at q
 
 -- the merger's borrowed entry: that of the last source in the queue
 abbrev pub lent_first : {S A : Type 0} → (S → Option Entry) → LendingMerger S A → Option Entry
-lent_first lent m = lent_by (lent_at lent m.sources.items)
+lent_first lent m = lent_by (lent_of lent m.sources.items)
     (option_map source_of (slice_get m.queue.items (length m.queue.items - 1)))
 
 -- ---- the number of calls it allows
@@ -105,8 +105,8 @@ module _ {S : Type 0} (advances : S → Option R → S → Type 0) (can : S → 
     pub sources : All (CanYield advances nowhere can can) m.sources.items
     pub known : All (λ q. q < length m.sources.items) (queued m)
     pub room : length m.sources.items ≤ vec_capacity m.queue
-    pub queue : IsQueue (lent_at lent m.sources.items) (queued m)
-    pub heads : All (IsHead (lent_at lent m.sources.items)) m.queue.items
+    pub queue : IsQueue (lent_of lent m.sources.items) (queued m)
+    pub heads : All (IsHead (lent_of lent m.sources.items)) m.queue.items
 
   -- it may be called; before the first call the queue is empty
   pub record MayLend {A : Type 0} (m : LendingMerger S A) : Type 0 where

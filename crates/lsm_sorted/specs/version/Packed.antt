@@ -8,13 +8,13 @@ use Rattle.lsm_sorted.specs.declared.version.packed.Packed.{Packed}
 use Rattle.lsm_sorted.specs.declared.version.packed.Placed.{Placed}
 
 -- a table and its index
-abbrev pub placed : {T : Type 0} → ℕ → T → Placed T
-placed place table = record { place = place; table = table }
+abbrev pub indexed : {T : Type 0} → ℕ → T → Placed T
+indexed place table = record { place = place; table = table }
 
 -- tables with their indexes, each in its own run
 abbrev pub alone : {T : Type 0} → ℕ → List T → List (List (Placed T))
 alone place [] = []
-alone place (t ∷ ts) = (placed place t ∷ []) ∷ alone (suc place) ts
+alone place (t ∷ ts) = (indexed place t ∷ []) ∷ alone (suc place) ts
 
 -- the fewest runs of these tables that keep the order of each key's tables. The chain of
 -- successively overlapping tables shows that no fewer suffice.

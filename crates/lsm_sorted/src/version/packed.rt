@@ -59,7 +59,7 @@ fn run_of<T: Ranged + Drop, A: Allocator>(
     place: usize,
     table: T,
 ) -> Result<Run<Placed<T>, A>, Error>
-    ensures ok { IfOk result (λ run. run ≡ spec.placed place table ∷ []) }
+    ensures ok { IfOk result (λ run. run ≡ spec.indexed place table ∷ []) }
     ensures err { IfErr result (λ e. e ≡ spec.OutOfMemory) }
 {
     let mut alone = Vec::new(alloc);

@@ -1,6 +1,6 @@
 -- The names and errors of files.
-use Rattle.std.specs.Prelude.{◌≡◌, ◌<◌, ℕ, List, ◌++◌, Option, Some, Bool, false}
-use Rattle.std.specs.Prelude.{IfSome, codes, if◌then◌else◌, length}
+use Rattle.std.specs.Prelude.{◌≡◌, ◌<◌, ◌-◌, ℕ, List, ◌++◌, Option, Some, Bool, false}
+use Rattle.std.specs.Prelude.{IfSome, codes, if◌then◌else◌, length, replicate}
 use Rattle.std.specs.Fmt.{decimal}
 use Rattle.sst_entries.specs.Error.{is_memory}
 use Rattle.sst_entries.specs.declared.error.Error.TheVariants.{OutOfMemory}
@@ -13,11 +13,16 @@ use Rattle.sst_tool.specs.declared.files.file_error.FileFault.TheVariants.{Refus
 use Rattle.sst_tool.specs.declared.files.file_name.FileName.{FileName}
 use Rattle.sst_tool.specs.declared.files.file_name.FileName.TheVariants.{Part, Plain, Within}
 
+-- The number in the name of a file: at least six digits.
+abbrev pub file_number : ℕ → List ℕ
+file_number number = replicate (6 - length (decimal number)) 48 ++ decimal number
+
 -- The path of a file.
 abbrev pub path_text : FileName → List ℕ
 path_text (Plain path) = path.now
-path_text (Part path number) = path.now ++ (codes "." ++ decimal number)
-path_text (Within folder number) = folder.now ++ (codes "/" ++ (decimal number ++ codes ".sst"))
+path_text (Part path number) = path.now ++ (codes "." ++ file_number number)
+path_text (Within folder number) =
+    folder.now ++ (codes "/" ++ (file_number number ++ codes ".sst"))
 
 -- A temporary name: the path with a number and an ending.
 abbrev pub beside_name : List ℕ → ℕ → List ℕ

@@ -2,7 +2,6 @@
 use Rattle.std.specs.Prelude.{◌≡◌, ◌≢◌, ◌<◌, ◌⊎◌, ℕ, ◌+◌, Bool, List, [], ◌∷◌, ◌++◌}
 use Rattle.std.specs.Prelude.{IfSome, None, Option, codes, length, map, take, true}
 use Rattle.std.specs.List.{AllByRecursion}
-use Rattle.std.specs.Fmt.{decimal}
 use Rattle.std.specs.Path.{slash}
 use Rattle.sst_entries.specs.declared.error.Error.TheVariants.{OutOfMemory}
 use Rattle.sst_tool.specs.declared.files.file_error.FileError.{FileError}
@@ -10,7 +9,7 @@ use Rattle.sst_tool.specs.declared.files.file_error.FileFault.{FileFault}
 use Rattle.sst_tool.specs.declared.files.file_error.FileFault.TheVariants.{Io, NamesTaken, Refused}
 use Rattle.sst_tool.specs.declared.files.file_error.FileFault.TheVariants.{Taken}
 use Rattle.sst_tool.specs.files.Ended.{files_left}
-use Rattle.sst_tool.specs.files.Files.{IsBeside, path_text}
+use Rattle.sst_tool.specs.files.Files.{IsBeside, file_number, path_text}
 use Rattle.sst_tool.specs.files.Numbered.{numbered_files}
 use Rattle.sst_tool.specs.files.Placed.{IsNotSynced}
 use Rattle.sst_tool.specs.files.There.{AreAllTaken, LiesElsewhere}
@@ -20,9 +19,9 @@ use Rattle.sst_tool.specs.files.Steps.Step.{SyncedNames, Wrote}
 
 -- The path of a numbered table in a folder.
 abbrev pub path_within : List ℕ → ℕ → List ℕ
-path_within folder number = folder ++ (codes "/" ++ (decimal number ++ codes ".sst"))
+path_within folder number = folder ++ (codes "/" ++ (file_number number ++ codes ".sst"))
 
--- The files of tables in a folder, 1.sst, 2.sst and so on, with their bytes.
+-- The files of tables in a folder, 000001.sst, 000002.sst and so on, with their bytes.
 abbrev pub numbered_within : List ℕ → List (List ℕ) → List (List ℕ × List ℕ)
 numbered_within folder all = numbered_files (path_within folder) 1 all
 

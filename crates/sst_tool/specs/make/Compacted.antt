@@ -3,7 +3,6 @@ use Rattle.std.specs.Prelude.{◌≡◌, ◌+◌, ◌-◌, ◌^◌, ◌<◌, ℕ
 use Rattle.std.specs.Prelude.{Option, Some, min, sum_by}
 use Rattle.std.specs.List.{AllByRecursion}
 use Rattle.lsm_writers.specs.declared.writer.FinishedTable.{FinishedTable}
-use Rattle.lsm_writers.specs.Tables.{TablesWriting, new_tables}
 use Rattle.sst_entries.specs.Error.{is_memory}
 use Rattle.sst_entries.specs.Stream.{ok_results}
 use Rattle.sst_blocks.specs.table.Facts.{highest_seqno}
@@ -19,14 +18,10 @@ use Rattle.sst_entries.specs.Entry.{Entry}
 use Rattle.sst_entries.specs.declared.error.Error.{Error}
 use Rattle.sst_entries.specs.declared.error.Error.TheVariants.{OutOfMemory}
 use Rattle.lsm_runs.specs.compaction.Compacted.{kept_in}
-use Rattle.sst_tool.specs.files.Targets.{largest_table}
 use Rattle.sst_tool.specs.declared.files.error.ToolError.{ToolError}
 use Rattle.sst_tool.specs.declared.files.error.ToolError.TheVariants as error
 use Rattle.sst_tool.specs.declared.make.compact_options.CompactOptions.{CompactOptions}
-
--- The writer of these options.
-abbrev pub compactor_by : CompactOptions → TablesWriting
-compactor_by o = new_tables (Some 1) (largest_table o.target) 0 o.created_at
+use Rattle.sst_tool.specs.make.Written.{writer_by}
 
 -- Each table as a run of its own.
 abbrev pub each_alone : List OpenTable → List (List OpenTable)
@@ -37,10 +32,10 @@ each_alone tables = map (λ t. t ∷ []) tables
 pub record AreCompactedOf {A : Type 0} (o : CompactOptions) (opened : List OpenTable)
     (tables : List (FinishedTable A)) : Type 0 where
   pub left : Option ℕ
-  pub some : WritesSome (compactor_by o) tables left
+  pub some : WritesSome (writer_by o.tables) tables left
   pub kept : (lists : List (List (List Entry))) → RunsHoldLists (each_alone opened) lists
       → AllByRecursion HaveEntries lists
-      → AreWrittenBy (compactor_by o) (kept_in o.rules lists) tables left
+      → AreWrittenBy (writer_by o.tables) (kept_in o.rules lists) tables left
 
 -- The number of entries in the tables' metadata, at most 2^64 - 1.
 abbrev pub counted : List OpenTable → ℕ
@@ -73,7 +68,7 @@ IfOutOfOrder _ P = Unit {0}
 abbrev pub TellsOrder : CompactOptions → List OpenTable → ToolError → Type 0
 TellsOrder o opened e = (lists : List (List (List Entry))) → RunsHoldLists (each_alone opened) lists
     → AllByRecursion HaveEntries lists
-    → IfOutOfOrder e (LeavesOrder (compactor_by o) (ok_results (kept_in o.rules lists)))
+    → IfOutOfOrder e (LeavesOrder (writer_by o.tables) (ok_results (kept_in o.rules lists)))
 
 -- Except for OutOfMemory the error is this one of the library, and names no file.
 abbrev pub IsRefusalWith : Option Error → ToolError → Type 0
@@ -84,8 +79,8 @@ IsRefusalWith returned e = ⊥
 -- Except for OutOfMemory the error is the first of writing the list and opening its tables. If they
 -- fit, with an id for each, it is OutOfMemory.
 pub record IsRefusedFor (o : CompactOptions) (es : List Entry) (e : ToolError) : Type 0 where
-  pub returned : IsRefusalWith (run_with_fault (compactor_by o) es 0) e
-  pub taken : FitsBy (compactor_by o) es → highest_seqno es + 0 < 2 ^ 64
+  pub returned : IsRefusalWith (run_with_fault (writer_by o.tables) es 0) e
+  pub taken : FitsBy (writer_by o.tables) es → highest_seqno es + 0 < 2 ^ 64
       → e ≡ error.Refused OutOfMemory
 
 -- If the tables may be compacted, the error is that of writing the kept entries.

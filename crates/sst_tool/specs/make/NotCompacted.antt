@@ -8,6 +8,7 @@ use Rattle.sst_tool.specs.files.Opened.{AreOpenedFrom, StopsOpening}
 use Rattle.sst_tool.specs.files.Steps.{Step}
 use Rattle.lsm_readers.specs.point.Table.{OpenTable}
 use Rattle.sst_tool.specs.declared.files.error.ToolError.{ToolError}
+use Rattle.sst_tool.specs.declared.files.error.ToolError.TheVariants.{SizeTooLarge}
 use Rattle.sst_tool.specs.declared.make.compact_options.CompactOptions.{CompactOptions}
 use Rattle.sst_tool.specs.declared.files.file_error.FileFault.TheVariants.{Taken}
 use Rattle.sst_tool.specs.files.Placed.{TellsFound}
@@ -15,6 +16,7 @@ use Rattle.sst_tool.specs.make.Blamed.{IsBlame, MissesNone}
 use Rattle.sst_tool.specs.make.Compacted.{AreCompactedOf, TellCount, TellsLibrary, TellsOrder}
 use Rattle.sst_tool.specs.make.Filled.{IsFilled, StaysUnfilled, TellsFolder}
 use Rattle.sst_tool.specs.make.Scanned.{NamesOrder}
+use Rattle.sst_tool.specs.make.Written.{HasSmallSizes}
 use Rattle.sst_tool.specs.declared.files.made.Made.{Made}
 
 -- The new tables are made of these files, opened in their order.
@@ -57,14 +59,18 @@ pub record StopsFilling (A : Type 0) (o : CompactOptions) (content : List ℕ �
   pub made : AreOfFiles o content paths tables
   pub stops : StaysUnfilled folder tables known e new
 
--- The folder's name is taken, or no tables are made, and nothing was done; or the folder of the
--- tables is not made.
+-- A block or partition would be too large.
+abbrev pub TellsTooLarge : CompactOptions → ToolError → Type 0
+TellsTooLarge o e = (e ≡ SizeTooLarge) × ¬ HasSmallSizes o.tables
+
+-- The folder's name is taken, or the sizes are too large, or no tables are made, and nothing was
+-- done; or the folder of the tables is not made.
 abbrev pub RefusesToCompact : Type 0 → CompactOptions → (List ℕ → Option (List ℕ))
     → List (Bor (List ℕ)) → List ℕ → Option Bool → Option (List Step) → ToolError
     → Option (List Step) → Type 0
 RefusesToCompact A o content paths folder there known e new =
-    (((TellsFolder folder (TellsFound Taken there) e) ⊎ RefusesFiles o content paths e)
-    × (new ≡ known))
+    ((TellsFolder folder (TellsFound Taken there) e
+    ⊎ (TellsTooLarge o e ⊎ RefusesFiles o content paths e)) × (new ≡ known))
     ⊎ StopsFilling A o content paths folder known e new
 
 -- So many tables, with so many entries, are made of the files and in the new folder, and nothing

@@ -11,6 +11,7 @@ use Rattle.sst_tool.specs.files.Steps.{Step}
 use Rattle.sst_tool.specs.declared.files.error.ToolError.{ToolError}
 use Rattle.sst_tool.specs.declared.files.error.ToolError.TheVariants.{File, NoEntries, Refused}
 use Rattle.sst_tool.specs.declared.files.error.ToolError.TheVariants.{SizeTooLarge}
+use Rattle.sst_tool.specs.declared.make.options.TableOptions.{TableOptions}
 use Rattle.sst_tool.specs.declared.make.options.WriteOptions.{WriteOptions}
 use Rattle.sst_tool.specs.make.Entries.{HasEntries}
 use Rattle.sst_tool.specs.make.Faults.{StopsLines}
@@ -18,7 +19,7 @@ use Rattle.sst_tool.specs.make.TableFiles.{AreTablesNotPlaced}
 use Rattle.sst_tool.specs.make.Written.{AreOfLines, HasSmallSizes, TookLines, writer_by}
 
 -- A block or partition would be too large, or the error is OutOfMemory.
-abbrev pub TellsSizes : WriteOptions → ToolError → Type 0
+abbrev pub TellsSizes : TableOptions → ToolError → Type 0
 TellsSizes o SizeTooLarge = ¬ HasSmallSizes o
 TellsSizes o (Refused e) = e ≡ OutOfMemory
 TellsSizes o error = ⊥
@@ -32,17 +33,17 @@ TellsEnd w error = ⊥
 pub record RefusesEnd (o : WriteOptions) (input : Option (List ℕ)) (e : Error) : Type 0 where
   pub writer : TablesWriting
   pub count : ℕ
-  pub taken : TookLines o input (writer_by o) writer count
+  pub taken : TookLines o input (writer_by o.tables) writer count
   pub returned : run_fault writer ≡ Some e
 
 -- The sizes are too large, there are no entries, memory runs out, finishing fails, or a line or the
 -- input has an error.
 abbrev pub RefusesLines : WriteOptions → Option (List ℕ) → ToolError → Type 0
-RefusesLines o input SizeTooLarge = ¬ HasSmallSizes o
+RefusesLines o input SizeTooLarge = ¬ HasSmallSizes o.tables
 RefusesLines o input NoEntries = HasEntries o.format input []
 RefusesLines o input (Refused e) = is_memory e ≡ false → RefusesEnd o input e
 RefusesLines o input (File e) = ⊥
-RefusesLines o input error = StopsLines o.sort o.format input (writer_by o) error
+RefusesLines o input error = StopsLines o.sort o.format input (writer_by o.tables) error
 
 -- The tables are made, and their files are not all written, or not durable.
 pub record RefusesToPlace (A : Type 0) (o : WriteOptions) (input : Option (List ℕ))
@@ -53,7 +54,7 @@ pub record RefusesToPlace (A : Type 0) (o : WriteOptions) (input : Option (List 
   pub made : AreOfLines o input tables count
   pub file : FileError
   pub returned : error ≡ error_of_file file
-  pub stops : AreTablesNotPlaced path o.target tables there known file new
+  pub stops : AreTablesNotPlaced path o.tables.target tables there known file new
 
 -- No tables are made and nothing was done; or the files of the tables are not all written.
 abbrev pub RefusesToWrite : Type 0 → WriteOptions → Option (List ℕ) → List ℕ

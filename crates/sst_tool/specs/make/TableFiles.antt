@@ -1,9 +1,8 @@
 -- The files of written tables.
 use Rattle.std.specs.Prelude.{◌≡◌, ◌≤◌, ◌+◌, ◌⊎◌, ℕ, Bool, false, List, ◌++◌, length}
 use Rattle.std.specs.Prelude.{IfSome, Option, Some, None, codes, map}
-use Rattle.std.specs.Fmt.{decimal}
 use Rattle.lsm_writers.specs.declared.writer.FinishedTable.{FinishedTable}
-use Rattle.sst_tool.specs.files.Files.{error_of_file, path_text}
+use Rattle.sst_tool.specs.files.Files.{error_of_file, file_number, path_text}
 use Rattle.sst_tool.specs.files.Numbered.{named_bytes, numbered_files}
 use Rattle.sst_tool.specs.files.Placed.{AreNotPlaced, AreInPlace, IfLeft, StopLooking}
 use Rattle.sst_tool.specs.files.Steps.{Step}
@@ -16,7 +15,7 @@ use Rattle.sst_entries.specs.declared.error.Error.TheVariants.{OutOfMemory}
 -- The name of a table's file: the path, or with a target the path with a number.
 abbrev pub table_file_name : List ℕ → Option ℕ → ℕ → List ℕ
 table_file_name path None number = path
-table_file_name path (Some target) number = path ++ (codes "." ++ decimal number)
+table_file_name path (Some target) number = path ++ (codes "." ++ file_number number)
 
 -- The names of the tables' files, numbered from here, with their bytes.
 abbrev pub files_from : {A : Type 0} → List ℕ → Option ℕ → ℕ → List (FinishedTable A)

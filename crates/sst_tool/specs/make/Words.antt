@@ -40,7 +40,7 @@ pub use Rattle.sst_tool.specs.declared.files.file_error.FileFault.TheVariants.{T
 pub use Rattle.sst_tool.specs.make.Blamed.{BlamesNone, BlamesNoneForMemory, IsBlame, KeepsRefusal}
 pub use Rattle.sst_tool.specs.make.Blamed.{MeetsFirst, MissesNone, NamesBlame, TellsOnlyOrder}
 pub use Rattle.sst_tool.specs.make.Compacted.{AreCompactedOf, HasCount, HasNoTables, IfOutOfOrder}
-pub use Rattle.sst_tool.specs.make.Compacted.{TellCount, TellsLibrary, TellsOrder, compactor_by}
+pub use Rattle.sst_tool.specs.make.Compacted.{TellCount, TellsLibrary, TellsOrder}
 pub use Rattle.sst_tool.specs.make.Compacted.{counted, each_alone}
 pub use Rattle.sst_tool.specs.make.Entries.{HasEntries, HasRows, LineSpells, LinesLaw, ReadsInputLine}
 pub use Rattle.sst_tool.specs.make.Entries.{numbered, row_entries}

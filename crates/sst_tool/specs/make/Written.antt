@@ -17,10 +17,11 @@ use Rattle.sst_tool.specs.declared.lines.entry_line.Format.{Format}
 use Rattle.sst_tool.specs.make.Entries.{HasEntries, LineSpells}
 use Rattle.sst_tool.specs.make.Sorting.{IsSortOf}
 use Rattle.sst_tool.specs.make.Taken.{TookAll}
+use Rattle.sst_tool.specs.declared.make.options.TableOptions.{TableOptions}
 use Rattle.sst_tool.specs.declared.make.options.WriteOptions.{WriteOptions}
 
 -- The options of the tables' writer.
-abbrev pub options_of : WriteOptions → Options
+abbrev pub options_of : TableOptions → Options
 options_of o = record default_options {
   data_block_size = o.block_size;
   index_kind = o.index;
@@ -28,11 +29,11 @@ options_of o = record default_options {
 }
 
 -- No block and no partition has more than 4 MiB.
-abbrev pub HasSmallSizes : WriteOptions → Type 0
+abbrev pub HasSmallSizes : TableOptions → Type 0
 HasSmallSizes o = (o.block_size ≤ 4194304) × IsSmallIndex o.index
 
 -- The writer of these options.
-abbrev pub writer_by : WriteOptions → TablesWriting
+abbrev pub writer_by : TableOptions → TablesWriting
 writer_by o = with_options (new_tables (Some 1) (largest_table o.target) o.level o.created_at)
     (options_of o)
 
@@ -80,4 +81,4 @@ pub record AreOfLines {A : Type 0} (o : WriteOptions) (input : Option (List ℕ)
   pub entries : List Entry
   pub spelled : HasEntries o.format input entries
   pub counted : count ≡ length entries
-  pub written : WritesSorted o.sort (writer_by o) entries fs
+  pub written : WritesSorted o.sort (writer_by o.tables) entries fs

@@ -1,5 +1,5 @@
 //! The errors of commands.
-use crate::files::FileError;
+use crate::files::{Escaped, FileError};
 use crate::lines::LineError;
 use sst_blocks::{Error, SectionName};
 use std::alloc::{AllocError, AllocFailed};
@@ -67,13 +67,15 @@ impl<'a> fmt::Display for ToolError<'a> {
                 f.write_str("a block or partition has at most 4194304 bytes")
             }
             ToolError::Unreadable { name, at, error } => {
-                let number = error.number();
+                let (name, number) = (Escaped(name), error.number());
                 write!(f, "{name}: {at}{error} ({number})")
             }
-            ToolError::OutOfOrder(path) => write!(f, "{path}: entries out of order"),
+            ToolError::OutOfOrder(path) => write!(f, "{}: entries out of order", Escaped(path)),
             ToolError::Repeated => f.write_str("a key has one number twice in these files"),
             ToolError::Unordered => f.write_str("entries out of order"),
-            ToolError::Range(path) => write!(f, "{path}: the first key is above the last"),
+            ToolError::Range(path) => {
+                write!(f, "{}: the first key is above the last", Escaped(path))
+            }
             ToolError::Refused(error) | ToolError::Unplaced(error) => {
                 let number = error.number();
                 write!(f, "{error} ({number})")

@@ -135,8 +135,9 @@ pub struct FileError<'a> {
 
 impl<'a> fmt::Display for FileError<'a> {
     fn fmt<W: fmt::Write>(&self, f: &mut fmt::Formatter<W>) -> fmt::Result {
-        let (name, fault) = (&self.name, &self.fault);
-        write!(f, "{name}: {fault}")
+        self.name.write_escaped(f)?;
+        let fault = &self.fault;
+        write!(f, ": {fault}")
     }
 }
 

@@ -2,16 +2,18 @@
 ghost use Rattle.std.specs.Prelude.{◌≡◌};
 ghost use Rattle.sst_tool.specs.files.Words as spec;
 
+use crate::files::Escaped;
 use std::fmt;
 
-/// The name of a file, displayed as its path.
+/// The name of a file, displayed as its path. Numbers have at least six digits, so that names of up
+/// to 999,999 tables sort by number.
 #[derive(Clone, Copy, Debug, PartialEq, Eq)]
 pub enum FileName<'a> {
     /// The file at this path.
     Plain(&'a str),
-    /// One of several files, numbered after a dot, as `users.sst.2`.
+    /// One of several files, numbered after a dot, as `users.sst.000002`.
     Part(&'a str, u64),
-    /// A numbered table of a folder, as `tables/2.sst`.
+    /// A numbered table of a folder, as `tables/000002.sst`.
     Within(&'a str, u64),
 }
 
@@ -26,6 +28,15 @@ impl<'a> FileName<'a> {
             FileName::Within(folder, _) => FileName::Within(folder, number),
         }
     }
+
+    /// Writes the path for a message, with control bytes escaped.
+    pub(crate) fn write_escaped<W: fmt::Write>(&self, f: &mut fmt::Formatter<W>) -> fmt::Result {
+        match self {
+            FileName::Plain(path) => write!(f, "{}", Escaped(path)),
+            FileName::Part(path, number) => write!(f, "{}.{number:06}", Escaped(path)),
+            FileName::Within(folder, number) => { write!(f, "{}/{number:06}.sst", Escaped(folder)) }
+        }
+    }
 }
 
 impl<'a> fmt::Display for FileName<'a> {
@@ -34,11 +45,12 @@ impl<'a> fmt::Display for FileName<'a> {
 
     ghost output = { λ name. Some (path_text name) };
 
+    #[tactic(auto, using(crate::proofs::FileNumbers::six_digits))]
     fn fmt<W: fmt::Write>(&self, f: &mut fmt::Formatter<W>) -> fmt::Result {
         match self {
             FileName::Plain(path) => write!(f, "{path}"),
-            FileName::Part(path, number) => write!(f, "{path}.{number}"),
-            FileName::Within(folder, number) => write!(f, "{folder}/{number}.sst"),
+            FileName::Part(path, number) => write!(f, "{path}.{number:06}"),
+            FileName::Within(folder, number) => write!(f, "{folder}/{number:06}.sst"),
         }
     }
 }

@@ -1,5 +1,5 @@
 //! The result of writing tables.
-use crate::lines::word_for;
+use crate::lines::{Format, word_for};
 use std::io;
 use std::io::Write;
 
@@ -12,10 +12,15 @@ pub struct Made {
     pub entries: u64,
 }
 
-/// Prints the numbers in one line.
-pub fn print_made<W: Write>(output: &mut W, made: Made) -> io::Result<()> {
+/// Prints the numbers in one line, as words or as a JSON object.
+pub fn print_made<W: Write>(output: &mut W, made: Made, format: Format) -> io::Result<()> {
     let (tables, entries) = (made.tables, made.entries);
-    let table_word = word_for(tables, "table", "tables");
-    let entry_word = word_for(entries, "entry", "entries");
-    writeln!(output, "{tables} {table_word}, {entries} {entry_word}")
+    match format {
+        Format::Lines => {
+            let table_word = word_for(tables, "table", "tables");
+            let entry_word = word_for(entries, "entry", "entries");
+            writeln!(output, "{tables} {table_word}, {entries} {entry_word}")
+        }
+        Format::Json => { writeln!(output, "{{\"tables\":{tables},\"entries\":{entries}}}") }
+    }
 }

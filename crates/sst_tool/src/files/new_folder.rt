@@ -10,7 +10,7 @@ use std::alloc::Allocator;
 use std::io;
 use std::io::ErrorKind;
 
-/// Writes tables into a new folder, as the files `1.sst`, `2.sst` and so on.
+/// Writes tables into a new folder, as the files `000001.sst`, `000002.sst` and so on.
 ///
 /// The folder is made under a temporary name next to its own. Each file is written there and
 /// synced, and then the folder is. Then the folder is renamed once, and its parent folder is

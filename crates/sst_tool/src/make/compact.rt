@@ -156,14 +156,15 @@ fn compact_tables<A: Allocator + Copy>(
     tables: &[Table<A>],
     options: &CompactOptions,
 ) -> Result<Outcome<A>, Error>
+    requires { spec.HasSmallSizes options.now.tables }
     // Whatever the tables have, the new tables are those of a list that can be written.
-    ensures made { IfOk result (λ r. spec.HasMade (spec.compactor_by options.now) r.0) }
+    ensures made { IfOk result (λ r. spec.HasMade (spec.writer_by options.now.tables) r.0) }
     // If the tables store lists, the new tables are those of the kept entries of all together; or
     // one of these may not follow.
     ensures merged { (lists : List (List (List spec.Entry))) →
         spec.RunsHoldLists (spec.each_alone tables.now) lists →
         spec.AllByRecursion spec.HaveEntries lists → IfOk result (λ r.
-        spec.CameInOrder (spec.compactor_by options.now) (spec.kept_in options.now.rules lists)
+        spec.CameInOrder (spec.writer_by options.now.tables) (spec.kept_in options.now.rules lists)
         r.0) }
     ensures through { IfOk result (λ r. spec.GoesThrough r.0) }
     ensures count { IfOk result (λ r. spec.HasCount r.0 r.1) }
@@ -173,22 +174,22 @@ fn compact_tables<A: Allocator + Copy>(
     ensures tables { spec.AreCompactable (spec.each_alone tables.now) →
         (lists : List (List (List spec.Entry))) →
         spec.RunsHoldLists (spec.each_alone tables.now) lists → IfOk result (λ r.
-        spec.AreTablesBy (spec.compactor_by options.now) (spec.kept_in options.now.rules lists)
+        spec.AreTablesBy (spec.writer_by options.now.tables) (spec.kept_in options.now.rules lists)
         r.0) }
     ensures refused { spec.AreCompactable (spec.each_alone tables.now) →
         (lists : List (List (List spec.Entry))) →
         spec.RunsHoldLists (spec.each_alone tables.now) lists → spec.Faults result
-        (spec.run_with_fault (spec.compactor_by options.now) (spec.kept_in options.now.rules lists)
+        (spec.run_with_fault (spec.writer_by options.now.tables) (spec.kept_in options.now.rules lists)
         0) }
     ensures taken { spec.AreCompactable (spec.each_alone tables.now) →
         (lists : List (List (List spec.Entry))) →
         spec.RunsHoldLists (spec.each_alone tables.now) lists →
         let kept = spec.kept_in options.now.rules lists in
-        spec.FitsBy (spec.compactor_by options.now) kept →
+        spec.FitsBy (spec.writer_by options.now.tables) kept →
         spec.highest_seqno kept + 0 < 2 ^ 64 → IfErr result (λ e. e ≡ spec.OutOfMemory) }
 {
     let runs = runs_of(alloc, tables)?;
-    let writer = options.writer(alloc)?;
+    let writer = options.tables.writer(alloc)?;
     let how = OpenOptions::default();
     let (outcome, run) = compact_to_run_with(alloc, &runs, options.rules, writer, &how)?;
     let entries = count_run(&run);
@@ -222,6 +223,7 @@ fn compact_opened<'a, A: Allocator + Copy>(
     tables: &[Table<A>],
     options: &CompactOptions,
 ) -> Result<NewTables<A>, ToolError<'a>>
+    requires { spec.HasSmallSizes options.now.tables }
     ensures made { IfOk result
         (λ made. spec.AreCompactedOf options.now tables.now made.tables.items) }
     ensures count { IfOk result (λ made. spec.TellCount made.tables.items made.entries) }
@@ -250,6 +252,7 @@ fn open_and_compact<'a, P: Place, A: Allocator + Copy>(
     paths: &[&'a str],
     options: &CompactOptions,
 ) -> Result<NewTables<A>, ToolError<'a>>
+    requires { spec.HasSmallSizes options.now.tables }
     ensures made { IfOk result (λ made.
         spec.AreOfFiles options.now (P.content place.now) paths.now made.tables.items) }
     ensures count { IfOk result (λ made. spec.TellCount made.tables.items made.entries) }
@@ -263,12 +266,13 @@ fn open_and_compact<'a, P: Place, A: Allocator + Copy>(
 }
 
 /// Compacts table files, each as a run of its own, and writes the new tables into a new folder. The
-/// files are named `1.sst`, `2.sst` and so on. Which entries are kept is that of
+/// files are named `000001.sst`, `000002.sst` and so on. Which entries are kept is that of
 /// [`compact_any_runs`](lsm_runs::compact_any_runs).
 ///
 /// # Errors
 ///
 /// - The folder's name is taken. This is tested before any file is read.
+/// - A block or partition would have more than 4 MiB.
 /// - A file cannot be opened ([`open_tables`]) or read.
 /// - The entries of a file are out of order, or a key has a sequence number twice among the kept
 ///   entries.
@@ -298,6 +302,8 @@ pub fn compact_files<'a, P: Place, A: Allocator + Copy>(
         (spec.TellsFound spec.Taken (P.there place.old folder.now)) e) }
     ensures free { OnOk result
         (IfSome (P.there place.old folder.now) (λ there. there ≡ false)) }
+    // No block or partition is too large then.
+    ensures small { OnOk result (spec.HasSmallSizes options.now.tables) }
     // After an error this is the cause, and exactly this was done.
     ensures refused { IfErr result (λ e. spec.RefusesToCompact A options.now (P.content place.old)
         paths.now folder.now (P.there place.old folder.now) (P.done place.old) e
@@ -310,6 +316,7 @@ pub fn compact_files<'a, P: Place, A: Allocator + Copy>(
     ensures memory { IfErr result spec.BlamesNoneForMemory }
 {
     check_folder(place, folder)?;
+    options.tables.check_sizes()?;
     let made = open_and_compact(place, alloc, paths, options)?;
     write_tables(place, alloc, folder, &made.tables)?;
     Ok(Made {

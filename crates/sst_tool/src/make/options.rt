@@ -1,19 +1,19 @@
-//! The options of writing.
+//! The options of new tables, and of writing.
 ghost use Rattle.std.specs.Prelude.{◌≡◌, ◌↔◌, ◌≤◌, IfErr, IfOk, OnOk};
 ghost use Rattle.sst_tool.specs.make.Words as spec;
 
 use crate::files::{ToolError, largest_table};
 use crate::lines::Format;
 use lsm_writers::{BloomConstructionPolicy, IndexKind, MultiWriter, Options, TableIds};
-use sst_blocks::Timestamp;
+use sst_blocks::{Error, Timestamp};
 use std::alloc::Allocator;
 
 // The largest size of a block and of a partition, in bytes.
 const LARGEST: u32 = 4_194_304;
 
-/// The options of writing entries.
+/// The options of new tables.
 #[derive(Clone, Copy, Debug, PartialEq, Eq)]
-pub struct WriteOptions {
+pub struct TableOptions {
     /// The kind of the index, with the target size of its partitions in bytes.
     pub index: IndexKind,
     /// The bits of the filter for each key: 0 for no filter.
@@ -26,6 +26,13 @@ pub struct WriteOptions {
     pub target: Option<u64>,
     /// The creation time of the tables.
     pub created_at: Timestamp,
+}
+
+/// The options of writing entries.
+#[derive(Clone, Copy, Debug, PartialEq, Eq)]
+pub struct WriteOptions {
+    /// The options of the tables.
+    pub tables: TableOptions,
     /// The format of the lines.
     pub format: Format,
     /// Whether the entries are sorted first.
@@ -42,9 +49,9 @@ fn partition_size(index: IndexKind) -> u32
     }
 }
 
-impl WriteOptions {
+impl TableOptions {
     // Returns the options of the tables' writer.
-    fn table_options(&self) -> Options
+    fn writer_options(&self) -> Options
         ensures { result ≡ spec.options_of self.now }
     {
         Options {
@@ -75,18 +82,33 @@ impl WriteOptions {
     ///
     /// # Errors
     ///
+    /// Fails only if memory runs out.
+    pub(crate) fn writer<A: Allocator + Copy>(&self, alloc: A) -> Result<MultiWriter<A>, Error>
+        requires { spec.HasSmallSizes self.now }
+        ensures ok { IfOk result (λ w. w ≡ spec.writer_by self.now) }
+        ensures err { IfErr result (λ e. e ≡ spec.OutOfMemory) }
+    {
+        let (ids, target) = (TableIds::new(1), largest_table(self.target));
+        let writer = MultiWriter::new(alloc, ids, target, self.level, self.created_at)?;
+        Ok(writer.use_options(self.writer_options()))
+    }
+}
+
+impl WriteOptions {
+    /// Returns a writer of the tables.
+    ///
+    /// # Errors
+    ///
     /// Fails if the size of blocks or partitions is above 4 MiB, and with `OutOfMemory`.
     pub(crate) fn writer<A: Allocator + Copy>(
         &self,
         alloc: A,
     ) -> Result<MultiWriter<A>, ToolError<'static>>
-        ensures ok { IfOk result (λ w. w ≡ spec.writer_by self.now) }
-        ensures small { OnOk result (spec.HasSmallSizes self.now) }
-        ensures refused { IfErr result (spec.TellsSizes self.now) }
+        ensures ok { IfOk result (λ w. w ≡ spec.writer_by self.now.tables) }
+        ensures small { OnOk result (spec.HasSmallSizes self.now.tables) }
+        ensures refused { IfErr result (spec.TellsSizes self.now.tables) }
     {
-        self.check_sizes()?;
-        let (ids, target) = (TableIds::new(1), largest_table(self.target));
-        let writer = MultiWriter::new(alloc, ids, target, self.level, self.created_at)?;
-        Ok(writer.use_options(self.table_options()))
+        self.tables.check_sizes()?;
+        Ok(self.tables.writer(alloc)?)
     }
 }

@@ -2,8 +2,11 @@
 ghost use Rattle.std.specs.Prelude.{◌≡◌};
 ghost use Rattle.sst_tool.specs.make.Words as spec;
 
+use crate::files::Escaped;
+use crate::show::{line_of, write_number};
+use json::Writer;
 use lsm_sorted::{Packed, Ranged};
-use std::alloc::Allocator;
+use std::alloc::{AllocError, Allocator};
 use std::io;
 use std::io::Write;
 
@@ -45,8 +48,42 @@ pub fn print_packed<W: Write, T: Ranged, A: Allocator>(
     output.write_all(b"\n")
 }
 
+/// Returns packed files as a JSON object with a newline. It has the number of runs, the files of
+/// each, and a chain of overlapping files. `paths` are the paths of the files, by index.
+///
+/// # Errors
+///
+/// Fails only if memory runs out.
+pub fn packed_object<T: Ranged, A: Allocator + Copy>(
+    alloc: A,
+    paths: &[&str],
+    packed: &Packed<T, A>,
+) -> Result<Vec<u8, A>, AllocError> {
+    let mut writer = Writer::new(Vec::new(alloc));
+    writer.begin_object()?;
+    write_number(&mut writer, "fewest_runs", packed.runs.len() as u64)?;
+    writer.key("runs")?;
+    writer.begin_array()?;
+    for run in &packed.runs {
+        writer.begin_array()?;
+        for table in run.as_slice() {
+            writer.string(path_at(paths, table.place))?;
+        }
+        writer.end_array()?;
+    }
+    writer.end_array()?;
+    writer.key("each_overlaps_the_next")?;
+    writer.begin_array()?;
+    for link in &packed.chain {
+        writer.string(path_at(paths, link.0))?;
+    }
+    writer.end_array()?;
+    writer.end_object()?;
+    line_of(writer)
+}
+
 // Prints a space and the path at an index.
 fn print_name<W: Write>(output: &mut W, paths: &[&str], place: usize) -> io::Result<()> {
-    let path = path_at(paths, place);
+    let path = Escaped(path_at(paths, place));
     write!(output, " {path}")
 }

@@ -76,7 +76,7 @@ fn tables_of<I: BufRead, A: Allocator + Copy>(
 ) -> Result<Tables<A>, ToolError<'static>>
     ensures lines { IfOk result (λ r.
         spec.AreOfLines options.now (I.remaining input.old) r.0.items r.1) }
-    ensures small { OnOk result (spec.HasSmallSizes options.now) }
+    ensures small { OnOk result (spec.HasSmallSizes options.now.tables) }
     ensures refused { IfErr result (spec.RefusesLines options.now (I.remaining input.old)) }
 {
     let mut writer = options.writer(alloc)?;
@@ -99,7 +99,7 @@ fn read_tables<I: Read + Drop, A: Allocator + Copy>(
     ensures lines { IfOk result (λ r. spec.AreOfLines options.now (I.remaining input) r.0.items
         r.1) }
     ensures some { IfOk result (λ r. 0 < length r.0.items) }
-    ensures small { OnOk result (spec.HasSmallSizes options.now) }
+    ensures small { OnOk result (spec.HasSmallSizes options.now.tables) }
     ensures refused { IfErr result (spec.RefusesLines options.now (I.remaining input)) }
 {
     let Ok(mut input) = BufReader::new(alloc, input) else {
@@ -193,9 +193,9 @@ fn put_tables<'a, P: Place, A: Allocator + Copy>(
     Ok(place_tables(place, alloc, path, target, &wanted)?)
 }
 
-/// Writes the entries of lines into a table file, or with a target into several: `PATH.1`, `PATH.2`
-/// and so on. Empty lines are skipped. The entries are in order, by ascending key and then by
-/// descending sequence number, or are sorted first.
+/// Writes the entries of lines into a table file, or with a target into several: `PATH.000001`,
+/// `PATH.000002` and so on. Empty lines are skipped. The entries are in order, by ascending key and
+/// then by descending sequence number, or are sorted first.
 ///
 /// # Errors
 ///
@@ -220,7 +220,7 @@ pub fn write_entries<'a, P: Place, I: Read + Drop, A: Allocator + Copy>(
     ensures lines { IfOk result (λ made. (fs : List (spec.FinishedTable A))
         × (made.tables ≡ length fs)
         × spec.AreOfLines options.now (I.remaining input) fs made.entries
-        × spec.AreTablesPlaced path.now options.now.target fs
+        × spec.AreTablesPlaced path.now options.now.tables.target fs
         (P.there place.old) (P.done place.old) (P.done place.new)) }
     // Each file has the permissions of the regular file that it replaces, and replaces nothing
     // else.
@@ -228,9 +228,9 @@ pub fn write_entries<'a, P: Place, I: Read + Drop, A: Allocator + Copy>(
         (spec.AreModesKept (P.modes place.old) (P.done place.old) (P.done place.new)) }
     // There is an entry then, so a table, and no block or partition is too large.
     ensures some { IfOk result (λ made. 0 < made.tables) }
-    ensures small { OnOk result (spec.HasSmallSizes options.now) }
+    ensures small { OnOk result (spec.HasSmallSizes options.now.tables) }
     // If one would be, this is the error.
-    ensures large { ¬ spec.HasSmallSizes options.now →
+    ensures large { ¬ spec.HasSmallSizes options.now.tables →
         IsErrAnd result (λ e. e ≡ spec.SizeTooLarge) }
     // After an error either no tables were made, for this cause, and nothing was done; or exactly
     // their files were not written, or are not durable.
@@ -242,9 +242,9 @@ pub fn write_entries<'a, P: Place, I: Read + Drop, A: Allocator + Copy>(
     ensures order { IfErr result (spec.TellsLineOrder options.now.format (I.remaining input)) }
 {
     // Sizes are tested before memory is allocated.
-    options.check_sizes()?;
+    options.tables.check_sizes()?;
     let (tables, entries) = read_tables(alloc, input, options)?;
-    put_tables(place, alloc, path, options.target, &tables)?;
+    put_tables(place, alloc, path, options.tables.target, &tables)?;
     Ok(Made {
         tables: tables.len() as u64,
         entries,

@@ -3,16 +3,17 @@ ghost use Rattle.std.specs.Prelude.{◌≡◌, ◌<◌, List, IfErr, IfOk};
 ghost use Rattle.sst_tool.specs.show.Words as spec;
 ghost use Rattle.lsm_readers.specs.declared.verify.VerifyError.TheVariants.{OutOfMemory};
 
-use crate::files::{BlockPlace, ToolError};
-use crate::lines::word_for;
+use crate::files::ToolError;
+use crate::lines::Format;
 use crate::show::NamedTable;
 use crate::show::blocks::{NamedBlock, named_blocks, refusal_of, region_blocks, source_of};
+use crate::show::verify_line::{VerifyLine, print_verify_line};
 use lsm_readers::{
     Fault, Finding, ParsedRegions, Table, TableInner, Verification, Verified, VerifyError,
 };
 use sst_blocks::{BlockSource, Error, Slice};
 use std::alloc::Allocator;
-use std::io::{self, Write};
+use std::io::Write;
 
 /// Receives the progress of a verification.
 pub trait Progress {
@@ -41,7 +42,7 @@ struct Looked {
 /// For a valid file the line says how many entries and blocks it has. Otherwise it has the first
 /// fault with its section and offset, and the error code if a block does not load. One more line
 /// follows for each further block of the filter, index and data that does not load. Returns the
-/// number of faults written.
+/// number of faults written. As JSON each line is an object.
 ///
 /// # Errors
 ///
@@ -50,6 +51,7 @@ pub fn verify<'a, A: Allocator + Copy, W: Write, P: Progress>(
     alloc: A,
     output: &mut W,
     file: &NamedTable<'a, A>,
+    format: Format,
     progress: &mut P,
 ) -> Result<u64, ToolError<'a>>
     // No fault is counted exactly if the bytes of the file store a list.
@@ -61,12 +63,13 @@ pub fn verify<'a, A: Allocator + Copy, W: Write, P: Progress>(
     let looked = look_at(&file.table, progress);
     match looked.verdict {
         Ok(verified) => {
-            print_sound(output, file.name, &verified, looked.blocks)?;
+            let line = VerifyLine::Sound(&verified, looked.blocks);
+            print_verify_line(alloc, output, file.name, line, format)?;
             Ok(0)
         }
         Err(VerifyError::OutOfMemory) => Err(ToolError::Refused(Error::OutOfMemory)),
         Err(VerifyError::Found(finding)) => {
-            print_faults(alloc, output, file, &finding, looked.blocks)
+            print_faults(alloc, output, file, &finding, looked.blocks, format)
         }
     }
 }
@@ -123,23 +126,6 @@ fn look_on<A: Allocator + Clone, P: Progress>(
     }
 }
 
-// Writes the line of a valid file.
-fn print_sound<W: Write>(
-    output: &mut W,
-    name: &str,
-    verified: &Verified,
-    blocks: u64,
-) -> io::Result<()> {
-    let (entries, data) = (verified.item_count, verified.data_block_count);
-    let entry_word = word_for(entries, "entry", "entries");
-    let data_word = word_for(data, "data block", "data blocks");
-    let word = word_for(blocks, "block", "blocks");
-    writeln!(
-        output,
-        "{name}: sound, {entries} {entry_word} in {data} {data_word}, {blocks} {word} read"
-    )
-}
-
 // Writes the line of the first fault, and a line for each further block that does not load. Returns
 // the number of lines.
 fn print_faults<'a, A: Allocator + Copy, W: Write>(
@@ -148,69 +134,21 @@ fn print_faults<'a, A: Allocator + Copy, W: Write>(
     file: &NamedTable<'a, A>,
     finding: &Finding,
     blocks: u64,
+    format: Format,
 ) -> Result<u64, ToolError<'a>>
     ensures some { IfOk result (λ count. 0 < count) }
     ensures unnamed { IfErr result spec.NamesNone }
 {
-    print_first(output, file.name, finding, blocks)?;
+    let first = VerifyLine::First(finding, blocks);
+    print_verify_line(alloc, output, file.name, first, format)?;
     let further = match file_blocks(alloc, &file.table) {
-        Ok((source, blocks)) => print_unloaded(output, file.name, Some(finding), &source, &blocks)?,
+        Ok((source, blocks)) => {
+            let found = Some(finding);
+            print_unloaded(alloc, output, file.name, found, &source, &blocks, format)?
+        }
         Err(_) => return Err(ToolError::Refused(Error::OutOfMemory)),
     };
     Ok(further.saturating_add(1))
-}
-
-// Writes the line of the first fault, after so many valid blocks.
-fn print_first<W: Write>(
-    output: &mut W,
-    name: &str,
-    finding: &Finding,
-    blocks: u64,
-) -> io::Result<()> {
-    let place = BlockPlace {
-        section: finding.section,
-        offset: finding.offset,
-    };
-    write!(output, "{name}: {place}: ")?;
-    print_fault(output, &finding.fault)?;
-    let word = word_for(blocks, "block before it is", "blocks before it are");
-    writeln!(output, ", {blocks} {word} sound")
-}
-
-fn print_fault<W: Write>(output: &mut W, fault: &Fault) -> io::Result<()> {
-    match fault {
-        Fault::Unloaded(error) => {
-            let number = error.number();
-            write!(output, "{error} ({number})")
-        }
-        Fault::Unfiltered(error) => {
-            let number = error.number();
-            write!(output, "the filter's block of a key: {error} ({number})")
-        }
-        Fault::Unborne(item) => {
-            output.write_all(b"the entries do not bear out the meta item ")?;
-            output.write_all(item.key())
-        }
-        fault => output.write_all(fault_text(fault).as_bytes()),
-    }
-}
-
-// The text of a fault that has neither an error nor an item.
-fn fault_text(fault: &Fault) -> &'static str {
-    match fault {
-        Fault::Unloaded(_) => "the block does not load",
-        Fault::Hollow => "no entry, or no handle",
-        Fault::Misplaced => "the block does not begin where the one before it ended",
-        Fault::TooHigh => "an entry has the number 18446744073709551615",
-        Fault::Unordered => "an entry does not follow on the one before it",
-        Fault::Denied => "a key is denied by the filter",
-        Fault::Unfiltered(_) => "a key's block of the filter does not load",
-        Fault::OtherKey => "the block does not end with the key that its handle names",
-        Fault::OtherNumber => "the block does not end with the number that its handle names",
-        Fault::Unborne(_) => "the entries do not bear out an item of the meta block",
-        Fault::Unnamed => "a data block that no handle names",
-        Fault::OtherChecksum => "the file has another checksum than the one that was given",
-    }
 }
 
 // The bytes of a table, and its blocks.
@@ -234,11 +172,12 @@ pub fn verify_unopened<'a, A: Allocator + Copy, W: Write>(
     output: &mut W,
     name: &str,
     bytes: Slice<A>,
+    format: Format,
 ) -> Result<u64, ToolError<'a>>
     ensures { IfErr result spec.NamesNone }
 {
     match BlockSource::new(alloc, bytes) {
-        Ok(source) => print_regions(alloc, output, name, &source),
+        Ok(source) => print_regions(alloc, output, name, &source, format),
         // Without a trailer no block is known.
         Err(_) => Ok(0),
     }
@@ -250,6 +189,7 @@ fn print_regions<'a, A: Allocator + Copy, W: Write>(
     output: &mut W,
     name: &str,
     source: &BlockSource<A>,
+    format: Format,
 ) -> Result<u64, ToolError<'a>>
     ensures { IfErr result spec.NamesNone }
 {
@@ -257,7 +197,7 @@ fn print_regions<'a, A: Allocator + Copy, W: Write>(
         return Ok(0);
     };
     match region_blocks(alloc, source, &regions) {
-        Ok(blocks) => print_unloaded(output, name, None, source, &blocks),
+        Ok(blocks) => print_unloaded(alloc, output, name, None, source, &blocks, format),
         Err(_) => Err(ToolError::Refused(Error::OutOfMemory)),
     }
 }
@@ -265,11 +205,13 @@ fn print_regions<'a, A: Allocator + Copy, W: Write>(
 // Writes a line for each of these blocks that does not load, except for one that a finding already
 // names. Returns the number of lines.
 fn print_unloaded<'a, A: Allocator + Copy, W: Write>(
+    alloc: A,
     output: &mut W,
     name: &str,
     finding: Option<&Finding>,
     source: &BlockSource<A>,
     blocks: &[NamedBlock],
+    format: Format,
 ) -> Result<u64, ToolError<'a>>
     ensures { IfErr result spec.NamesNone }
 {
@@ -279,23 +221,14 @@ fn print_unloaded<'a, A: Allocator + Copy, W: Write>(
             Ok(None) => {}
             Ok(Some(_)) if is_told(finding, block) => {}
             Ok(Some(error)) => {
-                print_unloaded_line(output, name, block.begin(), &error)?;
+                let line = VerifyLine::Unloaded(block.begin(), &error);
+                print_verify_line(alloc, output, name, line, format)?;
                 count = count.saturating_add(1);
             }
             Err(_) => return Err(ToolError::Refused(Error::OutOfMemory)),
         }
     }
     Ok(count)
-}
-
-fn print_unloaded_line<W: Write>(
-    output: &mut W,
-    name: &str,
-    place: BlockPlace,
-    error: &Error,
-) -> io::Result<()> {
-    let number = error.number();
-    writeln!(output, "{name}: {place}: {error} ({number})")
 }
 
 // Whether a finding already says that a block does not load.

@@ -1,5 +1,5 @@
 //! The blocks that a point read loads.
-use crate::files::{BlockPlace, section_name};
+use crate::files::{BlockPlace, Escaped, section_name};
 use crate::show::blocks::{handles_in, source_of};
 use crate::show::members::{line_of, write_number, write_text};
 use json::Writer;
@@ -211,7 +211,7 @@ pub(crate) fn print_words<A: Allocator, W: Write>(
     name: &str,
     loaded: &TableLoads<A>,
 ) -> io::Result<()> {
-    let opened = loaded.opened;
+    let (name, opened) = (Escaped(name), loaded.opened);
     let (data, index) = (opened.data_loads, opened.index_loads);
     let (filter, meta) = (opened.filter_loads, opened.meta_loads);
     write!(

@@ -1,5 +1,5 @@
 //! Prints the metadata of tables.
-use crate::files::ToolError;
+use crate::files::{Escaped, ToolError};
 use crate::lines::{Format, append_bytes};
 use crate::show::NamedTable;
 use crate::show::facts::{
@@ -135,7 +135,7 @@ fn print_text<A: Allocator + Copy, W: Write>(
     file: &NamedTable<'_, A>,
     parts: &Parts<A>,
 ) -> Result<(), ToolError<'static>> {
-    let (name, size) = (file.name, parts.size);
+    let (name, size) = (Escaped(file.name), parts.size);
     writeln!(output, "{name}: {size} bytes")?;
     print_items(alloc, output, &file.table, &ITEMS)?;
     print_summary(output, parts)?;

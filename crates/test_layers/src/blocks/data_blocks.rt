@@ -416,8 +416,8 @@ const STORED: &[Stored] = &[
 /// How many cases the table above has.
 pub(crate) const CASES: usize = STORED.len();
 
-/// Whether the case at an index reads as it should, and its entries are encoded so in a version
-/// that is still written; or `OutOfMemory`, where it may fail.
+/// Whether the case at an index reads as it should. If its version is still written, its entries
+/// must also be encoded so. `OutOfMemory` counts as right where an allocation may fail.
 pub(crate) fn is_so_at(heap: &Refusing, place: usize, may_fail: bool) -> bool {
     match STORED.get(place) {
         Some(stored) => {

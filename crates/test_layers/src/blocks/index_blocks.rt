@@ -89,8 +89,8 @@ impl<A: Allocator> Walk for IndexBlockIter<'_, A> {
     }
 }
 
-// A payload, its handles, iterations, and finds: a key, a sequence number and the block offset of
-// the first handle that reaches them (99 if none).
+// A payload, its handles, iterations, and finds. A find is a key, a sequence number and the block
+// offset of the first handle that reaches them (99 if none).
 struct Stored {
     version: TableVersion,
     payload: &'static [u8],
@@ -274,8 +274,8 @@ const STORED: &[Stored] = &[
 /// How many cases the table above has.
 pub(crate) const CASES: usize = STORED.len();
 
-/// Whether the case at an index reads as it should, and its handles are encoded so in a version
-/// that is still written; or `OutOfMemory`, where it may fail.
+/// Whether the case at an index reads as it should. If its version is still written, its handles
+/// must also be encoded so. `OutOfMemory` counts as right where an allocation may fail.
 pub(crate) fn is_so_at(heap: &Refusing, place: usize, may_fail: bool) -> bool {
     match STORED.get(place) {
         Some(stored) => {

@@ -185,8 +185,8 @@ const LOADED: &[Row] = &[
     (V4, Index, handles!(1; [b'a', 1, 1]), Some(1)),
     (V4, Index, handles!(2; [b'a', 1, 2], [b'a', 1, 1]), Some(2)),
     (V4, Index, handles!(2; [b'a', 1, 1], [b'b', 1, 2]), Some(2)),
-    // fewer handles or more than the count, a truncated end key, and a byte after the last handle;
-    // handles not strictly sorted: equal, with ascending sequence numbers, with descending keys
+    // fewer handles or more than the count, a truncated end key, a byte after the last handle;
+    // handles that are equal, with ascending sequence numbers, with descending keys
     (V4, Index, handles!(1;), None),
     (V4, Index, handles!(u32::MAX; [b'a', 1, 1]), None),
     (V4, Index, handles!(0; [b'a', 1, 1]), None),

@@ -4,10 +4,10 @@
 use sst_blocks::Direction::{Back, Front};
 use sst_blocks::{Direction, Error, SeqNo};
 
-/// Stands for the end of an iteration.
+/// The number for the end of an iteration.
 pub(crate) const NONE: u64 = 99;
 
-// Stands for `OutOfMemory`; another constant stands for any other error.
+// The number for `OutOfMemory`; any other error has another one.
 const NO_MEMORY: u64 = 98;
 
 const FAULT: u64 = 97;
@@ -36,7 +36,7 @@ pub(crate) trait Walk {
     fn give(&mut self, end: Direction) -> u64;
 }
 
-/// The number that stands for an error.
+/// The number for an error.
 pub(crate) fn refusal(error: Error) -> u64 {
     match error {
         Error::OutOfMemory => NO_MEMORY,

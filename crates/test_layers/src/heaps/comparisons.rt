@@ -62,8 +62,8 @@ impl<'a> Eq for Counted<'a> {
     ghost laws = { eq_by_cmp_equiv (on_total (λ e. e.key) nat_cmp_total) };
 }
 
-// The order of the entries of all sources: one of each source in turn, in the sources' order or in
-// another one each time; or source after source.
+// The order of the entries of all sources. They come from each source in turn, always in the
+// sources' order or in another one each time; or source after source.
 enum Order {
     InTurn,
     Mixed,
@@ -137,8 +137,8 @@ impl<'a> Merge<'a> {
     }
 }
 
-// The outcome of a merge: the number of entries in key order, the number left in the queue, and the
-// comparisons made and as counted by the queue.
+// The outcome of a merge: the number of entries in key order, the number left in the queue, the
+// comparisons made, and those that the queue counted.
 fn merged(mut merge: Merge<'_>, entries: u64) -> (u64, usize, u64, u64) {
     for source in 0..merge.sources.count {
         merge.push(source, 0);
@@ -186,7 +186,7 @@ impl Example for Compared {
 // With n sources in twice as many slots, the first pop plays n - 1 matches. After that a push plays
 // the h matches above its slot, 3 for 8 sources and 6 for 64, while all sources have entries.
 //
-// A source that ends leaves its matches to the others: above its slot one match fewer is played,
+// A source that ends leaves its matches to the others. One match fewer is played above its slot,
 // and ever fewer as more sources end. If they end in the order of their slots, that makes 5 matches
 // for 8 sources, and 129 for 64.
 //

@@ -74,8 +74,8 @@ fn the_request_that_it_is_told_to_is_refused_and_no_other(rt: HostRuntime) {
     assert!(rt; wrong.is_none(), "{wrong:?}");
 }
 
-// Whether the results of a growing list count as right without a failing request and with one; and
-// the result with each of its requests failing in turn.
+// Whether the results of a growing list count as right, without a failing request and with one.
+// Then the result with each of its requests failing in turn.
 struct Growing(bool, bool, Result<usize, usize>);
 
 impl Refused for Growing {

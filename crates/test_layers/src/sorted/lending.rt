@@ -1,5 +1,5 @@
 //! Lending newest versions, compactions and mergers, compared with those by value over the same
-//! lists; and lending iterators of the entries below a bound.
+//! lists. Also lending iterators of the entries below a bound.
 ghost use Rattle.std.specs.Prelude.{IfOk};
 ghost use Rattle.sst_entries.specs.Stream.{CanYield, nowhere};
 
@@ -241,8 +241,8 @@ fn source_of(alloc: Global, text: &'static str, is_lent: bool) -> Result<LentLis
     Ok(source)
 }
 
-// A text, whether its source made a step already, and a bound; the entry borrowed before the first
-// step, and the items of the steps.
+// A text, whether its source made a step already, and a bound. Then the entry borrowed before the
+// first step, and the items of the steps.
 type LentBelow = (&'static str, bool, SeqNo, &'static str, &'static str);
 
 // Whether exactly the entries below the bound are borrowed.

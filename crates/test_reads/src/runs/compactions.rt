@@ -143,9 +143,9 @@ impl CompactionObserver for Reported {
     }
 }
 
-// The arguments of a compaction: a threshold, a target, the first id, the sequence numbers that the
-// filter drops and hides, and the call at which the observer stops it. Tombstones and sequence
-// numbers are kept.
+// The arguments of a compaction: a threshold, a target and the first id. Then the sequence number
+// that the filter drops, the one that it hides, and the call at which the observer stops.
+// Tombstones and sequence numbers are kept.
 type How = (SeqNo, u64, TableId, SeqNo, SeqNo, usize);
 
 // The outcome of a compaction.

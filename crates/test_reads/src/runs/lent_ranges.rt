@@ -44,8 +44,8 @@ fn random_runs(alloc: Global, mut seed: u64) -> Result<Vec<Tables<Global>>, Erro
     Ok(runs)
 }
 
-// The entries of newest versions by value. It is generic in their sources, because a proof is slow
-// where a concrete stream is passed to a function that is generic in streams.
+// The entries of newest versions by value. It is generic in their sources: a proof is slow if a
+// concrete stream is passed to a function that is generic in streams.
 fn all_given<S: Iterator<Item = IterItem<Global>> + Drop>(
     alloc: Global,
     items: NewestOf<S, Global>,

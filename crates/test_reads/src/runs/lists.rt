@@ -3,8 +3,8 @@
 use example_calling::{compact_run_back, read_run_back};
 use lsm_sorted::Run;
 use lsm_tables::compaction::Rules;
-use lsm_tables::run::write_run_with;
-use lsm_tables::table::{MultiWriter, OpenOptions, Table};
+use lsm_tables::run::write_run;
+use lsm_tables::table::{OpenOptions, Table};
 use lsm_writers::{TableId, TableIds, Timestamp};
 use sst_blocks::{Checksum, Error, SeqNo, Slice, ValueType};
 use std::alloc::{Allocator, Global};
@@ -233,8 +233,8 @@ fn a_list_is_read_back_from_its_run(rt: HostRuntime) {
 }
 
 // The index of some rows, a target and a global sequence number. Then the number of finished
-// tables; the number of entries and the highest sequence number of each table of the run, of three;
-// and the id that is drawn next.
+// tables, and the next id. Between them are the number of entries and the highest sequence number
+// of each of the run's first three tables.
 type Cut = (
     usize,
     u64,
@@ -258,16 +258,14 @@ fn returned<A: Allocator + Clone>(run: &Option<Run<Table<A>, A>>) -> [(u64, SeqN
 // Whether rows that are written from the id 5 on are cut as they should.
 fn is_cut<A: Allocator + Copy>(alloc: A, cut: &Cut) -> Result<bool, Error> {
     let &(place, target, global_seqno, count, entries, next) = cut;
-    let how = OpenOptions {
-        global_seqno,
-        tree_id: 3,
-        pin_filter: false,
-        pin_index: true,
-    };
     let items = list_of(alloc, rows_at(place))?;
-    let writer = MultiWriter::new(alloc, TableIds::new(5), target, 0, Timestamp::from(0))?;
-    let (tables, run, mut ids) = write_run_with(alloc, writer, items, &how)?;
-    Ok(tables.len() == count && returned(&run).as_slice() == entries && ids.next() == next)
+    let (ids, created_at) = (TableIds::new(5), Timestamp::from(0));
+    let (run, mut ids) = write_run(alloc, ids, target, created_at, items, global_seqno)?;
+    let tables = match &run {
+        Some(run) => run.as_slice().len(),
+        None => 0,
+    };
+    Ok(tables == count && returned(&run).as_slice() == entries && ids.next() == next)
 }
 
 // The length of the blocks of the versions of `a`. Each has a header of 24 bytes, a count of 4, and
@@ -311,8 +309,8 @@ fn a_run_has_the_tables_that_the_target_cuts(rt: HostRuntime) {
 // Whether a table's bytes open as a table with these options.
 fn opens_so<A: Allocator + Copy>(alloc: A, how: &OpenOptions) -> Result<bool, Error> {
     let items = list_of(alloc, rows_at(THREE_KEYS))?;
-    let writer = MultiWriter::new(alloc, TableIds::new(5), 50_000, 0, Timestamp::from(0))?;
-    let (_, run, _) = write_run_with(alloc, writer, items, &OpenOptions::default())?;
+    let (ids, created_at) = (TableIds::new(5), Timestamp::from(0));
+    let (run, _) = write_run(alloc, ids, 50_000, created_at, items, 0)?;
     let Some(run) = run else {
         return Ok(false);
     };

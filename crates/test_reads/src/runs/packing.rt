@@ -46,7 +46,7 @@ fn emptied(alloc: Global) -> Result<Tables<Global>, Error> {
 }
 
 // For each of the first four packed runs, the sequence numbers of the first three tables, 0 if
-// there is none; and the number of runs.
+// there is none. Then the number of runs.
 type Numbers = ([[SeqNo; 3]; 4], usize);
 
 // The sequence numbers of the first three tables.

@@ -14,9 +14,9 @@ const F: Direction = Direction::Front;
 
 const B: Direction = Direction::Back;
 
-// The index of some runs, bounds, ends, and the items of the steps: without a failing step, and
-// with the first or the second one failing. A failing request for the verified-block cache makes no
-// step fail.
+// The index of some runs, bounds, ends, and the items of the steps. There are three lists of items:
+// without a failing step, and with the first or the second one failing. A failing request for the
+// verified-block cache makes no step fail.
 //
 // Items are given by letters and runs by index, because each reference in a table of cases makes
 // its proof slower.
@@ -213,7 +213,7 @@ fn note(alloc: Global, nth: usize, case: &Case, met: &mut [bool; 3]) -> Option<u
     Some(heap.requests())
 }
 
-// The items of a case that its runs yield without a failing request, and all that they yield with
+// The items of a case that its runs yield without a failing request. Then all that they yield with
 // each request failing in turn. `None` if they yield others.
 fn met(alloc: Global, case: &Case) -> Option<[[bool; 3]; 2]> {
     let mut first = [false; 3];

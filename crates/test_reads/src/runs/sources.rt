@@ -51,8 +51,8 @@ fn in_memory(alloc: Global) -> Result<Vec<IterItem<Global>, Global>, Error> {
     Ok(items)
 }
 
-// The entries of newest versions, as `codes`. It is generic in their sources, because a proof is
-// slow where a concrete stream is passed to a function that is generic in streams.
+// The entries of newest versions, as `codes`. It is generic in their sources: a proof is slow if a
+// concrete stream is passed to a function that is generic in streams.
 fn codes_of<S: Iterator<Item = IterItem<A>> + Drop, A: Allocator>(
     items: NewestOf<S, A>,
 ) -> Result<u64, Error>

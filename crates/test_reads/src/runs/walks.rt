@@ -75,8 +75,8 @@ impl<A: Allocator + Copy> Walk for RunScanner<A> {
 }
 
 // Some steps, three bytes each. The first byte is the end: `F` for the front, `B` for the back. The
-// second is a letter for the index of the row in all tables, `.` for nothing or `!` for the error
-// of a damaged block. The third is the number of tables opened so far.
+// second is a letter for the index of the row in all tables. It is `.` for nothing, or `!` for the
+// error of a damaged block. The third is the number of tables opened so far.
 type Steps = &'static [u8];
 
 /// The row at an index in all tables of a run, or which index it is after them.

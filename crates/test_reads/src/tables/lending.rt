@@ -1,5 +1,5 @@
-//! Ranges and scans as lending iterators, compared with those by value: the same entries and errors
-//! in the same order, and as many loads, also over damaged bytes.
+//! Ranges and scans as lending iterators, compared with those by value. They have the same entries
+//! and errors in the same order, and as many loads, also over damaged bytes.
 use crate::tables::walks::{blocks_in, range_in};
 use crate::tables::{Changed, KINDS, Of, Pins, changed_bytes};
 use lsm_tables::table::Iter;

@@ -167,8 +167,8 @@ fn what_is_written_is_found(rt: HostRuntime) {
 
 // ---- the metadata of a table
 
-// The metadata of a table: its id; how many entries, tombstones, weak tombstones, reclaimable weak
-// tombstones and keys it has; and its lowest and highest sequence number.
+// The metadata of a table: its id, its numbers of entries, tombstones, weak tombstones, reclaimable
+// weak tombstones and keys, and its lowest and highest sequence number.
 //
 // Then its highest sequence number with the global one, the ends of its keys, and whether it may
 // have keys within some bounds.

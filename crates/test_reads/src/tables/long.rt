@@ -1,5 +1,5 @@
-//! The longest key and the empty one under each kind of index and of filter, 100,000 versions of
-//! one key, and a key that is too long for a writer.
+//! Tests of the longest key and the empty one under each kind of index and of filter. Then 100,000
+//! versions of one key, and a key that is too long for a writer.
 ghost use Rattle.std.specs.Prelude.{◌≡◌, []};
 
 use crate::tables::{ALL_PINS, Parted, open_with, written, written_by};
@@ -43,8 +43,8 @@ fn all_answered(bytes: &Slice, by: (Global, &[Read<'_>])) -> Result<bool, Error>
 // The length in bytes of the longest key of a writer.
 const LONGEST: usize = 1_048_576;
 
-// One index block, without a filter and with a full filter; and a partition of the index for each
-// entry, with a partition of the filter for each key.
+// One index block without a filter, and one with a full filter. Then a partition of the index for
+// each entry, with a partition of the filter for each key.
 const EACH: [(Parted, u32); 3] = [
     (Parted::Nothing, 0),
     (Parted::Nothing, 100),

@@ -63,8 +63,8 @@ fn gives<W: Walk>(walked: &mut W, calls: &[Call]) -> Result<bool, Error> {
 // The results of a point read, a scan and two ranges.
 type Reads<S, R> = ((Option<InternalValue<Global>>, S), (R, R));
 
-// Whether reads have their results: a point read of `a` below 19, a range from the back above `a`
-// up to `c`, a range of all entries, and a scan.
+// Whether four reads have their results. These are a point read of `a` below 19, a range from the
+// back above `a` up to `c`, a range of all, and a scan.
 fn all_give<S: Walk, R: Walk>(reads: &mut Reads<S, R>) -> Result<bool, Error> {
     match &reads.0.0 {
         Some(item) if item.key.seqno == 17 => {}

@@ -22,8 +22,8 @@ const NO_INDEX: Pins = (true, false);
 
 const NEITHER: Pins = (false, false);
 
-// The error of opening, or the result of a read: the sequence number found, if any, and the numbers
-// of data, index and filter blocks loaded.
+// The error of opening, or the result of a read. This is the sequence number found, if any, and the
+// numbers of data, index and filter blocks loaded.
 type Answer = Result<(Result<Option<SeqNo>, Error>, [u64; 3]), Error>;
 
 // The result of a read of an open table.
@@ -186,7 +186,7 @@ static CHANGED_READS: [(Changed<'static>, Sought, Answer); 12] = [
     (UNDERSTATED, (b"a", SeqNo::MAX), Ok((Ok(None), [0, 0, 0]))),
 ];
 
-// Stands for the empty key.
+// The letter for the empty key.
 const EMPTY: u8 = 0;
 
 fn key_of(letter: u8) -> &'static [u8] {
@@ -418,8 +418,8 @@ fn what_does_not_rest_on_the_damage_is_read(rt: HostRuntime) {
 // The length of the filter, and the numbers of its bytes and of the index's bytes that are pinned.
 type Sizes = (u32, usize, usize);
 
-// A key, a snapshot, the sequence number that is found, if any, and the numbers of data, index and
-// filter blocks loaded under each pair of pins.
+// A key, a snapshot, and the sequence number that is found, if any. Then the numbers of data, index
+// and filter blocks loaded under each pair of pins.
 type Pinned = (&'static [u8], SeqNo, Option<SeqNo>, [[u64; 3]; 4]);
 
 const NOTHING: [[u64; 3]; 4] = [[0; 3]; 4];

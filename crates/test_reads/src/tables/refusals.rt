@@ -115,8 +115,8 @@ fn a_prefix_of_a_table_has_no_trailer(rt: HostRuntime) {
     assert!(rt; first_other(rt.alloc(), Of::Numbered(1)) == Some(1320));
 }
 
-// The checksum of the meta block of that table, the offset of a byte and its value, or of the
-// largest number if there is no value; and the error.
+// The checksum of the meta block of that table, the offset of a byte, its value, and the error.
+// Without a value, the offset is that of the largest number.
 static ITEMS: [([u8; 8], usize, Option<[u8; 1]>, Error); 26] = [
     // one item with another value; its length is an error when it is read as a number
     (

@@ -12,8 +12,8 @@ use test_support::Refusing;
 use test_support::samples::large::{asked, asked_with};
 use test_support::samples::runs::{ALL, Bounds, Name, name_of, owned_range};
 
-/// A call and its result: the name that a step at the front or at the back yields, if any; or
-/// whether a seek before the first step leaves anything.
+/// A call and its result. A step at the front or at the back yields a name, if any. A seek before
+/// the first step returns whether it leaves anything.
 ///
 /// A seek sets the lower or the upper bound. A seek in an index that is loaded later returns true.
 pub(crate) enum Call {
@@ -223,7 +223,7 @@ pub(crate) fn blocks_in<A: Allocator + Copy>(
     asked_with(BlockSource::new(alloc, bytes), (count, changed.3), scan_of)
 }
 
-/// Whether the index is one pinned block, so that a seek can tell if it leaves anything.
+/// Whether the index is one pinned block, so that a seek can report whether it leaves anything.
 pub(crate) fn is_loaded(changed: &Changed<'_>) -> bool {
     match changed.0 {
         Of::Rows(Parted::Nothing) => changed.2.1,
@@ -591,8 +591,9 @@ fn numbers_are_lifted_and_a_refusal_ends_what_is_walked(rt: HostRuntime) {
 
 // ---- out of memory
 
-// An iterator and calls. Then the calls that run out of memory in some run where one allocation
-// fails, and those that never do. 1 is the first call, 2 the second, 4 any after them.
+// An iterator and its calls. Then two sets of calls, as bits: 1 for the first call, 2 for the
+// second, 4 for any later one. Calls of the first set run out of memory if a certain allocation
+// fails. Calls of the second set never do.
 type Refused = (Changed<'static>, Subject, &'static [Call], u8, u8);
 
 const WITHIN: Bounds<'static> = (Bound::Included(A_KEY), Bound::Included(B_KEY));
@@ -617,8 +618,8 @@ const SCANNED: &[Call] = &[
 
 const PARTED: Changed<'static> = (Of::Rows(Parted::Index), &[], (false, false), 0);
 
-// A seek in a pinned index of one block never allocates, nor does the first step of a scan, whose
-// block is loaded as the scan is made.
+// A seek in a pinned index of one block never allocates. Nor does the first step of a scan: its
+// block is loaded when the scan is made.
 static REFUSED: [Refused; 12] = [
     (ON_DEMAND, ALL_OF_IT, FROM_BOTH_ENDS, 7, 0),
     (TWO_LEVELS, ALL_OF_IT, FROM_BOTH_ENDS, 7, 0),
@@ -646,16 +647,16 @@ fn refused_call(came: &Came) -> Option<u8> {
     }
 }
 
-// Which call runs out of memory where the `nth` allocation fails, or none does where it is 0, and
-// how many allocations there were.
+// Which call runs out of memory if the `nth` allocation fails, and how many allocations there were.
+// If `nth` is 0, no allocation fails.
 fn outcome_at(alloc: Global, nth: usize, refused: &Refused) -> (Option<u8>, usize) {
     let heap = Refusing::new(alloc, nth);
     let came = outcome(&heap, &refused.0, &refused.1, refused.2);
     (refused_call(&came), heap.requests())
 }
 
-// Which calls run out of memory over all runs with each allocation failing in turn; `None` where
-// they have another outcome, or there is no allocation.
+// Which calls run out of memory over all runs with each allocation failing in turn. `None` if a run
+// has another outcome, or if there is no allocation.
 fn refused_calls(alloc: Global, refused: &Refused) -> Option<u8> {
     let (calls, requests) = outcome_at(alloc, 0, refused);
     if calls != Some(0) || requests == 0 {

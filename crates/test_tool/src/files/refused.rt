@@ -4,8 +4,9 @@ use crate::files::written::{
     Asked, LINES, NEVER, compact, entries_of, keep_all, returned, sources, write, write_options,
 };
 use lsm_tables::block::Error;
-use sst_tool::files::FileFault;
+use sst_tool::files::{FileError, FileFault, FileName};
 use std::alloc::Global;
+use std::test::Fail;
 
 // Whether a file has exactly these bytes.
 fn has(place: &Memory, path: &str, bytes: &[u8]) -> bool {
@@ -36,10 +37,11 @@ fn old_file_or_the_new_one_stands(rt: HostRuntime) {
 // Replaces two files while a step fails. Returns which of them are new, and the number of files.
 fn both_replaced(alloc: Global, refused: u64) -> (bool, bool, usize) {
     let mut place = Memory::new(alloc, refused);
-    let put = place.put("t.1", Some(b"old")).is_ok() && place.put("t.2", Some(b"old")).is_ok();
+    let put = place.put("t.000001", Some(b"old")).is_ok()
+        && place.put("t.000002", Some(b"old")).is_ok();
     write(&mut place, alloc, LINES, "t", Some(0));
-    let first = put && !has(&place, "t.1", b"old");
-    let second = put && !has(&place, "t.2", b"old");
+    let first = put && !has(&place, "t.000001", b"old");
+    let second = put && !has(&place, "t.000002", b"old");
     (first, second, place.count())
 }
 
@@ -59,9 +61,9 @@ fn first_of_two_stands_renamed(rt: HostRuntime) {
 fn compacted(alloc: Global, refused: u64) -> (bool, bool, bool, usize) {
     let mut place = sources(alloc, refused);
     let done = compact(&mut place, alloc, "to", Some(0)).is_some();
-    let whole = entries_of(&mut place, alloc, "to/1.sst") == Some(3)
-        && entries_of(&mut place, alloc, "to/2.sst") == Some(1)
-        && entries_of(&mut place, alloc, "to/3.sst") == Some(1);
+    let whole = entries_of(&mut place, alloc, "to/000001.sst") == Some(3)
+        && entries_of(&mut place, alloc, "to/000002.sst") == Some(1)
+        && entries_of(&mut place, alloc, "to/000003.sst") == Some(1);
     (done, place.has("to"), whole, place.count())
 }
 
@@ -98,7 +100,7 @@ fn taken_folder_is_told_before_any_file(rt: HostRuntime) {
 // The error of writing lines, or 0.
 fn why_unwritten(place: &mut Memory, alloc: Global, lines: &str, block_size: u32) -> u8 {
     let mut options = write_options(None);
-    options.block_size = block_size;
+    options.tables.block_size = block_size;
     let asked = Asked::Write(lines, "t", &options);
     returned(place, alloc, asked).err().unwrap_or(0)
 }
@@ -119,4 +121,18 @@ fn want_of_memory_names_no_file(rt: HostRuntime) {
     let error = FileFault::Refused(Error::OutOfMemory);
     assert_eq!(rt; error.is_memory(), true);
     assert_eq!(rt; FileFault::Refused(Error::Truncated).is_memory(), false);
+}
+
+#[test]
+fn control_bytes_of_a_name_are_escaped(rt: HostRuntime) -> Result<(), Fail> {
+    let error = FileError {
+        name: FileName::Part("a\n\u{1b}b c", 2),
+        fault: FileFault::Folder,
+    };
+    let text = format!(in rt.alloc(); "{error}")?;
+    assert_eq!(rt;
+        text.as_str(),
+        "a\\x0a\\x1bb c.000002: a folder, and no file"
+    );
+    Ok(())
 }

@@ -4,7 +4,7 @@ use lsm_tables::compaction::Rules;
 use lsm_tables::table::{BloomConstructionPolicy, IndexKind, Timestamp};
 use sst_tool::files::{FileFault, Place, ToolError, open_table};
 use sst_tool::lines::Format;
-use sst_tool::make::{CompactOptions, WriteOptions, compact_files, write_entries};
+use sst_tool::make::{CompactOptions, TableOptions, WriteOptions, compact_files, write_entries};
 use std::alloc::Global;
 
 /// The number of a step that is not reached, so that none fails.
@@ -16,15 +16,22 @@ pub(crate) const LINES: &str = "a 3 V x\na 1 V y\nc 2 V z\n";
 /// Two more entries.
 pub(crate) const MORE: &str = "a 7 V w\nb 4 V v\n";
 
-/// Options for writing one table, or several with a target.
-pub(crate) fn write_options(target: Option<u64>) -> WriteOptions {
-    WriteOptions {
+// Options of one table, or of several with a target.
+fn table_options(target: Option<u64>) -> TableOptions {
+    TableOptions {
         index: IndexKind::Full,
         filter: BloomConstructionPolicy::BitsPerKey(100),
         block_size: 4_096,
         level: 0,
         target,
         created_at: Timestamp::from(0),
+    }
+}
+
+/// Options for writing one table, or several with a target.
+pub(crate) fn write_options(target: Option<u64>) -> WriteOptions {
+    WriteOptions {
+        tables: table_options(target),
         format: Format::Lines,
         sort: false,
     }
@@ -38,8 +45,7 @@ pub(crate) fn keep_all(target: Option<u64>) -> CompactOptions {
             evict: false,
             zeroing: false,
         },
-        target,
-        created_at: Timestamp::from(0),
+        tables: table_options(target),
     }
 }
 
@@ -174,8 +180,8 @@ fn several_tables_are_numbered(rt: HostRuntime) {
     let mut place = Memory::new(alloc, NEVER);
     // At target 0 each key has a table.
     assert_eq!(rt; write(&mut place, alloc, LINES, "t", Some(0)), Some((2, 3)));
-    assert_eq!(rt; entries_of(&mut place, alloc, "t.1"), Some(2));
-    assert_eq!(rt; entries_of(&mut place, alloc, "t.2"), Some(1));
+    assert_eq!(rt; entries_of(&mut place, alloc, "t.000001"), Some(2));
+    assert_eq!(rt; entries_of(&mut place, alloc, "t.000002"), Some(1));
     assert_eq!(rt; place.count(), 2);
 }
 
@@ -183,7 +189,7 @@ fn several_tables_are_numbered(rt: HostRuntime) {
 fn file_behind_the_last_is_left_of_an_earlier_write(rt: HostRuntime) {
     let alloc = rt.alloc();
     let mut place = Memory::new(alloc, NEVER);
-    assert_eq!(rt; place.put("t.3", Some(b"old")).is_ok(), true);
+    assert_eq!(rt; place.put("t.000003", Some(b"old")).is_ok(), true);
     assert_eq!(rt; write(&mut place, alloc, LINES, "t", Some(0)), None);
     assert_eq!(rt; place.steps(), 0);
     assert_eq!(rt; place.count(), 1);
@@ -194,7 +200,7 @@ fn files_are_compacted_and_read_back(rt: HostRuntime) {
     let alloc = rt.alloc();
     let mut place = sources(alloc, NEVER);
     assert_eq!(rt; compact(&mut place, alloc, "to", None), Some((1, 5)));
-    assert_eq!(rt; entries_of(&mut place, alloc, "to/1.sst"), Some(5));
+    assert_eq!(rt; entries_of(&mut place, alloc, "to/000001.sst"), Some(5));
     // A folder was made, one file written in it, the folder synced and renamed, and its name
     // synced.
     assert_eq!(rt; place.steps(), 5);
@@ -207,9 +213,9 @@ fn several_tables_get_their_folder_at_once(rt: HostRuntime) {
     let mut place = sources(alloc, NEVER);
     // At target 0 each key has a table.
     assert_eq!(rt; compact(&mut place, alloc, "to", Some(0)), Some((3, 5)));
-    assert_eq!(rt; entries_of(&mut place, alloc, "to/1.sst"), Some(3));
-    assert_eq!(rt; entries_of(&mut place, alloc, "to/2.sst"), Some(1));
-    assert_eq!(rt; entries_of(&mut place, alloc, "to/3.sst"), Some(1));
+    assert_eq!(rt; entries_of(&mut place, alloc, "to/000001.sst"), Some(3));
+    assert_eq!(rt; entries_of(&mut place, alloc, "to/000002.sst"), Some(1));
+    assert_eq!(rt; entries_of(&mut place, alloc, "to/000003.sst"), Some(1));
     assert_eq!(rt; place.steps(), 7);
     assert_eq!(rt; place.count(), 6);
 }

@@ -11,7 +11,7 @@ use Rattle.lsm_readers.proofs.ReadViews.{does_by}
 use Rattle.lsm_readers.specs.point.Answer.{table_answer}
 use Rattle.lsm_readers.specs.point.Read.{DoesRead}
 use Rattle.lsm_readers.specs.point.Table.{OpenTable}
-use Rattle.lsm_runs.specs.RunPlaces.{place_in, placed_in_run}
+use Rattle.lsm_runs.specs.RunPlaces.{run_place, placed_in_run}
 use Rattle.lsm_runs.specs.SeveralRuns.{run_read, table_read}
 use Rattle.lsm_runs.proofs.RunPlaces.{all_there, seen_there}
 use Rattle.lsm_runs.proofs.RunReads.{few_each}

@@ -1,21 +1,31 @@
-use Rattle.sst.specs.Tasks.{RefusesTask}
+use Rattle.std.proofs.Common.{◌≤◌, ℕ}
+use Rattle.sst.specs.Tasks.{DoesTask, RefusesTask}
 use Rattle.sst_tool.specs.declared.files.error.ToolError.{ToolError}
-use Rattle.sst_tool.specs.declared.files.error.ToolError.TheVariants as error
-use Rattle.sst.proofs.Endings.{not_passed_on}
-use Rattle.sst.proofs.Failures.{passed_failure}
+use Rattle.sst.proofs.Endings.{not_passed_on, output_fails, status_stays}
 use Rattle.sst.proofs.running.execute.Goals as goal
 
-pub returns-in_err-flushed-clause-refused : goal.returns-in_err-flushed-clause-refused
-returns-in_err-flushed-clause-refused g c =
+pub returns-clause-small : goal.returns-clause-small
+returns-clause-small g c =
+    status_stays (λ (s : ℕ). s ≤ 1) c.status_flushed.result c.in_ok-status.status
+    c.status_flushed.ensures.ok c.in_ok-status.ensures.small
+
+pub returns-clause-does : goal.returns-clause-does
+returns-clause-does g c =
+    status_stays (λ (s : ℕ). DoesTask c.args.task.now (g.I.Read.remaining c.args.input)
+    (g.P.Place.content c.args.place.now) (g.P.Place.there c.args.place.now)
+    (g.P.Place.done c.args.place.now) (g.P.Place.done c.perform-done.new.place) s)
+    c.status_flushed.result c.in_ok-status.status c.status_flushed.ensures.ok
+    c.in_ok-status.ensures.does
+
+pub returns-clause-refused : goal.returns-clause-refused
+returns-clause-refused g c =
     let task = c.args.task.now in
     let input = g.I.Read.remaining c.args.input in
     let content = g.P.Place.content c.args.place.now in
     let there = g.P.Place.there c.args.place.now in
     let known = g.P.Place.done c.args.place.now in
     let new = g.P.Place.done c.perform-done.new.place in
-    let e = c.in_err-flushed.field-0.0 in
-    passed_failure (λ (f : ToolError). RefusesTask task input content there known f new)
-    c.from_residual-in_err-flushed.result (error.Output e)
-    c.from_residual-in_err-flushed.ensures.1
-    (not_passed_on task input content there known new c.in_ok-status.status e
+    output_fails (λ (f : ToolError). RefusesTask task input content there known f new)
+    c.status_flushed.result c.status_flushed.ensures.err
+    (λ o. not_passed_on task input content there known new c.in_ok-status.status o
     c.in_ok-status.ensures.does)

@@ -1,10 +1,18 @@
-use Rattle.std.specs.Prelude.{Ok, map}
+use Rattle.std.proofs.Common.{Ok}
+use Rattle.std.specs.Prelude.{map}
 use Rattle.lsm_readers.specs.Words.{lift, point}
-use Rattle.sst_c.specs.Many.{keys_cut}
+use Rattle.lsm_readers.specs.point.Many.{many_results}
+use Rattle.sst_c.specs.Many.{keys_cut, queries_for}
 use Rattle.sst_c.proofs.many.read_each.Goals as goal
 
-pub returns-clause-list : goal.returns-clause-list
-returns-clause-list c es stores =
-    let all = lift es c.args.table.now.global_seqno in
-    let each = map (λ k. point all k c.args.seqno) (keys_cut c.args.lens.now c.args.keys.now) in
-    c.keep_found.ensures.returned (Ok each) (c.found_of-found.ensures.list es stores)
+pub returns-clause-returned : goal.returns-clause-returned
+returns-clause-returned c =
+    let a = c.args in
+    record {
+      returned = c.keep_found.ensures.returned
+          (many_results a.table.now (queries_for a.keys.now a.lens.now a.seqno))
+          c.found_of-found.ensures.returned;
+      list = λ es stores. c.keep_found.ensures.returned
+          (Ok (map (λ k. point (lift es a.table.now.global_seqno) k a.seqno) (keys_cut a.lens.now a.keys.now)))
+          (c.found_of-found.ensures.list es stores);
+    }

@@ -3,16 +3,13 @@ use Rattle.sst_c.proofs.Bulk.{merged_many, range_many}
 use Rattle.sst_c.proofs.ranges.take.Goals as goal
 
 -- the bulk read of the handle is one of its range
-pub returns-clause-reads : goal.returns-clause-reads
-returns-clause-reads c s same =
+pub returns-clause-takes : goal.returns-clause-takes
+returns-clause-takes c =
     let a = c.args in
     let n = c.take_held.new in
-    range_many _ _ _ a.back a.held.now.what n.held.what s a.entries.now n.entries a.bytes.now n.bytes n.count
-    c.take_held.result (found_by n.held) same c.take_held.ensures
-
-pub returns-clause-merged : goal.returns-clause-merged
-returns-clause-merged c m same =
-    let a = c.args in
-    let n = c.take_held.new in
-    merged_many _ _ _ a.back a.held.now.what n.held.what m a.entries.now n.entries a.bytes.now n.bytes n.count
-    c.take_held.result (found_by n.held) same c.take_held.ensures
+    record {
+      reads = λ s same. range_many _ _ _ a.back a.held.now.what n.held.what s a.entries.now n.entries a.bytes.now
+          n.bytes n.count c.take_held.result (found_by n.held) same c.take_held.ensures;
+      merged = λ m same. merged_many _ _ _ a.back a.held.now.what n.held.what m a.entries.now n.entries
+          a.bytes.now n.bytes n.count c.take_held.result (found_by n.held) same c.take_held.ensures;
+    }

@@ -19,7 +19,7 @@ returns c =
     let early = table_early (body_of t.bytes) t.parts in
     let First = IsFirstFinding (body_of t.bytes) t.parts in
     record {
-      returned = at_both (λ n v. VerifyAnswers n v found) code (verify_code r) returned (verify_result r) one two
+      answers = at_both (λ n v. VerifyAnswers n v found) code (verify_code r) returned (verify_result r) one two
           (came_answers r found c.verify.ensures.returned);
       early = at_both (λ n v. ReportsFinding n v early) code (verify_code r) returned (verify_result r) one two
           (came_early r early c.verify.ensures.early);

@@ -1,8 +1,8 @@
 //! A table that was stored in version 3, with a full index and a partitioned filter.
 
 /// `a` at sequence numbers 9, 7 and 5 and `b` at 1, without values, each in its own block. The
-/// sections are data (176 bytes), the top level of the index (120), the filter partitions (66),
-/// their top level (74), the version (1) and the meta block (1,041).
+/// sections are data (176 bytes), the top level of the index (120) and the filter partitions (66).
+/// Then follow their top level (74), the version (1) and the meta block (1,041).
 #[rattlefmt::skip]
 pub static BYTES: [u8; 1598] = [
     0x4c, 0x42, 0x4b, 0x31, 0x00, 0x00, 0x00, 0x00, 0x14, 0x00, 0x00, 0x00, 0x14, 0x00, 0x00, 0x00,

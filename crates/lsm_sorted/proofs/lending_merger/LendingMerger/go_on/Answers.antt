@@ -7,7 +7,7 @@ use Rattle.std.proofs.lemmas.Result.{err_from_is_err_and}
 use Rattle.sst_entries.specs.Stream.{CanYield, nowhere}
 use Rattle.sst_entries.proofs.StreamLemmas.{can_now}
 use Rattle.lsm_sorted.specs.declared.lending_merger.Head.{Head}
-use Rattle.lsm_sorted.specs.lending.Lent.{IsHead, lent_at, queued, source_of}
+use Rattle.lsm_sorted.specs.lending.Lent.{IsHead, lent_of, queued, source_of}
 use Rattle.lsm_sorted.proofs.HeadLemmas.{heads_put, heads_stay, map_insert}
 use Rattle.lsm_sorted.proofs.LentLemmas.{rests_more, rests_none, rests_fault, queue_stays}
 use Rattle.lsm_sorted.proofs.LentSteps.{ready_on, known_put, queue_put}
@@ -65,7 +65,7 @@ returns-then-branch-clause-ready g c =
     let i = c.args.source in
     let t = c.advance.new.self in
     let h = c.head_of-index in
-    let at = lent_at lent (slice_set m.sources.items i t) in
+    let at = lent_of lent (slice_set m.sources.items i t) in
     let put : c.insert.new.self.items ≡ insert m.queue.items h.result.0 h.result.1 =
     put_in (is_ok c.insert.result) _ _ _ c.insert.ensures.items (c.insert.ensures.succeeds (omega (arith, c.requires.space, m.queue.ok.0))) in
     let sources : map source_of c.insert.new.self.items ≡ insert (queued m) h.result.0 i =

@@ -22,7 +22,7 @@ returns-clause-tables g c =
 pub returns-clause-finished : goal.returns-clause-finished
 returns-clause-finished g c =
     let i = c.self.inside in
-    rw (← c.self.view_is) (are_finished i.target_size i.ids i.finished.items c.add_table.new.finished.items i.writer c.self.invariant.0 (c.self.invariant.1 c.if-self.false) i.failed c.if-self.false c.in_ok-add_table.ensures.ok)
+    rw (c.into_vec.ensures.items, ← c.self.view_is) (are_finished i.target_size i.ids i.finished.items c.add_table.new.finished.items i.writer c.self.invariant.0 (c.self.invariant.1 c.if-self.false) i.failed c.if-self.false c.in_ok-add_table.ensures.ok)
 
 pub returns-clause-order : goal.returns-clause-order
 returns-clause-order g c =
@@ -32,7 +32,7 @@ returns-clause-order g c =
 pub returns-clause-none : goal.returns-clause-none
 returns-clause-none g c =
     let i = c.self.inside in
-    rw (← c.self.view_is) (none_answered i.target_size i.ids i.finished.items c.add_table.new.finished.items i.writer c.self.invariant.0 (c.self.invariant.1 c.if-self.false) i.failed c.if-self.false c.in_ok-add_table.ensures.ok)
+    rw (c.into_vec.ensures.items, ← c.self.view_is) (none_answered i.target_size i.ids i.finished.items c.add_table.new.finished.items i.writer c.self.invariant.0 (c.self.invariant.1 c.if-self.false) i.failed c.if-self.false c.in_ok-add_table.ensures.ok)
 
 pub returns-in_err-add_table-clause-taken : goal.returns-in_err-add_table-clause-taken
 returns-in_err-add_table-clause-taken g c =

@@ -1,37 +1,19 @@
-use Rattle.std.specs.Prelude.{Some, None}
-use Rattle.std.proofs.Common.{List, ap, sym, subst, ◌∙◌, rules}
-use Rattle.sst_blocks.specs.Sections.{body_of}
-use Rattle.sst_entries.specs.Span.{Span, rest_in}
-use Rattle.sst_blocks.specs.Handle.{Handle}
-use Rattle.sst_blocks.specs.Handles.{window}
-use Rattle.lsm_iters.specs.block_index.Left.{IsEnded, TwoLevel, two_level_left}
-use Rattle.lsm_iters.specs.block_index.Seen.{rest_of}
+use Rattle.std.specs.Prelude.{Some}
+use Rattle.std.proofs.Common.{rules}
 use Rattle.lsm_iters.proofs.Laws.{levels_between, levels_yields, levels_stays}
-use Rattle.lsm_iters.proofs.Sought.{levels_lower, levels_over}
 use Rattle.lsm_iters.proofs.block_index.two_level.IterBlockIndexIter.seek_lower.Goals as goal
 
-pub returns-in-Err-clause-yields : goal.returns-in-Err-clause-yields
-returns-in-Err-clause-yields g c = levels_yields _
-
 pub returns-in-Ok-clause-sought : goal.returns-in-Ok-clause-sought
-returns-in-Ok-clause-sought g c upper was =
-    let s : TwoLevel = record { body = body_of c.self.inside.walk.parts.source; whole = c.self.inside.walk.parts.tops.list; tops = rest_in c.self.inside.walk.parts.tops; lower = c.self.inside.walk.parts.edges.0; upper = c.self.inside.walk.parts.edges.1; front = rest_of c.self.inside.walk.front; back = rest_of c.self.inside.walk.back; opened = c.self.inside.walk.parts.opened } in
-    let before = rw (← c.self.view_is) at was in
-    levels_lower s c.seek_lower.new.self c.set_lower.new.self (c.args.key.now, c.args.seqno) upper c.in-Ok.ensures.ok
-    (ap (λ (x : Span Handle). x.list) c.seek_lower.ensures.narrowed) (c.seek_lower.ensures.both upper c.self.inside.walk.parts.tops.list before.tops) before
+returns-in-Ok-clause-sought g c upper was = rw c.in-Ok.ensures.ok at (c.keep_lower.ensures.sought upper was)
 
 pub returns-in-Ok-clause-between : goal.returns-in-Ok-clause-between
 returns-in-Ok-clause-between g c upper was = levels_between _ (Some (c.args.key.now, c.args.seqno)) upper (returns-in-Ok-clause-sought g c upper was)
 
-pub returns-in-Ok-clause-over : goal.returns-in-Ok-clause-over
-returns-in-Ok-clause-over g c over =
-    let s : TwoLevel = record { body = body_of c.self.inside.walk.parts.source; whole = c.self.inside.walk.parts.tops.list; tops = rest_in c.self.inside.walk.parts.tops; lower = c.self.inside.walk.parts.edges.0; upper = c.self.inside.walk.parts.edges.1; front = rest_of c.self.inside.walk.front; back = rest_of c.self.inside.walk.back; opened = c.self.inside.walk.parts.opened } in
-    levels_over s c.seek_lower.new.self c.set_lower.new.self
-    (λ none. c.seek_lower.ensures.kept ∙ ap (λ (hs : List Handle). window hs (Some (c.args.key.now, c.args.seqno)) None) none)
-    (subst (λ (x : TwoLevel). IsEnded (two_level_left x)) (sym c.self.view_is) over)
-
 pub returns-in-Ok-clause-yields : goal.returns-in-Ok-clause-yields
 returns-in-Ok-clause-yields g c = levels_yields _
+
+pub returns-in-Err-clause-yields : goal.returns-in-Err-clause-yields
+returns-in-Err-clause-yields g c = levels_yields _
 
 pub returns-in-Err-clause-stays : goal.returns-in-Err-clause-stays
 returns-in-Err-clause-stays g c = levels_stays _ (search rules)

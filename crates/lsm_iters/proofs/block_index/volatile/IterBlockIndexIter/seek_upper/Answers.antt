@@ -1,23 +1,13 @@
 use Rattle.std.specs.Prelude.{Some}
-use Rattle.std.proofs.Common.{sym, subst, rules}
-use Rattle.sst_blocks.specs.Sections.{body_of}
-use Rattle.lsm_iters.specs.block_index.Left.{IsEnded, OnDemand, on_demand_left}
+use Rattle.std.proofs.Common.{rules}
 use Rattle.lsm_iters.proofs.Laws.{demand_between, demand_yields, demand_stays}
-use Rattle.lsm_iters.proofs.Sought.{demand_upper, demand_over}
 use Rattle.lsm_iters.proofs.block_index.volatile.IterBlockIndexIter.seek_upper.Goals as goal
 
 pub returns-in-Ok-clause-sought : goal.returns-in-Ok-clause-sought
-returns-in-Ok-clause-sought g c lower was =
-    let s : OnDemand = record { body = body_of c.self.inside.source; place = c.self.inside.handle; lower = c.self.inside.edges.0; upper = c.self.inside.edges.1; part = c.self.inside.part; opened = c.self.inside.opened } in
-    demand_upper s c.set_upper.new.self c.args.key.now lower c.in-Ok.ensures.ok (rw (← c.self.view_is) at was)
+returns-in-Ok-clause-sought g c lower was = rw c.in-Ok.ensures.ok at (c.keep_upper.ensures.sought lower was)
 
 pub returns-in-Ok-clause-between : goal.returns-in-Ok-clause-between
 returns-in-Ok-clause-between g c lower was = demand_between _ lower (Some c.args.key.now) (returns-in-Ok-clause-sought g c lower was)
-
-pub returns-in-Ok-clause-over : goal.returns-in-Ok-clause-over
-returns-in-Ok-clause-over g c over =
-    let s : OnDemand = record { body = body_of c.self.inside.source; place = c.self.inside.handle; lower = c.self.inside.edges.0; upper = c.self.inside.edges.1; part = c.self.inside.part; opened = c.self.inside.opened } in
-    demand_over s c.set_upper.new.self (subst (λ (x : OnDemand). IsEnded (on_demand_left x)) (sym c.self.view_is) over)
 
 pub returns-in-Ok-clause-yields : goal.returns-in-Ok-clause-yields
 returns-in-Ok-clause-yields g c = demand_yields _

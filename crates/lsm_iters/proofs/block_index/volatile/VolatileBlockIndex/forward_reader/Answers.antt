@@ -1,11 +1,9 @@
 use Rattle.std.specs.Prelude.{Option, Some, None}
 use Rattle.std.proofs.Common.{◌≡◌, ℕ, List, refl, sym, subst, ap, ◌∙◌}
-use Rattle.std.proofs.lemmas.Result.{on_ok_weaker}
 use Rattle.sst_blocks.specs.Place.{Place}
 use Rattle.sst_blocks.specs.Sections.{body_of}
 use Rattle.lsm_iters.specs.block_index.Left.{IsBetween, OnDemand, new_on_demand, on_demand_left}
 use Rattle.lsm_iters.proofs.Laws.{demand_yields}
-use Rattle.lsm_iters.proofs.Refusals.{handed_on, handed_on_always, refused_alike}
 use Rattle.lsm_iters.proofs.block_index.volatile.VolatileBlockIndex.forward_reader.Goals as goal
 
 module _ (s : OnDemand) (body : List ℕ) (place : Place) (edge : List ℕ × ℕ) (edges : Option (List ℕ × ℕ) × Option (List ℕ)) (is : s ≡ new_on_demand body place) (at : edges ≡ (Some edge, s.upper)) where
@@ -20,15 +18,12 @@ module _ (s : OnDemand) (body : List ℕ) (place : Place) (edge : List ℕ × �
 pub returns-clause-sought : goal.returns-clause-sought
 returns-clause-sought g c =
     let s : OnDemand = record { body = body_of c.iter-2.inside.source; place = c.iter-2.inside.handle; lower = c.iter-2.inside.edges.0; upper = c.iter-2.inside.edges.1; part = c.iter-2.inside.part; opened = c.iter-2.inside.opened } in
-    handed_on _ _ _ _ c.and.ensures (on_ok_weaker c.set_lower-sought.result (lower_kept s c.args.self.now.0 c.args.self.now.1 (c.args.key.now, c.args.seqno) c.set_lower-sought.new.self (c.iter-2.view_is ∙ c.in_ok-iter.ensures.unsought)) c.set_lower-sought.ensures.ok)
+    rw c.in_ok-key.ensures.ok at (lower_kept s c.args.self.now.0 c.args.self.now.1 (c.in_ok-key.key, c.args.seqno) c.set_lower.new.self (c.iter-2.view_is ∙ c.in_ok-iter.ensures.unsought) c.set_lower.ensures)
 
 pub returns-clause-between : goal.returns-clause-between
 returns-clause-between g c =
     let s : OnDemand = record { body = body_of c.iter-2.inside.source; place = c.iter-2.inside.handle; lower = c.iter-2.inside.edges.0; upper = c.iter-2.inside.edges.1; part = c.iter-2.inside.part; opened = c.iter-2.inside.opened } in
-    handed_on _ _ _ _ c.and.ensures (on_ok_weaker c.set_lower-sought.result (from_lower s c.args.self.now.0 c.args.self.now.1 (c.args.key.now, c.args.seqno) c.set_lower-sought.new.self (c.iter-2.view_is ∙ c.in_ok-iter.ensures.unsought)) c.set_lower-sought.ensures.ok)
+    rw c.in_ok-key.ensures.ok at (from_lower s c.args.self.now.0 c.args.self.now.1 (c.in_ok-key.key, c.args.seqno) c.set_lower.new.self (c.iter-2.view_is ∙ c.in_ok-iter.ensures.unsought) c.set_lower.ensures)
 
 pub returns-clause-yields : goal.returns-clause-yields
-returns-clause-yields g c = handed_on_always _ _ _ _ c.and.ensures (demand_yields _)
-
-pub returns-clause-err : goal.returns-clause-err
-returns-clause-err g c = refused_alike _ _ _ _ c.and.ensures c.set_lower-sought.ensures.err
+returns-clause-yields g c = demand_yields _

@@ -1,7 +1,6 @@
 -- The handle's key lies at the end.
 use Rattle.std.proofs.Common.{◌∙◌, ap, List, [], ◌∷◌, ◌++◌, unwrap_or}
 use Rattle.sst_entries.proofs.StreamLemmas.{on_err}
-use Rattle.sst_blocks.specs.Handle.{Handle}
 use Rattle.lsm_writers.specs.section.Kept.{Kept, handle_with, handles_among}
 use Rattle.lsm_writers.specs.declared.section.kept.HandlePlace.{HandlePlace}
 use Rattle.lsm_writers.proofs.Keeping.{among_one_more, among_pushed, among_same}
