@@ -17,7 +17,7 @@ use Rattle.lsm_sorted.specs.version.KeyRange.{Interval, is_well_formed, key_le}
 use Rattle.lsm_sorted.specs.version.Run.{are_in_order}
 use Rattle.lsm_sorted.proofs.IntervalLemmas.{lt_then_le}
 use Rattle.lsm_sorted.proofs.RunLemmas.{in_order_from}
-use Rattle.lsm_writers.specs.Tables.{AreInKeyOrder, IsBelow}
+use Rattle.lsm_writers.specs.Tables.{AreInKeyOrder, EndsBelow}
 use Rattle.lsm_writers.proofs.Cutting.{last_is_some}
 use Rattle.lsm_readers.specs.point.Answer.{lift, lifted}
 use Rattle.lsm_readers.specs.OfList.{ends_of}
@@ -134,7 +134,7 @@ all_later key ((e ∷ es) ∷ ls) kept order low =
     let to : key_lt key last ≡ true = lt_then_le key e.user_key last here up in
     and_both _ _ here (all_later key ls kept.1 order.1
     (λ x xs rest is. lt_trans key last x.user_key to
-    (subst (λ (us : List (List Entry)). IsBelow (e ∷ es) us) is order.0)))
+    (subst (λ (us : List (List Entry)). EndsBelow (e ∷ es) us) is order.0)))
 
 lists_in_order : (ls : List (List Entry)) → AllByRecursion IsKept ls → AreInKeyOrder ls
     → are_in_order (map ends_of ls) ≡ true
@@ -145,7 +145,7 @@ lists_in_order ((e ∷ es) ∷ ls) kept order =
     let before : list_all (λ (later : Interval). key_lt r.max later.min) (map ends_of ls) ≡ true =
     all_later r.max ls kept.1 order.1 (λ x xs rest is. subst
     (λ (k : List ℕ). key_lt k x.user_key ≡ true) (sym (last_max e es))
-    (subst (λ (us : List (List Entry)). IsBelow (e ∷ es) us) is order.0)) in
+    (subst (λ (us : List (List Entry)). EndsBelow (e ∷ es) us) is order.0)) in
     in_order_from r (map ends_of ls) (record {
       formed = formed e es kept.0.1;
       before =

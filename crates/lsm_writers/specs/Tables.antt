@@ -85,15 +85,15 @@ OneCutLaw = (size target : ℕ) (es : List Entry) (ts us : List (List Entry)) �
     AreTables size target es ts → AreTables size target es us → ts ≡ us
 
 -- the keys of a table are below those of the next nonempty table
-abbrev pub IsBelow : List Entry → List (List Entry) → Type 0
-IsBelow t [] = Unit {0}
-IsBelow t ([] ∷ us) = IsBelow t us
-IsBelow t ((e ∷ u) ∷ us) = key_lt (last_entry t).user_key e.user_key ≡ true
+abbrev pub EndsBelow : List Entry → List (List Entry) → Type 0
+EndsBelow t [] = Unit {0}
+EndsBelow t ([] ∷ us) = EndsBelow t us
+EndsBelow t ((e ∷ u) ∷ us) = key_lt (last_entry t).user_key e.user_key ≡ true
 
 -- the keys of each table are below those of the next one
 abbrev pub AreInKeyOrder : List (List Entry) → Type 0
 AreInKeyOrder [] = Unit {0}
-AreInKeyOrder (t ∷ ts) = IsBelow t ts × AreInKeyOrder ts
+AreInKeyOrder (t ∷ ts) = EndsBelow t ts × AreInKeyOrder ts
 
 -- ---- finished tables
 
