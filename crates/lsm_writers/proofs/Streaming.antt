@@ -1,9 +1,9 @@
 -- Tables that are made of what a source yields: what holds from call to call.
-use Rattle.std.proofs.Common.{◌≡◌, refl, sym, ◌∙◌, ap, subst, ℕ, ◌+◌, ◌-◌, ◌≤◌, ◌^◌, Bool, true, false}
-use Rattle.std.proofs.Common.{List, [], ◌∷◌, ◌++◌, length, append_assoc, append-nil, arith}
+use Rattle.std.proofs.Common.{◌≡◌, refl, sym, ◌∙◌, ap, subst, ℕ, ◌+◌, ◌-◌, ◌<◌, ◌≤◌, ◌^◌, Bool}
+use Rattle.std.proofs.Common.{true, false, List, [], ◌∷◌, ◌++◌, length, append_assoc, arith}
 use Rattle.std.proofs.Common.{length-append, IsTrue, inl, inr, ◌⊎◌}
 use Rattle.std.specs.Prelude.{Option, Some, None, Result, Ok, Err, drop, take, is_some, nat_lt}
-use Rattle.std.specs.Prelude.{◌&&◌, ◌||◌, if◌then◌else◌}
+use Rattle.std.specs.Prelude.{◌&&◌, ◌||◌, if◌then◌else◌, IsErrAnd}
 use Rattle.std.specs.Option.{option_to_list}
 use Rattle.std.proofs.lemmas.List.{length-drop, take-append-drop}
 use Rattle.sst_entries.specs.declared.error.Error.{Error}
@@ -12,17 +12,17 @@ use Rattle.sst_entries.specs.declared.value_type.ValueType.TheVariants.{Value}
 use Rattle.sst_entries.specs.Entry.{Entry, entry}
 use Rattle.sst_entries.specs.Error.{is_memory}
 use Rattle.sst_entries.specs.Lending.{came}
-use Rattle.sst_entries.specs.Stream.{YieldsExactly, answer_stops, nowhere, ok_results}
+use Rattle.sst_entries.specs.Stream.{Lowers, YieldsExactly, answer_stops, nowhere, ok_results}
 use Rattle.sst_entries.specs.Strict.{IsStrict, IsStrictAfter, last_of, may_follow}
-use Rattle.sst_entries.proofs.StreamLemmas.{map_append, yields_front}
+use Rattle.sst_entries.proofs.StreamLemmas.{can_front, can_now, map_append, yields_front}
 use Rattle.sst_blocks.specs.declared.table.label.Label.{Label}
 use Rattle.sst_blocks.specs.declared.table.options.Options.{Options}
 use Rattle.sst_blocks.specs.table.Chunks.{joined}
 use Rattle.lsm_writers.specs.declared.writer.FinishedTable.{FinishedTable}
 use Rattle.lsm_writers.specs.Cut.{rest_chunk}
-use Rattle.lsm_writers.specs.Streamed.{AreAll, AreFirst, EndsWith, Failed, IsBegun, NoneFails, Took}
-use Rattle.lsm_writers.specs.Streamed.{TookAll, TookFrom, entries_before, next_fault, next_left}
-use Rattle.lsm_writers.specs.Streamed.{took_each}
+use Rattle.lsm_writers.specs.Streamed.{AreAll, AreFirst, CanTake, EndsAll, EndsWith, Failed, IsBegun}
+use Rattle.lsm_writers.specs.Streamed.{NoneFails, Took, TookAll, TookFrom, entries_before}
+use Rattle.lsm_writers.specs.Streamed.{WritesUntil, next_fault, next_left, took_each}
 use Rattle.lsm_writers.specs.Taken.{AreTakenFrom, IsLeft, IsWriting, taken, tables_left}
 use Rattle.lsm_writers.specs.Tables.{AreCuts, AreFinished, AreTables, GoesOn, IsFreshRun}
 use Rattle.lsm_writers.specs.Tables.{TablesWriting, all_written, drawn, first_label, gained_all}
@@ -36,7 +36,7 @@ use Rattle.lsm_writers.proofs.CutTables.{no_end}
 use Rattle.lsm_writers.proofs.ListWriting.{listed_follows, same_label, written_gained}
 use Rattle.lsm_writers.proofs.Rotating.{goes_on_next}
 use Rattle.lsm_writers.proofs.TakenTables.{few_taken, finished_append, finished_law, finished_many}
-use Rattle.lsm_writers.proofs.TakenTables.{label_behind, label_left, rest_one, taken_law}
+use Rattle.lsm_writers.proofs.TakenTables.{label_behind, label_left, taken_law}
 use Rattle.lsm_writers.proofs.TakenTables.{written_law}
 use Rattle.lsm_writers.proofs.Turning.{ids_left}
 
@@ -682,21 +682,83 @@ module _ {A : Type 0} (w n : TablesWriting) (rs : List (Result Entry Error))
       → (is_memory e ≡ false → run_fault n ≡ Some e) → EndsWith stops w rs gs e
   all_fails stops e refused = took_ends w h.list gs n h.took rs h.whole stops e refused
 
--- the tables of a finished writer, of which there is at most one
-pub one_table : {A : Type 0} (n : TablesWriting) (fs rest : List (FinishedTable A))
-    (o : Option (FinishedTable A)) → n.tables ≡ [] → fs ≡ rest ++ option_to_list o
-    → (o ≡ None → fs ≡ [])
-    → AreFinished n.present.options (first_label n) (tables_of n) fs
-    → AreFinished n.present.options (first_label n) (tables_of n) (option_to_list o)
-one_table n fs rest None none is empty all =
-    subst (AreFinished n.present.options (first_label n) (tables_of n)) (empty refl) all
-one_table n fs [] (Some f) none is empty all =
-    subst (AreFinished n.present.options (first_label n) (tables_of n)) is all
-one_table n fs (g ∷ rest) (Some f) none is empty all = absurd (omega (
-  arith,
-  ap length is,
-  finished_many n.present.options (first_label n) (tables_of n) fs all,
-  ap (λ (ts : List (List Entry)). length (ts ++ rest_chunk (written n.present))) none,
-  rest_one (written n.present),
-  length-append rest (f ∷ []),
-))
+some_is : (writer : Option TablesWriting) (m n : TablesWriting) → Some m ≡ writer → writer ≡ Some n
+    → m ≡ n
+some_is writer m n value is = let both : Some m ≡ Some n = value ∙ is in cc
+
+-- the results of finishing
+module _ {A : Type 0} (writer : Option TablesWriting) (m : TablesWriting)
+    (value : Some m ≡ writer) where
+  pub ends_some : (f : FinishedTable A)
+      → AreFinished m.present.options (first_label m) (tables_of m) (f ∷ [])
+      → EndsAll writer (Some (Ok f))
+  ends_some f last = λ w n rs gs is h. all_some w n rs gs h f
+      (subst (λ (x : TablesWriting). AreFinished x.present.options (first_label x) (tables_of x)
+      (f ∷ [])) (some_is writer m n value is) last)
+
+  pub ends_none : AreFinished {A = A} m.present.options (first_label m) (tables_of m) []
+      → EndsAll {A = A} writer None
+  ends_none none = λ w n rs gs is h. all_none w n rs gs h
+      (subst (λ (x : TablesWriting). AreFinished {A = A} x.present.options (first_label x)
+      (tables_of x) []) (some_is writer m n value is) none)
+
+  pub ends_fails : (e : Error) → (is_memory e ≡ false → run_fault m ≡ Some e)
+      → EndsAll {A = A} writer (Some (Err e))
+  ends_fails e refused = λ w n rs gs is h stops. all_fails w n rs gs h stops e
+      (subst (λ (x : TablesWriting). is_memory e ≡ false → run_fault x ≡ Some e)
+      (some_is writer m n value is) refused)
+
+-- ---- writing until a table is finished
+
+-- the next state may be polled
+module _ {S : Type 0} (A : Type 0) (next : S → Option (Result Entry Error) → S → Type 0)
+    (can : S → Type 0) (s t : S) (n : TablesWriting) (h : CanTake A next can s n) where
+  pub can_advance : can s
+  can_advance = can_now next nowhere can can s h.asks
+
+  pub can_write : (e : Entry) → next s (Some (Ok e)) t
+      → IsTrue (may_be_written (all_written n) e.user_key e.seqno)
+  can_write e step = from_follows h.stops next h.writer h.list h.tables s t n h.took e step
+
+  module _ (e : Entry) (step : next s (Some (Ok e)) t) (v u : TablesWriting) (is : v ≡ took n e)
+      (fine : took_fault n e ≡ None) (rest : u ≡ taken 1 v) where
+    pub can_some : (f : FinishedTable A)
+        → AreFinished v.present.options (first_label v) (take 1 v.tables) (f ∷ [])
+        → CanTake A next can t u
+    can_some f table = record {
+      stops = h.stops;
+      writer = h.writer;
+      list = h.list;
+      tables = h.tables ++ f ∷ [];
+      took = from_some h.stops next h.writer h.list h.tables s t n h.took e step v u is fine rest f
+          table;
+      asks = can_front next nowhere can can s (Some (Ok e)) t h.asks step;
+    }
+
+    pub can_none : AreFinished {A = A} v.present.options (first_label v) (take 1 v.tables) []
+        → CanTake A next can t u
+    can_none none = record {
+      stops = h.stops;
+      writer = h.writer;
+      list = h.list;
+      tables = h.tables;
+      took = from_none h.stops next h.writer h.list h.tables s t n h.took e step v u is fine rest
+          none;
+      asks = can_front next nowhere can can s (Some (Ok e)) t h.asks step;
+    }
+
+pub lowers_came : (lent : Option Entry) (more : Bool) (e : Entry) (old new : ℕ) → Some e ≡ lent
+    → Lowers (came (Ok more) lent) old new → new < old
+lowers_came None more e old new is less = absurd cc
+lowers_came (Some x) more e old new is less = less
+
+-- an error that is passed on
+pub until_fails : {S A : Type 0} (next : S → Option (Result Entry Error) → S → Type 0) (s t : S)
+    (n v : TablesWriting) (r : Result (Option (FinishedTable A)) Error) (e : Error)
+    → IsErrAnd r (λ y. y ≡ e)
+    → ((stops : Error → Bool) (w : TablesWriting) (rs : List (Result Entry Error))
+    (gs : List (FinishedTable A)) → TookFrom stops next w rs gs s n → Failed stops w rs gs e v)
+    → WritesUntil next s n r t v
+until_fails next s t n v (Ok x) e is h = absurd is
+until_fails next s t n v (Err y) e is h = λ stops w rs gs took.
+    subst (λ (f : Error). Failed stops w rs gs f v) (sym is) (h stops w rs gs took)
