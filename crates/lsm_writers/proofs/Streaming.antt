@@ -3,7 +3,7 @@ use Rattle.std.proofs.Common.{◌≡◌, refl, sym, ◌∙◌, ap, subst, ℕ, �
 use Rattle.std.proofs.Common.{true, false, List, [], ◌∷◌, ◌++◌, length, append_assoc, arith}
 use Rattle.std.proofs.Common.{length-append, IsTrue, inl, inr, ◌⊎◌}
 use Rattle.std.specs.Prelude.{Option, Some, None, Result, Ok, Err, drop, take, is_some, nat_lt}
-use Rattle.std.specs.Prelude.{◌&&◌, ◌||◌, if◌then◌else◌, IsErrAnd}
+use Rattle.std.specs.Prelude.{◌&&◌, ◌||◌, if◌then◌else◌, IsErrAnd, MatchOption}
 use Rattle.std.specs.Option.{option_to_list}
 use Rattle.std.proofs.lemmas.List.{length-drop, take-append-drop}
 use Rattle.sst_entries.specs.declared.error.Error.{Error}
@@ -20,9 +20,12 @@ use Rattle.sst_blocks.specs.declared.table.options.Options.{Options}
 use Rattle.sst_blocks.specs.table.Chunks.{joined}
 use Rattle.lsm_writers.specs.declared.writer.FinishedTable.{FinishedTable}
 use Rattle.lsm_writers.specs.Cut.{rest_chunk}
-use Rattle.lsm_writers.specs.Streamed.{AreAll, AreFirst, CanTake, EndsAll, EndsWith, Failed, IsBegun}
-use Rattle.lsm_writers.specs.Streamed.{NoneFails, Took, TookAll, TookFrom, entries_before}
-use Rattle.lsm_writers.specs.Streamed.{WritesUntil, next_fault, next_left, took_each}
+use Rattle.lsm_writers.specs.declared.table_stream.TableStream.{TableStream}
+use Rattle.lsm_writers.specs.Streamed.{AreAll, AreFirst, CanPoll, CanTake, EndsAll, EndsIn, EndsWith}
+use Rattle.lsm_writers.specs.Streamed.{Failed, Finishes, IsAfter, IsBegun, IsOver, LeavesError}
+use Rattle.lsm_writers.specs.Streamed.{NoneFails, Stops, StopsAfter, Took, TookAll, TookFrom}
+use Rattle.lsm_writers.specs.Streamed.{WritesUntil, YieldsAfter, YieldsTable, entries_before}
+use Rattle.lsm_writers.specs.Streamed.{next_fault, next_left, took_each}
 use Rattle.lsm_writers.specs.Taken.{AreTakenFrom, IsLeft, IsWriting, taken, tables_left}
 use Rattle.lsm_writers.specs.Tables.{AreCuts, AreFinished, AreTables, GoesOn, IsFreshRun}
 use Rattle.lsm_writers.specs.Tables.{TablesWriting, all_written, drawn, first_label, gained_all}
@@ -689,12 +692,14 @@ some_is writer m n value is = let both : Some m ≡ Some n = value ∙ is in cc
 -- the results of finishing
 module _ {A : Type 0} (writer : Option TablesWriting) (m : TablesWriting)
     (value : Some m ≡ writer) where
-  pub ends_some : (f : FinishedTable A)
-      → AreFinished m.present.options (first_label m) (tables_of m) (f ∷ [])
+  pub ends_some : (o : Option (FinishedTable A)) (f : FinishedTable A) → o ≡ Some f
+      → AreFinished m.present.options (first_label m) (tables_of m) (option_to_list o)
       → EndsAll writer (Some (Ok f))
-  ends_some f last = λ w n rs gs is h. all_some w n rs gs h f
+  ends_some o f some last = λ w n rs gs is h. all_some w n rs gs h f
       (subst (λ (x : TablesWriting). AreFinished x.present.options (first_label x) (tables_of x)
-      (f ∷ [])) (some_is writer m n value is) last)
+      (f ∷ [])) (some_is writer m n value is)
+      (subst (λ (p : Option (FinishedTable A)). AreFinished m.present.options (first_label m)
+      (tables_of m) (option_to_list p)) some last))
 
   pub ends_none : AreFinished {A = A} m.present.options (first_label m) (tables_of m) []
       → EndsAll {A = A} writer None
@@ -762,3 +767,89 @@ pub until_fails : {S A : Type 0} (next : S → Option (Result Entry Error) → S
 until_fails next s t n v (Ok x) e is h = absurd is
 until_fails next s t n v (Err y) e is h = λ stops w rs gs took.
     subst (λ (f : Error). Failed stops w rs gs f v) (sym is) (h stops w rs gs took)
+
+-- ---- one call of the stream
+
+-- a writer whose source is exhausted has no finished table
+pub until_none : {S : Type 0} (A : Type 0) (next : S → Option (Result Entry Error) → S → Type 0)
+    (can : S → Type 0) (old : TableStream S A) (t : S) (n v : TablesWriting) → old.writer ≡ Some n
+    → CanPoll next can old → WritesUntil {A = A} next old.source n (Ok None) t v → v.tables ≡ []
+until_none A next can old t n v is ready until =
+    let both : CanTake A next can old.source n × (old.error ≡ None) =
+    subst (λ (o : Option TablesWriting). MatchOption o (Unit {0})
+    (λ x. CanTake A next can old.source x × (old.error ≡ None))) is ready in
+    let h = both.0 in
+    (until h.stops h.writer h.list h.tables h.took).took.left
+
+pub no_error : {S : Type 0} (A : Type 0) (next : S → Option (Result Entry Error) → S → Type 0)
+    (can : S → Type 0) (old : TableStream S A) (n : TablesWriting) → old.writer ≡ Some n
+    → CanPoll next can old → old.error ≡ None
+no_error A next can old n is ready =
+    let both : CanTake A next can old.source n × (old.error ≡ None) =
+    subst (λ (o : Option TablesWriting). MatchOption o (Unit {0})
+    (λ x. CanTake A next can old.source x × (old.error ≡ None))) is ready in
+    both.1
+
+module _ {S A : Type 0} (next : S → Option (Result Entry Error) → S → Type 0)
+    (old new : TableStream S A) (n v : TablesWriting) (is : old.writer ≡ Some n)
+    (spent : new.writer ≡ None) where
+  from_old : (stops : Error → Bool) (w : TablesWriting) (rs : List (Result Entry Error))
+      (gs : List (FinishedTable A)) → IsAfter stops next w rs gs old
+      → TookFrom stops next w rs gs old.source n
+  from_old stops w rs gs at = subst (λ (o : Option TablesWriting). MatchOption o
+      (MatchOption old.error (AreAll w rs gs old.ids) (EndsWith stops w rs gs))
+      (TookFrom stops next w rs gs old.source)) is at
+
+  not_over : (r : Option (Result (FinishedTable A) Error)) → IsOver old → (r ≡ None) × IsOver new
+  not_over r over = let no : Some n ≡ None = sym is ∙ over.0 in absurd cc
+
+  -- at the end of the source
+  module _ (error : new.error ≡ None) (ids : new.ids ≡ v.ids) where
+    end_after : (stops : Error → Bool) (w : TablesWriting) (rs : List (Result Entry Error))
+        (gs : List (FinishedTable A)) (r : Option (Result (FinishedTable A) Error))
+        → Finishes w rs gs v.ids r → YieldsAfter stops next w rs gs r new
+    end_after stops w rs gs None h =
+        subst (λ (left : Option ℕ). AreAll w rs gs left) (sym ids) h
+    end_after stops w rs gs (Some (Ok f)) h = rw (spent, error, ids) h
+    end_after stops w rs gs (Some (Err e)) h = h stops
+
+    end_in : (r : Option (Result (FinishedTable A) Error)) → EndsIn r new
+    end_in None = (spent, error)
+    end_in (Some (Ok f)) = tt
+    end_in (Some (Err e)) = (spent, error)
+
+    pub yields_end : (r : Option (Result (FinishedTable A) Error))
+        → WritesUntil {A = A} next old.source n (Ok None) new.source v → EndsAll (Some v) r
+        → YieldsTable next old r new
+    yields_end r until ends = record {
+      steps = λ stops w rs gs at. end_after stops w rs gs r
+          (ends w v rs gs refl (until stops w rs gs (from_old stops w rs gs at)));
+      over = not_over r;
+      ends = end_in r;
+    }
+
+  -- after an error
+  module _ (e : Error) (none : old.error ≡ None) where
+    stop_after : (stops : Error → Bool) (w : TablesWriting) (rs : List (Result Entry Error))
+        (gs : List (FinishedTable A)) (r : Option (Result (FinishedTable A) Error))
+        → Stops stops w rs gs e r → LeavesError r e old.error new.error
+        → YieldsAfter stops next w rs gs r new
+    stop_after stops w rs gs None h left = absurd h
+    stop_after stops w rs gs (Some (Ok f)) h left = rw (spent, left) h
+    stop_after stops w rs gs (Some (Err x)) h left = h
+
+    stop_in : (r : Option (Result (FinishedTable A) Error)) → LeavesError r e old.error new.error
+        → EndsIn r new
+    stop_in None left = (spent, left ∙ none)
+    stop_in (Some (Ok f)) left = tt
+    stop_in (Some (Err x)) left = (spent, left ∙ none)
+
+    pub yields_stop : (r : Option (Result (FinishedTable A) Error))
+        → WritesUntil {A = A} next old.source n (Err e) new.source v → StopsAfter (Some v) e r
+        → LeavesError r e old.error new.error → YieldsTable next old r new
+    yields_stop r until stops left = record {
+      steps = λ some w rs gs at. stop_after some w rs gs r
+          (stops some w v rs gs refl (until some w rs gs (from_old some w rs gs at))) left;
+      over = not_over r;
+      ends = stop_in r left;
+    }
