@@ -101,43 +101,43 @@ results_assoc (x ∷ xs) ys zs =
 -- ---- what the source yields
 
 module _ {S : Type 0} (stops : Error → Bool) (next : S → Option (Result Entry Error) → S → Type 0)
-    where
-  yields_one : (rest : List (Result Entry Error)) (s t : S) (e : Entry)
-      → YieldsExactly (answer_stops stops) next nowhere s rest → next s (Some (Ok e)) t
-      → (more : List (Result Entry Error)) × (rest ≡ Ok e ∷ more)
-      × YieldsExactly (answer_stops stops) next nowhere t more
-  yields_one [] s t e d step =
-      let h = yields_front (answer_stops stops) next nowhere s [] (Some (Ok e)) t d step refl in
-      let no : Some (Ok e) ≡ None = h.0 in absurd cc
-  yields_one (r ∷ rest) s t e d step =
-      let h = yields_front (answer_stops stops) next nowhere s (r ∷ rest) (Some (Ok e)) t d step refl
-      in
-      let same : Some (Ok e) ≡ Some r = h.0 in
-      let is : r ≡ Ok e = cc in (
-        rest,
-        ap (λ (x : Result Entry Error). x ∷ rest) is,
-        h.1,
-      )
+  where
+    yields_one : (rest : List (Result Entry Error)) (s t : S) (e : Entry)
+        → YieldsExactly (answer_stops stops) next nowhere s rest → next s (Some (Ok e)) t
+        → (more : List (Result Entry Error)) × (rest ≡ Ok e ∷ more)
+        × YieldsExactly (answer_stops stops) next nowhere t more
+    yields_one [] s t e d step =
+        let h = yields_front (answer_stops stops) next nowhere s [] (Some (Ok e)) t d step refl in
+        let no : Some (Ok e) ≡ None = h.0 in absurd cc
+    yields_one (r ∷ rest) s t e d step =
+        let h = yields_front (answer_stops stops) next nowhere s (r ∷ rest) (Some (Ok e)) t d step refl
+        in
+        let same : Some (Ok e) ≡ Some r = h.0 in
+        let is : r ≡ Ok e = cc in (
+          rest,
+          ap (λ (x : Result Entry Error). x ∷ rest) is,
+          h.1,
+        )
 
-  yields_none : (rest : List (Result Entry Error)) (s t : S)
-      → YieldsExactly (answer_stops stops) next nowhere s rest → next s None t → rest ≡ []
-  yields_none [] s t d step = refl
-  yields_none (r ∷ rest) s t d step =
-      let h = yields_front (answer_stops stops) next nowhere s (r ∷ rest) None t d step refl in
-      let no : None ≡ Some r = h.0 in absurd cc
+    yields_none : (rest : List (Result Entry Error)) (s t : S)
+        → YieldsExactly (answer_stops stops) next nowhere s rest → next s None t → rest ≡ []
+    yields_none [] s t d step = refl
+    yields_none (r ∷ rest) s t d step =
+        let h = yields_front (answer_stops stops) next nowhere s (r ∷ rest) None t d step refl in
+        let no : None ≡ Some r = h.0 in absurd cc
 
-  yields_fault : (rest : List (Result Entry Error)) (s t : S) (e : Error)
-      → YieldsExactly (answer_stops stops) next nowhere s rest → next s (Some (Err e)) t
-      → stops e ≡ false → (more : List (Result Entry Error)) × (rest ≡ Err e ∷ more)
-  yields_fault [] s t e d step goes =
-      let h = yields_front (answer_stops stops) next nowhere s [] (Some (Err e)) t d step goes in
-      let no : Some (Err e) ≡ None = h.0 in absurd cc
-  yields_fault (r ∷ rest) s t e d step goes =
-      let h = yields_front (answer_stops stops) next nowhere s (r ∷ rest) (Some (Err e)) t d step goes
-      in
-      let same : Some (Err e) ≡ Some r = h.0 in
-      let is : r ≡ Err e = cc in
-      (rest, ap (λ (x : Result Entry Error). x ∷ rest) is)
+    yields_fault : (rest : List (Result Entry Error)) (s t : S) (e : Error)
+        → YieldsExactly (answer_stops stops) next nowhere s rest → next s (Some (Err e)) t
+        → stops e ≡ false → (more : List (Result Entry Error)) × (rest ≡ Err e ∷ more)
+    yields_fault [] s t e d step goes =
+        let h = yields_front (answer_stops stops) next nowhere s [] (Some (Err e)) t d step goes in
+        let no : Some (Err e) ≡ None = h.0 in absurd cc
+    yields_fault (r ∷ rest) s t e d step goes =
+        let h = yields_front (answer_stops stops) next nowhere s (r ∷ rest) (Some (Err e)) t d step goes
+        in
+        let same : Some (Err e) ≡ Some r = h.0 in
+        let is : r ≡ Err e = cc in
+        (rest, ap (λ (x : Result Entry Error). x ∷ rest) is)
 
 module _ {S : Type 0} (next : S → Option (Result Entry Error) → S → Type 0) where
   pub lent_next : (s t : S) (lent : Option Entry) (more : Bool) (e : Entry) → Some e ≡ lent
