@@ -1,14 +1,14 @@
 -- The first tables of a list are those of its front, once the next one has begun.
-use Rattle.std.proofs.Common.{◌≡◌, refl, sym, ◌∙◌, ap, subst, ℕ, ◌+◌, ◌<◌, Bool, true, false, List}
+use Rattle.std.proofs.Common.{◌≡◌, refl, sym, ◌∙◌, ap, subst, ℕ, ◌+◌, ◌<◌, List}
 use Rattle.std.proofs.Common.{[], ◌∷◌, ◌++◌, length, length-append, append_assoc, append-nil}
 use Rattle.std.proofs.Common.{arith, inl, inr}
 use Rattle.std.specs.Prelude.{take}
 use Rattle.sst_entries.specs.Entry.{Entry}
 use Rattle.sst_blocks.specs.table.Chunks.{joined}
 use Rattle.lsm_writers.specs.Cut.{rest_chunk}
-use Rattle.lsm_writers.specs.Tables.{AreCuts, AreTables, EndsCut, IsCut, apart, cut_len}
+use Rattle.lsm_writers.specs.Tables.{AreCuts, AreTables, EndsCut, IsCut, cut_len}
 use Rattle.lsm_writers.proofs.AllTables.{joined_all}
-use Rattle.lsm_writers.proofs.OneCut.{fronts, no_table, nothing_more, same_joint}
+use Rattle.lsm_writers.proofs.OneCut.{fronts, nothing_more, same_joint}
 
 -- a table is not longer than one after which another table begins
 ends_there : (size target : ℕ) (u c b d : List Entry) (us : List (List Entry))

@@ -27,6 +27,7 @@ pub mod Turning
 pub mod TakenTables
 pub mod CutFronts
 pub mod Streaming
+pub mod StreamCalls
 pub mod AllTables
 pub mod Fitting
 pub mod Whole

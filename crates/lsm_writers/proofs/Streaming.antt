@@ -1,10 +1,9 @@
 -- Tables that are made of what a source yields: what holds from call to call.
-use Rattle.std.proofs.Common.{◌≡◌, refl, sym, ◌∙◌, ap, subst, ℕ, ◌+◌, ◌-◌, ◌<◌, ◌≤◌, ◌^◌, Bool}
+use Rattle.std.proofs.Common.{◌≡◌, refl, sym, ◌∙◌, ap, subst, ℕ, ◌+◌, ◌-◌, ◌≤◌, ◌^◌, Bool}
 use Rattle.std.proofs.Common.{true, false, List, [], ◌∷◌, ◌++◌, length, append_assoc, arith}
-use Rattle.std.proofs.Common.{length-append, IsTrue, inl, inr, ◌⊎◌}
+use Rattle.std.proofs.Common.{length-append, IsTrue, inl, inr}
 use Rattle.std.specs.Prelude.{Option, Some, None, Result, Ok, Err, drop, take, is_some, nat_lt}
-use Rattle.std.specs.Prelude.{◌&&◌, ◌||◌, if◌then◌else◌, IsErrAnd, MatchOption}
-use Rattle.std.specs.Option.{option_to_list}
+use Rattle.std.specs.Prelude.{◌&&◌, ◌||◌, if◌then◌else◌}
 use Rattle.std.proofs.lemmas.List.{length-drop, take-append-drop}
 use Rattle.sst_entries.specs.declared.error.Error.{Error}
 use Rattle.sst_entries.specs.declared.error.Error.TheVariants.{OutOfMemory}
@@ -12,31 +11,30 @@ use Rattle.sst_entries.specs.declared.value_type.ValueType.TheVariants.{Value}
 use Rattle.sst_entries.specs.Entry.{Entry, entry}
 use Rattle.sst_entries.specs.Error.{is_memory}
 use Rattle.sst_entries.specs.Lending.{came}
-use Rattle.sst_entries.specs.Stream.{Lowers, YieldsExactly, answer_stops, nowhere, ok_results}
+use Rattle.sst_entries.specs.Stream.{YieldsExactly, answer_stops, nowhere, ok_results}
 use Rattle.sst_entries.specs.Strict.{IsStrict, IsStrictAfter, last_of, may_follow}
-use Rattle.sst_entries.proofs.StreamLemmas.{can_front, can_now, map_append, yields_front}
+use Rattle.sst_entries.proofs.StreamLemmas.{yields_front}
 use Rattle.sst_blocks.specs.declared.table.label.Label.{Label}
 use Rattle.sst_blocks.specs.declared.table.options.Options.{Options}
 use Rattle.sst_blocks.specs.table.Chunks.{joined}
 use Rattle.lsm_writers.specs.declared.writer.FinishedTable.{FinishedTable}
 use Rattle.lsm_writers.specs.Cut.{rest_chunk}
-use Rattle.lsm_writers.specs.declared.table_stream.TableStream.{TableStream}
-use Rattle.lsm_writers.specs.Streamed.{AreAll, AreFirst, CanPoll, CanTake, EndsAll, EndsIn, EndsWith}
-use Rattle.lsm_writers.specs.Streamed.{Failed, Finishes, IsAfter, IsBegun, IsOver, LeavesError}
-use Rattle.lsm_writers.specs.Streamed.{NoneFails, Stops, StopsAfter, Took, TookAll, TookFrom}
-use Rattle.lsm_writers.specs.Streamed.{WritesUntil, YieldsAfter, YieldsTable, entries_before}
+use Rattle.lsm_writers.specs.Streamed.{AreAll, AreFirst, EndsWith}
+use Rattle.lsm_writers.specs.Streamed.{Failed, IsBegun}
+use Rattle.lsm_writers.specs.Streamed.{NoneFails, Took}
+use Rattle.lsm_writers.specs.Streamed.{entries_before}
 use Rattle.lsm_writers.specs.Streamed.{next_fault, next_left, took_each}
 use Rattle.lsm_writers.specs.Taken.{AreTakenFrom, IsLeft, IsWriting, taken, tables_left}
 use Rattle.lsm_writers.specs.Tables.{AreCuts, AreFinished, AreTables, GoesOn, IsFreshRun}
 use Rattle.lsm_writers.specs.Tables.{TablesWriting, all_written, drawn, first_label, gained_all}
 use Rattle.lsm_writers.specs.Tables.{ids_fault, is_due, next_writing, rotated, rotation_fault}
 use Rattle.lsm_writers.specs.Tables.{run_fault, tables_of, took, took_fault, turn_fault}
-use Rattle.lsm_writers.specs.Writing.{IsFresh, IsWritable, Writing, fresh_writing, gained}
+use Rattle.lsm_writers.specs.Writing.{IsFresh, Writing, fresh_writing, gained}
 use Rattle.lsm_writers.specs.Writing.{may_be_written, written}
 use Rattle.lsm_writers.proofs.AllTables.{in_order, joined_all}
 use Rattle.lsm_writers.proofs.CutFronts.{first_tables}
 use Rattle.lsm_writers.proofs.CutTables.{no_end}
-use Rattle.lsm_writers.proofs.ListWriting.{listed_follows, same_label, written_gained}
+use Rattle.lsm_writers.proofs.ListWriting.{same_label, written_gained}
 use Rattle.lsm_writers.proofs.Rotating.{goes_on_next}
 use Rattle.lsm_writers.proofs.TakenTables.{few_taken, finished_append, finished_law, finished_many}
 use Rattle.lsm_writers.proofs.TakenTables.{label_behind, label_left, taken_law}
@@ -80,20 +78,20 @@ none_snoc : (w : TablesWriting) (es : List Entry) (e : Entry) → NoneFails w es
 none_snoc w [] e h fine = (fine, tt)
 none_snoc w (x ∷ es) e h fine = (h.0, none_snoc (took w x) es e h.1 fine)
 
-entries_front : (es : List Entry) (rs : List (Result Entry Error))
+pub entries_front : (es : List Entry) (rs : List (Result Entry Error))
     → entries_before (ok_results es ++ rs) ≡ es ++ entries_before rs
 entries_front [] rs = refl
 entries_front (e ∷ es) rs = ap (λ (xs : List Entry). e ∷ xs) (entries_front es rs)
 
-entries_all : (es : List Entry) → entries_before (ok_results es) ≡ es
+pub entries_all : (es : List Entry) → entries_before (ok_results es) ≡ es
 entries_all [] = refl
 entries_all (e ∷ es) = ap (λ (xs : List Entry). e ∷ xs) (entries_all es)
 
-results_nil : (rs : List (Result Entry Error)) → rs ++ [] ≡ rs
+pub results_nil : (rs : List (Result Entry Error)) → rs ++ [] ≡ rs
 results_nil [] = refl
 results_nil (r ∷ rs) = ap (λ (xs : List (Result Entry Error)). r ∷ xs) (results_nil rs)
 
-results_assoc : (xs ys zs : List (Result Entry Error)) → (xs ++ ys) ++ zs ≡ xs ++ (ys ++ zs)
+pub results_assoc : (xs ys zs : List (Result Entry Error)) → (xs ++ ys) ++ zs ≡ xs ++ (ys ++ zs)
 results_assoc [] ys zs = refl
 results_assoc (x ∷ xs) ys zs =
     ap (λ (rs : List (Result Entry Error)). x ∷ rs) (results_assoc xs ys zs)
@@ -102,7 +100,7 @@ results_assoc (x ∷ xs) ys zs =
 
 module _ {S : Type 0} (stops : Error → Bool) (next : S → Option (Result Entry Error) → S → Type 0)
   where
-    yields_one : (rest : List (Result Entry Error)) (s t : S) (e : Entry)
+    pub yields_one : (rest : List (Result Entry Error)) (s t : S) (e : Entry)
         → YieldsExactly (answer_stops stops) next nowhere s rest → next s (Some (Ok e)) t
         → (more : List (Result Entry Error)) × (rest ≡ Ok e ∷ more)
         × YieldsExactly (answer_stops stops) next nowhere t more
@@ -119,14 +117,14 @@ module _ {S : Type 0} (stops : Error → Bool) (next : S → Option (Result Entr
           h.1,
         )
 
-    yields_none : (rest : List (Result Entry Error)) (s t : S)
+    pub yields_none : (rest : List (Result Entry Error)) (s t : S)
         → YieldsExactly (answer_stops stops) next nowhere s rest → next s None t → rest ≡ []
     yields_none [] s t d step = refl
     yields_none (r ∷ rest) s t d step =
         let h = yields_front (answer_stops stops) next nowhere s (r ∷ rest) None t d step refl in
         let no : None ≡ Some r = h.0 in absurd cc
 
-    yields_fault : (rest : List (Result Entry Error)) (s t : S) (e : Error)
+    pub yields_fault : (rest : List (Result Entry Error)) (s t : S) (e : Error)
         → YieldsExactly (answer_stops stops) next nowhere s rest → next s (Some (Err e)) t
         → stops e ≡ false → (more : List (Result Entry Error)) × (rest ≡ Err e ∷ more)
     yields_fault [] s t e d step goes =
@@ -227,7 +225,7 @@ finished_none : (A : Type 0) (options : Options) (label : Label) (ts : List (Lis
 finished_none A options label [] h = refl
 finished_none A options label (t ∷ ts) h = absurd h
 
-finished_some : {A : Type 0} (options : Options) (label : Label) (ts : List (List Entry))
+pub finished_some : {A : Type 0} (options : Options) (label : Label) (ts : List (List Entry))
     (f : FinishedTable A) → AreFinished options label (take 1 ts) (f ∷ []) → ts ≡ [] → ⊥
 finished_some options label ts f h none =
     subst (λ (us : List (List Entry)). AreFinished options label (take 1 us) (f ∷ [])) none h
@@ -289,7 +287,7 @@ module _ {A : Type 0} (w : TablesWriting) (es : List Entry) (gs : List (Finished
   dropped : drop (length gs) m.tables ≡ []
   dropped = sym (ap (λ (x : TablesWriting). x.tables) h.taken.left) ∙ h.left
 
-  count_is : length m.tables ≡ length gs
+  pub count_is : length m.tables ≡ length gs
   count_is = none_dropped (length gs) m.tables (few_taken (length gs) m.tables
       (finished_many m.present.options (first_label m) (take (length gs) m.tables) gs
       h.taken.finished)) dropped
@@ -326,7 +324,7 @@ module _ {A : Type 0} (w : TablesWriting) (es : List Entry) (gs : List (Finished
     entries_are : entries_before rs ≡ es ++ entries_before rest
     entries_are = ap entries_before whole ∙ entries_front es rest
 
-    ends_now : (e : Error)
+    pub ends_now : (e : Error)
         → (is_memory e ≡ false → stops e ≡ false → next_fault m rest ≡ Some e)
         → (is_memory e ≡ false → stops e ≡ false → length gs ≡ length (next_left m rest))
         → EndsWith stops w rs gs e
@@ -467,7 +465,7 @@ module _ {A : Type 0} (w : TablesWriting) (es : List Entry) (gs : List (Finished
         );
       }
 
-    took_failed : Failed stops w rs gs f v
+    pub took_failed : Failed stops w rs gs f v
     took_failed = record {
       none = none_left;
       some = λ g one.
@@ -484,7 +482,7 @@ module _ {A : Type 0} (w : TablesWriting) (es : List Entry) (gs : List (Finished
 
   -- the source is exhausted
   module _ (rs : List (Result Entry Error)) (whole : rs ≡ ok_results es) where
-    took_all : (fs : List (FinishedTable A)) → IsStrict es
+    pub took_all : (fs : List (FinishedTable A)) → IsStrict es
         → AreFinished n.present.options (first_label n) (tables_of n) fs
         → AreAll w rs (gs ++ fs) n.ids
     took_all fs strict rest =
@@ -501,7 +499,7 @@ module _ {A : Type 0} (w : TablesWriting) (es : List Entry) (gs : List (Finished
           left_is = ap (λ (x : TablesWriting). x.ids) h.taken.left;
         }
 
-    took_ends : (stops : Error → Bool) (e : Error) → (is_memory e ≡ false → run_fault n ≡ Some e)
+    pub took_ends : (stops : Error → Bool) (e : Error) → (is_memory e ≡ false → run_fault n ≡ Some e)
         → EndsWith stops w rs gs e
     took_ends stops e refused = ends_now stops rs [] (whole ∙ sym (results_nil (ok_results es))) e
         (λ fine goes. sym (ap run_fault h.taken.left) ∙ refused fine) (λ fine goes. sym count_is)
@@ -509,7 +507,7 @@ module _ {A : Type 0} (w : TablesWriting) (es : List Entry) (gs : List (Finished
 -- ---- an entry is written, and the table that it ended is taken
 
 -- a writer of which one table may be left
-record Grown {A : Type 0} (w : TablesWriting) (es : List Entry) (gs : List (FinishedTable A))
+pub record Grown {A : Type 0} (w : TablesWriting) (es : List Entry) (gs : List (FinishedTable A))
     (n : TablesWriting) : Type 0 where
   pub none : NoneFails w es
   pub listed : all_written (took_each w es) ≡ es
@@ -527,7 +525,7 @@ few_by n true none = ap (λ (ts : List (List Entry)). drop 1 (ts ++ rest_chunk (
     one [] = refl
     one (x ∷ t) = refl
 
-grown : {A : Type 0} (w : TablesWriting) (es : List Entry) (gs : List (FinishedTable A))
+pub grown : {A : Type 0} (w : TablesWriting) (es : List Entry) (gs : List (FinishedTable A))
     (n v : TablesWriting) (e : Entry) → Took w es gs n
     → IsTrue (may_be_written es e.user_key e.seqno) → took_fault n e ≡ None → v ≡ took n e
     → Grown w (es ++ e ∷ []) gs v
@@ -549,7 +547,7 @@ grown {A} w es gs n v e h next fine is =
 
 module _ {A : Type 0} (w : TablesWriting) (es : List Entry) (gs : List (FinishedTable A))
     (n v : TablesWriting) (h : Grown w es gs n) (is : v ≡ taken 1 n) where
-  grown_some : (f : FinishedTable A)
+  pub grown_some : (f : FinishedTable A)
       → AreFinished n.present.options (first_label n) (take 1 n.tables) (f ∷ [])
       → Took w es (gs ++ f ∷ []) v
   grown_some f one = record {
@@ -561,7 +559,7 @@ module _ {A : Type 0} (w : TablesWriting) (es : List Entry) (gs : List (Finished
     left = ap (λ (x : TablesWriting). x.tables) is ∙ h.few;
   }
 
-  grown_none : AreFinished {A = A} n.present.options (first_label n) (take 1 n.tables) []
+  pub grown_none : AreFinished {A = A} n.present.options (first_label n) (take 1 n.tables) []
       → Took w es gs v
   grown_none none =
       let empty : n.tables ≡ [] = finished_none A n.present.options (first_label n) n.tables none in
@@ -574,282 +572,3 @@ module _ {A : Type 0} (w : TablesWriting) (es : List Entry) (gs : List (Finished
         taken = subst (AreTakenFrom (took_each w es) gs) (sym same) h.taken;
         left = ap (λ (x : TablesWriting). x.tables) same ∙ empty;
       }
-
--- ---- one call of the source
-
-module _ {S A : Type 0} (stops : Error → Bool) (next : S → Option (Result Entry Error) → S → Type 0)
-    (w : TablesWriting) (rs : List (Result Entry Error)) (gs : List (FinishedTable A)) (s t : S)
-    (n : TablesWriting) (h : TookFrom stops next w rs gs s n) where
-  -- an entry comes
-  module _ (e : Entry) (step : next s (Some (Ok e)) t) where
-    abbrev one : (more : List (Result Entry Error)) × (h.rest ≡ Ok e ∷ more)
-        × YieldsExactly (answer_stops stops) next nowhere t more
-    one = yields_one stops next h.rest s t e h.yields step
-
-    whole_one : rs ≡ ok_results h.front ++ Ok e ∷ one.0
-    whole_one = h.whole
-        ∙ ap (λ (xs : List (Result Entry Error)). ok_results h.front ++ xs) one.1
-
-    whole_more : rs ≡ ok_results (h.front ++ e ∷ []) ++ one.0
-    whole_more = whole_one
-        ∙ sym (ap (λ (xs : List (Result Entry Error)). xs ++ one.0) (map_append h.front (e ∷ []))
-        ∙ results_assoc (ok_results h.front) (Ok e ∷ []) one.0)
-
-    next_one : IsTrue (may_be_written h.front e.user_key e.seqno)
-    next_one = listed_follows h.front e (entries_before one.0)
-        (subst IsWritable (ap entries_before whole_one ∙ entries_front h.front (Ok e ∷ one.0))
-        h.writable)
-
-    pub from_follows : IsTrue (may_be_written (all_written n) e.user_key e.seqno)
-    from_follows = took_follows w h.front gs n h.took e next_one
-
-    pub from_failed : (f : Error) (v : TablesWriting)
-        → (is_memory f ≡ false → took_fault n e ≡ Some f) → IsLeft n e f v
-        → Failed stops w rs gs f v
-    from_failed f v refused left =
-        took_failed w h.front gs n h.took stops rs one.0 e whole_one next_one f v refused left
-
-    module _ (v u : TablesWriting) (is : v ≡ took n e) (fine : took_fault n e ≡ None)
-        (rest : u ≡ taken 1 v) where
-      grown_now : Grown w (h.front ++ e ∷ []) gs v
-      grown_now = grown w h.front gs n v e h.took next_one fine is
-
-      from_next : (fs : List (FinishedTable A)) → Took w (h.front ++ e ∷ []) fs u
-          → TookFrom stops next w rs fs t u
-      from_next fs took = record {
-        front = h.front ++ e ∷ [];
-        rest = one.0;
-        whole = whole_more;
-        writable = h.writable;
-        took = took;
-        yields = one.2;
-      }
-
-      pub from_some : (f : FinishedTable A)
-          → AreFinished v.present.options (first_label v) (take 1 v.tables) (f ∷ [])
-          → TookFrom stops next w rs (gs ++ f ∷ []) t u
-      from_some f table = from_next (gs ++ f ∷ [])
-          (grown_some w (h.front ++ e ∷ []) gs v u grown_now rest f table)
-
-      pub from_none : AreFinished {A = A} v.present.options (first_label v) (take 1 v.tables) []
-          → TookFrom stops next w rs gs t u
-      from_none none = from_next gs
-          (grown_none w (h.front ++ e ∷ []) gs v u grown_now rest none)
-
-  -- nothing comes
-  pub from_over : next s None t → TookAll w rs gs n
-  from_over step =
-      let none : h.rest ≡ [] = yields_none stops next h.rest s t h.yields step in
-      let all : rs ≡ ok_results h.front = h.whole
-      ∙ (ap (λ (xs : List (Result Entry Error)). ok_results h.front ++ xs) none
-      ∙ results_nil (ok_results h.front)) in
-      record {
-        list = h.front;
-        whole = all;
-        writable = subst IsWritable (ap entries_before all ∙ entries_all h.front) h.writable;
-        took = h.took;
-      }
-
-  -- an error comes
-  pub from_fails : (e : Error) → next s (Some (Err e)) t → Failed stops w rs gs e n
-  from_fails e step = record {
-    none = λ none. ends_now w h.front gs n h.took stops rs h.rest h.whole e
-        (λ fine goes. ap (next_fault (took_each w h.front))
-        (yields_fault stops next h.rest s t e h.yields step goes).1)
-        (λ fine goes. sym (ap length (ap (next_left (took_each w h.front))
-        (yields_fault stops next h.rest s t e h.yields step goes).1)
-        ∙ count_is w h.front gs n h.took));
-    some = λ f one. absurd (finished_some n.present.options (first_label n) n.tables f one
-        h.took.left);
-  }
-
--- ---- the end
-
-module _ {A : Type 0} (w n : TablesWriting) (rs : List (Result Entry Error))
-    (gs : List (FinishedTable A)) (h : TookAll w rs gs n) where
-  pub all_some : (f : FinishedTable A)
-      → AreFinished n.present.options (first_label n) (tables_of n) (f ∷ [])
-      → AreAll w rs (gs ++ f ∷ []) n.ids
-  all_some f last = took_all w h.list gs n h.took rs h.whole (f ∷ []) h.writable.strict last
-
-  pub all_none : AreFinished {A = A} n.present.options (first_label n) (tables_of n) []
-      → AreAll w rs gs n.ids
-  all_none none = subst (λ (fs : List (FinishedTable A)). AreAll w rs fs n.ids) (tables_nil gs)
-      (took_all w h.list gs n h.took rs h.whole [] h.writable.strict none)
-    where
-      tables_nil : (fs : List (FinishedTable A)) → fs ++ [] ≡ fs
-      tables_nil [] = refl
-      tables_nil (f ∷ fs) = ap (λ (xs : List (FinishedTable A)). f ∷ xs) (tables_nil fs)
-
-  pub all_fails : (stops : Error → Bool) (e : Error)
-      → (is_memory e ≡ false → run_fault n ≡ Some e) → EndsWith stops w rs gs e
-  all_fails stops e refused = took_ends w h.list gs n h.took rs h.whole stops e refused
-
-some_is : (writer : Option TablesWriting) (m n : TablesWriting) → Some m ≡ writer → writer ≡ Some n
-    → m ≡ n
-some_is writer m n value is = let both : Some m ≡ Some n = value ∙ is in cc
-
--- the results of finishing
-module _ {A : Type 0} (writer : Option TablesWriting) (m : TablesWriting)
-    (value : Some m ≡ writer) where
-  pub ends_some : (o : Option (FinishedTable A)) (f : FinishedTable A) → o ≡ Some f
-      → AreFinished m.present.options (first_label m) (tables_of m) (option_to_list o)
-      → EndsAll writer (Some (Ok f))
-  ends_some o f some last = λ w n rs gs is h. all_some w n rs gs h f
-      (subst (λ (x : TablesWriting). AreFinished x.present.options (first_label x) (tables_of x)
-      (f ∷ [])) (some_is writer m n value is)
-      (subst (λ (p : Option (FinishedTable A)). AreFinished m.present.options (first_label m)
-      (tables_of m) (option_to_list p)) some last))
-
-  pub ends_none : AreFinished {A = A} m.present.options (first_label m) (tables_of m) []
-      → EndsAll {A = A} writer None
-  ends_none none = λ w n rs gs is h. all_none w n rs gs h
-      (subst (λ (x : TablesWriting). AreFinished {A = A} x.present.options (first_label x)
-      (tables_of x) []) (some_is writer m n value is) none)
-
-  pub ends_fails : (e : Error) → (is_memory e ≡ false → run_fault m ≡ Some e)
-      → EndsAll {A = A} writer (Some (Err e))
-  ends_fails e refused = λ w n rs gs is h stops. all_fails w n rs gs h stops e
-      (subst (λ (x : TablesWriting). is_memory e ≡ false → run_fault x ≡ Some e)
-      (some_is writer m n value is) refused)
-
--- ---- writing until a table is finished
-
--- the next state may be polled
-module _ {S : Type 0} (A : Type 0) (next : S → Option (Result Entry Error) → S → Type 0)
-    (can : S → Type 0) (s t : S) (n : TablesWriting) (h : CanTake A next can s n) where
-  pub can_advance : can s
-  can_advance = can_now next nowhere can can s h.asks
-
-  pub can_write : (e : Entry) → next s (Some (Ok e)) t
-      → IsTrue (may_be_written (all_written n) e.user_key e.seqno)
-  can_write e step = from_follows h.stops next h.writer h.list h.tables s t n h.took e step
-
-  module _ (e : Entry) (step : next s (Some (Ok e)) t) (v u : TablesWriting) (is : v ≡ took n e)
-      (fine : took_fault n e ≡ None) (rest : u ≡ taken 1 v) where
-    pub can_some : (f : FinishedTable A)
-        → AreFinished v.present.options (first_label v) (take 1 v.tables) (f ∷ [])
-        → CanTake A next can t u
-    can_some f table = record {
-      stops = h.stops;
-      writer = h.writer;
-      list = h.list;
-      tables = h.tables ++ f ∷ [];
-      took = from_some h.stops next h.writer h.list h.tables s t n h.took e step v u is fine rest f
-          table;
-      asks = can_front next nowhere can can s (Some (Ok e)) t h.asks step;
-    }
-
-    pub can_none : AreFinished {A = A} v.present.options (first_label v) (take 1 v.tables) []
-        → CanTake A next can t u
-    can_none none = record {
-      stops = h.stops;
-      writer = h.writer;
-      list = h.list;
-      tables = h.tables;
-      took = from_none h.stops next h.writer h.list h.tables s t n h.took e step v u is fine rest
-          none;
-      asks = can_front next nowhere can can s (Some (Ok e)) t h.asks step;
-    }
-
-pub lowers_came : (lent : Option Entry) (more : Bool) (e : Entry) (old new : ℕ) → Some e ≡ lent
-    → Lowers (came (Ok more) lent) old new → new < old
-lowers_came None more e old new is less = absurd cc
-lowers_came (Some x) more e old new is less = less
-
--- an error that is passed on
-pub until_fails : {S A : Type 0} (next : S → Option (Result Entry Error) → S → Type 0) (s t : S)
-    (n v : TablesWriting) (r : Result (Option (FinishedTable A)) Error) (e : Error)
-    → IsErrAnd r (λ y. y ≡ e)
-    → ((stops : Error → Bool) (w : TablesWriting) (rs : List (Result Entry Error))
-    (gs : List (FinishedTable A)) → TookFrom stops next w rs gs s n → Failed stops w rs gs e v)
-    → WritesUntil next s n r t v
-until_fails next s t n v (Ok x) e is h = absurd is
-until_fails next s t n v (Err y) e is h = λ stops w rs gs took.
-    subst (λ (f : Error). Failed stops w rs gs f v) (sym is) (h stops w rs gs took)
-
--- ---- one call of the stream
-
--- a writer whose source is exhausted has no finished table
-pub until_none : {S : Type 0} (A : Type 0) (next : S → Option (Result Entry Error) → S → Type 0)
-    (can : S → Type 0) (old : TableStream S A) (t : S) (n v : TablesWriting) → old.writer ≡ Some n
-    → CanPoll next can old → WritesUntil {A = A} next old.source n (Ok None) t v → v.tables ≡ []
-until_none A next can old t n v is ready until =
-    let both : CanTake A next can old.source n × (old.error ≡ None) =
-    subst (λ (o : Option TablesWriting). MatchOption o (Unit {0})
-    (λ x. CanTake A next can old.source x × (old.error ≡ None))) is ready in
-    let h = both.0 in
-    (until h.stops h.writer h.list h.tables h.took).took.left
-
-pub no_error : {S : Type 0} (A : Type 0) (next : S → Option (Result Entry Error) → S → Type 0)
-    (can : S → Type 0) (old : TableStream S A) (n : TablesWriting) → old.writer ≡ Some n
-    → CanPoll next can old → old.error ≡ None
-no_error A next can old n is ready =
-    let both : CanTake A next can old.source n × (old.error ≡ None) =
-    subst (λ (o : Option TablesWriting). MatchOption o (Unit {0})
-    (λ x. CanTake A next can old.source x × (old.error ≡ None))) is ready in
-    both.1
-
-module _ {S A : Type 0} (next : S → Option (Result Entry Error) → S → Type 0)
-    (old new : TableStream S A) (n v : TablesWriting) (is : old.writer ≡ Some n)
-    (spent : new.writer ≡ None) where
-  from_old : (stops : Error → Bool) (w : TablesWriting) (rs : List (Result Entry Error))
-      (gs : List (FinishedTable A)) → IsAfter stops next w rs gs old
-      → TookFrom stops next w rs gs old.source n
-  from_old stops w rs gs at = subst (λ (o : Option TablesWriting). MatchOption o
-      (MatchOption old.error (AreAll w rs gs old.ids) (EndsWith stops w rs gs))
-      (TookFrom stops next w rs gs old.source)) is at
-
-  not_over : (r : Option (Result (FinishedTable A) Error)) → IsOver old → (r ≡ None) × IsOver new
-  not_over r over = let no : Some n ≡ None = sym is ∙ over.0 in absurd cc
-
-  -- at the end of the source
-  module _ (error : new.error ≡ None) (ids : new.ids ≡ v.ids) where
-    end_after : (stops : Error → Bool) (w : TablesWriting) (rs : List (Result Entry Error))
-        (gs : List (FinishedTable A)) (r : Option (Result (FinishedTable A) Error))
-        → Finishes w rs gs v.ids r → YieldsAfter stops next w rs gs r new
-    end_after stops w rs gs None h =
-        subst (λ (left : Option ℕ). AreAll w rs gs left) (sym ids) h
-    end_after stops w rs gs (Some (Ok f)) h = rw (spent, error, ids) h
-    end_after stops w rs gs (Some (Err e)) h = h stops
-
-    end_in : (r : Option (Result (FinishedTable A) Error)) → EndsIn r new
-    end_in None = (spent, error)
-    end_in (Some (Ok f)) = tt
-    end_in (Some (Err e)) = (spent, error)
-
-    pub yields_end : (r : Option (Result (FinishedTable A) Error))
-        → WritesUntil {A = A} next old.source n (Ok None) new.source v → EndsAll (Some v) r
-        → YieldsTable next old r new
-    yields_end r until ends = record {
-      steps = λ stops w rs gs at. end_after stops w rs gs r
-          (ends w v rs gs refl (until stops w rs gs (from_old stops w rs gs at)));
-      over = not_over r;
-      ends = end_in r;
-    }
-
-  -- after an error
-  module _ (e : Error) (none : old.error ≡ None) where
-    stop_after : (stops : Error → Bool) (w : TablesWriting) (rs : List (Result Entry Error))
-        (gs : List (FinishedTable A)) (r : Option (Result (FinishedTable A) Error))
-        → Stops stops w rs gs e r → LeavesError r e old.error new.error
-        → YieldsAfter stops next w rs gs r new
-    stop_after stops w rs gs None h left = absurd h
-    stop_after stops w rs gs (Some (Ok f)) h left = rw (spent, left) h
-    stop_after stops w rs gs (Some (Err x)) h left = h
-
-    stop_in : (r : Option (Result (FinishedTable A) Error)) → LeavesError r e old.error new.error
-        → EndsIn r new
-    stop_in None left = (spent, left ∙ none)
-    stop_in (Some (Ok f)) left = tt
-    stop_in (Some (Err x)) left = (spent, left ∙ none)
-
-    pub yields_stop : (r : Option (Result (FinishedTable A) Error))
-        → WritesUntil {A = A} next old.source n (Err e) new.source v → StopsAfter (Some v) e r
-        → LeavesError r e old.error new.error → YieldsTable next old r new
-    yields_stop r until stops left = record {
-      steps = λ some w rs gs at. stop_after some w rs gs r
-          (stops some w v rs gs refl (until some w rs gs (from_old some w rs gs at))) left;
-      over = not_over r;
-      ends = stop_in r left;
-    }

@@ -1,4 +1,4 @@
-use Rattle.lsm_writers.proofs.Streaming.{ends_fails, ends_some}
+use Rattle.lsm_writers.proofs.StreamCalls.{ends_fails, ends_some}
 use Rattle.lsm_writers.proofs.table_stream.end.Goals as goal
 
 pub returns-in_ok-table-in-Ok-clause-ends : goal.returns-in_ok-table-in-Ok-clause-ends

@@ -1,8 +1,9 @@
 use Rattle.std.proofs.Common.{arith}
 use Rattle.sst_entries.specs.Lending.{entry_of_ref}
-use Rattle.lsm_writers.proofs.Streaming.{can_advance, can_none, can_some, can_write, from_failed}
-use Rattle.lsm_writers.proofs.Streaming.{from_fails, from_none, from_over, from_some, lent_next}
-use Rattle.lsm_writers.proofs.Streaming.{lent_over, lowers_came, until_fails}
+use Rattle.lsm_writers.proofs.StreamCalls.{can_advance, can_none, can_some, can_write, from_failed}
+use Rattle.lsm_writers.proofs.StreamCalls.{from_fails, from_none, from_over, from_some}
+use Rattle.lsm_writers.proofs.StreamCalls.{lowers_came, until_fails}
+use Rattle.lsm_writers.proofs.Streaming.{lent_next, lent_over}
 use Rattle.lsm_writers.proofs.table_stream.write_until.Goals as goal
 
 pub loop-source-init : goal.loop-source-init

@@ -1,4 +1,4 @@
-use Rattle.lsm_writers.proofs.Streaming.{no_error, until_none, yields_end, yields_stop}
+use Rattle.lsm_writers.proofs.StreamCalls.{no_error, until_none, yields_end, yields_stop}
 use Rattle.lsm_writers.proofs.table_stream.TableStreamIterator.next.Goals as goal
 
 pub end-requires : goal.end-requires
