@@ -40,8 +40,9 @@
  *
  * - `sst_table_get`, `sst_runs_get`, `sst_range_next` and `sst_scan_next` set their outputs to
  *   zeros and keep no entry.
- * - `sst_table_verify` and `sst_verification_step` set `verified` to zeros, unless the error is
- *   SST_FAULTY. `progress` still reports how far an open verification is.
+ * - `sst_table_verify`, `sst_table_verify_with` and `sst_verification_step` set `verified` to
+ *   zeros, unless the error is SST_FAULTY. `progress` still reports how far an open verification
+ *   is.
  * - `sst_range_take`, `sst_scan_take` and `sst_writer_add_many` set `count` to the number of
  *   entries that were read or written before the error.
  *
@@ -310,26 +311,27 @@ enum {
   SST_SECTION_META = 7
 };
 
-/* Faults of a block. These calls do not report 12, another checksum of the file. */
+/* Faults of a block, and of a whole file. Only `sst_table_verify_with` reports the last one. */
 enum {
-  SST_FAULT_UNLOADED = 1,     /* it does not load */
-  SST_FAULT_HOLLOW = 2,       /* it is empty */
-  SST_FAULT_MISPLACED = 3,    /* it does not start where the one before it ends */
-  SST_FAULT_TOO_HIGH = 4,     /* an entry has the largest sequence number */
-  SST_FAULT_UNORDERED = 5,    /* an entry does not follow the one before it */
-  SST_FAULT_DENIED = 6,       /* a filter false negative for a key of the table */
-  SST_FAULT_UNFILTERED = 7,   /* a block of the filter does not load */
-  SST_FAULT_OTHER_KEY = 8,    /* it does not end with the key of its index entry */
-  SST_FAULT_OTHER_NUMBER = 9, /* it does not end with the seqno of its index entry */
-  SST_FAULT_UNBORNE = 10,     /* the entries do not match an item of the meta block */
-  SST_FAULT_UNNAMED = 11      /* a data block that is not in the index */
+  SST_FAULT_UNLOADED = 1,       /* it does not load */
+  SST_FAULT_HOLLOW = 2,         /* it is empty */
+  SST_FAULT_MISPLACED = 3,      /* it does not start where the one before it ends */
+  SST_FAULT_TOO_HIGH = 4,       /* an entry has the largest sequence number */
+  SST_FAULT_UNORDERED = 5,      /* an entry does not follow the one before it */
+  SST_FAULT_DENIED = 6,         /* a filter false negative for a key of the table */
+  SST_FAULT_UNFILTERED = 7,     /* a block of the filter does not load */
+  SST_FAULT_OTHER_KEY = 8,      /* it does not end with the key of its index entry */
+  SST_FAULT_OTHER_NUMBER = 9,   /* it does not end with the seqno of its index entry */
+  SST_FAULT_UNBORNE = 10,       /* the entries do not match an item of the meta block */
+  SST_FAULT_UNNAMED = 11,       /* a data block that is not in the index */
+  SST_FAULT_OTHER_CHECKSUM = 12 /* the file has another checksum than the given one */
 };
 
 /* The result of a verification: the two counts of a valid table, or the position of its fault. */
 typedef struct sst_verified {
   uint64_t item_count;
   uint64_t data_block_count;
-  uint64_t offset;  /* of the block with the fault, in bytes of the file */
+  uint64_t offset;  /* of the block with the fault, in bytes of the file; 0 for another checksum */
   uint32_t section; /* one of the sections above */
   uint32_t fault;   /* one of the faults above */
   uint32_t detail;  /* SST_FAULT_UNLOADED, SST_FAULT_UNFILTERED: error code of the load */
@@ -344,9 +346,19 @@ typedef struct sst_verified {
  *
  * Bytes that no read needs are not checked. These are the byte of the version section, and the
  * trailer's positions of that section, the data blocks and partitions. A file that differs only
- * there may open and be verified. The `checksum` of an `sst_file` covers every byte.
+ * there may open and be verified. `sst_table_verify_with` compares a checksum of every byte.
  */
 uint32_t sst_table_verify(sst_handle *table, sst_verified *verified);
+
+/* Compares the checksum of the whole file, then verifies the table as `sst_table_verify` does.
+ * `checksum` is the 64-bit FNV-1a hash of all bytes that the table was opened from, as in an
+ * `sst_file`. It is no protection against deliberate changes.
+ *
+ * Errors: SST_FAULTY if the bytes have another checksum. `verified` then has
+ * SST_FAULT_OTHER_CHECKSUM, in SST_SECTION_DATA at offset 0. This is found before a block is read
+ * or memory is allocated. Otherwise the results and errors are those of `sst_table_verify`.
+ */
+uint32_t sst_table_verify_with(sst_handle *table, uint64_t checksum, sst_verified *verified);
 
 /* Opens a verification by steps, into a handle that holds nothing. The caller can show its
  * progress, and stop it. This call reads nothing yet.
@@ -643,7 +655,7 @@ uint32_t sst_compact(sst_handle *runs, const sst_options *options, uint64_t wate
 
 typedef struct sst_file {
   uint64_t id;
-  uint64_t checksum; /* FNV-1a of all bytes */
+  uint64_t checksum; /* 64-bit FNV-1a hash of all bytes, for `sst_table_verify_with` */
   uint64_t len;
 } sst_file;
 

@@ -47,6 +47,13 @@ static void write_entries(sst_handle *writer, int n) {
 /* How many entries these are. */
 static uint64_t count_of(int n) { return (uint64_t)(2 * n + (n + 6) / 7); }
 
+/* Returns the FNV-1a hash of some bytes. */
+static uint64_t hash_of(const uint8_t *bytes, size_t len) {
+  uint64_t hash = 0xcbf29ce484222325;
+  for (size_t i = 0; i < len; i++) hash = (hash ^ bytes[i]) * 0x100000001b3;
+  return hash;
+}
+
 /* Copies the bytes of a finished table, at most `piece` bytes a call. */
 static uint8_t *file_of(sst_handle *files, size_t piece, size_t *len) {
   sst_file told;
@@ -59,7 +66,7 @@ static uint8_t *file_of(sst_handle *files, size_t piece, size_t *len) {
     CHECK(sst_files_copy(files, 0, at, room > 0 ? file + at : &none, room, &count) == 0);
     at += count;
   }
-  CHECK(at == told.len);
+  CHECK(at == told.len && told.checksum == hash_of(file, told.len));
   *len = told.len;
   return file;
 }

@@ -2,6 +2,7 @@
  * under valgrind. It prints what failed, and returns 1 then.
  */
 #include "bulk.h"
+#include "verify.h"
 
 static void test_gets(sst_handle *table, int n) {
   char key[16], value[32];
@@ -350,72 +351,6 @@ static void test_kept(const uint8_t *file, size_t len, int n) {
   sst_close(&answers);
   CHECK(sst_table_open_kept(file, len, UINT64_MAX, true, true, &table) == 20);
   sst_close(&table);
-}
-
-/* Verifies a table by steps. The number of bytes read never descends, and never exceeds the size.
- * Returns the last code.
- */
-static uint32_t verify_by_steps(sst_handle *verification, sst_progress *progress,
-                                sst_verified *verified) {
-  uint64_t before = 0;
-  uint32_t code = 0;
-  progress->at_end = 0;
-  while (code == 0 && progress->at_end == 0) {
-    memset(verified, 7, sizeof *verified);
-    code = sst_verification_step(verification, progress, verified);
-    CHECK(progress->bytes_read >= before && progress->bytes_read <= progress->data_size);
-    CHECK(code != 0 || progress->at_end == 1 || verified->item_count == 0);
-    before = progress->bytes_read;
-  }
-  return code;
-}
-
-static void test_verification(const uint8_t *file, size_t len, uint64_t items) {
-  sst_handle table = {0}, steps = {0}, closed = {0};
-  sst_progress progress = {7, 7, 7};
-  sst_verified verified, again, at_once;
-  sst_facts facts;
-  sst_entry entry;
-  sst_lent lent;
-  CHECK(sst_verification_open(&closed, &steps) == SST_CLOSED);
-  CHECK(sst_verification_step(&steps, &progress, &verified) == SST_CLOSED);
-  CHECK(progress.bytes_read == 0 && progress.at_end == 0 && verified.item_count == 0);
-  CHECK(sst_table_open_kept(file, len, 0, true, true, &table) == 0);
-  CHECK(sst_verification_open(&table, &table) == SST_OPEN);
-  progress.at_end = 7;
-  CHECK(sst_verification_step(&table, &progress, &verified) == SST_OTHER_KIND);
-  CHECK(progress.at_end == 0);
-  CHECK(sst_verification_open(&table, &steps) == 0);
-  CHECK(sst_verification_open(&table, &steps) == SST_OPEN);
-  CHECK(sst_verification_open(&steps, &closed) == SST_OTHER_KIND);
-  CHECK(sst_table_get(&steps, file, 0, 1, &entry) == SST_OTHER_KIND);
-  CHECK(sst_range_next(&steps, false, &entry) == SST_OTHER_KIND);
-  CHECK(sst_found_lend(&steps, &lent) == SST_NOTHING);
-  CHECK(sst_table_facts(&table, &facts) == 0);
-  CHECK(sst_table_verify(&table, &at_once) == 0);
-  sst_close(&table); /* the verification has a share */
-  CHECK(sst_verification_step(&steps, &progress, &verified) == 0);
-  CHECK(progress.bytes_read == 0 && progress.data_size == facts.data_size);
-  CHECK(verify_by_steps(&steps, &progress, &verified) == 0);
-  CHECK(progress.bytes_read == facts.data_size && verified.item_count == items);
-  CHECK(memcmp(&verified, &at_once, sizeof verified) == 0);
-  CHECK(sst_verification_step(&steps, &progress, &again) == 0 && progress.at_end == 1);
-  CHECK(memcmp(&verified, &again, sizeof verified) == 0);
-  sst_close(&steps);
-  CHECK(sst_verification_step(&steps, &progress, &verified) == SST_CLOSED);
-}
-
-/* Steps find the same as one call, and a further step finds it again. */
-static void verify_damaged(sst_handle *table, uint32_t code, const sst_verified *at_once) {
-  sst_handle steps = {0};
-  sst_progress progress;
-  sst_verified verified;
-  CHECK(sst_verification_open(table, &steps) == 0);
-  CHECK(verify_by_steps(&steps, &progress, &verified) == code);
-  CHECK(memcmp(&verified, at_once, sizeof verified) == 0);
-  CHECK(sst_verification_step(&steps, &progress, &verified) == code);
-  CHECK(memcmp(&verified, at_once, sizeof verified) == 0 && progress.at_end == (code == 0));
-  sst_close(&steps);
 }
 
 /* Makes a table of one entry for each of some keys of one letter. */
@@ -818,6 +753,7 @@ static void test_no_entry(const sst_options *options) {
  */
 static void test_damage(const uint8_t *file, size_t len, uint64_t items) {
   uint8_t *damaged = malloc(len);
+  uint64_t checksum = hash_of(file, len);
   sst_verified verified;
   sst_entry entry;
   for (size_t i = 0; i < len; i++) {
@@ -831,6 +767,7 @@ static void test_damage(const uint8_t *file, size_t len, uint64_t items) {
     CHECK(code == SST_FAULTY || (code == 0 && verified.item_count == items));
     CHECK(code == 0 || (verified.fault >= 1 && verified.section >= 1 && verified.section <= 7));
     verify_damaged(&table, code, &verified);
+    verify_with(&table, hash_of(damaged, len), checksum, code, &verified);
     scan_damaged(&table, code == 0, items);
     CHECK(sst_range_open(&table, 0, file, 0, 0, file, 0, &range) == 0);
     while ((code = sst_range_next(&range, i % 2 == 1, &entry)) == 0 && entry.kind != 0) {
@@ -893,6 +830,7 @@ static void test_table(const sst_options *options, int n, size_t piece, bool pin
   test_scan(file, len, pin);
   if (options->index_partition_size > 0) test_scan_alone(file, len, count_of(n));
   test_verification(file, len, count_of(n));
+  test_checksum(file, len);
   if (n < 10) {
     test_misuse(options, file, len);
     test_one_handle_twice(options, file, len);

@@ -177,6 +177,7 @@ table_facts = _declare("sst_table_facts", _handle, POINTER(Facts))
 table_memory = _declare("sst_table_memory", _handle, POINTER(Memory))
 table_share = _declare("sst_table_share", _handle, _handle)
 table_verify = _declare("sst_table_verify", _handle, POINTER(Verified))
+table_verify_with = _declare("sst_table_verify_with", _handle, c_uint64, POINTER(Verified))
 verification_open = _declare("sst_verification_open", _handle, _handle)
 verification_step = _declare("sst_verification_step", _handle, POINTER(Progress),
                              POINTER(Verified))

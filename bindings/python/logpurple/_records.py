@@ -141,7 +141,7 @@ class Section(enum.IntEnum):
 
 
 class Fault(enum.IntEnum):
-    """A fault of a block.
+    """A fault of a block or, the last one, of a whole file.
 
     `UNLOADED`: the block does not load.
     `HOLLOW`: the block is empty.
@@ -154,6 +154,7 @@ class Fault(enum.IntEnum):
     `OTHER_NUMBER`: the block does not end with the sequence number that the index has for it.
     `UNBORNE`: an item of the meta block does not match the entries.
     `UNNAMED`: the index does not name a data block.
+    `OTHER_CHECKSUM`: the file has another checksum than the given one.
     """
 
     UNLOADED = 1
@@ -167,6 +168,7 @@ class Fault(enum.IntEnum):
     OTHER_NUMBER = 9
     UNBORNE = 10
     UNNAMED = 11
+    OTHER_CHECKSUM = 12
 
 
 class Finding(NamedTuple):
@@ -174,7 +176,7 @@ class Finding(NamedTuple):
 
     `section`: the section of the block.
     `offset`: the offset in the file at which the block starts, in bytes.
-    `fault`: the fault.
+    `fault`: the fault. `Fault.OTHER_CHECKSUM` is reported at the first byte of the file.
     `detail`: the error code of loading the block, for `Fault.UNLOADED` and `Fault.UNFILTERED`; else
     0.
     """

@@ -499,7 +499,8 @@ class Table(Returned, _Reader):
         self._check(_calls.table_facts(self._ref, byref(found)))
         return Facts(*(getattr(found, name) for name in Facts._fields))
 
-    def verify(self, progress: Optional[Callable[[int, int], object]] = None) -> Verified:
+    def verify(self, progress: Optional[Callable[[int, int], object]] = None, *,
+               checksum: Optional[int] = None) -> Verified:
         """Reads every block once, and checks that the table stores entries in order.
 
         Raises `Faulty` with the first fault, if there is one.
@@ -507,15 +508,21 @@ class Table(Returned, _Reader):
         `progress`: is called after each block with two numbers, the bytes of data blocks that were
         read and their total. It may use the table. An exception that it raises ends the
         verification.
+        `checksum`: is compared with that of all bytes of the table, before a block is read. It is
+        the `checksum` of a `FinishedTable` or a `WrittenFile`. If the bytes have another one, the
+        fault is `Fault.OTHER_CHECKSUM`.
 
-        Some bytes are never read, so a change of them is not found. In a table of a `Writer` these
-        are the version section, and the trailer's positions of this section, the data blocks and
-        partitions. The `checksum` of a `FinishedTable` covers every byte.
+        Raises `TypeError` if both are passed: a verification by steps compares no checksum.
+
+        Without a checksum, some bytes are never read, so a change of them is not found. In a table
+        of a `Writer` these are the version section, and the trailer's positions of this section,
+        the data blocks and partitions. A checksum covers every byte.
 
         >>> writer = Writer()
         >>> writer.add(b"a", b"1")
-        >>> file = bytearray(writer.finish())
-        >>> Table.open(file).verify().item_count
+        >>> written = writer.finish()
+        >>> file = bytearray(written)
+        >>> Table.open(file).verify(checksum=written.checksum).item_count
         1
         >>> calls = []
         >>> Table.open(file).verify(lambda read, size: calls.append(read == size)).item_count
@@ -527,12 +534,22 @@ class Table(Returned, _Reader):
         Traceback (most recent call last):
         ..
         logpurple.Faulty: the table is not sound (107): section DATA, offset 0, fault UNLOADED
+        >>> Table.open(file).verify(checksum=written.checksum)
+        Traceback (most recent call last):
+        ..
+        logpurple.Faulty: the table is not sound (107): section DATA, offset 0, fault OTHER_CHECKSUM
         """
         if progress is not None:
+            if checksum is not None:
+                raise TypeError("verify takes progress or a checksum, and not both")
             return self._verify_by_steps(progress)
+        wanted = None if checksum is None else number(checksum)
         found = _calls.Verified()
         with self._turn:
-            code = _calls.table_verify(self._ref, byref(found))
+            if wanted is None:
+                code = _calls.table_verify(self._ref, byref(found))
+            else:
+                code = _calls.table_verify_with(self._ref, wanted, byref(found))
         return self._verified(code, found)
 
     def _verify_by_steps(self, progress: Callable[[int, int], object]) -> Verified:

@@ -12,6 +12,14 @@ from logpurple import NEWEST, Entry, Kind, Table, Writer  # noqa: E402
 KINDS = [Kind.VALUE, Kind.VALUE, Kind.TOMBSTONE, Kind.WEAK_TOMBSTONE, Kind.INDIRECTION]
 
 
+def fnv(data):
+    """Returns the FNV-1a hash of some bytes, the checksum of a block or of a file."""
+    found = 0xcbf29ce484222325
+    for byte in data:
+        found = (found ^ byte) * 0x100000001b3 % 2**64
+    return found
+
+
 def entries_of(seed, count, above=0, step=1):
     """Returns random entries in the order of a table. Their sequence numbers are above one number,
     and a step apart."""

@@ -84,7 +84,7 @@ class Misuse(unittest.TestCase):
         for call in (lambda: table.get(b"a"), lambda: table.entry(b"a"), lambda: table[b"a"],
                      lambda: b"a" in table, lambda: table.entry_count, lambda: list(table),
                      table.facts, table.verify, table.share, table.entries, table.range, table.scan,
-                     table.memory, lambda: next(scan),
+                     table.memory, lambda: next(scan), lambda: table.verify(checksum=0),
                      lambda: table.get_many([b"a"]), lambda: table.get_many([]),
                      lambda: table.entry_many([b"a"]), lambda: writer.add(b"a", b""),
                      lambda: writer.delete(b"a"), writer.finish, lambda: runs.get(b"a"),
@@ -172,7 +172,8 @@ class Misuse(unittest.TestCase):
                      lambda: table.entry_many([], at=-1), lambda: table.range(at=2**64),
                      lambda: Runs(table).range(at=-1), lambda: Runs(table).entries(at=2**64),
                      lambda: Table.open(b"", global_seqno=2**64), lambda: Writer(id=2**64),
-                     lambda: Writer(filter_bits_per_key=2**32), lambda: Writer(id=-1)):
+                     lambda: Writer(filter_bits_per_key=2**32), lambda: Writer(id=-1),
+                     lambda: table.verify(checksum=2**64), lambda: table.verify(checksum=-1)):
             with self.assertRaises(OverflowError):
                 call()
 
@@ -229,6 +230,7 @@ class Misuse(unittest.TestCase):
                     setattr(writer, name, member.__get__(writer) if is_method else member)
         for call in (lambda: Table.get(writer, b"a"), lambda: Table.facts(writer),
                      lambda: Table.entries(writer), lambda: Table.verify(writer),
+                     lambda: Table.verify(writer, checksum=0),
                      lambda: Table.scan(writer), lambda: Table.memory(writer),
                      lambda: Table._find(writer, [b"a"], 1), lambda: Writer.add(table, b"a", b"")):
             with self.assertRaises(logpurple.OtherKind):

@@ -6,7 +6,7 @@ import struct
 import unittest
 from ctypes import addressof
 
-from common import file_of, table_of
+from common import file_of, fnv, table_of
 
 import logpurple
 from logpurple import NEWEST, Entry, Fault, Kind, Section, Table, Writer, _calls
@@ -15,14 +15,6 @@ NONE = 2**64 - 1
 A1 = Entry(b"a", 1, Kind.VALUE, b"x")
 ROWS = [Entry(b"a", 9, Kind.VALUE, b""), Entry(b"a", 7, Kind.VALUE, b""),
         Entry(b"a", 5, Kind.VALUE, b""), Entry(b"b", 1, Kind.VALUE, b"")]
-
-
-def fnv(data):
-    """Returns the FNV-1a hash of some bytes, the checksum of a block."""
-    found = 0xcbf29ce484222325
-    for byte in data:
-        found = (found ^ byte) * 0x100000001b3 % 2**64
-    return found
 
 
 def sections(file):

@@ -9,12 +9,23 @@ import pickle
 import tempfile
 import unittest
 
-from common import entries_of, file_of, keys_of, newest, seen, shown, small, table_of, within
+from common import (entries_of, file_of, fnv, keys_of, newest, seen, shown, small, table_of,
+                    within)
 
 import logpurple
-from logpurple import Entry, Kind, Memory, Table, Writer
+from logpurple import Entry, Fault, Finding, Kind, Memory, Section, Table, Writer
 
 BOUNDS = [None, b"", b"\0", b"a", b"ab", b"b\0", b"ca", b"\xff", b"\xff" * 9]
+OTHER_CHECKSUM = Finding(Section.DATA, 0, Fault.OTHER_CHECKSUM, 0)
+
+
+def found_by(table, checksum=None):
+    """Returns the finding of a verification, or `None` if it finds no fault."""
+    try:
+        table.verify(checksum=checksum)
+    except logpurple.Faulty as faulty:
+        return faulty.finding
+    return None
 
 
 class Tables(unittest.TestCase):
@@ -163,13 +174,35 @@ class Tables(unittest.TestCase):
         self.assertEqual(list(table.entries()), entries_of(2, 9))
 
     def test_a_finished_table(self):
-        file, checksum = file_of(entries_of(3, 20), id=6), 0xcbf29ce484222325
-        for byte in file:
-            checksum = (checksum ^ byte) * 0x100000001b3 % 2**64
+        file = file_of(entries_of(3, 20), id=6)
         for each in (file, copy.copy(file), pickle.loads(pickle.dumps(file))):
-            self.assertEqual((each.id, each.checksum, bytes(each)), (6, checksum, bytes(file)))
+            self.assertEqual((each.id, each.checksum, bytes(each)), (6, fnv(file), bytes(file)))
             self.assertEqual(hash(each), hash(bytes(file)))
         self.assertEqual(list(Table.open(file, kept=True).entries()), entries_of(3, 20))
+
+    def test_a_checksum(self):
+        file = file_of(entries_of(3, 20), **small(1))
+        table = Table.open(file, global_seqno=5)
+        self.assertEqual(table.verify(checksum=fnv(file)), table.verify())
+        for wrong in (0, fnv(file) - 1, 2**64 - 1):
+            self.assertEqual(found_by(table, wrong), OTHER_CHECKSUM)
+        self.assertRaises(TypeError, lambda: table.verify(lambda *_: None, checksum=fnv(file)))
+
+    def test_a_checksum_of_damaged_bytes(self):
+        file, faults = file_of(entries_of(3, 20), **small(1)), set()
+        checksum = fnv(file)
+        for place in range(len(file)):
+            damaged = file[:place] + bytes([file[place] ^ 0xff]) + file[place + 1:]
+            try:
+                table = Table.open(damaged)
+            except logpurple.TableError:
+                continue
+            self.assertEqual(found_by(table, checksum), OTHER_CHECKSUM)
+            found = found_by(table)
+            self.assertEqual(found_by(table, fnv(damaged)), found)
+            faults.add(found and found.fault)
+        # Without a checksum, some damage is found, and some is not.
+        self.assertGreaterEqual(faults, {None, Fault.UNLOADED})
 
     def test_a_global_number(self):
         table = Table.open(file_of(entries_of(3, 20)), global_seqno=100)

@@ -55,6 +55,7 @@ def main(path: pathlib.Path, mapped: mmap.mmap) -> None:
             verified: Verified = table.verify(lambda read, size: None)
             files: Compacted = compact(runs, watermark=5, level=1)
             first: FinishedTable = files[0]
+            verified = Table.open(first).verify(checksum=first.checksum)
             first.save(path)
             written: Optional[WrittenFile] = Writer().finish_to(path)
             several: Runs = Runs.of_runs([[table], iter([table])])

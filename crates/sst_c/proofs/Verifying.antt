@@ -4,10 +4,12 @@ use Rattle.lsm_readers.specs.declared.verify.Finding.{Finding}
 use Rattle.lsm_readers.specs.declared.verify.Verified.{Verified}
 use Rattle.std.specs.Prelude.{IfErr, IfOk}
 use Rattle.std.specs.Result.{IsErrAnd}
-use Rattle.lsm_readers.specs.Verify.{Finds, FindsFirst}
+use Rattle.sst_blocks.specs.Sections.{body_of}
+use Rattle.lsm_readers.specs.Findings.{IsFirstFinding}
+use Rattle.lsm_readers.specs.Verify.{Finds, FindsFirst, table_early, table_found}
 use Rattle.lsm_readers.specs.Words.{Entry, StoresList}
 use Rattle.lsm_readers.specs.declared.verify.VerifyError.{VerifyError}
-use Rattle.sst_c.specs.Verify.{ReportsCounts, ReportsFinding, ReportsWrong, VerifyAnswers}
+use Rattle.sst_c.specs.Verify.{ReportsCounts, ReportsFinding, ReportsWrong, VerifiesTable, VerifyAnswers}
 use Rattle.sst_c.specs.Verify.{finding_result, no_finding, verified_result, verify_code, verify_result}
 use Rattle.lsm_readers.specs.point.Table.{OpenTable}
 use Rattle.lsm_readers.specs.declared.verify.VerifyError.TheVariants.{Found, OutOfMemory}
@@ -64,15 +66,16 @@ came_answers (Ok v) returned same = answers_ok v returned same
 came_answers (Err OutOfMemory) returned misses = answers_memory returned no_finding refl
 came_answers (Err (Found f)) returned misses = answers_err f returned (misses f refl)
 
+-- a fault that is found is reported
+pub found_result : (r : Result Verified VerifyError) (f : Finding) → IsErrAnd r (λ e. e ≡ Found f)
+    → (verify_code r ≡ 107) × (verify_result r ≡ finding_result f)
+found_result (Ok v) f same = elim same [ ]
+found_result (Err e) f same = (ap (λ (x : VerifyError). verify_code (Err x)) same, ap (λ (x : VerifyError). verify_result (Err x)) same)
+
 -- and what takes no memory to be found, whatever memory there is;
 pub came_early : (r : Result Verified VerifyError) (early : Option Finding) → FindsFirst r early
     → ReportsFinding (verify_code r) (verify_result r) early
 came_early r early first f is = found_result r f (first f is)
-  where
-    found_result : (r : Result Verified VerifyError) (f : Finding) → IsErrAnd r (λ e. e ≡ Found f)
-        → (verify_code r ≡ 107) × (verify_result r ≡ finding_result f)
-    found_result (Ok v) f same = elim same [ ]
-    found_result (Err e) f same = (ap (λ (x : VerifyError). verify_code (Err x)) same, ap (λ (x : VerifyError). verify_result (Err x)) same)
 
 -- what is told is the first that is wrong;
 pub came_wrong : (r : Result Verified VerifyError) (IsFirst : Finding → Type 0)
@@ -95,3 +98,35 @@ pub came_fine : (r : Result Verified VerifyError) → IfErr r (λ e. e ≡ OutOf
 came_fine (Ok v) fine code = cc
 came_fine (Err OutOfMemory) fine code = cc
 came_fine (Err (Found f)) fine code = found_is_no_memory f fine
+
+-- so the code and the report of a verification's result are those of the table
+pub verifies_table : (t : OpenTable) (r : Result Verified VerifyError) (code : ℕ) (returned : VerifyReport)
+    → code ≡ verify_code r → returned ≡ verify_result r
+    → Finds (λ (v : Verified). v) r (table_found (body_of t.bytes) t.parts)
+    → FindsFirst r (table_early (body_of t.bytes) t.parts)
+    → IfErr r (λ e. (f : Finding) → e ≡ Found f → IsFirstFinding (body_of t.bytes) t.parts f)
+    → IfOk r (λ v. (es : List Entry) × (s : StoresList t.bytes es) × (v.item_count ≡ length es)
+    × (v.data_block_count ≡ length s.handles))
+    → ((es : List Entry) → StoresList t.bytes es → IfErr r (λ e. e ≡ OutOfMemory))
+    → VerifiesTable t code returned
+verifies_table t r code returned one two finds early firsts stores complete =
+    let found = table_found (body_of t.bytes) t.parts in
+    let first = table_early (body_of t.bytes) t.parts in
+    let First = IsFirstFinding (body_of t.bytes) t.parts in
+    record {
+      answers = at_both (λ n v. VerifyAnswers n v found) code (verify_code r) returned (verify_result r) one two
+          (came_answers r found finds);
+      early = at_both (λ n v. ReportsFinding n v first) code (verify_code r) returned (verify_result r) one two
+          (came_early r first early);
+      first = at_both (λ n v. ReportsWrong First n v) code (verify_code r) returned (verify_result r) one two
+          (came_wrong r First firsts);
+      sound = λ zero. subst (λ (v : VerifyReport). ReportsCounts t.bytes v) (sym two)
+          (came_counts r t.bytes stores (sym one ∙ zero));
+      complete = λ es holds wrong. came_fine r (complete es holds) (sym one ∙ wrong);
+    }
+
+-- code 0 is returned for verified tables only
+pub came_ok : (r : Result Verified VerifyError) (P : Type 0) → IfOk r (λ _. P) → verify_code r ≡ 0 → P
+came_ok (Ok v) P holds code = holds
+came_ok (Err OutOfMemory) P holds code = absurd (let no : ⊥ = cc in no)
+came_ok (Err (Found f)) P holds code = absurd (let no : ⊥ = cc in no)

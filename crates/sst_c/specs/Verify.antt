@@ -1,9 +1,10 @@
 -- Verification results as reported to C.
 use Rattle.std.specs.Prelude.{◌≡◌, ◌≢◌, ℕ, ◌+◌, ◌⊎◌, List, length, Option, Some, Result, Ok, Err}
 use Rattle.sst_entries.specs.Error.{number_of}
+use Rattle.sst_blocks.specs.Fnv.{fnv1a}
 use Rattle.sst_blocks.specs.Sections.{body_of, slot_index}
 use Rattle.lsm_readers.specs.Findings.{IsFirstFinding}
-use Rattle.lsm_readers.specs.Verify.{table_early, table_found}
+use Rattle.lsm_readers.specs.Verify.{other_checksum, table_early, table_found}
 use Rattle.lsm_readers.specs.point.Table.{OpenTable}
 use Rattle.lsm_readers.specs.Words.{Entry, StoresList}
 use Rattle.lsm_readers.specs.declared.verify.Fault.{Fault}
@@ -122,3 +123,13 @@ pub record VerifiesTable (t : OpenTable) (code : ℕ) (returned : VerifyReport) 
   pub sound : code ≡ 0 → ReportsCounts t.bytes returned
   -- it finds no fault in a table that stores a list
   pub complete : (es : List Entry) → StoresList t.bytes es → code ≢ 107
+
+-- a verification that first compares the checksum of the file returns a code and a report
+pub record VerifiesTableWith (t : OpenTable) (checksum : ℕ) (code : ℕ) (returned : VerifyReport)
+    : Type 0 where
+  -- another checksum is reported, whatever memory there is
+  pub other : fnv1a t.bytes ≢ checksum → (code ≡ 107) × (returned ≡ finding_result other_checksum)
+  -- a verified table has this checksum
+  pub same : code ≡ 0 → fnv1a t.bytes ≡ checksum
+  -- if the checksum matches, it returns and reports what `sst_table_verify` does
+  pub verifies : fnv1a t.bytes ≡ checksum → VerifiesTable t code returned

@@ -79,8 +79,8 @@ pub use Rattle.sst_c.specs.Takes.{CopiesMany, ReadsMany, TakesMany, bytes_found,
 pub use Rattle.sst_c.specs.Reported.{AnswersRead, entry_facts, found_at, found_by, found_in, found_of}
 pub use Rattle.sst_c.specs.Reported.{in_runs, in_table, is_settled, kept_in_runs, kept_in_table}
 pub use Rattle.sst_c.specs.Reported.{borrowed_in, outcome_of}
-pub use Rattle.sst_c.specs.Verify.{ReportsCounts, ReportsFinding, ReportsWrong, VerifiesTable, detail_of}
-pub use Rattle.sst_c.specs.Verify.{fault_number}
+pub use Rattle.sst_c.specs.Verify.{ReportsCounts, ReportsFinding, ReportsWrong, VerifiesTable}
+pub use Rattle.sst_c.specs.Verify.{VerifiesTableWith, detail_of, fault_number}
 pub use Rattle.sst_c.specs.Verify.{finding_result, no_finding, verified_result, verify_code}
 pub use Rattle.sst_c.specs.Verify.{verify_result}
 unfoldable pub use Rattle.sst_c.specs.Verify.{VerifyAnswers}

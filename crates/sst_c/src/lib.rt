@@ -79,5 +79,5 @@ pub use shares::sst_table_share;
 pub use tables::{sst_table_get, sst_table_open};
 pub use verification::{sst_verification_open, sst_verification_step};
 pub use verifier::{ProgressReport, Verifier};
-pub use verify::{VerifyReport, sst_table_verify};
+pub use verify::{VerifyReport, sst_table_verify, sst_table_verify_with};
 pub use writers::{sst_writer_add, sst_writer_finish, sst_writer_open};

@@ -6,6 +6,7 @@ use crate::codes::{CLOSED, FAULTY, NO_MEMORY, OTHER_KIND};
 use crate::handle::Handle;
 use crate::held::{Held, What};
 use lsm_readers::{Fault, Finding, Table, Verified, VerifyError};
+use sst_blocks::Checksum;
 use std::alloc::Global;
 
 /// The result of a verification: the counts of a valid table, or the first fault and its position.
@@ -25,8 +26,8 @@ pub struct VerifyReport {
     pub section: u32,
     /// The fault, or 0 if there is none: the position of its variant in [`Fault`], from 1 on.
     ///
-    /// `include/sst.h` has a name for each (`SST_FAULT_UNLOADED` to `SST_FAULT_UNNAMED`), except
-    /// for 12, another checksum of the file.
+    /// `include/sst.h` has a name for each, from `SST_FAULT_UNLOADED` on. Only
+    /// [`sst_table_verify_with`] reports 12, another checksum of the file.
     pub fault: u32,
     /// The error code of the load for faults 1 and 7, else 0.
     pub detail: u32,
@@ -115,6 +116,13 @@ fn verify(table: &Table, returned: &mut VerifyReport) -> u32
     tell(&table.verify(), returned)
 }
 
+fn verify_with(table: &Table, checksum: u64, returned: &mut VerifyReport) -> u32
+    requires { returned.old ≡ spec.no_finding }
+    ensures { spec.VerifiesTableWith table.now checksum result returned.new }
+{
+    tell(&table.verify_with(Checksum(u128::from(checksum))), returned)
+}
+
 // Writes the report of a verification, and returns its code.
 fn tell(came: &Result<Verified, VerifyError>, returned: &mut VerifyReport) -> u32
     requires { returned.old ≡ spec.no_finding }
@@ -178,6 +186,57 @@ pub extern "C" fn sst_table_verify(
         return CLOSED;
     };
     let code = verify_held(&held, returned);
+    table.put(held);
+    code
+}
+
+fn verify_held_with(held: &Held, checksum: u64, returned: &mut VerifyReport) -> u32
+    requires { returned.old ≡ spec.no_finding }
+    ensures other { spec.is_table held.now.what ≡ false →
+        (result ≡ 102) × (returned.new ≡ spec.no_finding) }
+    ensures verifies { (t : spec.OpenTable) → held.now.what ≡ spec.TableOf t →
+        spec.VerifiesTableWith t checksum result returned.new }
+{
+    match &held.what {
+        What::Table(table) => verify_with(table, checksum, returned),
+        _ => OTHER_KIND,
+    }
+}
+
+/// Compares the checksum of a table's bytes, then verifies it as [`sst_table_verify`] does.
+///
+/// `checksum` is the FNV-1a hash of all bytes of the file, as `sst_files_tell` reports it.
+///
+/// # Errors
+///
+/// - 107: the bytes have another checksum, or the table has a fault. `returned` gets the first
+///   fault and its position. If the checksum differs, this is fault 12 at offset 0 of section 1,
+///   and no block is read.
+/// - 100: the handle is closed.
+/// - 102: the handle holds no table.
+/// - 1: out of memory. The bytes have this checksum, and nothing else is known about the table.
+///
+/// With 100, 102 and 1, `returned` is zero.
+#[unsafe(no_mangle)]
+pub extern "C" fn sst_table_verify_with(
+    alloc: Global,
+    table: &mut Handle,
+    checksum: u64,
+    returned: &mut VerifyReport,
+) -> u32
+    ensures kept { table.new.boxed.value ≡ table.old.boxed.value }
+    ensures shut { table.old.boxed.value ≡ None → (result ≡ 100) × (returned.new ≡ spec.no_finding) }
+    ensures other { (h : spec.HeldValue) → table.old.boxed.value ≡ Some h →
+        spec.is_table h.what ≡ false → (result ≡ 102) × (returned.new ≡ spec.no_finding) }
+    // It reports another checksum, or else what `sst_table_verify` does.
+    ensures verifies { (h : spec.HeldValue) (t : spec.OpenTable) → table.old.boxed.value ≡ Some h →
+        h.what ≡ spec.TableOf t → spec.VerifiesTableWith t checksum result returned.new }
+{
+    *returned = nothing();
+    let Some(held) = table.take(alloc) else {
+        return CLOSED;
+    };
+    let code = verify_held_with(&held, checksum, returned);
     table.put(held);
     code
 }

@@ -126,6 +126,8 @@ pub const SST_FAULT_OTHER_NUMBER: u32 = 9;
 pub const SST_FAULT_UNBORNE: u32 = 10;
 /// The index has no entry for a data block.
 pub const SST_FAULT_UNNAMED: u32 = 11;
+/// The file has another checksum than the given one.
+pub const SST_FAULT_OTHER_CHECKSUM: u32 = 12;
 
 /// A range without this bound.
 pub const SST_UNBOUNDED: u32 = 0;
@@ -368,6 +370,12 @@ extern "C" {
     ) -> u32;
     /// Reads a whole table and reports its first fault.
     pub fn sst_table_verify(table: *mut sst_handle, verified: *mut sst_verified) -> u32;
+    /// Compares the checksum of a table's file, then does the same.
+    pub fn sst_table_verify_with(
+        table: *mut sst_handle,
+        checksum: u64,
+        verified: *mut sst_verified,
+    ) -> u32;
     /// Opens a verification by steps.
     pub fn sst_verification_open(table: *mut sst_handle, verification: *mut sst_handle) -> u32;
     /// Reads one further block of a verification.

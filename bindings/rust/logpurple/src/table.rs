@@ -447,8 +447,8 @@ impl<'f> Table<'f> {
     ///
     /// Bytes that no read needs are not checked. These are the byte of the version section, and the
     /// trailer's positions of that section, the data blocks and partitions. A file that differs
-    /// only there may open and be verified. The checksum of a
-    /// [`FinishedTable`](crate::FinishedTable) covers every byte.
+    /// only there may open and be verified. [`verify_with`](Table::verify_with) compares a checksum
+    /// of every byte.
     ///
     /// # Errors
     ///
@@ -460,6 +460,46 @@ impl<'f> Table<'f> {
             .handles
             // SAFETY: both are references of this call.
             .with(|handle| Ok(unsafe { sys::sst_table_verify(handle.words(), &mut told) }))
+            .map_err(VerifyError::Refused)?;
+        Verified::of(code, &told)
+    }
+
+    /// Compares the checksum of the whole file, then verifies the table as
+    /// [`verify`](Table::verify) does.
+    ///
+    /// `checksum` is the 64-bit FNV-1a hash of all bytes that the table was opened from. A
+    /// [`FinishedTable`](crate::FinishedTable) and a [`WrittenFile`](crate::WrittenFile) have it.
+    ///
+    /// # Errors
+    ///
+    /// `VerifyError::Found` with [`Fault::OtherChecksum`](crate::Fault::OtherChecksum) if the bytes
+    /// have another checksum. No block is read then. Otherwise the errors are those of
+    /// [`verify`](Table::verify).
+    ///
+    /// ```
+    /// # use logpurple::{Fault, Table, ValueType, VerifyError, Writer};
+    /// # fn main() -> Result<(), Box<dyn std::error::Error>> {
+    /// # let mut writer = Writer::new(1)?;
+    /// # writer.write(b"apple", 2, ValueType::Value, b"red")?;
+    /// let file = writer.finish()?.unwrap();
+    /// let checksum = file.checksum;
+    /// let table = Table::open(file)?;
+    /// assert_eq!(table.verify_with(checksum)?.item_count, 1);
+    /// match table.verify_with(checksum ^ 1) {
+    ///     Err(VerifyError::Found(finding)) => assert_eq!(finding.fault, Fault::OtherChecksum),
+    ///     other => panic!("{other:?}"),
+    /// }
+    /// # Ok(())
+    /// # }
+    /// ```
+    pub fn verify_with(&self, checksum: u64) -> Result<Verified, VerifyError> {
+        let mut told = sys::sst_verified::default();
+        let code = self
+            .handles
+            .with(|handle| {
+                // SAFETY: both are references of this call.
+                Ok(unsafe { sys::sst_table_verify_with(handle.words(), checksum, &mut told) })
+            })
             .map_err(VerifyError::Refused)?;
         Verified::of(code, &told)
     }

@@ -16,7 +16,8 @@ pub struct Verified {
 /// The error of a verification.
 #[derive(Clone, Copy, Debug, PartialEq, Eq)]
 pub enum VerifyError {
-    /// The bytes do not store a list of entries in order.
+    /// The bytes do not store a list of entries in order, or have another checksum than the given
+    /// one.
     Found(Finding),
     /// An allocation failed. The table may be valid.
     Refused(Error),
@@ -27,7 +28,7 @@ pub enum VerifyError {
 pub struct Finding {
     /// The section of the block.
     pub section: SectionName,
-    /// Offset in the file at which the block starts, in bytes.
+    /// Offset in the file at which the block starts, in bytes. Another checksum is reported at 0.
     pub offset: u64,
     /// The fault.
     pub fault: Fault,
@@ -55,7 +56,7 @@ pub enum SectionName {
     Unknown(u32),
 }
 
-/// A fault of a block.
+/// A fault of a block or of a whole file.
 #[derive(Clone, Copy, Debug, PartialEq, Eq, Hash)]
 #[non_exhaustive]
 pub enum Fault {
@@ -81,6 +82,8 @@ pub enum Fault {
     Unborne,
     /// The index has no entry for a data block.
     Unnamed,
+    /// The file has another checksum than the given one.
+    OtherChecksum,
     /// A number that this crate does not know.
     Unknown(u32),
 }
@@ -131,6 +134,7 @@ impl Fault {
             sys::SST_FAULT_OTHER_NUMBER => Fault::OtherNumber,
             sys::SST_FAULT_UNBORNE => Fault::Unborne,
             sys::SST_FAULT_UNNAMED => Fault::Unnamed,
+            sys::SST_FAULT_OTHER_CHECKSUM => Fault::OtherChecksum,
             other => Fault::Unknown(other),
         }
     }

@@ -4,8 +4,8 @@ mod common;
 
 use common::{collect, items, keys, newest, random_entries, small, write};
 use logpurple::{
-    Compaction, Error, InternalValue, OpenOptions, Options, Runs, Table, ValueType, VerifyError,
-    Writer, NEWEST,
+    Compaction, Error, Fault, Finding, InternalValue, OpenOptions, Options, Runs, SectionName,
+    Table, ValueType, Verified, VerifyError, Writer, NEWEST,
 };
 use std::ops::Bound;
 
@@ -323,6 +323,47 @@ fn damage_is_refused_or_found() {
         }
     }
     assert!(found > 0);
+}
+
+/// The FNV-1a hash of some bytes.
+fn hash_of(bytes: &[u8]) -> u64 {
+    bytes.iter().fold(0xcbf2_9ce4_8422_2325, |hash, byte| {
+        (hash ^ u64::from(*byte)).wrapping_mul(0x0100_0000_01b3)
+    })
+}
+
+const OTHER_CHECKSUM: Result<Verified, VerifyError> = Err(VerifyError::Found(Finding {
+    section: SectionName::Data,
+    offset: 0,
+    fault: Fault::OtherChecksum,
+}));
+
+#[test]
+fn a_checksum_is_compared_before_blocks_are_read() {
+    let file = write(&small(1), &items(&random_entries(12, 20)));
+    let table = Table::open_kept(&file.bytes).unwrap();
+    let checksum = hash_of(&file.bytes);
+    assert_eq!(file.checksum, checksum);
+    assert_eq!(table.verify_with(checksum), table.verify());
+    assert!(table.verify().is_ok());
+    for other in [0, checksum - 1, u64::MAX] {
+        assert_eq!(table.verify_with(other), OTHER_CHECKSUM);
+    }
+    let mut counts = [0; 2];
+    for place in 0..file.bytes.len() {
+        let mut damaged = file.bytes.clone();
+        damaged[place] ^= 0xff;
+        let table = match Table::open_kept(&damaged) {
+            Ok(table) => table,
+            Err(_) => continue,
+        };
+        let found = table.verify();
+        assert_eq!(table.verify_with(hash_of(&damaged)), found);
+        assert_eq!(table.verify_with(checksum), OTHER_CHECKSUM);
+        counts[usize::from(found.is_err())] += 1;
+    }
+    // Without a checksum, some damage is found, and some is not.
+    assert!(counts.iter().all(|count| *count > 0));
 }
 
 #[test]
