@@ -4,7 +4,7 @@ use std::test::Fail;
 use tool_options::{Parsed, parse};
 
 /// Command lines, and the first text of their results.
-const LINES: [(&str, &str); 38] = [
+const LINES: [(&str, &str); 40] = [
     (
         "sst write f",
         "Write(WriteTask { file: \"f\", tables: TableArguments { partitioned: false, filter_bits: \
@@ -20,7 +20,17 @@ const LINES: [(&str, &str); 38] = [
     (
         "sst dump a b --from x --to=y --reverse --limit 3 --json",
         "Dump(DumpTask { files: [\"a\", \"b\"], from: Some(\"x\"), to: Some(\"y\"), reverse: \
-         true, limit: Some(3), json: true })",
+         true, limit: Some(3), merged: false, at: None, json: true })",
+    ),
+    (
+        "sst dump --merged a --at 7 b",
+        "Dump(DumpTask { files: [\"a\", \"b\"], from: None, to: None, reverse: false, limit: None, \
+         merged: true, at: Some(7), json: false })",
+    ),
+    (
+        "sst dump a --at 7 b",
+        "mistaken error: the following required arguments were not provided:\n  --merged\n\nUsage: sst \
+         dump --merged --at <N> <FILE>...\n\nFor more information, try 'sst dump --help'.\n",
     ),
     (
         "sst get a b c --at 7 --loads --json",

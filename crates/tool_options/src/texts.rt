@@ -221,7 +221,16 @@ const WRITE: [ArgumentText; 9] = [
     },
 ];
 
-const DUMP: [ArgumentText; 6] = [
+const AT: ArgumentText = ArgumentText {
+    name: "at",
+    form: Form::Option(Takes::Number(0, u64::MAX)),
+    values: &["N"],
+    required: false,
+    standard: &[],
+    help: "Snapshot: read only sequence numbers below N",
+};
+
+const DUMP: [ArgumentText; 8] = [
     FILES,
     ArgumentText {
         name: "from",
@@ -255,19 +264,24 @@ const DUMP: [ArgumentText; 6] = [
         standard: &[],
         help: "Print at most N entries, of all files together",
     },
+    ArgumentText {
+        name: "merged",
+        form: Form::Flag,
+        values: &[],
+        required: false,
+        standard: &[],
+        help: "Print the newest version of each key of all files, as one list",
+    },
+    ArgumentText {
+        help: "Snapshot of --merged: read only sequence numbers below N",
+        ..AT
+    },
     JSON,
 ];
 
 const GET: [ArgumentText; 4] = [
     FILES_AND_KEY,
-    ArgumentText {
-        name: "at",
-        form: Form::Option(Takes::Number(0, u64::MAX)),
-        values: &["N"],
-        required: false,
-        standard: &[],
-        help: "Snapshot: read only sequence numbers below N",
-    },
+    AT,
     ArgumentText {
         name: "loads",
         form: Form::Flag,
@@ -370,7 +384,11 @@ files stay. With --target, files that were renamed before the error stay too.",
         arguments: &DUMP,
         notes: "\
 Prints one file after another. Each is in the order of its keys, or with
---reverse from its last entry on.",
+--reverse from its last entry on.
+
+With --merged the files are read together, as by a store. The newest version
+of each key is printed, in the order of the keys. A key whose newest version
+is a tombstone, weak or not, is left out. The option --at needs --merged.",
     },
     CommandText {
         name: "get",
