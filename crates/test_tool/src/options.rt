@@ -87,7 +87,7 @@ const LINES: [(&str, &str); 40] = [
     ),
     (
         "sst write f --filter 101",
-        "mistaken error: invalid value for '--filter <BITS>': neither 1 to 100 nor none\n",
+        "mistaken error: invalid value for '--filter <BITS>': expected 1 to 100, or none\n",
     ),
     (
         "sst write f --filter 0",
@@ -136,7 +136,7 @@ const LINES: [(&str, &str); 40] = [
     ),
     (
         "sst compact a --to c --filter 101",
-        "mistaken error: invalid value for '--filter <BITS>': neither 1 to 100 nor none\n\nFor more \
+        "mistaken error: invalid value for '--filter <BITS>': expected 1 to 100, or none\n\nFor more \
          information, try 'sst compact --help'.\n",
     ),
     (
@@ -208,7 +208,7 @@ const PARTS: [(&str, &str); 12] = [
     (
         "sst completion zsh",
         "\n    get)\n        _arguments -S \\\n            '*:FILE:_files' \\\n            '--at=[Snapshot\\: \
-         read only sequence numbers below N]:N: ' \\\n",
+         read only sequence numbers below N \\[default\\: all\\]]:N: ' \\\n",
     ),
     ("sst completion zsh", ":KIND:(full partitioned)' \\\n"),
     ("sst completion zsh", ":FOLDER:_files' \\\n"),
@@ -227,7 +227,8 @@ const PARTS: [(&str, &str); 12] = [
     ),
     (
         "sst man",
-        "\n.TP\n\\fB\\-\\-level\\fR \\fIN\\fR\nLevel that the table records [default: 0].\n.TP\n",
+        "\n.TP\n\\fB\\-\\-level\\fR \\fIN\\fR\nLevel to record in the table, 0 to 255 \
+         [default: 0].\n.TP\n",
     ),
     (
         "sst man",

@@ -136,7 +136,7 @@ fn mistake<'a>(alloc: Global, name: &str, misread: Misread) -> Result<Parsed<'a>
 {
     let expected = match misread {
         Misread::OutOfMemory => return Err(AllocError),
-        Misread::Filter => "invalid value for '--filter <BITS>': neither 1 to 100 nor none",
+        Misread::Filter => "invalid value for '--filter <BITS>': expected 1 to 100, or none",
         Misread::Key => KEY_MISSING,
         Misread::At => MERGED_MISSING,
         Misread::Absent => "a required argument was not provided",
