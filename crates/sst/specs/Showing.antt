@@ -1,12 +1,14 @@
 -- The results of commands that show entries.
 use denote.Ref.{Bor}
 use Rattle.std.specs.Prelude.{◌≡◌, ◌⊎◌, ◌-◌, ◌^◌, ℕ, Bool, List, [], ◌∷◌, Option, None}
-use Rattle.std.specs.Prelude.{Ok, Some, false, is_some, length, map}
+use Rattle.std.specs.Prelude.{Ok, Some, false, is_some, length, map, true}
 use Rattle.std.specs.Option.{option_map, option_map_or}
 use Rattle.std.specs.List.{AllByRecursion}
 use Rattle.std.specs.Global.{Global}
 use Rattle.sst_entries.specs.Stream.{ok_results}
+use Rattle.lsm_sorted.specs.merge.Union.{Ascends, entries_among}
 use Rattle.lsm_sorted.specs.version.Run.{IsInOrder}
+use Rattle.lsm_runs.specs.RunLists.{RunsHoldLists}
 use Rattle.lsm_run_parts.specs.RunParts.{range_of}
 use Rattle.lsm_runs.specs.SeveralRuns.{runs_result}
 use Rattle.lsm_readers.specs.point.Table.{OpenTable}
@@ -16,6 +18,7 @@ use Rattle.sst_tool.specs.lines.Escapes.{WordMeans}
 use Rattle.tool_options.specs.declared.tasks.DumpTask.{DumpTask}
 use Rattle.tool_options.specs.declared.tasks.GetTask.{GetTask}
 use Rattle.sst_tool.specs.show.Files.{runs_in}
+use Rattle.sst_tool.specs.show.Merged.{Prints, newest_found, newest_in, printed, ranges_in}
 use Rattle.sst_tool.specs.show.Read.{dumped, readable, seen_below}
 use Rattle.sst_tool.specs.declared.show.dumps.DumpOptions.{DumpOptions}
 use Rattle.sst_tool.specs.declared.show.gets.GetOptions.{GetOptions}
@@ -79,9 +82,28 @@ DumpsEach o content (name ∷ names) left rest = ((left ≡ 0) × (rest ≡ 0))
 abbrev pub most_of : DumpTask → ℕ
 most_of task = option_map_or (λ n. n) task.limit (2 ^ 64 - 1)
 
--- The entries of the task's files are read.
+-- The snapshot of the task, or all sequence numbers.
+abbrev pub below_of : DumpTask → ℕ
+below_of task = option_map_or (λ n. n) task.at (2 ^ 64 - 1)
+
+-- The files are read together. Whatever their bytes, what is read from the front are entries; if
+-- they store lists, the newest visible versions of all lists in the range are printed.
+pub record DumpsMerged (o : DumpOptions) (seqno most : ℕ) (content : List ℕ → Option (List ℕ))
+    (names : List (Bor (List ℕ))) : Type 0 where
+  pub files : List (NamedTable Global)
+  pub named : AreNamed content names files
+  pub count : ℕ
+  pub list : (lists : List (List (List Entry))) → RunsHoldLists (runs_in files) lists
+      → count ≡ length (printed o.reverse most (newest_in o seqno lists))
+  pub returned : o.reverse ≡ false → AllByRecursion (IsInOrder range_of) (runs_in files)
+      → AllByRecursion (λ rs. Ascends (entries_among rs)) (ranges_in o (runs_in files))
+      → Prints most (newest_found o seqno (runs_in files)) count
+
+-- The entries of the task's files are read, one file after another or all together.
 pub record DoesDump (task : DumpTask) (content : List ℕ → Option (List ℕ)) : Type 0 where
   pub options : DumpOptions
   pub asked : AsksDump task options
-  pub rest : ℕ
-  pub dumps : DumpsEach options content task.files.items (most_of task) rest
+  pub each : task.merged ≡ false
+      → (rest : ℕ) × DumpsEach options content task.files.items (most_of task) rest
+  pub merged : task.merged ≡ true
+      → DumpsMerged options (below_of task) (most_of task) content task.files.items

@@ -14,7 +14,8 @@ pub use Rattle.sst_tool.specs.show.Files.{IsSoundTable}
 pub use Rattle.sst.specs.Making.{CompactsTables, RefusesCompact, RefusesPack, RefusesWrite}
 pub use Rattle.sst.specs.Making.{WritesTables}
 pub use Rattle.sst.specs.Options.{compact_by, format_of, tables_by, write_by}
-pub use Rattle.sst.specs.Showing.{AreNamed, DoesDump, DoesGet, DumpsEach, MeansKey}
+pub use Rattle.sst.specs.Showing.{AreNamed, DoesDump, DoesGet, DumpsEach, DumpsMerged}
+pub use Rattle.sst.specs.Showing.{MeansKey}
 pub use Rattle.sst.specs.Statuses.{is_closed, status_of_answer, status_of_failure}
 pub use Rattle.sst.specs.Tasks.{DoesTask, RefusesTask, Runs}
 pub use Rattle.sst.specs.Verified.{AreSoundFiles, HaveFaulty, IsFaultyFile, IsSoundFile}

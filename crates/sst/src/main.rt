@@ -81,13 +81,14 @@ fn run_words(rt: &HostRuntime) -> u8 {
             }
         }
         Err(error) => {
-            // If even this cannot be printed, only the status is left.
-            let _ = writeln!(rt.stderr(), "sst: the words of the command line: {error}");
-            if error.kind() == io::ErrorKind::OutOfMemory {
-                1
+            let (text, status) = if error.kind() == io::ErrorKind::OutOfMemory {
+                ("out of memory", 1)
             } else {
-                2
-            }
+                ("an argument is not UTF-8", 2)
+            };
+            // If even this cannot be printed, only the status is left.
+            let _ = writeln!(rt.stderr(), "sst: {text}");
+            status
         }
     }
 }

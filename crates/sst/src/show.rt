@@ -6,7 +6,7 @@ use crate::System;
 use crate::bar::{Bar, Work, behind};
 use crate::make::format_of;
 use crate::running::is_closed;
-use sst_blocks::{Error, Slice};
+use sst_blocks::{Error, SeqNo, Slice};
 use sst_tool::files::{FileFault, KeyWord, Place, ToolError, open_bytes, open_table};
 use sst_tool::lines::{Format, parse_bytes};
 use sst_tool::show::{
@@ -90,8 +90,31 @@ pub(crate) fn dump<'a, P: Place, W: Write>(
         reverse: task.reverse,
         format: format_of(task.json),
     };
-    let left = task.limit.unwrap_or(u64::MAX);
-    dump_each(alloc, place, task.files.as_slice(), &options, left, output)
+    let names = task.files.as_slice();
+    let most = task.limit.unwrap_or(u64::MAX);
+    if task.merged {
+        let seqno = task.at.unwrap_or(SeqNo::MAX);
+        return dump_together(alloc, place, names, &options, seqno, most, output);
+    }
+    dump_each(alloc, place, names, &options, most, output)
+}
+
+// Prints at most `most` of the newest entries of files, which are read together.
+fn dump_together<'a, P: Place, W: Write>(
+    alloc: Global,
+    place: &P,
+    names: &[&'a str],
+    options: &DumpOptions<'_>,
+    seqno: SeqNo,
+    most: u64,
+    output: &mut W,
+) -> Result<(), ToolError<'a>>
+    ensures { OnOk result
+        (spec.DumpsMerged options.now seqno most (P.content place.now) names.now) }
+{
+    let files = open_each(alloc, place, names)?;
+    sst_tool::show::dump_merged(alloc, output, files.as_slice(), options, seqno, most)?;
+    Ok(())
 }
 
 // Prints at most `left` entries of files.

@@ -1,4 +1,5 @@
 pub mod Failures
 pub mod Files
+pub mod Merged
 pub mod Read
 pub mod Words

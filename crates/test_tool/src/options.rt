@@ -4,7 +4,7 @@ use std::test::Fail;
 use tool_options::{Parsed, parse};
 
 /// Command lines, and the first text of their results.
-const LINES: [(&str, &str); 38] = [
+const LINES: [(&str, &str); 40] = [
     (
         "sst write f",
         "Write(WriteTask { file: \"f\", tables: TableArguments { partitioned: false, filter_bits: \
@@ -20,7 +20,17 @@ const LINES: [(&str, &str); 38] = [
     (
         "sst dump a b --from x --to=y --reverse --limit 3 --json",
         "Dump(DumpTask { files: [\"a\", \"b\"], from: Some(\"x\"), to: Some(\"y\"), reverse: \
-         true, limit: Some(3), json: true })",
+         true, limit: Some(3), merged: false, at: None, json: true })",
+    ),
+    (
+        "sst dump --merged a --at 7 b",
+        "Dump(DumpTask { files: [\"a\", \"b\"], from: None, to: None, reverse: false, limit: None, \
+         merged: true, at: Some(7), json: false })",
+    ),
+    (
+        "sst dump a --at 7 b",
+        "mistaken error: the following required arguments were not provided:\n  --merged\n\nUsage: sst \
+         dump --merged --at <N> <FILE>...\n\nFor more information, try 'sst dump --help'.\n",
     ),
     (
         "sst get a b c --at 7 --loads --json",
@@ -77,7 +87,7 @@ const LINES: [(&str, &str); 38] = [
     ),
     (
         "sst write f --filter 101",
-        "mistaken error: invalid value for '--filter <BITS>': neither 1 to 100 nor none\n",
+        "mistaken error: invalid value for '--filter <BITS>': expected 1 to 100, or none\n",
     ),
     (
         "sst write f --filter 0",
@@ -126,7 +136,7 @@ const LINES: [(&str, &str); 38] = [
     ),
     (
         "sst compact a --to c --filter 101",
-        "mistaken error: invalid value for '--filter <BITS>': neither 1 to 100 nor none\n\nFor more \
+        "mistaken error: invalid value for '--filter <BITS>': expected 1 to 100, or none\n\nFor more \
          information, try 'sst compact --help'.\n",
     ),
     (
@@ -198,7 +208,7 @@ const PARTS: [(&str, &str); 12] = [
     (
         "sst completion zsh",
         "\n    get)\n        _arguments -S \\\n            '*:FILE:_files' \\\n            '--at=[Snapshot\\: \
-         read only sequence numbers below N]:N: ' \\\n",
+         read only sequence numbers below N \\[default\\: all\\]]:N: ' \\\n",
     ),
     ("sst completion zsh", ":KIND:(full partitioned)' \\\n"),
     ("sst completion zsh", ":FOLDER:_files' \\\n"),
@@ -217,7 +227,8 @@ const PARTS: [(&str, &str); 12] = [
     ),
     (
         "sst man",
-        "\n.TP\n\\fB\\-\\-level\\fR \\fIN\\fR\nLevel that the table records [default: 0].\n.TP\n",
+        "\n.TP\n\\fB\\-\\-level\\fR \\fIN\\fR\nLevel to record in the table, 0 to 255 \
+         [default: 0].\n.TP\n",
     ),
     (
         "sst man",

@@ -58,6 +58,8 @@ commands = (
           ∷ valued (codes "to")
           ∷ flag (codes "reverse")
           ∷ valued (codes "limit")
+          ∷ flag (codes "merged")
+          ∷ valued (codes "at")
           ∷ flag (codes "json")
           ∷ [],
     )

@@ -1,6 +1,6 @@
 -- The tasks of a command's arguments.
 use Rattle.std.specs.Prelude.{◌≡◌, ◌⊎◌, ◌↔◌, ◌<◌, ◌≤◌, ◌^◌, ◌++◌, ◌∷◌, ℕ, List, [], Option, Some, None}
-use Rattle.std.specs.Prelude.{IsTrue, codes, length, map, option_map, unwrap_or}
+use Rattle.std.specs.Prelude.{IsTrue, codes, false, length, map, option_map, unwrap_or}
 use Rattle.std.specs.Borrow.{Bor}
 use Rattle.std.specs.Option.{SomeIff}
 use Rattle.std.specs.Str.Parse.{IsNumeral, digits_value, without_leading_plus}
@@ -60,12 +60,16 @@ pub record AsksToWrite (rows : List Row) (t : WriteTask) : Type 0 where
   pub sort : IsTrue t.sort ↔ Has rows (codes "sort")
   pub json : IsTrue t.json ↔ Has rows (codes "json")
 
+-- A snapshot is given only for files that are read together.
 pub record AsksToDump (rows : List Row) (t : DumpTask) : Type 0 where
   pub files : texts_of t.files.items ≡ named_files rows
   pub from : text_in t.from ≡ first_of (codes "from") rows
   pub to : text_in t.to ≡ first_of (codes "to") rows
   pub reverse : IsTrue t.reverse ↔ Has rows (codes "reverse")
   pub limit : Spells 64 (one_of (codes "limit") rows) t.limit
+  pub merged : IsTrue t.merged ↔ Has rows (codes "merged")
+  pub at : Spells 64 (one_of (codes "at") rows) t.at
+  pub together : t.merged ≡ false → t.at ≡ None
   pub json : IsTrue t.json ↔ Has rows (codes "json")
 
 -- The key is the last word, and the files are those before it, one or more.

@@ -17,6 +17,8 @@ pub(crate) enum Misread {
     Filter,
     /// There is no key after the files.
     Key,
+    /// A snapshot is given for files that are not read together.
+    At,
     /// A required argument is missing.
     Absent,
 }
@@ -65,16 +67,24 @@ fn read_write<'a>(matches: &ArgMatches<'a>) -> Result<Task<'a>, Misread>
     }))
 }
 
+// A snapshot is one of files that are read together.
 fn read_dump<'a>(alloc: Global, matches: &ArgMatches<'a>) -> Result<Task<'a>, Misread>
     ensures { IfOk result (λ t. spec.AsksFor (codes "dump")
         (spec.rows_of (spec.found_of matches.now)) t) }
 {
+    let merged = flag(matches, "merged");
+    let at = number(matches, "at");
+    if !merged && at.is_some() {
+        return Err(Misread::At);
+    }
     Ok(Task::Dump(DumpTask {
         files: files(alloc, matches)?,
         from: text(matches, "from"),
         to: text(matches, "to"),
         reverse: flag(matches, "reverse"),
         limit: number(matches, "limit"),
+        merged,
+        at,
         json: flag(matches, "json"),
     }))
 }

@@ -62,6 +62,11 @@ pub struct DumpTask<'a> {
     pub reverse: bool,
     /// The most entries to print. Without it all are.
     pub limit: Option<u64>,
+    /// Whether the files are read together, as one list of the newest version of each key.
+    pub merged: bool,
+    /// The snapshot, only if `merged`: versions with a smaller sequence number are visible. Without
+    /// it all are.
+    pub at: Option<u64>,
     /// Whether lines are JSON objects.
     pub json: bool,
 }

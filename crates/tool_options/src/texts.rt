@@ -82,8 +82,8 @@ pub(crate) const ABOUT: &str = "Writes, reads, verifies and compacts SSTable fil
 /// Further notes on the program.
 pub(crate) const NOTES: &str = "\
 An SSTable file has entries in the order of their keys. An entry is a version
-of a key: its sequence number, its kind and its value. Files are given with
-the newest first.
+of a key: its sequence number, its kind and its value. Give the newest file
+first.
 
 Entries are lines KEY NUMBER KIND VALUE with one space between, such as:
 
@@ -94,9 +94,9 @@ for a value, T for a tombstone, W for a weak tombstone or I for an
 indirection. In keys and values, a backslash and each byte that is not visible
 ASCII are written \\xNN in lower case. The word - is the empty key or value,
 and \\x2d is a single hyphen. Keys on the command line are written the same
-way. A key that begins with a hyphen comes after the word --.
+way. Write a leading hyphen as \\x2d.
 
-With --json each line is an object, and errors stay sentences. Bytes that
+With --json each line is an object, and errors stay plain text. Bytes that
 are not UTF-8 are {\"hex\":\"ff00\"}. The kinds are value, tombstone,
 weak_tombstone and indirection:
 
@@ -106,7 +106,8 @@ Options may be before, between and after the files. Without arguments sst runs
 a script from standard input.
 
 The exit status is 0 on success. It is 1 after an error, if a file is faulty,
-and if a key is not found. It is 2 if the command line is wrong.";
+and if a key is not found. It is 2 if the command line is wrong, or a script
+ends early.";
 
 const FILE: ArgumentText = ArgumentText {
     name: "file",
@@ -151,7 +152,7 @@ const TARGET: ArgumentText = ArgumentText {
     values: &["BYTES"],
     required: false,
     standard: &[],
-    help: "Target size of a table. There may be several",
+    help: "Target size of a table. Writes several tables if needed",
 };
 
 const INDEX: ArgumentText = ArgumentText {
@@ -178,7 +179,7 @@ const BLOCK_SIZE: ArgumentText = ArgumentText {
     values: &["BYTES"],
     required: false,
     standard: &["4096"],
-    help: "Target size of a data block",
+    help: "Target size of a data block, 1 to 4194304",
 };
 
 const PARTITION_SIZE: ArgumentText = ArgumentText {
@@ -187,7 +188,7 @@ const PARTITION_SIZE: ArgumentText = ArgumentText {
     values: &["BYTES"],
     required: false,
     standard: &["4096"],
-    help: "Target size of a partition of the index",
+    help: "Target size of an index partition, 1 to 4194304",
 };
 
 const LEVEL: ArgumentText = ArgumentText {
@@ -196,7 +197,7 @@ const LEVEL: ArgumentText = ArgumentText {
     values: &["N"],
     required: false,
     standard: &["0"],
-    help: "Level that the table records",
+    help: "Level to record in the table, 0 to 255",
 };
 
 const WRITE: [ArgumentText; 9] = [
@@ -221,7 +222,16 @@ const WRITE: [ArgumentText; 9] = [
     },
 ];
 
-const DUMP: [ArgumentText; 6] = [
+const AT: ArgumentText = ArgumentText {
+    name: "at",
+    form: Form::Option(Takes::Number(0, u64::MAX)),
+    values: &["N"],
+    required: false,
+    standard: &[],
+    help: "Snapshot: read only sequence numbers below N [default: all]",
+};
+
+const DUMP: [ArgumentText; 8] = [
     FILES,
     ArgumentText {
         name: "from",
@@ -255,19 +265,24 @@ const DUMP: [ArgumentText; 6] = [
         standard: &[],
         help: "Print at most N entries, of all files together",
     },
+    ArgumentText {
+        name: "merged",
+        form: Form::Flag,
+        values: &[],
+        required: false,
+        standard: &[],
+        help: "Print the newest version of each key of all files, as one list",
+    },
+    ArgumentText {
+        help: "Snapshot of --merged: read only sequence numbers below N [default: all]",
+        ..AT
+    },
     JSON,
 ];
 
 const GET: [ArgumentText; 4] = [
     FILES_AND_KEY,
-    ArgumentText {
-        name: "at",
-        form: Form::Option(Takes::Number(0, u64::MAX)),
-        values: &["N"],
-        required: false,
-        standard: &[],
-        help: "Snapshot: read only sequence numbers below N",
-    },
+    AT,
     ArgumentText {
         name: "loads",
         form: Form::Flag,
@@ -303,7 +318,7 @@ const COMPACT: [ArgumentText; 12] = [
         values: &["N"],
         required: false,
         standard: &["0"],
-        help: "No snapshot is below this sequence number",
+        help: "Oldest snapshot still in use; 0 keeps all versions",
     },
     ArgumentText {
         name: "evict",
@@ -311,7 +326,7 @@ const COMPACT: [ArgumentText; 12] = [
         values: &[],
         required: false,
         standard: &[],
-        help: "Drop tombstones, as at the last level",
+        help: "Drop tombstones below the watermark, as at the last level",
     },
     ArgumentText {
         name: "zero",
@@ -352,12 +367,13 @@ pub(crate) static COMMANDS: [CommandText; 9] = [
         arguments: &WRITE,
         notes: "\
 The entries are in order: by key, and those of a key by sequence number with
-the largest first. A line out of order is an error, and nothing is written.
+the largest first. After a line out of order nothing is written.
 
-A data block ends once its keys and values have the target size. With --target
-a table ends before the next key once its data blocks have that size. The
-files are then FILE.000001, FILE.000002 and so on. It is an error if the
-next number has a file already, as from an earlier write.
+A data block is complete once its keys and values reach --block-size. With
+--target, a table ends before the next key once its complete data blocks reach
+that size. The files are then FILE.000001, FILE.000002 and so on. Existing
+files of these names are replaced. It is an error if the number after the last
+has a file.
 
 Files are written under temporary names, such as FILE.1.tmp. Once all are
 complete and synced, they are renamed. After an error before that, the old
@@ -369,8 +385,12 @@ files stay. With --target, files that were renamed before the error stay too.",
         usage: "sst dump [OPTIONS] <FILE>...",
         arguments: &DUMP,
         notes: "\
-Prints one file after another. Each is in the order of its keys, or with
---reverse from its last entry on.",
+Prints the files one after another (unless --merged). Each is in key order, or
+in reverse order with --reverse.
+
+With --merged the files are read together, as by a store. The newest version
+of each key is printed, in the order of the keys. A key whose newest version
+is a tombstone, weak or not, is left out. The option --at needs --merged.",
     },
     CommandText {
         name: "get",
@@ -378,9 +398,9 @@ Prints one file after another. Each is in the order of its keys, or with
         usage: "sst get [OPTIONS] <FILE>... <KEY>",
         arguments: &GET,
         notes: "\
-Each file is a run of its own, and the last word is the key. The version may
-be a tombstone. If the key has no version below N in any file, prints none, or
-null with --json, and exits with 1.",
+Each file is a run of its own, and the last argument is the key. The version
+may be a tombstone. If the key has no version below N in any file, prints
+none, or null with --json, and exits with 1.",
     },
     CommandText {
         name: "stat",
@@ -388,8 +408,8 @@ null with --json, and exits with 1.",
         usage: "sst stat [OPTIONS] <FILE>...",
         arguments: &STAT,
         notes: "\
-Also lists the data blocks. More than 32 share lines, equally many on each. A
-JSON object has each data block by itself.",
+Also lists the data blocks. With more than 32, a line has several adjacent
+blocks. A JSON object lists each data block.",
     },
     CommandText {
         name: "verify",
@@ -399,12 +419,13 @@ JSON object has each data block by itself.",
         notes: "\
 Reads every block, the index and the filter. Compares the entries with the
 table's metadata: keys, sequence numbers, and the counts of data blocks,
-entries and tombstones. Prints that a file is sound, or its first fault and
-then each further block that does not load. A file that does not open is
-faulty too. Exits with 1 if a file is.
+entries and tombstones. Prints that a file is valid, or its first fault and
+then each further block found that does not load. Blocks below a damaged index
+block are not found. A file that does not open is faulty too. Exits with 1 if
+a file is.
 
-Bytes that no read needs are not compared. These are the version, and the
-offsets of the version and the data blocks in the trailer.
+Bytes that no read needs are not compared, such as the version, its offset and
+that of the data blocks in the trailer, and bytes outside the sections.
 
 On a terminal a bar on standard error shows the progress.",
     },
@@ -431,7 +452,7 @@ error if FOLDER exists already.",
         arguments: &PACK,
         notes: "\
 The tables of a run do not overlap. Prints the files of each run, and a chain
-of tables that each overlap the next, so that fewer runs do not suffice.",
+of tables that each overlap the next. Each needs a run of its own.",
     },
     CommandText {
         name: "completion",

@@ -124,14 +124,21 @@ the following required arguments were not provided:
 
 Usage: sst get [OPTIONS] <FILE>... <KEY>";
 
+const MERGED_MISSING: &str = "\
+the following required arguments were not provided:
+  --merged
+
+Usage: sst dump --merged --at <N> <FILE>...";
+
 // Returns the error of the command `name` in the parser's form.
 fn mistake<'a>(alloc: Global, name: &str, misread: Misread) -> Result<Parsed<'a>, AllocError>
     ensures { (found : Option (spec.Text × List spec.Row)) → IfOk result (spec.AsksBy found) }
 {
     let expected = match misread {
         Misread::OutOfMemory => return Err(AllocError),
-        Misread::Filter => "invalid value for '--filter <BITS>': neither 1 to 100 nor none",
+        Misread::Filter => "invalid value for '--filter <BITS>': expected 1 to 100, or none",
         Misread::Key => KEY_MISSING,
+        Misread::At => MERGED_MISSING,
         Misread::Absent => "a required argument was not provided",
     };
     let text = format!(in alloc;

@@ -62,7 +62,7 @@ impl<'a> fmt::Display for ToolError<'a> {
             ToolError::Output(error) => write!(f, "standard output: {error}"),
             ToolError::File(error) => write!(f, "{error}"),
             ToolError::Line { number, fault } => write!(f, "line {number}: {fault}"),
-            ToolError::NoEntries => f.write_str("no entries, and so no table"),
+            ToolError::NoEntries => f.write_str("no entries: no table is written"),
             ToolError::SizeTooLarge => {
                 f.write_str("a block or partition has at most 4194304 bytes")
             }
@@ -71,7 +71,9 @@ impl<'a> fmt::Display for ToolError<'a> {
                 write!(f, "{name}: {at}{error} ({number})")
             }
             ToolError::OutOfOrder(path) => write!(f, "{}: entries out of order", Escaped(path)),
-            ToolError::Repeated => f.write_str("a key has one number twice in these files"),
+            ToolError::Repeated => {
+                f.write_str("two versions of a key have the same sequence number")
+            }
             ToolError::Unordered => f.write_str("entries out of order"),
             ToolError::Range(path) => {
                 write!(f, "{}: the first key is above the last", Escaped(path))
@@ -126,11 +128,11 @@ impl fmt::Display for LineFault {
     fn fmt<W: fmt::Write>(&self, f: &mut fmt::Formatter<W>) -> fmt::Result {
         match self {
             LineFault::Spelling(error) => write!(f, "{error}"),
-            LineFault::TooHigh => f.write_str("a number is below 18446744073709551615"),
+            LineFault::TooHigh => f.write_str("a sequence number is below 18446744073709551615"),
             LineFault::OutOfOrder => {
-                f.write_str("out of order: keys go up, and the numbers of a key go down")
+                f.write_str("out of order: keys ascend, and the sequence numbers of a key descend")
             }
-            LineFault::Repeated => f.write_str("another line has this key and number"),
+            LineFault::Repeated => f.write_str("another line has this key and sequence number"),
             LineFault::Refused(error) => {
                 let number = error.number();
                 write!(f, "{error} ({number})")

@@ -54,10 +54,12 @@ impl FileFault {
 impl fmt::Display for FileFault {
     fn fmt<W: fmt::Write>(&self, f: &mut fmt::Formatter<W>) -> fmt::Result {
         match self {
-            FileFault::Folder => f.write_str("a folder, and no file"),
-            FileFault::NotPlain => f.write_str("no plain file, and not replaced"),
-            FileFault::Taken => f.write_str("is there already, and not replaced"),
-            FileFault::Left => f.write_str("left of an earlier write, and not replaced"),
+            FileFault::Folder => f.write_str("is a folder"),
+            FileFault::NotPlain => f.write_str("not a regular file, not replaced"),
+            FileFault::Taken => f.write_str("already exists"),
+            FileFault::Left => f.write_str(
+                "exists from an earlier write; first remove it and the files after it",
+            ),
             FileFault::CutShort { read, size } => {
                 write!(f, "cut short while it was read: {read} of {size} bytes")
             }

@@ -85,15 +85,17 @@ pub enum LineError {
     OutOfMemory,
 
     /// The line does not have four words.
-    #[error("not KEY NUMBER KIND VALUE with one space between")]
+    #[error("expected KEY NUMBER KIND VALUE with one space between")]
     Words,
 
     /// The key has a byte or an escape that is not allowed.
-    #[error("a key is visible bytes, with any other byte and a backslash as \\xNN, or -")]
+    #[error("invalid key: write a backslash and each byte that is not visible ASCII as \\xNN in \
+         lower case; - is the empty key")]
     Key,
 
     /// The number has a byte other than digits, leading zeros, or is 2^64 or more.
-    #[error("a number is decimal digits without leading zeros, below 2^64")]
+    #[error("a sequence number is decimal digits without leading zeros, below \
+         18446744073709551615")]
     Number,
 
     /// The kind is unknown.
@@ -101,11 +103,12 @@ pub enum LineError {
     Kind,
 
     /// The value has a byte or an escape that is not allowed.
-    #[error("a value is visible bytes, with any other byte and a backslash as \\xNN, or -")]
+    #[error("invalid value: write a backslash and each byte that is not visible ASCII as \\xNN in \
+         lower case; - is the empty value")]
     Value,
 
     /// The line is not a JSON object, or an object in it has a member twice.
-    #[error("not an object of JSON with each member once")]
+    #[error("not a JSON object, or it has a member twice")]
     Json,
 
     /// The object has other members than an entry.
@@ -117,7 +120,8 @@ pub enum LineError {
     KeyMember,
 
     /// The member `seqno` is not a number, has a point, an exponent or a sign, or is 2^64 or more.
-    #[error("seqno is a number of decimal digits without leading zeros, below 2^64")]
+    #[error("seqno is a number of decimal digits without leading zeros, below \
+         18446744073709551615")]
     NumberMember,
 
     /// The member `kind` is unknown.

@@ -93,8 +93,8 @@ fn dump_table<A: Allocator + Copy, W: Write>(
     dump_items(alloc, output, items, options, left)
 }
 
-// Returns the bounds of the range. Fails only if memory runs out.
-fn bounds_of<A: Allocator + Copy>(
+/// Returns the bounds of the range. Fails only if memory runs out.
+pub(crate) fn bounds_of<A: Allocator + Copy>(
     alloc: A,
     options: &DumpOptions<'_>,
 ) -> Result<(Bound<UserKey<A>>, Bound<UserKey<A>>), ToolError<'static>>
@@ -209,7 +209,8 @@ fn print_last<I: DoubleEndedIterator<Item = IterItem<A>>, A: Allocator + Copy, W
     Ok(true)
 }
 
-fn print_entry<A: Allocator + Copy, W: Write>(
+/// Prints an entry.
+pub(crate) fn print_entry<A: Allocator + Copy, W: Write>(
     alloc: A,
     output: &mut W,
     entry: &EntryRef<'_>,

@@ -30,7 +30,7 @@ pub struct GetOptions<'k> {
 }
 
 /// One run for each file, of one table.
-type Runs<A> = Vec<Arc<Run<Table<A>, A>, A>, A>;
+pub(crate) type Runs<A> = Vec<Arc<Run<Table<A>, A>, A>, A>;
 
 /// Writes the newest version of a key that is visible in all files together, and returns whether
 /// there is one. Without one it writes `none`, or `null` as JSON.
@@ -114,8 +114,8 @@ fn seen_below(options: &GetOptions<'_>) -> SeqNo
     options.at.unwrap_or(SeqNo::MAX)
 }
 
-// Returns one run for each file.
-fn runs_of<'a, A: Allocator + Copy>(
+/// Returns one run for each file.
+pub(crate) fn runs_of<'a, A: Allocator + Copy>(
     alloc: A,
     files: &[NamedTable<'a, A>],
 ) -> Result<Runs<A>, ToolError<'a>>

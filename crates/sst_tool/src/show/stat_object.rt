@@ -63,7 +63,7 @@ fn write_parts<A: Allocator>(writer: &mut Writer<A>, parts: &Parts<A>) -> Result
     write_text(writer, "filter", parts.filter)?;
     if let Some(spread) = parts.spread {
         write_number(writer, "filter_bits_per_key_tenths", spread.tenths)?;
-        write_number(writer, "false_answers_per_million", spread.passed)?;
+        write_number(writer, "false_positives_per_million", spread.passed)?;
     }
     writer.key("sections")?;
     writer.begin_array()?;

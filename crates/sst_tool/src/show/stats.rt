@@ -201,8 +201,8 @@ fn print_summary<A: Allocator, W: Write>(output: &mut W, parts: &Parts<A>) -> io
     };
     let (bits, tenths) = (spread.tenths / 10, spread.tenths % 10);
     let (percent, rest) = (spread.passed / 10_000, spread.passed % 10_000 / 100);
-    write!(output, "filter {bits}.{tenths} bits a key, about ")?;
-    writeln!(output, "{percent}.{rest:02} % false answers")
+    write!(output, "filter {bits}.{tenths} bits per key, about ")?;
+    writeln!(output, "{percent}.{rest:02} % false positives")
 }
 
 // Writes the number of data blocks, and the entries of a block in tenths.

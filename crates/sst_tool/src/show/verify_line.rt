@@ -29,7 +29,7 @@ pub enum VerifyLine<'a> {
 }
 
 /// Writes a line about a file, as text or as a JSON object such as
-/// `{"name":"a.sst","sound":false,"section":"data","offset":0,"fault":"hash","code":5}`.
+/// `{"name":"a.sst","valid":false,"section":"data","offset":0,"fault":"hash","code":5}`.
 ///
 /// # Errors
 ///
@@ -82,7 +82,7 @@ fn print_sound<W: Write>(
     let word = word_for(blocks, "block", "blocks");
     writeln!(
         output,
-        "{name}: sound, {entries} {entry_word} in {data} {data_word}, {blocks} {word} read"
+        "{name}: valid, {entries} {entry_word} in {data} {data_word}, {blocks} {word} read"
     )
 }
 
@@ -98,7 +98,7 @@ fn print_first<W: Write>(
         write!(output, " ({code})")?;
     }
     let word = word_for(blocks, "block before it is", "blocks before it are");
-    writeln!(output, ", {blocks} {word} sound")
+    writeln!(output, ", {blocks} {word} valid")
 }
 
 fn place_of(finding: &Finding) -> BlockPlace {
@@ -161,7 +161,7 @@ fn object_of<A: Allocator + Copy>(
     let mut writer = Writer::new(Vec::new(alloc));
     writer.begin_object()?;
     write_text(&mut writer, "name", name)?;
-    writer.key("sound")?;
+    writer.key("valid")?;
     writer.boolean(matches!(line, VerifyLine::Sound(_, _)))?;
     write_members(alloc, &mut writer, line)?;
     writer.end_object()?;
@@ -183,7 +183,7 @@ fn write_members<A: Allocator + Copy>(
             write_place(writer, place_of(finding))?;
             let fault = FaultText(&finding.fault);
             write_fault(alloc, writer, &fault, code_of(&finding.fault))?;
-            write_number(writer, "sound_blocks_before", blocks)
+            write_number(writer, "valid_blocks_before", blocks)
         }
         VerifyLine::Unloaded(place, error) => {
             write_place(writer, place)?;
