@@ -1,9 +1,9 @@
 -- Tables that are made of what a source yields: what holds from call to call.
-use Rattle.std.proofs.Common.{◌≡◌, refl, sym, ◌∙◌, ap, subst, ℕ, ◌+◌, ◌-◌, ◌≤◌, ◌^◌, Bool, true, false}
-use Rattle.std.proofs.Common.{List, [], ◌∷◌, ◌++◌, length, append_assoc, append-nil, arith}
+use Rattle.std.proofs.Common.{◌≡◌, refl, sym, ◌∙◌, ap, subst, ℕ, ◌+◌, ◌-◌, ◌<◌, ◌≤◌, ◌^◌, Bool}
+use Rattle.std.proofs.Common.{true, false, List, [], ◌∷◌, ◌++◌, length, append_assoc, arith}
 use Rattle.std.proofs.Common.{length-append, IsTrue, inl, inr, ◌⊎◌}
 use Rattle.std.specs.Prelude.{Option, Some, None, Result, Ok, Err, drop, take, is_some, nat_lt}
-use Rattle.std.specs.Prelude.{◌&&◌, ◌||◌, if◌then◌else◌}
+use Rattle.std.specs.Prelude.{◌&&◌, ◌||◌, if◌then◌else◌, IsErrAnd, MatchOption}
 use Rattle.std.specs.Option.{option_to_list}
 use Rattle.std.proofs.lemmas.List.{length-drop, take-append-drop}
 use Rattle.sst_entries.specs.declared.error.Error.{Error}
@@ -12,17 +12,20 @@ use Rattle.sst_entries.specs.declared.value_type.ValueType.TheVariants.{Value}
 use Rattle.sst_entries.specs.Entry.{Entry, entry}
 use Rattle.sst_entries.specs.Error.{is_memory}
 use Rattle.sst_entries.specs.Lending.{came}
-use Rattle.sst_entries.specs.Stream.{YieldsExactly, answer_stops, nowhere, ok_results}
+use Rattle.sst_entries.specs.Stream.{Lowers, YieldsExactly, answer_stops, nowhere, ok_results}
 use Rattle.sst_entries.specs.Strict.{IsStrict, IsStrictAfter, last_of, may_follow}
-use Rattle.sst_entries.proofs.StreamLemmas.{map_append, yields_front}
+use Rattle.sst_entries.proofs.StreamLemmas.{can_front, can_now, map_append, yields_front}
 use Rattle.sst_blocks.specs.declared.table.label.Label.{Label}
 use Rattle.sst_blocks.specs.declared.table.options.Options.{Options}
 use Rattle.sst_blocks.specs.table.Chunks.{joined}
 use Rattle.lsm_writers.specs.declared.writer.FinishedTable.{FinishedTable}
 use Rattle.lsm_writers.specs.Cut.{rest_chunk}
-use Rattle.lsm_writers.specs.Streamed.{AreAll, AreFirst, EndsWith, Failed, IsBegun, NoneFails, Took}
-use Rattle.lsm_writers.specs.Streamed.{TookAll, TookFrom, entries_before, next_fault, next_left}
-use Rattle.lsm_writers.specs.Streamed.{took_each}
+use Rattle.lsm_writers.specs.declared.table_stream.TableStream.{TableStream}
+use Rattle.lsm_writers.specs.Streamed.{AreAll, AreFirst, CanPoll, CanTake, EndsAll, EndsIn, EndsWith}
+use Rattle.lsm_writers.specs.Streamed.{Failed, Finishes, IsAfter, IsBegun, IsOver, LeavesError}
+use Rattle.lsm_writers.specs.Streamed.{NoneFails, Stops, StopsAfter, Took, TookAll, TookFrom}
+use Rattle.lsm_writers.specs.Streamed.{WritesUntil, YieldsAfter, YieldsTable, entries_before}
+use Rattle.lsm_writers.specs.Streamed.{next_fault, next_left, took_each}
 use Rattle.lsm_writers.specs.Taken.{AreTakenFrom, IsLeft, IsWriting, taken, tables_left}
 use Rattle.lsm_writers.specs.Tables.{AreCuts, AreFinished, AreTables, GoesOn, IsFreshRun}
 use Rattle.lsm_writers.specs.Tables.{TablesWriting, all_written, drawn, first_label, gained_all}
@@ -36,7 +39,7 @@ use Rattle.lsm_writers.proofs.CutTables.{no_end}
 use Rattle.lsm_writers.proofs.ListWriting.{listed_follows, same_label, written_gained}
 use Rattle.lsm_writers.proofs.Rotating.{goes_on_next}
 use Rattle.lsm_writers.proofs.TakenTables.{few_taken, finished_append, finished_law, finished_many}
-use Rattle.lsm_writers.proofs.TakenTables.{label_behind, label_left, rest_one, taken_law}
+use Rattle.lsm_writers.proofs.TakenTables.{label_behind, label_left, taken_law}
 use Rattle.lsm_writers.proofs.TakenTables.{written_law}
 use Rattle.lsm_writers.proofs.Turning.{ids_left}
 
@@ -98,43 +101,43 @@ results_assoc (x ∷ xs) ys zs =
 -- ---- what the source yields
 
 module _ {S : Type 0} (stops : Error → Bool) (next : S → Option (Result Entry Error) → S → Type 0)
-    where
-  yields_one : (rest : List (Result Entry Error)) (s t : S) (e : Entry)
-      → YieldsExactly (answer_stops stops) next nowhere s rest → next s (Some (Ok e)) t
-      → (more : List (Result Entry Error)) × (rest ≡ Ok e ∷ more)
-      × YieldsExactly (answer_stops stops) next nowhere t more
-  yields_one [] s t e d step =
-      let h = yields_front (answer_stops stops) next nowhere s [] (Some (Ok e)) t d step refl in
-      let no : Some (Ok e) ≡ None = h.0 in absurd cc
-  yields_one (r ∷ rest) s t e d step =
-      let h = yields_front (answer_stops stops) next nowhere s (r ∷ rest) (Some (Ok e)) t d step refl
-      in
-      let same : Some (Ok e) ≡ Some r = h.0 in
-      let is : r ≡ Ok e = cc in (
-        rest,
-        ap (λ (x : Result Entry Error). x ∷ rest) is,
-        h.1,
-      )
+  where
+    yields_one : (rest : List (Result Entry Error)) (s t : S) (e : Entry)
+        → YieldsExactly (answer_stops stops) next nowhere s rest → next s (Some (Ok e)) t
+        → (more : List (Result Entry Error)) × (rest ≡ Ok e ∷ more)
+        × YieldsExactly (answer_stops stops) next nowhere t more
+    yields_one [] s t e d step =
+        let h = yields_front (answer_stops stops) next nowhere s [] (Some (Ok e)) t d step refl in
+        let no : Some (Ok e) ≡ None = h.0 in absurd cc
+    yields_one (r ∷ rest) s t e d step =
+        let h = yields_front (answer_stops stops) next nowhere s (r ∷ rest) (Some (Ok e)) t d step refl
+        in
+        let same : Some (Ok e) ≡ Some r = h.0 in
+        let is : r ≡ Ok e = cc in (
+          rest,
+          ap (λ (x : Result Entry Error). x ∷ rest) is,
+          h.1,
+        )
 
-  yields_none : (rest : List (Result Entry Error)) (s t : S)
-      → YieldsExactly (answer_stops stops) next nowhere s rest → next s None t → rest ≡ []
-  yields_none [] s t d step = refl
-  yields_none (r ∷ rest) s t d step =
-      let h = yields_front (answer_stops stops) next nowhere s (r ∷ rest) None t d step refl in
-      let no : None ≡ Some r = h.0 in absurd cc
+    yields_none : (rest : List (Result Entry Error)) (s t : S)
+        → YieldsExactly (answer_stops stops) next nowhere s rest → next s None t → rest ≡ []
+    yields_none [] s t d step = refl
+    yields_none (r ∷ rest) s t d step =
+        let h = yields_front (answer_stops stops) next nowhere s (r ∷ rest) None t d step refl in
+        let no : None ≡ Some r = h.0 in absurd cc
 
-  yields_fault : (rest : List (Result Entry Error)) (s t : S) (e : Error)
-      → YieldsExactly (answer_stops stops) next nowhere s rest → next s (Some (Err e)) t
-      → stops e ≡ false → (more : List (Result Entry Error)) × (rest ≡ Err e ∷ more)
-  yields_fault [] s t e d step goes =
-      let h = yields_front (answer_stops stops) next nowhere s [] (Some (Err e)) t d step goes in
-      let no : Some (Err e) ≡ None = h.0 in absurd cc
-  yields_fault (r ∷ rest) s t e d step goes =
-      let h = yields_front (answer_stops stops) next nowhere s (r ∷ rest) (Some (Err e)) t d step goes
-      in
-      let same : Some (Err e) ≡ Some r = h.0 in
-      let is : r ≡ Err e = cc in
-      (rest, ap (λ (x : Result Entry Error). x ∷ rest) is)
+    yields_fault : (rest : List (Result Entry Error)) (s t : S) (e : Error)
+        → YieldsExactly (answer_stops stops) next nowhere s rest → next s (Some (Err e)) t
+        → stops e ≡ false → (more : List (Result Entry Error)) × (rest ≡ Err e ∷ more)
+    yields_fault [] s t e d step goes =
+        let h = yields_front (answer_stops stops) next nowhere s [] (Some (Err e)) t d step goes in
+        let no : Some (Err e) ≡ None = h.0 in absurd cc
+    yields_fault (r ∷ rest) s t e d step goes =
+        let h = yields_front (answer_stops stops) next nowhere s (r ∷ rest) (Some (Err e)) t d step goes
+        in
+        let same : Some (Err e) ≡ Some r = h.0 in
+        let is : r ≡ Err e = cc in
+        (rest, ap (λ (x : Result Entry Error). x ∷ rest) is)
 
 module _ {S : Type 0} (next : S → Option (Result Entry Error) → S → Type 0) where
   pub lent_next : (s t : S) (lent : Option Entry) (more : Bool) (e : Entry) → Some e ≡ lent
@@ -682,21 +685,171 @@ module _ {A : Type 0} (w n : TablesWriting) (rs : List (Result Entry Error))
       → (is_memory e ≡ false → run_fault n ≡ Some e) → EndsWith stops w rs gs e
   all_fails stops e refused = took_ends w h.list gs n h.took rs h.whole stops e refused
 
--- the tables of a finished writer, of which there is at most one
-pub one_table : {A : Type 0} (n : TablesWriting) (fs rest : List (FinishedTable A))
-    (o : Option (FinishedTable A)) → n.tables ≡ [] → fs ≡ rest ++ option_to_list o
-    → (o ≡ None → fs ≡ [])
-    → AreFinished n.present.options (first_label n) (tables_of n) fs
-    → AreFinished n.present.options (first_label n) (tables_of n) (option_to_list o)
-one_table n fs rest None none is empty all =
-    subst (AreFinished n.present.options (first_label n) (tables_of n)) (empty refl) all
-one_table n fs [] (Some f) none is empty all =
-    subst (AreFinished n.present.options (first_label n) (tables_of n)) is all
-one_table n fs (g ∷ rest) (Some f) none is empty all = absurd (omega (
-  arith,
-  ap length is,
-  finished_many n.present.options (first_label n) (tables_of n) fs all,
-  ap (λ (ts : List (List Entry)). length (ts ++ rest_chunk (written n.present))) none,
-  rest_one (written n.present),
-  length-append rest (f ∷ []),
-))
+some_is : (writer : Option TablesWriting) (m n : TablesWriting) → Some m ≡ writer → writer ≡ Some n
+    → m ≡ n
+some_is writer m n value is = let both : Some m ≡ Some n = value ∙ is in cc
+
+-- the results of finishing
+module _ {A : Type 0} (writer : Option TablesWriting) (m : TablesWriting)
+    (value : Some m ≡ writer) where
+  pub ends_some : (o : Option (FinishedTable A)) (f : FinishedTable A) → o ≡ Some f
+      → AreFinished m.present.options (first_label m) (tables_of m) (option_to_list o)
+      → EndsAll writer (Some (Ok f))
+  ends_some o f some last = λ w n rs gs is h. all_some w n rs gs h f
+      (subst (λ (x : TablesWriting). AreFinished x.present.options (first_label x) (tables_of x)
+      (f ∷ [])) (some_is writer m n value is)
+      (subst (λ (p : Option (FinishedTable A)). AreFinished m.present.options (first_label m)
+      (tables_of m) (option_to_list p)) some last))
+
+  pub ends_none : AreFinished {A = A} m.present.options (first_label m) (tables_of m) []
+      → EndsAll {A = A} writer None
+  ends_none none = λ w n rs gs is h. all_none w n rs gs h
+      (subst (λ (x : TablesWriting). AreFinished {A = A} x.present.options (first_label x)
+      (tables_of x) []) (some_is writer m n value is) none)
+
+  pub ends_fails : (e : Error) → (is_memory e ≡ false → run_fault m ≡ Some e)
+      → EndsAll {A = A} writer (Some (Err e))
+  ends_fails e refused = λ w n rs gs is h stops. all_fails w n rs gs h stops e
+      (subst (λ (x : TablesWriting). is_memory e ≡ false → run_fault x ≡ Some e)
+      (some_is writer m n value is) refused)
+
+-- ---- writing until a table is finished
+
+-- the next state may be polled
+module _ {S : Type 0} (A : Type 0) (next : S → Option (Result Entry Error) → S → Type 0)
+    (can : S → Type 0) (s t : S) (n : TablesWriting) (h : CanTake A next can s n) where
+  pub can_advance : can s
+  can_advance = can_now next nowhere can can s h.asks
+
+  pub can_write : (e : Entry) → next s (Some (Ok e)) t
+      → IsTrue (may_be_written (all_written n) e.user_key e.seqno)
+  can_write e step = from_follows h.stops next h.writer h.list h.tables s t n h.took e step
+
+  module _ (e : Entry) (step : next s (Some (Ok e)) t) (v u : TablesWriting) (is : v ≡ took n e)
+      (fine : took_fault n e ≡ None) (rest : u ≡ taken 1 v) where
+    pub can_some : (f : FinishedTable A)
+        → AreFinished v.present.options (first_label v) (take 1 v.tables) (f ∷ [])
+        → CanTake A next can t u
+    can_some f table = record {
+      stops = h.stops;
+      writer = h.writer;
+      list = h.list;
+      tables = h.tables ++ f ∷ [];
+      took = from_some h.stops next h.writer h.list h.tables s t n h.took e step v u is fine rest f
+          table;
+      asks = can_front next nowhere can can s (Some (Ok e)) t h.asks step;
+    }
+
+    pub can_none : AreFinished {A = A} v.present.options (first_label v) (take 1 v.tables) []
+        → CanTake A next can t u
+    can_none none = record {
+      stops = h.stops;
+      writer = h.writer;
+      list = h.list;
+      tables = h.tables;
+      took = from_none h.stops next h.writer h.list h.tables s t n h.took e step v u is fine rest
+          none;
+      asks = can_front next nowhere can can s (Some (Ok e)) t h.asks step;
+    }
+
+pub lowers_came : (lent : Option Entry) (more : Bool) (e : Entry) (old new : ℕ) → Some e ≡ lent
+    → Lowers (came (Ok more) lent) old new → new < old
+lowers_came None more e old new is less = absurd cc
+lowers_came (Some x) more e old new is less = less
+
+-- an error that is passed on
+pub until_fails : {S A : Type 0} (next : S → Option (Result Entry Error) → S → Type 0) (s t : S)
+    (n v : TablesWriting) (r : Result (Option (FinishedTable A)) Error) (e : Error)
+    → IsErrAnd r (λ y. y ≡ e)
+    → ((stops : Error → Bool) (w : TablesWriting) (rs : List (Result Entry Error))
+    (gs : List (FinishedTable A)) → TookFrom stops next w rs gs s n → Failed stops w rs gs e v)
+    → WritesUntil next s n r t v
+until_fails next s t n v (Ok x) e is h = absurd is
+until_fails next s t n v (Err y) e is h = λ stops w rs gs took.
+    subst (λ (f : Error). Failed stops w rs gs f v) (sym is) (h stops w rs gs took)
+
+-- ---- one call of the stream
+
+-- a writer whose source is exhausted has no finished table
+pub until_none : {S : Type 0} (A : Type 0) (next : S → Option (Result Entry Error) → S → Type 0)
+    (can : S → Type 0) (old : TableStream S A) (t : S) (n v : TablesWriting) → old.writer ≡ Some n
+    → CanPoll next can old → WritesUntil {A = A} next old.source n (Ok None) t v → v.tables ≡ []
+until_none A next can old t n v is ready until =
+    let both : CanTake A next can old.source n × (old.error ≡ None) =
+    subst (λ (o : Option TablesWriting). MatchOption o (Unit {0})
+    (λ x. CanTake A next can old.source x × (old.error ≡ None))) is ready in
+    let h = both.0 in
+    (until h.stops h.writer h.list h.tables h.took).took.left
+
+pub no_error : {S : Type 0} (A : Type 0) (next : S → Option (Result Entry Error) → S → Type 0)
+    (can : S → Type 0) (old : TableStream S A) (n : TablesWriting) → old.writer ≡ Some n
+    → CanPoll next can old → old.error ≡ None
+no_error A next can old n is ready =
+    let both : CanTake A next can old.source n × (old.error ≡ None) =
+    subst (λ (o : Option TablesWriting). MatchOption o (Unit {0})
+    (λ x. CanTake A next can old.source x × (old.error ≡ None))) is ready in
+    both.1
+
+module _ {S A : Type 0} (next : S → Option (Result Entry Error) → S → Type 0)
+    (old new : TableStream S A) (n v : TablesWriting) (is : old.writer ≡ Some n)
+    (spent : new.writer ≡ None) where
+  from_old : (stops : Error → Bool) (w : TablesWriting) (rs : List (Result Entry Error))
+      (gs : List (FinishedTable A)) → IsAfter stops next w rs gs old
+      → TookFrom stops next w rs gs old.source n
+  from_old stops w rs gs at = subst (λ (o : Option TablesWriting). MatchOption o
+      (MatchOption old.error (AreAll w rs gs old.ids) (EndsWith stops w rs gs))
+      (TookFrom stops next w rs gs old.source)) is at
+
+  not_over : (r : Option (Result (FinishedTable A) Error)) → IsOver old → (r ≡ None) × IsOver new
+  not_over r over = let no : Some n ≡ None = sym is ∙ over.0 in absurd cc
+
+  -- at the end of the source
+  module _ (error : new.error ≡ None) (ids : new.ids ≡ v.ids) where
+    end_after : (stops : Error → Bool) (w : TablesWriting) (rs : List (Result Entry Error))
+        (gs : List (FinishedTable A)) (r : Option (Result (FinishedTable A) Error))
+        → Finishes w rs gs v.ids r → YieldsAfter stops next w rs gs r new
+    end_after stops w rs gs None h =
+        subst (λ (left : Option ℕ). AreAll w rs gs left) (sym ids) h
+    end_after stops w rs gs (Some (Ok f)) h = rw (spent, error, ids) h
+    end_after stops w rs gs (Some (Err e)) h = h stops
+
+    end_in : (r : Option (Result (FinishedTable A) Error)) → EndsIn r new
+    end_in None = (spent, error)
+    end_in (Some (Ok f)) = tt
+    end_in (Some (Err e)) = (spent, error)
+
+    pub yields_end : (r : Option (Result (FinishedTable A) Error))
+        → WritesUntil {A = A} next old.source n (Ok None) new.source v → EndsAll (Some v) r
+        → YieldsTable next old r new
+    yields_end r until ends = record {
+      steps = λ stops w rs gs at. end_after stops w rs gs r
+          (ends w v rs gs refl (until stops w rs gs (from_old stops w rs gs at)));
+      over = not_over r;
+      ends = end_in r;
+    }
+
+  -- after an error
+  module _ (e : Error) (none : old.error ≡ None) where
+    stop_after : (stops : Error → Bool) (w : TablesWriting) (rs : List (Result Entry Error))
+        (gs : List (FinishedTable A)) (r : Option (Result (FinishedTable A) Error))
+        → Stops stops w rs gs e r → LeavesError r e old.error new.error
+        → YieldsAfter stops next w rs gs r new
+    stop_after stops w rs gs None h left = absurd h
+    stop_after stops w rs gs (Some (Ok f)) h left = rw (spent, left) h
+    stop_after stops w rs gs (Some (Err x)) h left = h
+
+    stop_in : (r : Option (Result (FinishedTable A) Error)) → LeavesError r e old.error new.error
+        → EndsIn r new
+    stop_in None left = (spent, left ∙ none)
+    stop_in (Some (Ok f)) left = tt
+    stop_in (Some (Err x)) left = (spent, left ∙ none)
+
+    pub yields_stop : (r : Option (Result (FinishedTable A) Error))
+        → WritesUntil {A = A} next old.source n (Err e) new.source v → StopsAfter (Some v) e r
+        → LeavesError r e old.error new.error → YieldsTable next old r new
+    yields_stop r until stops left = record {
+      steps = λ some w rs gs at. stop_after some w rs gs r
+          (stops some w v rs gs refl (until some w rs gs (from_old some w rs gs at))) left;
+      over = not_over r;
+      ends = stop_in r left;
+    }

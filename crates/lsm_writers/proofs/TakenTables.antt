@@ -278,7 +278,7 @@ module _ (m : TablesWriting) (k : ℕ) (e : Entry) where
   front_by few false = refl
   front_by few true = take-append-le k m.tables (rest_chunk (written m.present)) few
 
-pub rest_one : (t : List Entry) → length (rest_chunk t) ≤ 1
+rest_one : (t : List Entry) → length (rest_chunk t) ≤ 1
 rest_one [] = omega arith
 rest_one (e ∷ t) = omega arith
 

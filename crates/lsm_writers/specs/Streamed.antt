@@ -169,7 +169,8 @@ pub record CanTake {S : Type 0} (A : Type 0) (next : S → Option (Result Entry 
 -- the next table may be polled
 abbrev pub CanPoll : {S A : Type 0} → (S → Option (Result Entry Error) → S → Type 0)
     → (S → Type 0) → TableStream S A → Type 0
-CanPoll {A = A} next can s = MatchOption s.writer (Unit {0}) (CanTake A next can s.source)
+CanPoll {A = A} next can s = MatchOption s.writer (Unit {0})
+    (λ n. CanTake A next can s.source n × (s.error ≡ None))
 
 -- a new stream may be polled if the source can, for some results whose entries can be written
 abbrev pub StartsReady : {S A : Type 0} → (S → Option (Result Entry Error) → S → Type 0)

@@ -13,11 +13,14 @@ returns-clause-starts g c = λ stops rs begun writable yields. record {
 }
 
 pub returns-clause-can : goal.returns-clause-can
-returns-clause-can g c = λ stops rs begun writable yields asks. record {
-  stops = stops;
-  writer = c.args.writer;
-  list = rs;
-  tables = [];
-  took = returns-clause-starts g c stops rs begun writable yields;
-  asks = asks;
-}
+returns-clause-can g c = λ stops rs begun writable yields asks. (
+  record {
+    stops = stops;
+    writer = c.args.writer;
+    list = rs;
+    tables = [];
+    took = returns-clause-starts g c stops rs begun writable yields;
+    asks = asks;
+  },
+  refl,
+)
