@@ -22,9 +22,10 @@ use Rattle.lsm_sorted.specs.lending.LentCompaction.{past_hidden}
 use Rattle.lsm_sorted.proofs.LendingCompactionRuns.{calm_items, calm_judged}
 use Rattle.lsm_sorted.proofs.KeepsAllLemmas.{IsMemoryAtMost, SaysMemory, as_they_are_so}
 use Rattle.lsm_sorted.proofs.KeepsAllLemmas.{memory_at_most}
+use Rattle.lsm_writers.specs.Streamed.{took_each}
 use Rattle.lsm_writers.specs.Tables.{IsFreshRun, TakesLaw, TablesWriting, took, took_fault}
 use Rattle.lsm_writers.specs.Writing.{IsWritable}
-use Rattle.lsm_runs.specs.compaction.AnyRuns.{AreTaken, results_fault, took_all}
+use Rattle.lsm_runs.specs.compaction.AnyRuns.{AreTaken, results_fault}
 use Rattle.lsm_runs.specs.compaction.Chain.{writes_fault}
 use Rattle.lsm_runs.specs.compaction.Compacted.{FitsBy, RunsOn}
 use Rattle.lsm_runs.specs.compaction.Filtered.{CameUntil, FitsKept, FitsThroughout}
@@ -133,7 +134,7 @@ module _ {F C : Type 0} (gives : F → Entry → Result Verdict Error → F → 
 
   fits_last : (last : R) (list : List Entry) (g : F) (d : C)
       → CompactedPart gives gets rules f c (ok_results es) (ok_results list ++ last ∷ []) g d
-      → AreTaken w list → (e : Error) → results_fault (took_all w list) (last ∷ []) ≡ Some e
+      → AreTaken w list → (e : Error) → results_fault (took_each w list) (last ∷ []) ≡ Some e
       → is_memory e ≡ false → ⊥
   fits_last (Err q) list g d part taken e fault fine =
       let all = part_memory gives gets rules f g c d es (ok_results list ++ Err q ∷ []) calm part in

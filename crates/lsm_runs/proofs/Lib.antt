@@ -56,3 +56,4 @@ pub mod CompactedBack
 pub mod ListRuns
 pub mod Intervals
 pub mod OpenedRuns
+pub mod StreamedTables

@@ -18,6 +18,7 @@ use Rattle.sst_blocks.specs.declared.table.label.Label.{Label}
 use Rattle.sst_blocks.specs.declared.table.options.Options.{Options}
 use Rattle.lsm_sorted.specs.merge.Ends.{R}
 use Rattle.lsm_writers.specs.Cut.{rest_chunk}
+use Rattle.lsm_writers.specs.Streamed.{took_each}
 use Rattle.lsm_writers.specs.Tables.{AreCuts, AreTables, IsFreshRun, TablesWriting}
 use Rattle.lsm_writers.specs.Tables.{all_written, gained_all, next_writing}
 use Rattle.lsm_writers.specs.Tables.{drawn, is_due, rotation_fault}
@@ -29,7 +30,7 @@ use Rattle.lsm_writers.proofs.AllTables.{joined_all}
 use Rattle.lsm_writers.proofs.CutTables.{cuts_first, cuts_longer, cuts_next, gained_snoc}
 use Rattle.lsm_writers.proofs.CutTables.{long_enough, no_end, some_length, still_short}
 use Rattle.lsm_writers.proofs.ListWriting.{same_label, written_gained}
-use Rattle.lsm_runs.specs.compaction.AnyRuns.{results_fault, took_all}
+use Rattle.lsm_runs.specs.compaction.AnyRuns.{results_fault}
 use Rattle.lsm_runs.specs.compaction.Filtered.{FailsAt, FailsToEnd, RefusesWritten}
 use Rattle.lsm_runs.specs.compaction.Observed.{GoesOnAt, IsCounted, StoppedAt, StopsAtLast}
 use Rattle.lsm_runs.specs.compaction.Observed.{NotifiesNext}
@@ -455,7 +456,7 @@ module _ {S O : Type 0} (next : S → Option R → S → Type 0)
         (yields_more next (ok_results (all_written m)) s t u (Ok e) h.gave step)
 
     -- the writer fails for it
-    pub failed_entry : m ≡ took_all w (all_written m)
+    pub failed_entry : m ≡ took_each w (all_written m)
         → may_be_written (all_written m) e.user_key e.seqno ≡ true → next t (Some (Ok e)) u
         → (f : Error) → took_fault m e ≡ Some f → FailsAt next w s (all_written m) t f
     failed_entry all may step f is = record {

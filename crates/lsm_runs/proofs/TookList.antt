@@ -6,9 +6,10 @@ use Rattle.sst_entries.specs.Entry.{Entry}
 use Rattle.sst_entries.specs.Error.{is_memory}
 use Rattle.sst_entries.specs.Stream.{ok_results}
 use Rattle.lsm_sorted.specs.merge.Ends.{R}
+use Rattle.lsm_writers.specs.Streamed.{took_each}
 use Rattle.lsm_writers.specs.Tables.{IsFreshRun, TablesWriting, all_written, run_fault, took}
 use Rattle.lsm_writers.specs.Tables.{took_fault}
-use Rattle.lsm_runs.specs.compaction.AnyRuns.{TookList, results_fault, took_all}
+use Rattle.lsm_runs.specs.compaction.AnyRuns.{TookList, results_fault}
 use Rattle.lsm_runs.specs.compaction.Chain.{writes_fault}
 use Rattle.lsm_runs.proofs.AnyTaken.{Taking, are_taken}
 use Rattle.lsm_runs.proofs.RunWriting.{left_none}
@@ -17,22 +18,22 @@ use Rattle.lsm_runs.proofs.WrittenBy.{Since, since_more, since_now}
 
 -- ---- entry by entry
 
-pub took_none : (w : TablesWriting) → all_written w ≡ [] → w ≡ took_all w (all_written w)
-took_none w none = ap (took_all w) (sym none)
+pub took_none : (w : TablesWriting) → all_written w ≡ [] → w ≡ took_each w (all_written w)
+took_none w none = ap (took_each w) (sym none)
 
 took_one : (w : TablesWriting) (es : List Entry) (e : Entry)
-    → took_all w (es ++ e ∷ []) ≡ took (took_all w es) e
+    → took_each w (es ++ e ∷ []) ≡ took (took_each w es) e
 took_one w [] e = refl
 took_one w (x ∷ es) e = took_one (took w x) es e
 
-pub took_more : (w m n : TablesWriting) (e : Entry) → m ≡ took_all w (all_written m) → n ≡ took m e
-    → all_written n ≡ all_written m ++ e ∷ [] → n ≡ took_all w (all_written n)
+pub took_more : (w m n : TablesWriting) (e : Entry) → m ≡ took_each w (all_written m) → n ≡ took m e
+    → all_written n ≡ all_written m ++ e ∷ [] → n ≡ took_each w (all_written n)
 took_more w m n e h is listed =
     is ∙ ap (λ (x : TablesWriting). took x e) h ∙ sym (took_one w (all_written m) e)
-    ∙ ap (took_all w) (sym listed)
+    ∙ ap (took_each w) (sym listed)
 
 pub took_list : (w m : TablesWriting) (es : List Entry) → Taking w m
-    → m ≡ took_all w (all_written m) → all_written m ≡ es → TookList w es m
+    → m ≡ took_each w (all_written m) → all_written m ≡ es → TookList w es m
 took_list w m es h is listed = subst (λ (xs : List Entry). TookList w xs m) listed
     (record { taken = are_taken w m h; is = is; listed = refl })
 
@@ -47,20 +48,20 @@ none_behind m e es fine =
 -- what is refused behind entries that are taken
 pub behind_taken : (m : TablesWriting) (es : List Entry) (rs : List R)
     → results_fault m (ok_results es) ≡ None
-    → results_fault m (ok_results es ++ rs) ≡ results_fault (took_all m es) rs
+    → results_fault m (ok_results es ++ rs) ≡ results_fault (took_each m es) rs
 behind_taken m [] rs fine = refl
 behind_taken m (e ∷ es) rs fine =
     none_refused (took_fault m e) (results_fault (took m e) (ok_results es ++ rs))
     (left_none _ _ fine) ∙ behind_taken (took m e) es rs (none_behind m e es fine)
 
-since_all : (w : TablesWriting) → IsFreshRun w → (m : TablesWriting) (es : List Entry) → Since w m
-    → results_fault m (ok_results es) ≡ None → Since w (took_all m es)
+pub since_all : (w : TablesWriting) → IsFreshRun w → (m : TablesWriting) (es : List Entry) → Since w m
+    → results_fault m (ok_results es) ≡ None → Since w (took_each m es)
 since_all w fresh m [] h fine = h
 since_all w fresh m (e ∷ es) h fine = since_all w fresh (took m e) es
     (since_more w m fresh e h (left_none _ _ fine)) (none_behind m e es fine)
 
 ends_all : (m : TablesWriting) (es : List Entry) → results_fault m (ok_results es) ≡ None
-    → writes_fault m es ≡ run_fault (took_all m es)
+    → writes_fault m es ≡ run_fault (took_each m es)
 ends_all m [] fine = refl
 ends_all m (e ∷ es) fine =
     none_refused (took_fault m e) (writes_fault (took m e) es) (left_none _ _ fine)

@@ -334,27 +334,34 @@ module _ {A : Type 0} (w m : TablesWriting) (fresh : IsFreshRun w) (next : RunsO
             (sym (one_more m.tables (written m.present) g.some)),
       )
 
+  pub list_finished : left ≡ m.ids → IsStrict es
+      → AreTables m.present.options.data_block_size m.target es (tables_of m)
+      → AreInKeyOrder (tables_of m) → AreFinished m.present.options (first_label m) (tables_of m) fs
+      → AreWrittenBy w es fs left
+  list_finished is strict cut order finished =
+      let n = numbered is (subst (λ (o : Options). AreFinished o (first_label m) (tables_of m) fs)
+      h.options_are finished) h.stands in
+      record {
+        strict = strict;
+        lists = tables_of m;
+        cut =
+            subst (λ (o : Options). AreTables o.data_block_size w.target es (tables_of m))
+            h.options_are
+            (subst (λ (t : ℕ). AreTables m.present.options.data_block_size t es (tables_of m))
+            h.target_is cut);
+        order = order;
+        finished = n.0;
+        left_is = n.1;
+      }
+
   pub all_finished : all_written m ≡ es → left ≡ m.ids → IsStrict (all_written m)
       → AreTables m.present.options.data_block_size m.target (all_written m) (tables_of m)
       → AreInKeyOrder (tables_of m) → AreFinished m.present.options (first_label m) (tables_of m) fs
       → AreWrittenBy w es fs left
   all_finished all is strict cut order finished =
-      let n = numbered is (subst (λ (o : Options). AreFinished o (first_label m) (tables_of m) fs)
-      h.options_are finished) h.stands in
-      record {
-        strict = subst IsStrict all strict;
-        lists = tables_of m;
-        cut =
-            subst (λ (x : List Entry). AreTables w.present.options.data_block_size w.target x
-            (tables_of m)) all
-            (subst (λ (o : Options). AreTables o.data_block_size w.target (all_written m)
-            (tables_of m)) h.options_are
-            (subst (λ (t : ℕ). AreTables m.present.options.data_block_size t (all_written m)
-            (tables_of m)) h.target_is cut));
-        order = order;
-        finished = n.0;
-        left_is = n.1;
-      }
+      list_finished is (subst IsStrict all strict)
+      (subst (λ (x : List Entry). AreTables m.present.options.data_block_size m.target x
+      (tables_of m)) all cut) order finished
 
 -- ---- a list that fits
 

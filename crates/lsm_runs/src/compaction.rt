@@ -8,6 +8,7 @@ mod observer;
 mod open_options;
 mod pack;
 mod runs_with;
+mod tables;
 mod written_run;
 
 pub use any_runs::{CompactionOutcome, compact_any_runs};
@@ -18,4 +19,5 @@ pub use observer::{CompactionObserver, CompactionProgress, NoObserver};
 pub use open_options::OpenOptions;
 pub use pack::{pack_runs, packing_law};
 pub use runs_with::compact_to_run_with;
+pub use tables::{Compaction, compact_each, compaction_tables_law};
 pub use written_run::write_run;

@@ -11,9 +11,9 @@ mod runs;
 mod sources;
 
 pub use compaction::{
-    CompactionObserver, CompactionOutcome, CompactionProgress, NoObserver, OpenOptions,
-    compact_any_runs, compact_any_runs_with, compact_runs, compact_to_run, compact_to_run_with,
-    compaction_law, pack_runs, packing_law, write_run,
+    Compaction, CompactionObserver, CompactionOutcome, CompactionProgress, NoObserver, OpenOptions,
+    compact_any_runs, compact_any_runs_with, compact_each, compact_runs, compact_to_run,
+    compact_to_run_with, compaction_law, compaction_tables_law, pack_runs, packing_law, write_run,
 };
 pub use lent_gets::{
     RunPlace, entry_in_runs, get_runs_ref, get_runs_ref_by_age, get_runs_ref_counted,

@@ -1,8 +1,9 @@
 //! Compactions: several runs into fewer tables, by rules and filters, to tables or to a run.
 
 pub use lsm_runs::{
-    CompactionObserver, CompactionOutcome, CompactionProgress, NoObserver, compact_any_runs,
-    compact_any_runs_with, compact_runs, compact_to_run, compact_to_run_with,
+    Compaction, CompactionObserver, CompactionOutcome, CompactionProgress, NoObserver,
+    compact_any_runs, compact_any_runs_with, compact_each, compact_runs, compact_to_run,
+    compact_to_run_with,
 };
 pub use lsm_sorted::compaction::Rules;
 pub use lsm_sorted::compaction::lending::{LendingCompaction, LentCallback, LentFilter};

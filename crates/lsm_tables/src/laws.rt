@@ -1,7 +1,7 @@
 //! Laws: calls that do nothing when they run. The contract of each is a theorem, which a caller
 //! that proves something gets by the call.
 
-pub use lsm_runs::{compaction_law, packing_law};
+pub use lsm_runs::{compaction_law, compaction_tables_law, packing_law};
 pub use lsm_sorted::compaction::stream::read_law;
 pub use lsm_sorted::{newest_from_both_ends, up_to_gap};
 pub use lsm_writers::{tables_law, taking_law};

@@ -10,6 +10,7 @@ use Rattle.sst_entries.specs.declared.error.Error.{Error}
 use Rattle.sst_entries.specs.declared.error.Error.TheVariants.{OutOfMemory}
 use Rattle.lsm_sorted.specs.merge.Ends.{R}
 use Rattle.lsm_writers.specs.declared.writer.FinishedTable.{FinishedTable}
+use Rattle.lsm_writers.specs.Streamed.{took_each}
 use Rattle.lsm_writers.specs.Tables.{TablesWriting, all_written, took, took_fault}
 use Rattle.lsm_writers.specs.Writing.{IsWritable, may_be_written}
 use Rattle.lsm_readers.specs.point.Table.{OpenTable}
@@ -33,15 +34,10 @@ pub record AreTaken (w : TablesWriting) (es : List Entry) : Type 0 where
   pub writable : IsWritable es
   pub none : results_fault w (ok_results es) ≡ None
 
--- a writer after it took these entries, one after another
-abbrev pub took_all : TablesWriting → List Entry → TablesWriting
-took_all w [] = w
-took_all w (e ∷ es) = took_all (took w e) es
-
 -- a writer took this list, one entry after another, and none failed
 pub record TookList (w : TablesWriting) (es : List Entry) (m : TablesWriting) : Type 0 where
   pub taken : AreTaken w es
-  pub is : m ≡ took_all w es
+  pub is : m ≡ took_each w es
   pub listed : all_written m ≡ es
 
 -- some results: entries that a writer takes, then an entry that may not follow them

@@ -5,13 +5,14 @@ use Rattle.std.specs.Prelude.{length, Option, Result, if◌then◌else◌}
 use Rattle.std.specs.List.{AllByRecursion}
 use Rattle.sst_entries.specs.declared.error.Error.{Error}
 use Rattle.sst_entries.specs.Entry.{Entry}
-use Rattle.sst_entries.specs.Stream.{nowhere}
+use Rattle.sst_entries.specs.Stream.{nowhere, ok_results}
 use Rattle.sst_entries.specs.Strict.{IsStrict}
 use Rattle.sst_blocks.specs.declared.table.label.Label.{Label}
 use Rattle.lsm_sorted.specs.declared.compaction.Rules.{Rules}
 use Rattle.lsm_sorted.specs.Compaction.{kept, unfiltered}
 use Rattle.lsm_writers.specs.declared.writer.FinishedTable.{FinishedTable}
-use Rattle.lsm_writers.specs.Tables.{AreFinished, AreInKeyOrder, AreTables, TableFits}
+use Rattle.lsm_writers.specs.Streamed.{AreAll}
+use Rattle.lsm_writers.specs.Tables.{AreFinished, AreInKeyOrder, AreTables, IsFreshRun, TableFits}
 use Rattle.lsm_writers.specs.Tables.{TablesWriting, drawn, first_id, next_id}
 use Rattle.lsm_writers.specs.Writing.{IsWritable}
 use Rattle.lsm_readers.specs.point.Table.{OpenTable}
@@ -88,6 +89,12 @@ pub record AreWrittenBy {A : Type 0} (w : TablesWriting) (es : List Entry)
   pub order : AreInKeyOrder lists
   pub finished : AreFinished w.present.options (first_written w) lists fs
   pub left_is : left ≡ drawn_often (begun_behind w.target (length lists)) w.ids
+
+-- all tables that a stream yields are those that the writer makes of the list
+abbrev pub StreamedLaw : Type 0 → Type 0
+StreamedLaw A = (w : TablesWriting) (es : List Entry) (gs : List (FinishedTable A))
+    (left : Option ℕ) → IsFreshRun w → RunsOn w → AreAll w (ok_results es) gs left →
+    AreWrittenBy w es gs left
 
 -- a list whose tables fit, with enough ids left
 pub record FitsBy (w : TablesWriting) (es : List Entry) : Type 0 where

@@ -16,9 +16,10 @@ use Rattle.lsm_sorted.specs.Compacting.{Compacted}
 use Rattle.lsm_sorted.specs.lending.LentCompaction.{CompactedLent, CompactedPart, lent_outs}
 use Rattle.lsm_sorted.specs.lending.LentCompaction.{past_hidden}
 use Rattle.lsm_writers.specs.declared.writer.FinishedTable.{FinishedTable}
+use Rattle.lsm_writers.specs.Streamed.{took_each}
 use Rattle.lsm_writers.specs.Tables.{TablesWriting}
 use Rattle.lsm_writers.specs.Writing.{may_be_written}
-use Rattle.lsm_runs.specs.compaction.AnyRuns.{AreTaken, MayCome, results_fault, took_all}
+use Rattle.lsm_runs.specs.compaction.AnyRuns.{AreTaken, MayCome, results_fault}
 use Rattle.lsm_runs.specs.compaction.Chain.{writes_fault}
 use Rattle.lsm_runs.specs.compaction.Compacted.{AreWrittenBy, FitsBy}
 use Rattle.lsm_runs.specs.compaction.Observed.{NotifiedOfPart, WasNotifiedAt, WasNotifiedOf}
@@ -58,7 +59,7 @@ module _ {S : Type 0} (next : S → Option R → S → Type 0) (w : TablesWritin
     pub fine : result_stops is_memory last ≡ false
     pub then : S
     pub one : next led (Some last) then
-    pub fault : results_fault (took_all w list) (last ∷ []) ≡ Some e
+    pub fault : results_fault (took_each w list) (last ∷ []) ≡ Some e
 
   -- nothing is left, and finishing the writer fails with this error
   pub record FailsToEnd (list : List Entry) (led : S) (e : Error) : Type 0 where
@@ -170,7 +171,7 @@ module _ {F C : Type 0} (gives : F → Entry → Result Verdict Error → F → 
     abbrev pub KeepsFault : List Entry → Error → Type 0
     KeepsFault kept e =
         ((last : R) × (d : C) × KeepsSome (ok_results kept ++ last ∷ []) d × MayCome kept last
-        × (results_fault (took_all w kept) (last ∷ []) ≡ Some e))
+        × (results_fault (took_each w kept) (last ∷ []) ≡ Some e))
         ⊎ ((g : F) × (d : C) × CompactedLent gives gets rules f c xs (ok_results kept) g d
         × (writes_fault w kept ≡ Some e))
 

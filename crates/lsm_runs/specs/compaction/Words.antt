@@ -6,6 +6,7 @@ pub use Rattle.sst_entries.specs.Stream.{CanYield, first, nowhere, ok_results}
 pub use Rattle.sst_blocks.specs.table.Chunks.{joined}
 pub use Rattle.sst_blocks.specs.table.Facts.{highest_seqno}
 pub use Rattle.sst_blocks.specs.table.Options.{default_options}
+pub use Rattle.lsm_writers.specs.Streamed.{CanPoll, IsAfter}
 pub use Rattle.lsm_writers.specs.Tables.{AreFinished, IsFreshRun, TablesWriting, all_written, took}
 pub use Rattle.lsm_writers.specs.Tables.{took_fault}
 pub use Rattle.lsm_writers.specs.Writing.{IsTableOf, IsTableWith, IsWritable, may_be_written}
@@ -25,7 +26,7 @@ pub use Rattle.lsm_runs.specs.compaction.Chain.{run_label, tables_fault, writes_
 pub use Rattle.lsm_runs.specs.compaction.Compacted.{AreCompactable, AreMergeable, AreWrittenBy}
 pub use Rattle.lsm_runs.specs.compaction.Compacted.{YieldsWritable, FitsBy, HaveEntries, RunsOn}
 pub use Rattle.lsm_runs.specs.compaction.Compacted.{kept_in}
-pub use Rattle.lsm_runs.specs.compaction.Compacted.{rules_by}
+pub use Rattle.lsm_runs.specs.compaction.Compacted.{StreamedLaw, rules_by}
 pub use Rattle.lsm_runs.specs.compaction.Filtered.{CameTo, CameUntil, CameUpTo, CompactsAs}
 pub use Rattle.lsm_runs.specs.compaction.Filtered.{FitsKept}
 pub use Rattle.lsm_runs.specs.compaction.Filtered.{FitsThroughout, IsWritten, RefusesBy}

@@ -73,7 +73,7 @@ pub(crate) fn scanners_of<A: Allocator + Clone>(
 pub(crate) type Compacted<L, F, C, A> = LendingCompaction<LendingMerger<L, A>, F, C, A>;
 
 // A compaction without a filter and a callback.
-type Kept<L, A> = Compacted<L, NoFilter, NoCallback, A>;
+pub(crate) type Kept<L, A> = Compacted<L, NoFilter, NoCallback, A>;
 
 // The entries that are kept of some sources, in order. Generic, so that a proof does not unfold a
 // scanner's parts.
@@ -99,7 +99,7 @@ fn kept_from<L: Lending + Drop, A: Allocator + Clone>(
 }
 
 // The entries that are kept of the runs, in order if the runs may be merged.
-fn kept_of<A: Allocator + Clone>(
+pub(crate) fn kept_of<A: Allocator + Clone>(
     alloc: A,
     runs: &[Arc<Run<Table<A>, A>, A>],
     rules: Rules,

@@ -1,7 +1,7 @@
 use Rattle.std.proofs.Common.{◌≡◌}
 use Rattle.sst_entries.specs.Stream.{CanYield, nowhere}
+use Rattle.lsm_writers.specs.Streamed.{took_each}
 use Rattle.lsm_writers.specs.Tables.{all_written}
-use Rattle.lsm_runs.specs.compaction.AnyRuns.{took_all}
 use Rattle.lsm_runs.proofs.Observing.{Observing}
 use Rattle.lsm_runs.proofs.compaction.any_runs_with.write_while_observed.Given as goal
 
@@ -11,7 +11,7 @@ invariant-loop-source g l = record {
       l.source;
   observing : Observing g.L.Lending.advances g.O.CompactionObserver.says l.fn.writer l.fn.source
       l.fn.observer l.writer l.source l.progress l.observer;
-  took : l.writer ≡ took_all l.fn.writer (all_written l.writer);
+  took : l.writer ≡ took_each l.fn.writer (all_written l.writer);
 }
 
 abbrev pub decreases-loop-source : goal.decreases-loop-source

@@ -1,7 +1,7 @@
 use Rattle.std.proofs.Common.{◌≡◌}
 use Rattle.sst_entries.specs.Stream.{CanYield, nowhere}
+use Rattle.lsm_writers.specs.Streamed.{took_each}
 use Rattle.lsm_writers.specs.Tables.{all_written}
-use Rattle.lsm_runs.specs.compaction.AnyRuns.{took_all}
 use Rattle.lsm_runs.specs.compaction.Compacted.{YieldsWritable}
 use Rattle.lsm_runs.proofs.AnyTaken.{Taking}
 use Rattle.lsm_runs.proofs.WritesOn.{WritesOn}
@@ -12,7 +12,7 @@ invariant-loop-source g l = record {
   can : CanYield g.L.Lending.advances nowhere g.L.Lending.can_advance g.L.Lending.can_advance
       l.source;
   taking : Taking l.fn.writer l.writer;
-  took : l.writer ≡ took_all l.fn.writer (all_written l.writer);
+  took : l.writer ≡ took_each l.fn.writer (all_written l.writer);
   writes : (d : YieldsWritable g.L.Lending.advances l.fn.source)
       → WritesOn g.L.Lending.advances l.fn.writer d.list l.writer l.source;
 }

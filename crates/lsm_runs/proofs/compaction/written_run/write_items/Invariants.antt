@@ -1,6 +1,6 @@
 use Rattle.std.proofs.Common.{◌≡◌, ◌++◌}
+use Rattle.lsm_writers.specs.Streamed.{took_each}
 use Rattle.lsm_writers.specs.Tables.{all_written}
-use Rattle.lsm_runs.specs.compaction.AnyRuns.{took_all}
 use Rattle.lsm_runs.specs.compaction.Chain.{writes_fault}
 use Rattle.lsm_runs.proofs.AnyTaken.{Taking}
 use Rattle.lsm_runs.proofs.compaction.written_run.write_items.Given as goal
@@ -8,7 +8,7 @@ use Rattle.lsm_runs.proofs.compaction.written_run.write_items.Given as goal
 abbrev pub invariant-loop-item : goal.invariant-loop-item
 invariant-loop-item g l = record {
   taking : Taking l.fn.writer l.writer;
-  took : l.writer ≡ took_all l.fn.writer (all_written l.writer);
+  took : l.writer ≡ took_each l.fn.writer (all_written l.writer);
   fault : writes_fault l.fn.writer l.fn.items.items
       ≡ writes_fault l.writer l.item-iterator.rest.items;
   listed : all_written l.writer ≡ l.yielded;
