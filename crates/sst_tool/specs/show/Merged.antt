@@ -1,6 +1,6 @@
 -- The entries that a merged dump prints.
 use Rattle.std.specs.Prelude.{◌≡◌, ◌≤◌, ◌⊎◌, ◌++◌, ◌^◌, ◌-◌, ℕ, Bool, List, [], Option, None, Some}
-use Rattle.std.specs.Prelude.{MatchResult, Result, Ok, Err, IfErr, IfOk, false, filter, find, is_some}
+use Rattle.std.specs.Prelude.{MatchResult, Result, Ok, Err, IfErr, IfOk, false, filter, find, is_some, true}
 use Rattle.std.specs.Prelude.{if◌then◌else◌, length, map, not, take}
 use Rattle.std.specs.List.{AllByRecursion}
 use Rattle.sst_entries.specs.Entry.{Entry}

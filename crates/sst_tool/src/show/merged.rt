@@ -108,7 +108,8 @@ fn print_newest<L: Lending + Drop, A: Allocator + Copy, W: Write>(
         ⟦<LentNewestOf<L, A> as Lending>⟧.can_advance
         ⟦<LentNewestOf<L, A> as Lending>⟧.can_advance newest }
     ensures unnamed { IfErr result (spec.FailsOnlyAs (λ _. Unit {0})) }
-    ensures prints { spec.PrintsSteps ⟦<LentNewestOf<L, A> as Lending>⟧.advances newest most result }
+    ensures prints { spec.PrintsSteps ⟦<LentNewestOf<L, A> as Lending>⟧.advances newest most
+        result }
 {
     print_front(alloc, output, &mut newest, format, most)
 }
@@ -126,8 +127,8 @@ fn print_newest_back<I: DoubleEndedIterator<Item = IterItem<A>>, A: Allocator + 
         ⟦<NewestOf<I, A> as Iterator>⟧.can_next
         ⟦<NewestOf<I, A> as DoubleEndedIterator>⟧.can_next_back newest }
     ensures unnamed { IfErr result (spec.FailsOnlyAs (λ _. Unit {0})) }
-    ensures prints { spec.PrintsSteps ⟦<NewestOf<I, A> as DoubleEndedIterator>⟧.next_back_gives newest
-        most result }
+    ensures prints { spec.PrintsSteps ⟦<NewestOf<I, A> as DoubleEndedIterator>⟧.next_back_gives
+        newest most result }
 {
     print_back(alloc, output, &mut newest, format, most)
 }
