@@ -27,13 +27,3 @@ returns-in-Ok-clause-returned g c =
     → AllByRecursion (λ rs. Ascends (entries_among rs)) (ranges_in o ts)
     → Prints c.args.most (newest_found o c.args.seqno ts) c.in-Ok.count) same
     c.in-Ok.ensures.returned
-
-pub returns-in-Err-clause-named : goal.returns-in-Err-clause-named
-returns-in-Err-clause-named g c = c.blame_merged.ensures.named c.in-Err.ensures.unnamed
-
-pub returns-in-Err-clause-sound : goal.returns-in-Err-clause-sound
-returns-in-Err-clause-sound g c = λ lists hold.
-    let same : map arc_value c.deref.result.now ≡ runs_in c.args.files.now
-    = ap (map arc_value) c.deref.ensures.value ∙ c.in_ok-runs.ensures.ok in
-    c.blame_merged.ensures.none (c.in-Err.ensures.sound lists
-    (subst (λ (ts : List (List OpenTable)). RunsHoldLists ts lists) (sym same) hold))
