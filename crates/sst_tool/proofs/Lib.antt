@@ -17,8 +17,10 @@ pub mod Blaming
 pub mod FromLibrary
 pub mod LineLemmas
 pub mod LinesLaw
+pub mod MergedLemmas
 pub mod Refusals
 pub mod Scanning
 pub mod Sorting
 pub mod TableFiles
 pub mod Taken
+pub mod Unread

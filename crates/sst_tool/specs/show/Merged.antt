@@ -1,6 +1,6 @@
 -- The entries that a merged dump prints.
 use Rattle.std.specs.Prelude.{◌≡◌, ◌≤◌, ◌⊎◌, ◌++◌, ◌^◌, ◌-◌, ℕ, Bool, List, [], Option, None, Some}
-use Rattle.std.specs.Prelude.{MatchResult, Result, Ok, Err, IfErr, IfOk, false, filter, find, is_some}
+use Rattle.std.specs.Prelude.{MatchResult, Result, Ok, Err, IfErr, IfOk, false, filter, find, is_some, true}
 use Rattle.std.specs.Prelude.{if◌then◌else◌, length, map, not, take}
 use Rattle.std.specs.List.{AllByRecursion}
 use Rattle.sst_entries.specs.Entry.{Entry}
@@ -20,7 +20,7 @@ use Rattle.sst_tool.specs.declared.files.error.ToolError.{ToolError}
 use Rattle.sst_tool.specs.declared.files.error.ToolError.TheVariants as error
 use Rattle.sst_tool.specs.declared.show.dumps.DumpOptions.{DumpOptions}
 use Rattle.sst_tool.specs.declared.show.named.NamedTable.{NamedTable}
-use Rattle.sst_tool.specs.show.Failures.{FailsAs, NamesNone}
+use Rattle.sst_tool.specs.show.Failures.{NamesNone}
 use Rattle.sst_tool.specs.show.Files.{IsSoundTable}
 use Rattle.sst_tool.specs.show.Read.{Outcome, dumped, first_error, from_key, in_turn, readable}
 use Rattle.sst_tool.specs.show.Read.{up_to_key}
@@ -61,6 +61,13 @@ ShowsLive None r = r ≡ Ok None
 ShowsLive (Some (Ok e)) r = MatchResult r (λ shown. shown ≡ Some (lines_of e)) NamesNone
 ShowsLive (Some (Err e)) r = r ≡ Err (error.Refused e)
 
+-- The error is one of the output or OutOfMemory, or another of the library with this property. So
+-- it names no file.
+abbrev pub FailsOnlyAs : (Error → Type 0) → ToolError → Type 0
+FailsOnlyAs IsReported (error.Output e) = Unit {0}
+FailsOnlyAs IsReported (error.Refused e) = is_memory e ≡ false → IsReported e
+FailsOnlyAs IsReported e = ⊥
+
 -- The first of these results were read. All of them are entries, and those that are no tombstones
 -- were printed: as many as may be, or all that there are.
 pub record Prints (most : ℕ) (rs : List Outcome) (count : ℕ) : Type 0 where
@@ -71,14 +78,14 @@ pub record Prints (most : ℕ) (rs : List Outcome) (count : ℕ) : Type 0 where
   pub few : count ≤ most
   pub ends : (count ≡ most) ⊎ (rest ≡ [])
 
--- Of results that the source yields by these steps, so many are printed, or the error is the first
--- of them, if it is one of the source. This holds for an error that does not stop the source.
+-- Of the results that the source yields by these steps, so many are printed; or the first error
+-- among them is passed on, unless it is one that stops the source.
 abbrev pub PrintsSteps : {S : Type 0} (step : S → Option Outcome → S → Type 0) → S → ℕ
     → Result ℕ ToolError → Type 0
 PrintsSteps step s most result =
     (stops : Error → Bool) (rs : List Outcome) → YieldsExactly (answer_stops stops) step nowhere s rs
     → IfOk result (Prints most rs)
-    × IfErr result (FailsAs (λ e. stops e ≡ false → first_error rs ≡ Some e))
+    × IfErr result (FailsOnlyAs (λ e. stops e ≡ false → first_error rs ≡ Some e))
 
 -- The first error of reading the file's range, in the order of printing.
 abbrev pub range_error : DumpOptions → OpenTable → Option Error

@@ -81,7 +81,7 @@ fn print_merged<A: Allocator + Copy, W: Write>(
         IfOk result (spec.Prints most
         (spec.newest_found options.now seqno (map spec.arc_value runs.now))) }
     // No file is named yet.
-    ensures unnamed { IfErr result (spec.FailsAs (λ _. Unit {0})) }
+    ensures unnamed { IfErr result (spec.FailsOnlyAs (λ _. Unit {0})) }
     ensures sound { (lists : List (List (List spec.Entry))) →
         spec.RunsHoldLists (map spec.arc_value runs.now) lists → IfErr result spec.NamesNone }
 {
@@ -107,7 +107,9 @@ fn print_newest<L: Lending + Drop, A: Allocator + Copy, W: Write>(
     requires { spec.CanYield ⟦<LentNewestOf<L, A> as Lending>⟧.advances spec.nowhere
         ⟦<LentNewestOf<L, A> as Lending>⟧.can_advance
         ⟦<LentNewestOf<L, A> as Lending>⟧.can_advance newest }
-    ensures { spec.PrintsSteps ⟦<LentNewestOf<L, A> as Lending>⟧.advances newest most result }
+    ensures unnamed { IfErr result (spec.FailsOnlyAs (λ _. Unit {0})) }
+    ensures prints { spec.PrintsSteps ⟦<LentNewestOf<L, A> as Lending>⟧.advances newest most
+        result }
 {
     print_front(alloc, output, &mut newest, format, most)
 }
@@ -124,8 +126,9 @@ fn print_newest_back<I: DoubleEndedIterator<Item = IterItem<A>>, A: Allocator + 
         ⟦<NewestOf<I, A> as DoubleEndedIterator>⟧.next_back_gives
         ⟦<NewestOf<I, A> as Iterator>⟧.can_next
         ⟦<NewestOf<I, A> as DoubleEndedIterator>⟧.can_next_back newest }
-    ensures { spec.PrintsSteps ⟦<NewestOf<I, A> as DoubleEndedIterator>⟧.next_back_gives newest
-        most result }
+    ensures unnamed { IfErr result (spec.FailsOnlyAs (λ _. Unit {0})) }
+    ensures prints { spec.PrintsSteps ⟦<NewestOf<I, A> as DoubleEndedIterator>⟧.next_back_gives
+        newest most result }
 {
     print_back(alloc, output, &mut newest, format, most)
 }
@@ -139,7 +142,8 @@ fn print_front<L: Lending, A: Allocator + Copy, W: Write>(
     most: u64,
 ) -> Result<u64, ToolError<'static>>
     requires { spec.CanYield L.advances spec.nowhere L.can_advance L.can_advance source.old }
-    ensures { spec.PrintsSteps L.advances source.old most result }
+    ensures unnamed { IfErr result (spec.FailsOnlyAs (λ _. Unit {0})) }
+    ensures prints { spec.PrintsSteps L.advances source.old most result }
 {
     let mut left = most;
     // No item after the last is read.
@@ -163,7 +167,8 @@ fn print_back<I: DoubleEndedIterator<Item = IterItem<A>>, A: Allocator + Copy, W
     requires can { spec.CanYield I.next_gives I.next_back_gives I.can_next I.can_next_back
         items.old }
     requires finite { spec.IsFinite (I.remaining items.old) }
-    ensures { spec.PrintsSteps I.next_back_gives items.old most result }
+    ensures unnamed { IfErr result (spec.FailsOnlyAs (λ _. Unit {0})) }
+    ensures prints { spec.PrintsSteps I.next_back_gives items.old most result }
 {
     let mut left = most;
     while left > 0 {
@@ -241,7 +246,7 @@ fn blame_merged<'a, A: Allocator + Copy>(
     options: &DumpOptions<'_>,
     error: ToolError<'a>,
 ) -> ToolError<'a>
-    ensures named { spec.FailsAs (λ _. Unit {0}) error.entry →
+    ensures named { spec.FailsOnlyAs (λ _. Unit {0}) error.entry →
         spec.NamesUnread options.now files.now result }
     ensures none { spec.NamesNone error.entry → spec.NamesNone result }
 {
