@@ -1,5 +1,5 @@
 //! Compacting several runs into tables that are yielded one by one.
-ghost use Rattle.std.specs.Prelude.{◌≡◌, [], Bool, IfErr, IfOk, List, map, true};
+ghost use Rattle.std.specs.Prelude.{◌≡◌, [], Bool, IfErr, IfOk, map, true};
 ghost use Rattle.lsm_runs.specs.compaction.Words as spec;
 
 use crate::RunScanner;
@@ -64,10 +64,10 @@ pub fn compact_each<A: Allocator + Clone>(
     requires able { spec.AreCompactable (map spec.arc_value runs.now) }
     // It is before the first table of what is kept of all entries.
     ensures starts { let advances = ⟦<Kept<RunScanner<A>, A> as Lending>⟧.advances in
-        (lists : List (List (List spec.Entry))) (stops : spec.Error → Bool) →
-        spec.RunsHoldLists (map spec.arc_value runs.now) lists →
-        stops spec.OutOfMemory ≡ true → IfOk result (spec.IsAfter stops advances writer
-        (spec.ok_results (spec.kept_in rules lists)) []) }
+        (able : spec.AreCompactable (map spec.arc_value runs.now))
+        (stops : spec.Error → Bool) → stops spec.OutOfMemory ≡ true →
+        IfOk result (spec.IsAfter stops advances writer
+        (spec.ok_results (spec.kept_in rules able.lists)) []) }
     ensures can { IfOk result ⟦<Compaction<A> as Iterator>⟧.can_next }
     ensures ids { IfOk result (λ s. s.ids ≡ writer.ids) }
     ensures err { IfErr result (λ e. e ≡ spec.OutOfMemory) }

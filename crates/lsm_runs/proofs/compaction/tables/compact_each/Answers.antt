@@ -1,14 +1,8 @@
-use Rattle.std.proofs.Common.{◌≡◌, ◌∙◌, ap, List, [], subst, true}
-use Rattle.std.specs.Prelude.{IfOk, map}
-use Rattle.std.specs.Arc.{arc_value}
-use Rattle.sst_entries.specs.Entry.{Entry}
-use Rattle.sst_entries.specs.Stream.{ok_results}
-use Rattle.lsm_writers.specs.Streamed.{IsAfter}
+use Rattle.std.proofs.Common.{◌∙◌, ap, subst}
 use Rattle.lsm_writers.specs.Tables.{TablesWriting}
 use Rattle.lsm_runs.specs.compaction.Compacted.{RunsOn, kept_in, merged_as}
 use Rattle.lsm_runs.specs.SeveralRuns.{union_in}
 use Rattle.lsm_runs.proofs.Keeping.{stays_writable}
-use Rattle.lsm_runs.proofs.OneList.{one_way}
 use Rattle.lsm_runs.proofs.compaction.tables.compact_each.Goals as goal
 
 pub stream_of-requires : goal.stream_of-requires
@@ -20,17 +14,13 @@ stream_of-requires g c =
     }
 
 pub returns-clause-starts : goal.returns-clause-starts
-returns-clause-starts g c lists stops held memory =
+returns-clause-starts g c able stops memory =
     let rules = c.args.rules in
-    let able = c.requires.able in
-    subst (λ (ls : List (List (List Entry))). IsAfter stops _ c.args.writer
-    (ok_results (kept_in rules ls)) [] c.stream_of.result)
-    (one_way (map arc_value c.args.runs.now) able.lists lists able.hold held)
-    (c.stream_of.ensures.starts (record {
+    c.stream_of.ensures.starts (record {
       list = kept_in rules able.lists;
       writable = stays_writable rules (union_in able.lists) able.writable;
       yields = c.in_ok-kept.ensures.list (merged_as able);
-    }) stops memory)
+    }) stops memory
 
 pub returns-clause-can : goal.returns-clause-can
 returns-clause-can g c =
