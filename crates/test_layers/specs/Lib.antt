@@ -1,4 +1,3 @@
 pub mod Keys
-pub mod Listed
 pub mod Rows
 pub mod Words

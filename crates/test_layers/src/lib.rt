@@ -31,8 +31,6 @@ mod sections;
 #[cfg(test)]
 mod sorted;
 #[cfg(test)]
-mod table_stream;
-#[cfg(test)]
 mod taken;
 #[cfg(test)]
 mod walks;
