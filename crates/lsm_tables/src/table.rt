@@ -15,7 +15,7 @@ pub use lsm_readers::{
 pub use lsm_runs::OpenOptions;
 pub use lsm_writers::{
     BloomConstructionPolicy, FilterKind, FinishedTable, IndexKind, Metadata, MultiWriter, Options,
-    TableIds, Writer, is_writable, write_list,
+    TableIds, TableStream, Writer, is_writable, write_list,
 };
 pub use sst_blocks::{
     CompressionType, GlobalTableId, ItemName, SectionName, TableId, Timestamp, TreeId,

@@ -25,6 +25,9 @@ pub mod OneCut
 pub mod Rotating
 pub mod Turning
 pub mod TakenTables
+pub mod CutFronts
+pub mod Streaming
+pub mod StreamCalls
 pub mod AllTables
 pub mod Fitting
 pub mod Whole

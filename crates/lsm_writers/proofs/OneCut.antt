@@ -66,7 +66,7 @@ cut_law size target es = goes_on size target es [] [] (λ _. refl) tt
 abbrev GoesBehind : List Entry → List Entry → List Entry → List Entry → Type 0
 GoesBehind t a u b = (c : List Entry) × (u ≡ t ++ c) × (a ≡ c ++ b)
 
-fronts : (t u a b : List Entry) → t ++ a ≡ u ++ b → GoesBehind t a u b ⊎ GoesBehind u b t a
+pub fronts : (t u a b : List Entry) → t ++ a ≡ u ++ b → GoesBehind t a u b ⊎ GoesBehind u b t a
 fronts [] u a b h = inl (u, refl, h)
 fronts (x ∷ t) [] a b h = inr (x ∷ t, refl, sym h)
 fronts (x ∷ t) (y ∷ u) a b h =
@@ -77,13 +77,13 @@ fronts (x ∷ t) (y ∷ u) a b h =
       | inr left ↦ inr (left.0, cc (head, left.1), left.2)
     ]
 
-same_joint : (t : List Entry) (v y : Entry) (vs c : List Entry) → v ≡ y → apart t (v ∷ vs) ≡ true
+pub same_joint : (t : List Entry) (v y : Entry) (vs c : List Entry) → v ≡ y → apart t (v ∷ vs) ≡ true
     → apart t (y ∷ c) ≡ true
 same_joint t v y vs c same h = apart_first t y c vs
     ∙ subst (λ (x : Entry). apart t (x ∷ vs) ≡ true) same h
 
 -- no table goes on behind one that is cut
-nothing_more : (size target : ℕ) (t c b : List Entry) (ts : List (List Entry))
+pub nothing_more : (size target : ℕ) (t c b : List Entry) (ts : List (List Entry))
     → IsCut size target (t ++ c) → EndsCut size target t ts → AreCuts size target ts
     → joined ts ≡ c ++ b → c ≡ []
 nothing_more size target t [] b ts cut ends cuts h = refl
@@ -97,7 +97,7 @@ nothing_more size target t (y ∷ c) b ((v ∷ vs) ∷ ts) cut ends cuts h =
     (same_joint t v y vs c same ends.0) in
     absurd (omega (arith, short, ends.1))
 
-no_table : (size target : ℕ) (t : List Entry) (ts : List (List Entry))
+pub no_table : (size target : ℕ) (t : List Entry) (ts : List (List Entry))
     → AreCuts size target (t ∷ ts) → [] ≡ joined (t ∷ ts) → ⊥
 no_table size target [] ts cuts h = omega (arith, (cuts.0).some)
 no_table size target (x ∷ t) ts cuts h =

@@ -133,7 +133,7 @@ module _ {A : Type 0} (target : ℕ) (ids : Option ℕ) (fs : List (FinishedTabl
 -- ---- several of them
 
 -- the table info of the n-th table behind
-abbrev label_behind : ℕ → Label → Label
+abbrev pub label_behind : ℕ → Label → Label
 label_behind n label = record label { table_id = label.table_id + n }
 
 label_here : (label : Label) → label_behind 0 label ≡ label
@@ -143,7 +143,7 @@ label_next : (n : ℕ) (label : Label) → label_behind (suc n) label
     ≡ label_behind n (next_label label)
 label_next n label = ap (λ (k : ℕ). record label { table_id = k }) (omega arith)
 
-finished_append : {A : Type 0} (options : Options) (label : Label) (ts us : List (List Entry))
+pub finished_append : {A : Type 0} (options : Options) (label : Label) (ts us : List (List Entry))
     (gs fs : List (FinishedTable A)) → AreFinished options label ts gs
     → AreFinished options (label_behind (length gs) label) us fs
     → AreFinished options label (ts ++ us) (gs ++ fs)
@@ -157,7 +157,7 @@ finished_append options label (t ∷ ts) us (g ∷ gs) fs h k = (
       (subst (λ (l : Label). AreFinished options l us fs) (label_next (length gs) label) k),
 )
 
-finished_many : {A : Type 0} (options : Options) (label : Label) (ts : List (List Entry))
+pub finished_many : {A : Type 0} (options : Options) (label : Label) (ts : List (List Entry))
     (gs : List (FinishedTable A)) → AreFinished options label ts gs → length ts ≡ length gs
 finished_many options label [] [] h = refl
 finished_many options label [] (g ∷ gs) h = absurd h
@@ -165,7 +165,7 @@ finished_many options label (t ∷ ts) [] h = absurd h
 finished_many options label (t ∷ ts) (g ∷ gs) h =
     ap suc (finished_many options (next_label label) ts gs h.1)
 
-few_taken : {X : Type 0} (n : ℕ) (xs : List X) → length (take n xs) ≡ n → n ≤ length xs
+pub few_taken : {X : Type 0} (n : ℕ) (xs : List X) → length (take n xs) ≡ n → n ≤ length xs
 few_taken n xs is = omega (
   arith,
   is,
@@ -183,7 +183,7 @@ module _ {A : Type 0} (m : TablesWriting) (gs : List (FinishedTable A)) where
         gs h.finished)
 
     -- the first table info of what is left
-    label_left : first_label (taken k m) ≡ label_behind k (first_label m)
+    pub label_left : first_label (taken k m) ≡ label_behind k (first_label m)
     label_left = ap (λ (i : ℕ). record m.present.label { table_id = i })
         (omega (arith, many, h.ids, length-drop k m.tables))
 

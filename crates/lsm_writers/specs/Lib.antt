@@ -7,4 +7,5 @@ pub mod Filtering
 pub mod Held
 pub mod Tables
 pub mod Taken
+pub mod Streamed
 pub mod Words

@@ -64,6 +64,8 @@ pub use Rattle.sst_blocks.specs.table.Partitions.{is_full_index, partitioned_ind
 pub use Rattle.sst_blocks.specs.table.Parts.{parts_by}
 pub use Rattle.lsm_writers.specs.Buffered.{IsMark, MarksFront}
 unfoldable pub use Rattle.lsm_writers.specs.Counts.{counted_items}
+pub use Rattle.lsm_writers.specs.Streamed.{CanPoll, CanTake, EndsAll, LeavesError, Starts, StartsReady}
+pub use Rattle.lsm_writers.specs.Streamed.{StopsAfter, WritesUntil, YieldsTable, items_left}
 pub use Rattle.lsm_writers.specs.Tables.{AddsTable, AreFinished, AreInKeyOrder, AreTables, CutLaw}
 pub use Rattle.lsm_writers.specs.Tables.{HasRoomFor, IsFreshRun, IsStanding, OneCutLaw, OneKeyLaw}
 pub use Rattle.lsm_writers.specs.Tables.{SetsOptionOfAll}
@@ -71,8 +73,8 @@ pub use Rattle.lsm_writers.specs.Tables.{TakesLaw, all_written, drawn, early_ref
 pub use Rattle.lsm_writers.specs.Tables.{ids_after, ids_fault, is_due, new_tables, next_writing}
 pub use Rattle.lsm_writers.specs.Tables.{rotation_fault, run_fault, table_fault, tables_of, took}
 pub use Rattle.lsm_writers.specs.Tables.{took_fault, turn_fault, with_options}
-pub use Rattle.lsm_writers.specs.Taken.{BegunLaw, FinishedLaw, IsLeft, StayHeld, TakenLaw, WrittenLaw}
-pub use Rattle.lsm_writers.specs.Taken.{taken}
+pub use Rattle.lsm_writers.specs.Taken.{BegunLaw, FinishedLaw, IsLeft, IsWriting, StayHeld, TakenLaw}
+pub use Rattle.lsm_writers.specs.Taken.{WrittenLaw, taken}
 pub use Rattle.lsm_writers.specs.section.Answering.{IsAdmitted, was_given}
 pub use Rattle.lsm_writers.specs.section.Given.{GivenKeys, all_keys, given_by, no_keys, rest_keys}
 pub use Rattle.lsm_writers.specs.section.Given.{with_key}

@@ -5,6 +5,7 @@ mod list;
 mod multi_writer;
 mod section;
 mod table_ids;
+mod table_stream;
 mod writer;
 
 pub use list::{is_writable, write_list};
@@ -19,5 +20,6 @@ pub use sst_blocks::{
     Timestamp, TreeId,
 };
 pub use table_ids::TableIds;
+pub use table_stream::TableStream;
 pub use writer::meta::Metadata;
 pub use writer::{FinishedTable, Writer};

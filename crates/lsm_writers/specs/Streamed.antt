@@ -1,0 +1,254 @@
+-- Tables of the results of a source, which are yielded one by one.
+use Rattle.std.specs.Prelude.{◌≡◌, ℕ, ◌+◌, ◌≤◌, Bool, false, List, [], ◌∷◌, ◌++◌, length, take}
+use Rattle.std.specs.Prelude.{Option, None, Some, Result, Ok, Err, MatchOption}
+use Rattle.sst_entries.specs.Entry.{Entry}
+use Rattle.sst_entries.specs.Error.{is_memory}
+use Rattle.sst_entries.specs.Stream.{CanYield, YieldsExactly, answer_stops, nowhere, ok_results}
+use Rattle.sst_entries.specs.Strict.{IsStrict}
+use Rattle.sst_entries.specs.declared.error.Error.{Error}
+use Rattle.lsm_writers.specs.declared.table_stream.TableStream.{TableStream}
+use Rattle.lsm_writers.specs.declared.writer.FinishedTable.{FinishedTable}
+use Rattle.lsm_writers.specs.Taken.{AreTakenFrom, IsWriting, tables_left}
+use Rattle.lsm_writers.specs.Tables.{AreFinished, AreInKeyOrder, AreTables, IsFreshRun}
+use Rattle.lsm_writers.specs.Tables.{TablesWriting, all_written, first_label, run_fault}
+use Rattle.lsm_writers.specs.Tables.{tables_of, took, took_fault}
+use Rattle.lsm_writers.specs.Writing.{IsWritable}
+
+-- the entries before the first error
+abbrev pub entries_before : List (Result Entry Error) → List Entry
+entries_before [] = []
+entries_before (Ok e ∷ rs) = e ∷ entries_before rs
+entries_before (Err f ∷ rs) = []
+
+-- a writer after it took these entries, one after another
+abbrev pub took_each : TablesWriting → List Entry → TablesWriting
+took_each w [] = w
+took_each w (e ∷ es) = took_each (took w e) es
+
+-- none of these entries has a fault
+abbrev pub NoneFails : TablesWriting → List Entry → Type 0
+NoneFails w [] = Unit {0}
+NoneFails w (e ∷ es) = (took_fault w e ≡ None) × NoneFails (took w e) es
+
+-- the error of the next result: that of writing the entry, or the source's own; at the end that of
+-- finishing
+abbrev pub next_fault : TablesWriting → List (Result Entry Error) → Option Error
+next_fault m [] = run_fault m
+next_fault m (Ok e ∷ rs) = took_fault m e
+next_fault m (Err f ∷ rs) = Some f
+
+-- the finished tables after that error
+abbrev pub next_left : TablesWriting → List (Result Entry Error) → List (List Entry)
+next_left m [] = m.tables
+next_left m (Ok e ∷ rs) = tables_left m e
+next_left m (Err f ∷ rs) = m.tables
+
+-- finished tables of the first tables of a list
+abbrev pub AreFirst : {A : Type 0} → TablesWriting → List Entry → List (FinishedTable A) → Type 0
+AreFirst m es gs = (ts : List (List Entry)) →
+    AreTables m.present.options.data_block_size m.target es ts →
+    AreFinished m.present.options (first_label m) (take (length gs) ts) gs
+
+-- All results are entries. The tables are those that `finish` returns after them, and the counter is
+-- that of the writer.
+pub record AreAll {A : Type 0} (w : TablesWriting) (rs : List (Result Entry Error))
+    (gs : List (FinishedTable A)) (left : Option ℕ) : Type 0 where
+  pub list : List Entry
+  pub whole : rs ≡ ok_results list
+  pub strict : IsStrict list
+  pub none : NoneFails w list
+  pub cut : let m = took_each w list in
+      AreTables m.present.options.data_block_size m.target list (tables_of m)
+  pub order : AreInKeyOrder (tables_of (took_each w list))
+  pub finished : let m = took_each w list in
+      AreFinished m.present.options (first_label m) (tables_of m) gs
+  pub left_is : left ≡ (took_each w list).ids
+
+-- After entries without a fault comes this error. The tables are the first ones of the list, and all
+-- that were finished before it.
+pub record EndsWith {A : Type 0} (stops : Error → Bool) (w : TablesWriting)
+    (rs : List (Result Entry Error)) (gs : List (FinishedTable A)) (e : Error) : Type 0 where
+  pub front : List Entry
+  pub rest : List (Result Entry Error)
+  pub whole : rs ≡ ok_results front ++ rest
+  pub none : NoneFails w front
+  pub first : AreFirst (took_each w front) (entries_before rs) gs
+  pub kept : length (took_each w front).tables ≤ length gs
+  -- except for `OutOfMemory` and errors that stop the source: the error is the first one, and a table
+  -- that was finished by the call that failed is among the tables
+  pub fault : is_memory e ≡ false → stops e ≡ false →
+      next_fault (took_each w front) rest ≡ Some e
+  pub count : is_memory e ≡ false → stops e ≡ false →
+      length gs ≡ length (next_left (took_each w front) rest)
+
+-- ---- a stream between its calls
+
+-- a writer took these entries without a fault, and its finished tables were all taken
+pub record Took {A : Type 0} (w : TablesWriting) (es : List Entry) (gs : List (FinishedTable A))
+    (n : TablesWriting) : Type 0 where
+  pub none : NoneFails w es
+  pub listed : all_written (took_each w es) ≡ es
+  pub writing : IsWriting (took_each w es)
+  pub taken : AreTakenFrom (took_each w es) gs n
+  pub left : n.tables ≡ []
+
+-- it took the first of these results, which the source yielded; the source yields the others, up to
+-- an error that stops it
+pub record TookFrom {S A : Type 0} (stops : Error → Bool)
+    (next : S → Option (Result Entry Error) → S → Type 0) (w : TablesWriting)
+    (rs : List (Result Entry Error)) (gs : List (FinishedTable A)) (s : S) (n : TablesWriting)
+    : Type 0 where
+  pub front : List Entry
+  pub rest : List (Result Entry Error)
+  pub whole : rs ≡ ok_results front ++ rest
+  pub writable : IsWritable (entries_before rs)
+  pub took : Took w front gs n
+  pub yields : YieldsExactly (answer_stops stops) next nowhere s rest
+
+-- a state after these tables of the results that the source yields to a writer
+abbrev pub IsAfter : {S A : Type 0} → (Error → Bool) → (S → Option (Result Entry Error) → S → Type 0)
+    → TablesWriting → List (Result Entry Error) → List (FinishedTable A) → TableStream S A → Type 0
+IsAfter stops next w rs gs s = MatchOption s.writer
+    (MatchOption s.error (AreAll w rs gs s.ids) (EndsWith stops w rs gs))
+    (TookFrom stops next w rs gs s.source)
+
+-- a new stream is before the first table, for any results of the source whose entries can be written
+abbrev pub Starts : {S A : Type 0} → (S → Option (Result Entry Error) → S → Type 0) → S
+    → TablesWriting → TableStream S A → Type 0
+Starts next source w s =
+    (stops : Error → Bool) (rs : List (Result Entry Error)) → IsFreshRun w →
+    IsWritable (entries_before rs) → YieldsExactly (answer_stops stops) next nowhere source rs →
+    IsAfter stops next w rs [] s
+
+-- the item of a call after these tables: the next table; an error, if it comes next; or `None`, if
+-- these are all tables
+abbrev pub YieldsAfter : {S A : Type 0} → (Error → Bool)
+    → (S → Option (Result Entry Error) → S → Type 0) → TablesWriting → List (Result Entry Error)
+    → List (FinishedTable A) → Option (Result (FinishedTable A) Error) → TableStream S A → Type 0
+YieldsAfter stops next w rs gs None t = AreAll w rs gs t.ids
+YieldsAfter stops next w rs gs (Some (Ok f)) t = IsAfter stops next w rs (gs ++ f ∷ []) t
+YieldsAfter stops next w rs gs (Some (Err e)) t = EndsWith stops w rs gs e
+
+-- a stream that yields only `None`
+abbrev pub IsOver : {S A : Type 0} → TableStream S A → Type 0
+IsOver s = (s.writer ≡ None) × (s.error ≡ None)
+
+-- an error or `None` is the last item
+abbrev pub EndsIn : {S A : Type 0} → Option (Result (FinishedTable A) Error) → TableStream S A
+    → Type 0
+EndsIn None t = IsOver t
+EndsIn (Some (Ok f)) t = Unit {0}
+EndsIn (Some (Err e)) t = IsOver t
+
+-- one call, for any results of the source
+pub record YieldsTable {S A : Type 0} (next : S → Option (Result Entry Error) → S → Type 0)
+    (s : TableStream S A) (r : Option (Result (FinishedTable A) Error)) (t : TableStream S A)
+    : Type 0 where
+  pub steps : (stops : Error → Bool) (w : TablesWriting) (rs : List (Result Entry Error))
+      (gs : List (FinishedTable A)) → IsAfter stops next w rs gs s →
+      YieldsAfter stops next w rs gs r t
+  pub over : IsOver s → (r ≡ None) × IsOver t
+  pub ends : EndsIn r t
+
+-- ---- when it may be called
+
+-- entries can be written from the source, which can be polled
+pub record CanTake {S : Type 0} (A : Type 0) (next : S → Option (Result Entry Error) → S → Type 0)
+    (can : S → Type 0) (s : S) (n : TablesWriting) : Type 0 where
+  pub stops : Error → Bool
+  pub writer : TablesWriting
+  pub list : List (Result Entry Error)
+  pub tables : List (FinishedTable A)
+  pub took : TookFrom stops next writer list tables s n
+  pub asks : CanYield next nowhere can can s
+
+-- the next table may be polled
+abbrev pub CanPoll : {S A : Type 0} → (S → Option (Result Entry Error) → S → Type 0)
+    → (S → Type 0) → TableStream S A → Type 0
+CanPoll {A = A} next can s = MatchOption s.writer (Unit {0})
+    (λ n. CanTake A next can s.source n × (s.error ≡ None))
+
+-- a new stream may be polled if the source can, for some results whose entries can be written
+abbrev pub StartsReady : {S A : Type 0} → (S → Option (Result Entry Error) → S → Type 0)
+    → (S → Type 0) → S → TablesWriting → TableStream S A → Type 0
+StartsReady next can source w s =
+    (stops : Error → Bool) (rs : List (Result Entry Error)) → IsFreshRun w →
+    IsWritable (entries_before rs) → YieldsExactly (answer_stops stops) next nowhere source rs →
+    CanYield next nowhere can can source → CanPoll next can s
+
+-- an upper bound on the number of items that remain
+abbrev pub most_items : Option TablesWriting → Option Error → ℕ → ℕ
+most_items (Some n) error left = left + 2
+most_items None (Some e) left = 1
+most_items None None left = 0
+
+abbrev pub items_left : {S A : Type 0} → (S → ℕ) → TableStream S A → ℕ
+items_left left s = most_items s.writer s.error (left s.source)
+
+-- ---- the parts of a call
+
+-- all results are entries, and the writer took them
+pub record TookAll {A : Type 0} (w : TablesWriting) (rs : List (Result Entry Error))
+    (gs : List (FinishedTable A)) (n : TablesWriting) : Type 0 where
+  pub list : List Entry
+  pub whole : rs ≡ ok_results list
+  pub writable : IsWritable list
+  pub took : Took w list gs n
+
+-- after an error: the stream ends with it, after these tables and the one that is finished, if any
+pub record Failed {A : Type 0} (stops : Error → Bool) (w : TablesWriting)
+    (rs : List (Result Entry Error)) (gs : List (FinishedTable A)) (e : Error) (n : TablesWriting)
+    : Type 0 where
+  pub none : n.tables ≡ [] → EndsWith stops w rs gs e
+  pub some : (f : FinishedTable A) →
+      AreFinished n.present.options (first_label n) (take 1 n.tables) (f ∷ []) →
+      EndsWith stops w rs (gs ++ f ∷ []) e
+
+-- the result of writing until a table is finished: the table, the end of the source, or an error
+abbrev pub Writes : {S A : Type 0} → (Error → Bool) → (S → Option (Result Entry Error) → S → Type 0)
+    → TablesWriting → List (Result Entry Error) → List (FinishedTable A)
+    → Result (Option (FinishedTable A)) Error → S → TablesWriting → Type 0
+Writes stops next w rs gs (Ok (Some f)) t v = TookFrom stops next w rs (gs ++ f ∷ []) t v
+Writes stops next w rs gs (Ok None) t v = TookAll w rs gs v
+Writes stops next w rs gs (Err e) t v = Failed stops w rs gs e v
+
+abbrev pub WritesUntil : {S A : Type 0} → (S → Option (Result Entry Error) → S → Type 0) → S
+    → TablesWriting → Result (Option (FinishedTable A)) Error → S → TablesWriting → Type 0
+WritesUntil {A = A} next s n r t v =
+    (stops : Error → Bool) (w : TablesWriting) (rs : List (Result Entry Error))
+    (gs : List (FinishedTable A)) → TookFrom stops next w rs gs s n →
+    Writes stops next w rs gs r t v
+
+-- the result of finishing: the last table if there is one, or an error
+abbrev pub Finishes : {A : Type 0} → TablesWriting → List (Result Entry Error)
+    → List (FinishedTable A) → Option ℕ → Option (Result (FinishedTable A) Error) → Type 0
+Finishes w rs gs left None = AreAll w rs gs left
+Finishes w rs gs left (Some (Ok f)) = AreAll w rs (gs ++ f ∷ []) left
+Finishes w rs gs left (Some (Err e)) = (stops : Error → Bool) → EndsWith stops w rs gs e
+
+abbrev pub EndsAll : {A : Type 0} → Option TablesWriting → Option (Result (FinishedTable A) Error)
+    → Type 0
+EndsAll {A = A} writer r =
+    (w n : TablesWriting) (rs : List (Result Entry Error)) (gs : List (FinishedTable A)) →
+    writer ≡ Some n → TookAll w rs gs n → Finishes w rs gs n.ids r
+
+-- the result after an error: the table that is finished, or the error
+abbrev pub Stops : {A : Type 0} → (Error → Bool) → TablesWriting → List (Result Entry Error)
+    → List (FinishedTable A) → Error → Option (Result (FinishedTable A) Error) → Type 0
+Stops stops w rs gs error None = ⊥
+Stops stops w rs gs error (Some (Ok f)) = EndsWith stops w rs (gs ++ f ∷ []) error
+Stops stops w rs gs error (Some (Err e)) = EndsWith stops w rs gs e
+
+abbrev pub StopsAfter : {A : Type 0} → Option TablesWriting → Error
+    → Option (Result (FinishedTable A) Error) → Type 0
+StopsAfter {A = A} writer error r =
+    (stops : Error → Bool) (w n : TablesWriting) (rs : List (Result Entry Error))
+    (gs : List (FinishedTable A)) → writer ≡ Some n → Failed stops w rs gs error n →
+    Stops stops w rs gs error r
+
+-- the error is left for the next call exactly if a table comes first
+abbrev pub LeavesError : {A : Type 0} → Option (Result (FinishedTable A) Error) → Error
+    → Option Error → Option Error → Type 0
+LeavesError None error old new = new ≡ old
+LeavesError (Some (Ok f)) error old new = new ≡ Some error
+LeavesError (Some (Err e)) error old new = new ≡ old
