@@ -1,3 +1,4 @@
 pub mod Keys
+pub mod Listed
 pub mod Rows
 pub mod Words

@@ -9,3 +9,4 @@ pub use Rattle.lsm_writers.specs.section.IndexEither.{registered_by}
 pub use Rattle.lsm_writers.specs.section.Rising.{Rises}
 pub use Rattle.lsm_writers.specs.Tables.{IsFreshRun}
 pub use Rattle.test_layers.specs.Keys.{WasGiven}
+pub use Rattle.test_layers.specs.Listed.{YieldsListed, listed_left}

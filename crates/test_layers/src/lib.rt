@@ -31,6 +31,8 @@ mod sections;
 #[cfg(test)]
 mod sorted;
 #[cfg(test)]
+mod table_stream;
+#[cfg(test)]
 mod taken;
 #[cfg(test)]
 mod walks;
