@@ -12,12 +12,11 @@
  *
  * A handle is two words in the caller's memory, zeros at first (`sst_handle table = {0};`). A call
  * fills it, and `sst_close` empties it. A handle may be closed twice, and handles may be closed in
- * any order: a range, for example, has a share of its table. A handle may be moved in memory, but a
- * copy must not be used beside it.
+ * any order: a range, for example, has a share of its table. A handle may be moved in memory, but
+ * two copies of it must not both be used.
  *
- * If a call gets one handle both to fill and to read, it fills nothing. It returns SST_OPEN if the
- * handle is in use, else SST_CLOSED. `sst_runs_add` fills no handle and must not get one handle
- * twice.
+ * If a call gets the same handle to read from and to fill, it does nothing. It returns SST_OPEN if
+ * the handle is in use, else SST_CLOSED. Never pass one handle as both arguments of `sst_runs_add`.
  *
  * Threads: one thread uses a handle at a time. Threads that use different handles need no
  * synchronization, whatever the handles share. A table's bytes and blocks are never written.
@@ -41,8 +40,8 @@
  * - `sst_table_get`, `sst_runs_get`, `sst_range_next` and `sst_scan_next` set their outputs to
  *   zeros and keep no entry.
  * - `sst_table_verify`, `sst_table_verify_with` and `sst_verification_step` set `verified` to
- *   zeros, unless the error is SST_FAULTY. `progress` still reports how far an open verification
- *   is.
+ *   zeros, unless the error is SST_FAULTY. `sst_verification_step` also sets `progress`, to zeros
+ *   if the handle is closed or of another kind.
  * - `sst_range_take`, `sst_scan_take` and `sst_writer_add_many` set `count` to the number of
  *   entries that were read or written before the error.
  *
@@ -123,17 +122,16 @@ enum {
   SST_NO_ENTRY = 0,
   SST_VALUE = 1,
   SST_TOMBSTONE = 2,      /* a deletion of every older version of the key */
-  SST_WEAK_TOMBSTONE = 3, /* a deletion of the one version directly before it */
+  SST_WEAK_TOMBSTONE = 3, /* a deletion of the next older version alone */
   SST_INDIRECTION = 5     /* a value that is stored elsewhere */
 };
 
 /* Bounds of a range. */
 enum { SST_UNBOUNDED = 0, SST_INCLUDED = 1, SST_EXCLUDED = 2 };
 
-/* The largest sequence number. A read at it finds the newest version with a smaller sequence
- * number. `sst_writer_add` does not take an entry with this sequence number. A global sequence
- * number may raise an entry to it, and bytes of another writer may have such an entry. No read at a
- * sequence number finds that entry; a range or a scan of the table yields it.
+/* The largest sequence number. A read at it sees every version with a smaller sequence number, and
+ * `sst_writer_add` takes no other. An entry has it only if the global sequence number raises it so
+ * far, or in bytes of another writer. Only a range or a scan of one table yields such an entry.
  */
 #define SST_NEWEST UINT64_MAX
 
@@ -163,8 +161,8 @@ uint32_t sst_version(void);
 /* Closes a handle of any kind. A handle that holds nothing stays as it is. */
 void sst_close(sst_handle *handle);
 
-/* The entry that a read found. A handle has the entry that its last read found, until its next
- * read. The reads are `sst_table_get`, `sst_runs_get`, `sst_range_next`, `sst_range_take`,
+/* The found entry. A handle keeps the entry that its last read found, until its next read. The
+ * reads are `sst_table_get`, `sst_runs_get`, `sst_range_next`, `sst_range_take`,
  * `sst_scan_next` and `sst_scan_take`. Point reads, scans of one table or of several, and ranges of
  * one table borrow the entry from the table's memory. They copy no bytes and count no reference to
  * the entry. Ranges of several tables hold a counted reference. The two calls below return
@@ -191,8 +189,9 @@ uint32_t sst_found_lend(sst_handle *handle, sst_lent *lent);
 /* Tables. */
 
 /* Opens a table from a copy of its bytes, into a handle that holds nothing. `global_seqno` is added
- * to every stored sequence number. `pin_filter` and `pin_index` pin a filter and an index of one
- * block; else each read loads them.
+ * to every stored sequence number. `pin_filter` keeps a filter of one block loaded, and `pin_index`
+ * an index of one block. Otherwise each read loads it. The top level of a partitioned index is kept
+ * loaded in any case.
  *
  * Errors: the first fault of the bytes; the handle stays as it is. Bytes with damaged blocks may
  * open: reads that meet the damage fail, and `sst_table_verify` finds it.
@@ -209,8 +208,9 @@ uint32_t sst_table_open(const uint8_t *file, size_t len, uint64_t global_seqno, 
 uint32_t sst_table_open_kept(const uint8_t *file, size_t len, uint64_t global_seqno,
                              bool pin_filter, bool pin_index, sst_handle *table);
 
-/* Finds the newest version of a key whose sequence number is below `seqno`, and keeps it. The
- * version may be a deletion. If there is none, the call returns 0 and the kind is SST_NO_ENTRY.
+/* Finds the newest version of a key with a sequence number below `seqno`, and keeps it as the
+ * handle's found entry. The version may be a deletion. If there is none, the call returns 0 and the
+ * kind is SST_NO_ENTRY.
  *
  * Errors: the first fault of the blocks that it loads; `entry` is all zeros then.
  */
@@ -240,10 +240,10 @@ uint32_t sst_table_facts(sst_handle *table, sst_facts *facts);
  */
 typedef struct sst_memory {
   uint64_t file_len;           /* the file; the caller's memory after `sst_table_open_kept` */
-  uint64_t pinned_index_size;  /* of these the pinned index, the whole or the top level;
-                                  0 if none is pinned */
-  uint64_t pinned_filter_size; /* of these the pinned filter; 0 if none is pinned, and for a
-                                  partitioned filter */
+  uint64_t pinned_index_size;  /* part of the file: the pinned index, or the top level of a
+                                  partitioned one; 0 if none is pinned */
+  uint64_t pinned_filter_size; /* part of the file: the pinned filter; 0 if none is pinned, and for
+                                  a partitioned filter */
   uint64_t marks_size;         /* beside the file, the verified-block cache: 8 for each 2,048 bytes
                                   of the file and 8 more, or 0 if its allocation failed */
 } sst_memory;
@@ -261,8 +261,8 @@ uint32_t sst_table_share(sst_handle *table, sst_handle *other);
 /* Finds for each of several keys what `sst_table_get` finds. It stores the results in a handle that
  * holds nothing, until that is closed. The keys are one after another in `keys`. `key_lens` has the
  * length of each in bytes, and `keys_len` is their sum. The keys may be in any order and may
- * repeat. The checksums of their blocks are compared several in one loop. The results have one
- * reference to the table, and none for an entry.
+ * repeat. Several checksums of blocks are compared in one loop, which is faster than in single
+ * reads. The answers hold one reference to the table, and none for each entry.
  *
  * `entries` receives what `sst_table_get` reports for each key, in the order of the keys. The rest
  * of `entries` stays as it was.
@@ -293,7 +293,8 @@ uint32_t sst_answers_copy(sst_handle *answers, uint64_t index, uint8_t *key, siz
 /* Copies the entries found for the keys from index `first` on to the front of `bytes`, one after
  * another: key, value, key, value, and so on. It stops at the first that does not fit. `count` is
  * set to the number of keys that were done. A key without an entry counts, and takes no bytes. The
- * lengths are those in the `entries` of `sst_table_get_many`.
+ * lengths are those in the `entries` of `sst_table_get_many`. If the first entry does not fit,
+ * `count` may be 0: use `sst_answers_copy` or `sst_answers_lend` for it.
  *
  * Errors: SST_NO_SUCH if there are fewer than `first` keys.
  */
@@ -316,7 +317,7 @@ enum {
   SST_FAULT_UNLOADED = 1,       /* it does not load */
   SST_FAULT_HOLLOW = 2,         /* it is empty */
   SST_FAULT_MISPLACED = 3,      /* it does not start where the one before it ends */
-  SST_FAULT_TOO_HIGH = 4,       /* an entry has the largest sequence number */
+  SST_FAULT_TOO_HIGH = 4,       /* an entry is stored with the largest seqno */
   SST_FAULT_UNORDERED = 5,      /* an entry does not follow the one before it */
   SST_FAULT_DENIED = 6,         /* a filter false negative for a key of the table */
   SST_FAULT_UNFILTERED = 7,     /* a block of the filter does not load */
@@ -344,9 +345,10 @@ typedef struct sst_verified {
  * Errors: SST_FAULTY if they do not: `verified` has the first fault and its position.
  * SST_OUT_OF_MEMORY does not mean that the table is invalid.
  *
- * Bytes that no read needs are not checked. These are the byte of the version section, and the
- * trailer's positions of that section, the data blocks and partitions. A file that differs only
- * there may open and be verified. `sst_table_verify_with` compares a checksum of every byte.
+ * Bytes that no read uses are not checked. These are the byte of the version section, and some
+ * positions in the trailer: those of the version section, of the data blocks and of the partitions.
+ * A file with damage only there may open and pass. `sst_table_verify_with` compares a checksum of
+ * every byte.
  */
 uint32_t sst_table_verify(sst_handle *table, sst_verified *verified);
 
@@ -382,9 +384,9 @@ typedef struct sst_progress {
  * `verified` is all zeros before the end. At the end, the call returns and reports what
  * `sst_table_verify` does; a further step changes nothing.
  *
- * Errors: as of `sst_table_verify`. A failed step changes nothing and may be repeated, after
- * SST_OUT_OF_MEMORY and after SST_FAULTY. A fault that it finds is in the next block, or at the end
- * if no block is left.
+ * Errors: those of `sst_table_verify`. A failed step does not change the verification, so it may be
+ * repeated. After SST_FAULTY it then reports the same fault again. A fault is found in the next
+ * unread block, or at the end if all blocks were read.
  */
 uint32_t sst_verification_step(sst_handle *verification, sst_progress *progress,
                                sst_verified *verified);
@@ -393,11 +395,11 @@ uint32_t sst_verification_step(sst_handle *verification, sst_progress *progress,
 
 /* Opens a range of the entries of a table whose keys are within two bounds, into a handle that
  * holds nothing. No block is loaded yet. The key of an SST_UNBOUNDED bound is ignored. If no key is
- * between the bounds, the range has no entry. So it is if the lower bound is above the upper one.
+ * between the bounds, or the lower bound is above the upper one, the range is empty.
  *
- * The keys that begin with a prefix are those from the prefix on, included, up to a key, excluded.
- * That key is the prefix without the bytes 255 at its end, and with its last byte raised by 1. If
- * no byte is left, there is no upper bound.
+ * To read the keys that begin with a prefix, pass the prefix as the lower bound, included. For the
+ * upper bound, excluded, remove all bytes 255 from the end of the prefix, and raise its last byte
+ * by 1. If no byte is left, pass no upper bound.
  *
  * Errors: SST_NO_SUCH if a bound's kind does not exist.
  */
@@ -488,19 +490,19 @@ uint32_t sst_runs_range_open(sst_handle *runs, uint32_t lower_kind, const uint8_
                              size_t lower_len, uint32_t upper_kind, const uint8_t *upper,
                              size_t upper_len, uint64_t seqno, sst_handle *range);
 
-/* Opens a scan of the entries of `sst_runs_range_open`, from the front only, into a handle that
- * holds nothing. `sst_scan_next` takes them. The scan borrows each entry from the memory of its
- * table, but a range holds a counted reference to it. So threads that scan the same tables change
- * no common counter for each entry, and a scan is faster than a range. Bounds and errors are those
- * of `sst_range_open`.
+/* Opens a scan that yields the same entries as `sst_runs_range_open`, from the front only, into a
+ * handle that holds nothing. `sst_scan_next` takes them. The scan borrows each entry from the
+ * memory of its table, but a range holds a counted reference to it. So threads that scan the same
+ * tables change no common counter for each entry, and a scan is faster than a range. Bounds and
+ * errors are those of `sst_range_open`.
  */
 uint32_t sst_runs_scan_open(sst_handle *runs, uint32_t lower_kind, const uint8_t *lower,
                             size_t lower_len, uint32_t upper_kind, const uint8_t *upper,
                             size_t upper_len, uint64_t seqno, sst_handle *scan);
 
-/* Packing puts the tables of a list into as few runs as possible, so that each key keeps the order
- * of its tables. Each table goes after the last run with a table that overlaps it, or into the
- * first run.
+/* Packing puts the tables of a list into as few runs as possible. Tables that overlap stay in their
+ * order. Each table goes into the run after the last one that has a table overlapping it. If there
+ * is none, it goes into the first run.
  */
 
 /* Makes a list of the packed runs, in a handle that holds nothing. The new list has shares of the
@@ -510,8 +512,9 @@ uint32_t sst_runs_scan_open(sst_handle *runs, uint32_t lower_kind, const uint8_t
 uint32_t sst_runs_pack(sst_handle *runs, sst_handle *packed);
 
 /* Finds the runs that packing makes, and a chain of tables that shows why there cannot be fewer. It
- * stores the result in a handle that holds nothing, for the calls below. These name a table by its
- * index in the list, from 0 on; in a list of packed runs, run by run.
+ * stores the result in a handle that holds nothing, for the calls below. These report a table as
+ * its index in the list, from 0 on, in the order in which the tables were added. In a list of
+ * packed runs, tables are counted run by run.
  */
 uint32_t sst_packing_open(sst_handle *runs, sst_handle *packing);
 
@@ -581,12 +584,12 @@ uint32_t sst_writer_open(const sst_options *options, sst_handle *writer);
  *
  * - SST_KEY_TOO_LONG if the key has more than 1,048,576 bytes;
  * - SST_VALUE_TOO_LONG if the value has 2^32 bytes or more;
- * - SST_BLOCK_TOO_LARGE if the current data block would have 2^32 bytes or more. It counts 28, and
- *   for each entry 17 plus the key and the value;
+ * - SST_BLOCK_TOO_LARGE if the current data block would have 2^32 bytes or more. These are 28, and
+ *   for each entry 17 plus the lengths of its key and value;
  * - SST_OUT_OF_MEMORY.
  *
- * A writer that has failed returns SST_WRITER_FAILED for an entry that may follow. A fault of the
- * entry is found before any memory is allocated.
+ * A failed writer returns SST_WRITER_FAILED for each further entry, unless SST_OUT_OF_ORDER or
+ * SST_NO_SUCH applies. A fault of the entry is found before any memory is allocated.
  */
 uint32_t sst_writer_add(sst_handle *writer, const uint8_t *key, size_t key_len, uint64_t seqno,
                         uint32_t kind, const uint8_t *value, size_t value_len);
@@ -596,8 +599,8 @@ uint32_t sst_writer_add(sst_handle *writer, const uint8_t *key, size_t key_len, 
  * has the kind, the sequence number and the lengths of one entry. The keys and values are one after
  * another in `bytes`: key, value, key, value, and so on.
  *
- * Errors: those of `sst_writer_add`; SST_NO_SUCH if the lengths do not add up to `byte_len`.
- * Nothing is written in this case.
+ * Errors: those of `sst_writer_add`. If the lengths do not add up to `byte_len`, the call returns
+ * SST_NO_SUCH and writes nothing.
  */
 uint32_t sst_writer_add_many(sst_handle *writer, const sst_entry *entries, size_t entry_count,
                              const uint8_t *bytes, size_t byte_len, uint64_t *count);
@@ -605,10 +608,16 @@ uint32_t sst_writer_add_many(sst_handle *writer, const sst_entry *entries, size_
 /* Finishes the table. The handle then holds the finished table in place of the writer, or no table
  * if nothing was written.
  *
- * Errors: SST_WRITER_FAILED if an entry failed with an error other than SST_OUT_OF_ORDER and
- * SST_NO_SUCH. This is found before any memory is allocated. Otherwise the call succeeds if nothing
- * was written. SST_BLOCK_TOO_LARGE or SST_SECTION_TOO_LARGE if the index or the filter is too
- * large, as docs/FORMAT.md describes. After an error, what was written is dropped.
+ * Errors:
+ *
+ * - SST_WRITER_FAILED if the writer has failed, as `sst_writer_add` describes. This is found before
+ *   any memory is allocated;
+ * - SST_BLOCK_TOO_LARGE or SST_SECTION_TOO_LARGE if the index or the filter is too large, as
+ *   docs/FORMAT.md describes.
+ *
+ * A writer that has not failed, and to which nothing was written, has no error. After one of these
+ * errors, or out of memory, what was written is dropped: the handle then holds no table, and no
+ * writer either.
  */
 uint32_t sst_writer_finish(sst_handle *writer);
 
@@ -618,30 +627,31 @@ uint32_t sst_writer_finish(sst_handle *writer);
  * stores the finished tables in a handle that holds nothing; there are none if no entry is kept.
  * The list and its tables stay.
  *
- * `watermark` is the least snapshot that is still read. For each key, the versions that are not
- * below it are kept, and the newest version below it. All older ones are dropped. Among the kept
- * versions, only the oldest may be dropped too:
+ * `watermark` is the oldest snapshot that is still read. Of each key, the call keeps the versions
+ * with sequence numbers of at least `watermark`, and the newest version below it. It drops all
+ * older versions. If the oldest version that is left is a deletion, it may be dropped, too:
  *
- * - A weak tombstone is dropped if the version directly after it is dropped, and is an SST_VALUE.
- * - If `evict_tombstones` is set, an SST_TOMBSTONE is dropped, and so is a weak tombstone after
- *   which the list has no version of its key.
+ * - A weak tombstone is dropped if the next older version was dropped, and is an SST_VALUE.
+ * - If `evict_tombstones` is set, an SST_TOMBSTONE is dropped, and so is a weak tombstone if the
+ *   list has no older version of its key.
  *
- * A weak tombstone with any other version after it is kept, and so is any deletion that is not the
- * oldest. With `watermark` 0 and no eviction all entries are kept.
+ * All other deletions are kept. With `watermark` 0 and no eviction, all entries are kept.
  *
- * `evict_tombstones` is only for a list after which there is no older table. If `zero_seqnos` is
- * set, sequence numbers below the watermark become 0. A new table starts at the next key once the
- * data blocks of the current one have `target_size` bytes. With UINT64_MAX there is one table. The
- * tables are written with `options`. Their ids ascend by 1 from `options->id`, or from the id after
- * it if `target_size` is 0. `next_id` is set to the first unused id, or to 0 if none is left.
- * `options->id` is used up even if no entry is kept.
+ * Set `evict_tombstones` only if no table outside the list is older. If `zero_seqnos` is set,
+ * sequence numbers below the watermark become 0.
+ *
+ * A new table starts at the next key once the data blocks of the current one have `target_size`
+ * bytes. With UINT64_MAX there is one table. The tables are written with `options`. The first table
+ * has the id `options->id`, or the id after it if `target_size` is 0. Each further table has the
+ * next id. `next_id` is set to the first unused id, or to 0 if none is left. `options->id` counts
+ * as used even if no table is written.
  *
  * Errors:
  *
- * - SST_NO_SUCH as of `sst_writer_open`;
+ * - SST_NO_SUCH if an option is out of range, as for `sst_writer_open`;
  * - SST_OUT_OF_ORDER if an entry does not follow the one before it, or has the sequence number
- *   UINT64_MAX. Then a table is not as a writer makes it, or two tables have one key with one
- *   sequence number;
+ *   UINT64_MAX. Then a table is not as a writer makes it, two tables have one key with one sequence
+ *   number, or a global sequence number raises an entry to UINT64_MAX;
  * - the first fault of the blocks, and the errors of a writer;
  * - SST_TABLE_IDS_SPENT if no id is left.
  *
