@@ -6,8 +6,8 @@ use Rattle.sst.specs.Showing.{AsksDump, DumpsEach, DumpsMerged, MeansKey, most_o
 use Rattle.sst.proofs.Named.{on_ok}
 use Rattle.sst.proofs.show.dump.Goals as goal
 
-pub returns-then-merged : goal.returns-then-merged
-returns-then-merged g c =
+pub returns-then-task : goal.returns-then-task
+returns-then-task g c =
     let task = c.args.task.now in
     let content = g.P.Place.content c.args.place.now in
     let options : DumpOptions = record {
@@ -27,7 +27,7 @@ returns-then-merged g c =
     on_ok c.dump_together.result c.dump_together.ensures (λ dumps. record {
       options = options;
       asked = asked;
-      each = λ alone. absurd (true≢false (sym c.if-merged.true ∙ alone));
+      each = λ alone. absurd (true≢false (sym c.if-task.true ∙ alone));
       merged = λ _. subst (λ (seqno : ℕ).
           DumpsMerged options seqno (most_of task) content task.files.items)
           c.unwrap_or-seqno.ensures
@@ -68,5 +68,5 @@ returns g c =
             DumpsEach options content names c.unwrap_or-most.result dumps.0)
             c.as_slice-names.ensures.value dumps.1),
       );
-      merged = λ together. absurd (true≢false (sym together ∙ c.if-merged.false));
+      merged = λ together. absurd (true≢false (sym together ∙ c.if-task.false));
     })
