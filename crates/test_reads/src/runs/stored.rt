@@ -5,7 +5,7 @@ ghost use Rattle.test_reads.specs.Words as spec;
 
 use crate::runs::compactions::{Version, are, entries_of};
 use lsm_sorted::Run;
-use lsm_tables::compaction::{Rules, compact_each, compact_runs};
+use lsm_tables::compaction::compact_runs;
 use lsm_tables::run::RunReader;
 use lsm_tables::table::Table;
 use lsm_writers::{FinishedTable, MultiWriter, TableIds, Timestamp, write_list};
@@ -126,33 +126,6 @@ fn kept(alloc: Global) -> Result<Vec<FinishedTable>, Error> {
     Ok(tables)
 }
 
-// The tables of the same compaction, which it yields one after another.
-fn kept_each(alloc: Global) -> Result<Vec<FinishedTable>, Error> {
-    let runs = [run(alloc)?];
-    let writer = MultiWriter::new(alloc, TableIds::new(1), 0, 0, Timestamp::from(0))?;
-    let rules = Rules {
-        watermark: 0,
-        evict: false,
-        zeroing: false,
-    };
-    let mut tables = Vec::new(alloc);
-    for table in compact_each(alloc, &runs, rules, writer)? {
-        tables.push(table?)?;
-    }
-    Ok(tables)
-}
-
-// Whether both have the same tables.
-fn are_same(alloc: Global) -> Result<bool, Error> {
-    let (tables, each) = (kept(alloc)?, kept_each(alloc)?);
-    for (table, other) in tables.iter().zip(each.iter()) {
-        if table.checksum != other.checksum {
-            return Ok(false);
-        }
-    }
-    Ok(tables.len() == each.len())
-}
-
 fn version_of(table: &Table) -> Result<u8, Error> {
     Ok(table.metadata.table_version)
 }
@@ -177,9 +150,4 @@ fn is_kept(alloc: Global, entries: &[Version]) -> Result<bool, Error> {
 #[test]
 fn a_stored_table_and_a_new_one_are_compacted(rt: HostRuntime) {
     assert!(rt; is_kept(rt.alloc(), &ENTRIES) == Ok(true));
-}
-
-#[test]
-fn a_compaction_yields_the_same_tables_one_by_one(rt: HostRuntime) {
-    assert!(rt; are_same(rt.alloc()) == Ok(true));
 }
