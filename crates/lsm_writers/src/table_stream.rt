@@ -20,7 +20,8 @@ use std::alloc::{Allocator, Global};
 ///
 /// The stream yields an error of the source or of the writer once, after every table that was
 /// finished before it. After that it yields only `None`. Then the entries of the current table are
-/// lost.
+/// lost. For `OutOfMemory` the contract leaves open whether a table that the failing call finished
+/// is yielded.
 #[derive(Drop)]
 pub struct TableStream<L, A: Allocator = Global> {
     source: L,
@@ -49,7 +50,8 @@ impl<L: Lending, A: Allocator + Clone> TableStream<L, A> {
         }
     }
 
-    /// Returns the id counter of the writer. After the last table its next id is unused.
+    /// Returns the id counter of the writer. After the last table its next id is unused; the
+    /// contract states its value only then.
     pub fn table_ids(&self) -> TableIds
         ensures { result ≡ self.now.ids }
     {

@@ -210,8 +210,8 @@ fn verify_held_with(held: &Held, checksum: u64, returned: &mut VerifyReport) -> 
 /// # Errors
 ///
 /// - 107: the bytes have another checksum, or the table has a fault. `returned` gets the first
-///   fault and its position. If the checksum differs, this is fault 12 at offset 0 of section 1,
-///   and no block is read.
+///   fault and its position. If the checksum differs, this is fault 12 at offset 0 of the data
+///   section, and no block is read.
 /// - 100: the handle is closed.
 /// - 102: the handle holds no table.
 /// - 1: out of memory. The bytes have this checksum, and nothing else is known about the table.

@@ -53,7 +53,8 @@ fn stream_of<L: Lending + Drop, A: Allocator + Clone>(
 ///
 /// The call fails with [`Error::OutOfMemory`]. The compaction yields an error of
 /// [`MultiWriter::write`] and [`MultiWriter::finish`], or [`Error::OutOfMemory`], once, after every
-/// table that was finished before it. After that it yields only `None`.
+/// table that was finished before it. After that it yields only `None`. [`TableStream`] says what
+/// the contract leaves open.
 pub fn compact_each<A: Allocator + Clone>(
     alloc: A,
     runs: &[Arc<Run<Table<A>, A>, A>],
