@@ -440,8 +440,9 @@ pub fn place_in_runs_by_age_counted<A: Allocator + Clone>(
 /// Returns the newest version of a key visible at `seqno` in several runs, borrowed from its table,
 /// and skips older tables.
 ///
-/// It returns what [`crate::get_runs_by_age`] returns, without taking a reference count. It skips
-/// the same tables. A tombstone is returned as an entry.
+/// It reads as [`get_runs_ref`] does, but skips a table whose highest seqno is below that of the
+/// version found in earlier runs. It reads the fewest tables if the newest run comes first. For
+/// tables of lists, any order yields the same result. A tombstone is returned as an entry.
 ///
 /// # Errors
 ///

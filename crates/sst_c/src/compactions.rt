@@ -8,8 +8,9 @@ use crate::handle::Handle;
 use crate::held::{Files, Held, What};
 use crate::options::{TableOptions, are_usable, writer_options};
 use crate::run_list::RunList;
-use lsm_runs::{CompactionOutcome, compact_any_runs};
+use lsm_runs::{CompactionOutcome, NoObserver, compact_any_runs};
 use lsm_sorted::compaction::Rules;
+use lsm_sorted::compaction::stream::{NoCallback, NoFilter};
 use lsm_writers::{FinishedTable, MultiWriter, TableIds, Timestamp};
 use sst_blocks::Error;
 use std::alloc::Global;
@@ -41,7 +42,18 @@ fn compacted_by(
     requires { spec.IsFreshRun writer }
     ensures { spec.IsCompactionOf runs.now rules writer result }
 {
-    compact_any_runs(alloc, runs.as_slice(), rules, writer)
+    let mut observer = NoObserver;
+    let runs = runs.as_slice();
+    let (outcome, _) = compact_any_runs(
+        alloc,
+        runs,
+        rules,
+        writer,
+        NoFilter,
+        NoCallback,
+        &mut observer,
+    )?;
+    Ok(outcome)
 }
 
 fn compacted(

@@ -59,7 +59,7 @@ pub use Rattle.lsm_runs.specs.compaction.ReadsCompacted.{StayStrict}
 pub use Rattle.lsm_runs.specs.compaction.ReadsCompacted.{StayWritable}
 pub use Rattle.lsm_runs.specs.declared.compaction.any_runs.CompactionOutcome.TheVariants.{OutOfOrder}
 pub use Rattle.lsm_runs.specs.declared.compaction.any_runs.CompactionOutcome.TheVariants.{Stopped}
-pub use Rattle.lsm_runs.specs.declared.compaction.any_runs_with.Ending.TheVariants.{AtDisorder}
-pub use Rattle.lsm_runs.specs.declared.compaction.any_runs_with.Ending.TheVariants.{AtEnd}
-pub use Rattle.lsm_runs.specs.declared.compaction.any_runs_with.Ending.TheVariants.{AtStop}
+pub use Rattle.lsm_runs.specs.declared.compaction.any_runs.Ending.TheVariants.{AtDisorder}
+pub use Rattle.lsm_runs.specs.declared.compaction.any_runs.Ending.TheVariants.{AtEnd}
+pub use Rattle.lsm_runs.specs.declared.compaction.any_runs.Ending.TheVariants.{AtStop}
 pub use Rattle.lsm_runs.specs.declared.compaction.observer.CompactionProgress.{CompactionProgress}

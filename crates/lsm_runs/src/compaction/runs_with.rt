@@ -4,10 +4,11 @@ ghost use Rattle.std.specs.Prelude.{MatchOption, map};
 ghost use Rattle.lsm_runs.specs.compaction.Words as spec;
 
 use crate::compaction::open_options::open_all;
-use crate::{CompactionOutcome, OpenOptions, compact_any_runs};
+use crate::{CompactionOutcome, NoObserver, OpenOptions, compact_any_runs};
 use lsm_readers::Table;
 use lsm_sorted::Run;
 use lsm_sorted::compaction::Rules;
+use lsm_sorted::compaction::stream::{NoCallback, NoFilter};
 use lsm_writers::MultiWriter;
 use sst_blocks::Error;
 use std::alloc::Allocator;
@@ -30,9 +31,49 @@ fn open_outcome<A: Allocator + Clone>(
     }
 }
 
+// Compacts several runs of any opened tables, without a filter, a callback and an observer.
+fn compact_unfiltered<A: Allocator + Clone>(
+    alloc: A,
+    runs: &[Arc<Run<Table<A>, A>, A>],
+    rules: Rules,
+    writer: MultiWriter<A>,
+) -> Result<CompactionOutcome<A>, Error>
+    requires fresh { spec.IsFreshRun writer }
+    ensures tables { spec.AreCompactable (map spec.arc_value runs.now) →
+        (lists : List (List (List spec.Entry))) →
+        spec.RunsHoldLists (map spec.arc_value runs.now) lists →
+        IfOk result (spec.AreTablesBy writer (spec.kept_in rules lists)) }
+    ensures refused { spec.AreCompactable (map spec.arc_value runs.now) →
+        (lists : List (List (List spec.Entry))) →
+        spec.RunsHoldLists (map spec.arc_value runs.now) lists →
+        spec.Faults result (spec.writes_fault writer (spec.kept_in rules lists)) }
+    ensures taken { spec.AreCompactable (map spec.arc_value runs.now) →
+        (lists : List (List (List spec.Entry))) →
+        spec.RunsHoldLists (map spec.arc_value runs.now) lists →
+        spec.FitsBy writer (spec.kept_in rules lists) → IfErr result (λ e. e ≡ spec.OutOfMemory) }
+    ensures merged { (lists : List (List (List spec.Entry))) →
+        spec.RunsHoldLists (map spec.arc_value runs.now) lists →
+        spec.AllByRecursion spec.HaveEntries lists →
+        IfOk result (spec.CameInOrder writer (spec.kept_in rules lists)) }
+    ensures made { IfOk result (spec.HasMade writer) }
+    ensures through { IfOk result spec.GoesThrough }
+{
+    let mut observer = NoObserver;
+    let (outcome, _) = compact_any_runs(
+        alloc,
+        runs,
+        rules,
+        writer,
+        NoFilter,
+        NoCallback,
+        &mut observer,
+    )?;
+    Ok(outcome)
+}
+
 /// Compacts several runs of any opened tables, and opens each new table with the options `how`.
 ///
-/// It compacts as [`compact_any_runs`] does. It returns the outcome, with the finished tables and
+/// It compacts as [`compact_any_runs`] does without a filter. It returns the outcome, with the finished tables and
 /// the id counter, and the run that has the tables in order. There is no run if nothing is kept, or
 /// if entries came out of order. The given runs are not changed.
 ///
@@ -91,7 +132,7 @@ pub fn compact_to_run_with<A: Allocator + Clone>(
         IfErr result (λ e. e ≡ spec.OutOfMemory) }
 {
     let own = alloc.clone()?;
-    let outcome = compact_any_runs(own, runs, rules, writer)?;
+    let outcome = compact_unfiltered(own, runs, rules, writer)?;
     let opened = open_outcome(alloc, &outcome, how)?;
     Ok((outcome, opened))
 }
