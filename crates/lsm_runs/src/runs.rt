@@ -66,21 +66,18 @@ fn readers_of<A: Allocator + Clone>(
     // bounds.
     ensures list { let gives = ⟦<RunReader<A> as Iterator>⟧.next_gives in
         let back_gives = ⟦<RunReader<A> as DoubleEndedIterator>⟧.next_back_gives in
-        (lists : List (List (List spec.Entry))) →
-        spec.RunsHoldLists (map spec.arc_value runs.now) lists →
+        (lists : spec.TableLists) → spec.RunsHold runs.now lists →
         let found = map (λ ls. spec.within range.now.0 range.now.1 (spec.joined ls)) lists in
         IfOk result (λ v. spec.YieldTogether gives back_gives v.items found) }
     ensures lends { let advances = ⟦<RunReader<A> as Lending>⟧.advances in
         let back_gives = ⟦<RunReader<A> as DoubleEndedIterator>⟧.next_back_gives in
-        (lists : List (List (List spec.Entry))) →
-        spec.RunsHoldLists (map spec.arc_value runs.now) lists →
+        (lists : spec.TableLists) → spec.RunsHold runs.now lists →
         let found = map (λ ls. spec.within range.now.0 range.now.1 (spec.joined ls)) lists in
         IfOk result (λ v. spec.YieldTogether advances back_gives v.items found) }
     // For any tables in runs in order, they are the readers of the spans.
-    ensures spans { spec.AllByRecursion (spec.IsInOrder spec.range_of)
-        (map spec.arc_value runs.now) →
-        IfOk result (λ v. spec.AllZip (λ reader span. spec.IsRunOf span.0 span.1 reader) v.items
-        (spec.spans_within range.now.0 range.now.1 (map spec.arc_value runs.now))) }
+    ensures spans { spec.AreRunsInOrder runs.now → IfOk result (λ v. spec.AllZip
+        (λ reader span. spec.IsRunOf span.0 span.1 reader) v.items
+        (spec.spans_within range.now.0 range.now.1 (spec.each_run runs.now))) }
     ensures err { IfErr result (λ e. e ≡ spec.OutOfMemory) }
 {
     let mut readers = Vec::with_capacity(alloc, runs.len())?;
@@ -101,20 +98,17 @@ pub(crate) fn readers_within<A: Allocator + Clone>(
 ) -> Result<Vec<RunReader<A>, A>, Error>
     ensures list { let gives = ⟦<RunReader<A> as Iterator>⟧.next_gives in
         let back_gives = ⟦<RunReader<A> as DoubleEndedIterator>⟧.next_back_gives in
-        (lists : List (List (List spec.Entry))) →
-        spec.RunsHoldLists (map spec.arc_value runs.now) lists →
+        (lists : spec.TableLists) → spec.RunsHold runs.now lists →
         let found = map (λ ls. spec.within range.0 range.1 (spec.joined ls)) lists in
         IfOk result (λ v. spec.YieldTogether gives back_gives v.items found) }
     ensures lends { let advances = ⟦<RunReader<A> as Lending>⟧.advances in
         let back_gives = ⟦<RunReader<A> as DoubleEndedIterator>⟧.next_back_gives in
-        (lists : List (List (List spec.Entry))) →
-        spec.RunsHoldLists (map spec.arc_value runs.now) lists →
+        (lists : spec.TableLists) → spec.RunsHold runs.now lists →
         let found = map (λ ls. spec.within range.0 range.1 (spec.joined ls)) lists in
         IfOk result (λ v. spec.YieldTogether advances back_gives v.items found) }
-    ensures spans { spec.AllByRecursion (spec.IsInOrder spec.range_of)
-        (map spec.arc_value runs.now) →
-        IfOk result (λ v. spec.AllZip (λ reader span. spec.IsRunOf span.0 span.1 reader) v.items
-        (spec.spans_within range.0 range.1 (map spec.arc_value runs.now))) }
+    ensures spans { spec.AreRunsInOrder runs.now → IfOk result (λ v. spec.AllZip
+        (λ reader span. spec.IsRunOf span.0 span.1 reader) v.items
+        (spec.spans_within range.0 range.1 (spec.each_run runs.now))) }
     ensures err { IfErr result (λ e. e ≡ spec.OutOfMemory) }
 {
     readers_of(alloc, runs, &range)
@@ -164,8 +158,7 @@ pub fn range_runs<A: Allocator + Clone>(
     // within the bounds, for every list of ends. Global seqnos are applied.
     ensures list { let gives = ⟦<NewestOfRuns<A> as Iterator>⟧.next_gives in
         let back_gives = ⟦<NewestOfRuns<A> as DoubleEndedIterator>⟧.next_back_gives in
-        (lists : List (List (List spec.Entry))) →
-        spec.RunsHoldLists (map spec.arc_value runs.now) lists →
+        (lists : spec.TableLists) → spec.RunsHold runs.now lists →
         let found = spec.newest (spec.within range.0 range.1 (spec.union_in lists)) in
         IfOk result (λ s. spec.YieldsList gives back_gives found s) }
     // For any tables in runs in order, it is a stream over the readers of the spans within the
@@ -173,9 +166,8 @@ pub fn range_runs<A: Allocator + Clone>(
     // has taken yet. After it, only an entry already read at the other end is yielded.
     ensures steps { let gives = ⟦<NewestOfRuns<A> as Iterator>⟧.next_gives in
         let back_gives = ⟦<NewestOfRuns<A> as DoubleEndedIterator>⟧.next_back_gives in
-        spec.AllByRecursion (spec.IsInOrder spec.range_of) (map spec.arc_value runs.now) →
-        IfOk result
-        (spec.IsOverSpans gives back_gives range.0 range.1 (map spec.arc_value runs.now)) }
+        spec.AreRunsInOrder runs.now →
+        IfOk result (spec.IsOverSpans gives back_gives range.0 range.1 (spec.each_run runs.now)) }
     // Both ends may be called any number of times, whatever the tables' bytes.
     ensures can { IfOk result (λ s.
         spec.CanYield ⟦<NewestOfRuns<A> as Iterator>⟧.next_gives
@@ -213,16 +205,13 @@ pub fn range_runs_at<A: Allocator + Clone>(
     // applied.
     ensures list { let gives = ⟦<NewestOfRunsAt<A> as Iterator>⟧.next_gives in
         let back_gives = ⟦<NewestOfRunsAt<A> as DoubleEndedIterator>⟧.next_back_gives in
-        (lists : List (List (List spec.Entry))) →
-        spec.RunsHoldLists (map spec.arc_value runs.now) lists →
-        let found = spec.newest
-        (spec.numbered_below seqno (spec.within range.0 range.1 (spec.union_in lists))) in
-        IfOk result (λ s. spec.YieldsList gives back_gives found s) }
+        (lists : spec.TableLists) → spec.RunsHold runs.now lists →
+        let found = spec.newest (spec.numbered_below seqno (spec.within range.0 range.1
+        (spec.union_in lists))) in IfOk result (λ s. spec.YieldsList gives back_gives found s) }
     // If every seqno is below `seqno`, it yields what `range_runs` yields.
     ensures whole { let gives = ⟦<NewestOfRunsAt<A> as Iterator>⟧.next_gives in
         let back_gives = ⟦<NewestOfRunsAt<A> as DoubleEndedIterator>⟧.next_back_gives in
-        (lists : List (List (List spec.Entry))) →
-        spec.RunsHoldLists (map spec.arc_value runs.now) lists →
+        (lists : spec.TableLists) → spec.RunsHold runs.now lists →
         All (λ e. e.seqno < seqno) (spec.union_in lists) →
         let found = spec.newest (spec.within range.0 range.1 (spec.union_in lists)) in
         IfOk result (λ s. spec.YieldsList gives back_gives found s) }
@@ -230,12 +219,11 @@ pub fn range_runs_at<A: Allocator + Clone>(
     // bounds, each below `seqno`. An error of a reader, `OutOfMemory` too, takes the place of all
     // entries that no step has taken yet. After it, only an entry already read at the other end is
     // yielded.
-    ensures steps { spec.AllByRecursion (spec.IsInOrder spec.range_of) (map spec.arc_value runs.now)
-        → IfOk result (spec.IsOverSpansBelow ⟦<Below<RunReader<A>> as Iterator>⟧.next_gives
-        ⟦<Below<RunReader<A>> as DoubleEndedIterator>⟧.next_back_gives
-        ⟦<NewestOfRunsAt<A> as Iterator>⟧.next_gives
-        ⟦<NewestOfRunsAt<A> as DoubleEndedIterator>⟧.next_back_gives
-        range.0 range.1 seqno (map spec.arc_value runs.now)) }
+    ensures steps { spec.AreRunsInOrder runs.now → IfOk result (spec.IsOverSpansBelow
+        ⟦<Below<RunReader<A>> as Iterator>⟧.next_gives ⟦<Below<RunReader<A>> as
+        DoubleEndedIterator>⟧.next_back_gives ⟦<NewestOfRunsAt<A> as Iterator>⟧.next_gives
+        ⟦<NewestOfRunsAt<A> as DoubleEndedIterator>⟧.next_back_gives range.0 range.1 seqno
+        (spec.each_run runs.now)) }
     // Both ends may be called any number of times, whatever the tables' bytes.
     ensures can { IfOk result (λ s.
         spec.CanYield ⟦<NewestOfRunsAt<A> as Iterator>⟧.next_gives
@@ -296,31 +284,24 @@ pub fn get_runs_counted<A: Allocator + Clone>(
 ) -> (Result<Option<InternalValue<A>>, Error>, Opened)
     // For runs in order, it is the result of reading the runs' tables, whatever their bytes, except
     // for `OutOfMemory`.
-    ensures returned { spec.AllByRecursion (spec.IsInOrder spec.range_of)
-        (map spec.arc_value runs.now) → spec.Gives (λ (x : Option spec.Entry). x) result.0
-        (spec.runs_result key.now seqno None (map spec.arc_value runs.now)) }
+    ensures returned { spec.AreRunsInOrder runs.now → spec.Gives (λ (x : Option spec.Entry). x)
+        result.0 (spec.runs_result key.now seqno None (spec.each_run runs.now)) }
     // For tables of lists, it is the first match in the sorted entries of all lists, global seqnos
     // applied.
-    ensures list { (lists : List (List (List spec.Entry))) →
-        spec.RunsHoldLists (map spec.arc_value runs.now) lists →
-        spec.Gives (λ (x : Option spec.Entry). x) result.0
-        (Ok (spec.point (spec.union_in lists) key.now seqno)) }
+    ensures list { (lists : spec.TableLists) → spec.RunsHold runs.now lists →
+        spec.Gives (λ (x : Option spec.Entry). x) result.0 (Ok (spec.point (spec.union_in lists)
+        key.now seqno)) }
     // The blocks loaded are those of reading the runs' tables, up to the first error.
-    ensures opened { spec.AllByRecursion (spec.IsInOrder spec.range_of)
-        (map spec.arc_value runs.now) →
-        let read = spec.runs_read key.now seqno None (map spec.arc_value runs.now) in
+    ensures opened { spec.AreRunsInOrder runs.now →
+        let read = spec.runs_read key.now seqno None (spec.each_run runs.now) in
         spec.Opens result.0 read.loads spec.none_opened result.1 }
     // An error of the first block loaded that is found before any allocation takes precedence over
     // `OutOfMemory`.
-    ensures early { spec.AllByRecursion (spec.IsInOrder spec.range_of)
-        (map spec.arc_value runs.now) →
-        spec.FaultsFirst result.0
-        (spec.runs_read key.now seqno None (map spec.arc_value runs.now)).early }
+    ensures early { spec.AreRunsInOrder runs.now → spec.FaultsFirst result.0 (spec.runs_read key.now
+        seqno None (spec.each_run runs.now)).early }
     // It does not fail if it loads no block, as when there are no runs.
-    ensures calm { spec.AllByRecursion (spec.IsInOrder spec.range_of)
-        (map spec.arc_value runs.now) →
-        (spec.runs_read key.now seqno None (map spec.arc_value runs.now)).loads ≡ [] →
-        IsOk result.0 }
+    ensures calm { spec.AreRunsInOrder runs.now →
+        (spec.runs_read key.now seqno None (spec.each_run runs.now)).loads ≡ [] → IsOk result.0 }
     // For any runs and any bytes, also on an error: at most one data block, one index block and one
     // filter block a run.
     ensures few { spec.LoadsEach (length runs.now) result.1 }
@@ -355,25 +336,20 @@ pub fn get_runs<A: Allocator + Clone>(
 ) -> Result<Option<InternalValue<A>>, Error>
     // For runs in order, it is the result of reading the runs' tables, whatever their bytes, except
     // for `OutOfMemory`.
-    ensures returned { spec.AllByRecursion (spec.IsInOrder spec.range_of)
-        (map spec.arc_value runs.now) → spec.Gives (λ (x : Option spec.Entry). x) result
-        (spec.runs_result key.now seqno None (map spec.arc_value runs.now)) }
+    ensures returned { spec.AreRunsInOrder runs.now → spec.Gives (λ (x : Option spec.Entry). x)
+        result (spec.runs_result key.now seqno None (spec.each_run runs.now)) }
     // For tables of lists, it is the first match in the sorted entries of all lists, global seqnos
     // applied.
-    ensures list { (lists : List (List (List spec.Entry))) →
-        spec.RunsHoldLists (map spec.arc_value runs.now) lists →
-        spec.Gives (λ (x : Option spec.Entry). x) result
-        (Ok (spec.point (spec.union_in lists) key.now seqno)) }
+    ensures list { (lists : spec.TableLists) → spec.RunsHold runs.now lists →
+        spec.Gives (λ (x : Option spec.Entry). x) result (Ok (spec.point (spec.union_in lists)
+        key.now seqno)) }
     // An error of the first block loaded that is found before any allocation takes precedence over
     // `OutOfMemory`.
-    ensures early { spec.AllByRecursion (spec.IsInOrder spec.range_of)
-        (map spec.arc_value runs.now) →
-        spec.FaultsFirst result
-        (spec.runs_read key.now seqno None (map spec.arc_value runs.now)).early }
+    ensures early { spec.AreRunsInOrder runs.now →
+        spec.FaultsFirst result (spec.runs_read key.now seqno None (spec.each_run runs.now)).early }
     // It does not fail if it loads no block, as when there are no runs.
-    ensures calm { spec.AllByRecursion (spec.IsInOrder spec.range_of)
-        (map spec.arc_value runs.now) →
-        (spec.runs_read key.now seqno None (map spec.arc_value runs.now)).loads ≡ [] → IsOk result }
+    ensures calm { spec.AreRunsInOrder runs.now →
+        (spec.runs_read key.now seqno None (spec.each_run runs.now)).loads ≡ [] → IsOk result }
 {
     get_runs_counted(runs, key, seqno).0
 }

@@ -202,7 +202,7 @@ fn compacted_from<
         ⟦<Compacted<L, F, C, A> as Lending>⟧.can_advance
         ⟦<Compacted<L, F, C, A> as Lending>⟧.can_advance) }
     ensures list { let next = ⟦<Compacted<L, F, C, A> as Lending>⟧.advances in
-        (lists : List (List (List spec.Entry))) →
+        (lists : spec.TableLists) →
         spec.YieldTogether L.advances spec.nowhere sources.items (map spec.joined lists) →
         IfOk result (λ s. spec.CompactsAs F.gives C.gets rules filter callback
         (spec.ok_results (spec.union_in lists)) next s spec.lent_filter spec.lent_callback) }
@@ -233,21 +233,21 @@ fn compacted_of<F: LentFilter<A> + Drop, C: LentCallback + Drop, A: Allocator + 
         ⟦<Compacted<RunScanner<A>, F, C, A> as Lending>⟧.can_advance
         ⟦<Compacted<RunScanner<A>, F, C, A> as Lending>⟧.can_advance) }
     ensures list { let next = ⟦<Compacted<RunScanner<A>, F, C, A> as Lending>⟧.advances in
-        (able : spec.AreMergeable (map spec.arc_value runs.now)) →
-        IfOk result (λ s. spec.CompactsAs F.gives C.gets rules filter callback
+        (able : spec.AreMergeable (spec.each_run runs.now)) → IfOk result
+        (λ s. spec.CompactsAs F.gives C.gets rules filter callback
         (spec.ok_results (spec.union_in able.lists)) next s spec.lent_filter spec.lent_callback) }
-    ensures err { spec.AreMergeable (map spec.arc_value runs.now) →
+    ensures err { spec.AreMergeable (spec.each_run runs.now) →
         IfErr result (λ e. e ≡ spec.OutOfMemory) }
     // For any tables whose scans come in order in each run, it compacts their merge.
     ensures any { let next = ⟦<Compacted<RunScanner<A>, F, C, A> as Lending>⟧.advances in
-        let scans = spec.scans_of (map spec.arc_value runs.now) in
+        let scans = spec.scans_of (spec.each_run runs.now) in
         spec.AllByRecursion (λ rs. spec.Ascends (spec.entries_among rs)) scans →
         IfOk result (λ s. spec.CompactsAs F.gives C.gets rules filter callback (spec.merge_of scans)
         next s spec.lent_filter spec.lent_callback) }
-    ensures returned { IfErr result (λ e. spec.is_memory e ≡ false →
-        spec.BeginsWith (map spec.arc_value runs.now) e) }
+    ensures returned { IfErr result (λ e. spec.is_memory e ≡ false → spec.BeginsWith
+        (spec.each_run runs.now) e) }
     // The first data block of each run is loaded.
-    ensures opens { spec.Faults result (spec.first_blocks_fault (map spec.arc_value runs.now)) }
+    ensures opens { spec.Faults result (spec.first_blocks_fault (spec.each_run runs.now)) }
 {
     let scanners = scanners_of(alloc.clone()?, runs)?;
     compacted_from(alloc, scanners, rules, filter, callback)
@@ -296,63 +296,59 @@ pub fn compact_any_runs<
     // For compactable runs, the tables are those of what the filter and the rules keep of all
     // entries, as the writer cuts them. The callback got what is then reported; if it was stopped,
     // what was reported until then.
-    ensures kept { spec.AreCompactable (map spec.arc_value runs.now) →
-        (lists : List (List (List spec.Entry))) →
-        spec.RunsHoldLists (map spec.arc_value runs.now) lists → IfOk result (λ r.
-        spec.CameTo F.gives C.gets rules filter callback (spec.union_in lists) writer r.0 r.1) }
+    ensures kept { spec.AreCompactable (spec.each_run runs.now) → (lists : spec.TableLists) →
+        spec.RunsHold runs.now lists → IfOk result (λ r. spec.CameTo F.gives C.gets rules filter
+        callback (spec.union_in lists) writer r.0 r.1) }
     // For tables of lists that have entries, the outcome is the tables of all that is kept. This
     // holds also if a key has one seqno twice. Or it ends at the first kept entry that may not
     // follow, or as soon as the observer returns so. The callback got what is reported until then,
     // and the observer was called for what was written.
-    ensures merged { (lists : List (List (List spec.Entry))) →
-        spec.RunsHoldLists (map spec.arc_value runs.now) lists →
-        spec.AllByRecursion spec.HaveEntries lists →
-        IfOk result (λ r. spec.CameUpTo F.gives C.gets rules filter callback
-        (spec.ok_results (spec.union_in lists)) writer O.says observer.old r.0 r.1 observer.new) }
+    ensures merged { (lists : spec.TableLists) → spec.RunsHold runs.now lists →
+        spec.AllByRecursion spec.HaveEntries lists → IfOk result (λ r. spec.CameUpTo F.gives C.gets
+        rules filter callback (spec.ok_results (spec.union_in lists)) writer O.says observer.old r.0
+        r.1 observer.new) }
     // For any tables whose scans come in order in each run, it is the outcome of their merge, each
     // error in its position. Or it is the error of the first run whose first data block cannot be
     // loaded.
-    ensures any { let scans = spec.scans_of (map spec.arc_value runs.now) in
-        spec.AllByRecursion (λ rs. spec.Ascends (spec.entries_among rs)) scans → MatchResult result
-        (λ r. spec.CameUpTo F.gives C.gets rules filter callback (spec.merge_of scans) writer O.says
-        observer.old r.0 r.1 observer.new)
+    ensures any { let scans = spec.scans_of (spec.each_run runs.now) in
+        spec.AllByRecursion (λ rs. spec.Ascends (spec.entries_among rs)) scans →
+        MatchResult result (λ r. spec.CameUpTo F.gives C.gets rules filter callback
+        (spec.merge_of scans) writer O.says observer.old r.0 r.1 observer.new)
         (λ e. spec.CameUntil F.gives C.gets rules filter callback (spec.merge_of scans) writer
-        O.says observer.old e observer.new ⊎ spec.BeginsWith (map spec.arc_value runs.now) e) }
+        O.says observer.old e observer.new ⊎ spec.BeginsWith (spec.each_run runs.now) e) }
     // Except for `OutOfMemory`, the error is that of the first run whose first data block cannot be
     // loaded, if there is one. The observer is not called then.
-    ensures opens { let first = spec.first_blocks_fault (map spec.arc_value runs.now) in
-        first ≢ None → spec.Faults result first × (observer.new ≡ observer.old) }
+    ensures opens { let first = spec.first_blocks_fault (spec.each_run runs.now) in first ≢ None →
+        spec.Faults result first × (observer.new ≡ observer.old) }
     // For any tables, those that are made are of a list that can be written.
     ensures made { IfOk result (λ r. spec.HasMade writer r.0) }
     // The observer was called for each table but the last, in their order. The compaction stops
     // exactly when the observer returns so, at once.
-    ensures returned { IfOk result (λ r. spec.WasNotified O.says writer r.0 observer.old observer.new) }
+    ensures returned { IfOk result (λ r. spec.WasNotified O.says writer r.0 observer.old
+        observer.new) }
     // On an error, it was called for the tables that were finished until then.
-    ensures heard { IfErr result (λ _. spec.WasNotifiedUntil O.says writer observer.old observer.new) }
+    ensures heard { IfErr result (λ _. spec.WasNotifiedUntil O.says writer observer.old
+        observer.new) }
     // These are the tables of what was kept until then; after it comes the error, except for
     // `OutOfMemory`.
-    ensures until { (lists : List (List (List spec.Entry))) →
-        spec.RunsHoldLists (map spec.arc_value runs.now) lists →
-        spec.AllByRecursion spec.HaveEntries lists →
-        IfErr result (λ e. spec.CameUntil F.gives C.gets rules filter callback
+    ensures until { (lists : spec.TableLists) → spec.RunsHold runs.now lists →
+        spec.AllByRecursion spec.HaveEntries lists → IfErr result
+        (λ e. spec.CameUntil F.gives C.gets rules filter callback
         (spec.ok_results (spec.union_in lists)) writer O.says observer.old e observer.new) }
     // Except for `OutOfMemory`, the error is the first one, of the filter or of the writer.
-    ensures refused { (lists : List (List (List spec.Entry))) →
-        spec.RunsHoldLists (map spec.arc_value runs.now) lists →
-        spec.AllByRecursion spec.HaveEntries lists → IfErr result (λ e. spec.is_memory e ≡ false →
-        spec.RefusesBy F.gives C.gets rules filter callback (spec.ok_results (spec.union_in lists))
-        writer e) }
+    ensures refused { (lists : spec.TableLists) → spec.RunsHold runs.now lists →
+        spec.AllByRecursion spec.HaveEntries lists → IfErr result (λ e. spec.is_memory e ≡ false
+        → spec.RefusesBy F.gives C.gets rules filter callback
+        (spec.ok_results (spec.union_in lists)) writer e) }
     // The compaction fails with `OutOfMemory` only, if the filter does and whatever may be kept
     // fits as tables with enough ids left.
-    ensures taken { spec.AreCompactable (map spec.arc_value runs.now) →
-        (lists : List (List (List spec.Entry))) →
-        spec.RunsHoldLists (map spec.arc_value runs.now) lists →
-        spec.RefusesForMemory F.gives → spec.FitsKept writer rules (spec.union_in lists) →
+    ensures taken { spec.AreCompactable (spec.each_run runs.now) → (lists : spec.TableLists) →
+        spec.RunsHold runs.now lists → spec.RefusesForMemory F.gives →
+        spec.FitsKept writer rules (spec.union_in lists) →
         IfErr result (λ e. e ≡ spec.OutOfMemory) }
     // It is enough that what this filter keeps fits, whatever another filter might keep.
-    ensures fits { spec.AreCompactable (map spec.arc_value runs.now) →
-        (lists : List (List (List spec.Entry))) →
-        spec.RunsHoldLists (map spec.arc_value runs.now) lists → spec.RefusesForMemory F.gives →
+    ensures fits { spec.AreCompactable (spec.each_run runs.now) → (lists : spec.TableLists) →
+        spec.RunsHold runs.now lists → spec.RefusesForMemory F.gives →
         spec.FitsThroughout F.gives C.gets rules filter callback (spec.union_in lists) writer →
         IfErr result (λ e. e ≡ spec.OutOfMemory) }
 {
