@@ -250,15 +250,6 @@ impl<A: Allocator + Clone> Writer<A> {
     /// Writes a borrowed entry; see [`Writer::write`].
     ///
     /// It copies the key and value into a buffer that is reused from block to block.
-    ///
-    /// # Examples
-    ///
-    /// ```
-    /// if !writer.can_follow_ref(entry) {
-    ///     return Err(Error::Source(3));
-    /// }
-    /// writer.write_ref(entry)
-    /// ```
     pub fn write_ref(&mut self, entry: &EntryRef<'_>) -> Result<(), Error>
         requires { let e = spec.entry_of_ref entry.now in
             IsTrue (spec.may_be_written (spec.written self.old) e.user_key e.seqno) }
