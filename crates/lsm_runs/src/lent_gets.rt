@@ -413,6 +413,15 @@ pub fn place_in_runs_by_age_counted<A: Allocator + Clone>(
 /// # Errors
 ///
 /// The first error of these reads, in the order of the runs. A skipped table causes no error.
+///
+/// # Examples
+///
+/// ```
+/// if let Some(entry) = memtable.get(key, seqno) {
+///     return Ok(Some(entry));
+/// }
+/// get_runs_ref_by_age(runs, key, seqno)
+/// ```
 pub fn get_runs_ref_by_age<'a, A: Allocator + Clone>(
     runs: &'a [Arc<Run<Table<A>, A>, A>],
     key: &[u8],

@@ -194,6 +194,18 @@ pub fn range_runs<A: Allocator + Clone>(
 /// # Errors
 ///
 /// The call fails with [`Error::OutOfMemory`] only.
+///
+/// # Examples
+///
+/// ```
+/// let all = (Bound::Unbounded, Bound::Unbounded);
+/// count_newest(range_runs_at(alloc, runs, all, seqno)?)
+/// // ..
+/// for item in items {
+///     item?;
+///     count = count.saturating_add(1);
+/// }
+/// ```
 pub fn range_runs_at<A: Allocator + Clone>(
     alloc: A,
     runs: &[Arc<Run<Table<A>, A>, A>],
@@ -329,6 +341,14 @@ pub fn get_runs_counted<A: Allocator + Clone>(
 /// # Errors
 ///
 /// The first error of these reads, in the order of the runs. It does not fail if it loads no block.
+///
+/// # Examples
+///
+/// ```
+/// let found = get_runs(runs, key, seqno)?;
+/// let stream = range_runs(alloc.clone()?, runs, range)?;
+/// Ok((found, stream))
+/// ```
 pub fn get_runs<A: Allocator + Clone>(
     runs: &[Arc<Run<Table<A>, A>, A>],
     key: &[u8],

@@ -200,6 +200,15 @@ fn write_all<L: Lending + Drop, A: Allocator + Clone>(
 /// # Errors
 ///
 /// The errors of [`MultiWriter::write`] and [`MultiWriter::finish`]; [`Error::OutOfMemory`].
+///
+/// # Examples
+///
+/// ```
+/// let runs = [run(alloc)?];
+/// let writer = MultiWriter::new(alloc, TableIds::new(1), 0, 0, Timestamp::from(0))?;
+/// let (tables, _) = compact_runs(alloc, &runs, 0, false, false, writer)?;
+/// Ok(tables)
+/// ```
 pub fn compact_runs<A: Allocator + Clone>(
     alloc: A,
     runs: &[Arc<Run<Table<A>, A>, A>],

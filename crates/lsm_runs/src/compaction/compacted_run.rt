@@ -48,6 +48,18 @@ fn run_of_tables<A: Allocator + Clone>(
 /// # Errors
 ///
 /// The errors of [`MultiWriter::new`] and [`compact_runs`]; [`Error::OutOfMemory`].
+///
+/// # Examples
+///
+/// ```
+/// let rules = Rules {
+///     watermark,
+///     evict: true,
+///     zeroing: false,
+/// };
+/// let made = compact_to_run(alloc, runs, rules, ids, target, Timestamp::from(0))?;
+/// Ok(made)
+/// ```
 pub fn compact_to_run<A: Allocator + Clone>(
     alloc: A,
     runs: &[Arc<Run<Table<A>, A>, A>],

@@ -65,6 +65,14 @@ fn share_runs<A: Allocator + Clone>(
 /// # Errors
 ///
 /// [`Error::OutOfMemory`] only.
+///
+/// # Examples
+///
+/// ```
+/// let packed = pack_runs(self.alloc.clone()?, &self.runs)?;
+/// self.runs = share_all(self.alloc.clone()?, packed)?;
+/// Ok(self.runs.len() as u64)
+/// ```
 pub fn pack_runs<A: Allocator + Clone>(
     alloc: A,
     runs: &[Arc<Run<Table<A>, A>, A>],
