@@ -14,7 +14,7 @@ pub use lsm_readers::{
 };
 pub use lsm_runs::OpenOptions;
 pub use lsm_writers::{
-    BloomConstructionPolicy, FinishedTable, IndexKind, MultiWriter, TableIds, TableStream, Writer,
-    is_writable, write_list,
+    BloomConstructionPolicy, FilterKind, FinishedTable, IndexKind, Metadata, MultiWriter, Options,
+    TableIds, TableStream, Writer, is_writable, write_list,
 };
-pub use sst_blocks::{TableId, Timestamp};
+pub use sst_blocks::{CompressionType, TableId, Timestamp};
