@@ -220,7 +220,8 @@ impl<A: Allocator + Clone> Store<A> {
 
     // Flushes a memtable that is full.
     fn make_room(&mut self) -> Result<(), Error>
-        ensures story { (ws : List spec.Entry) → spec.IsReported self.old ws → spec.IsReported self.new ws }
+        ensures story { (ws : List spec.Entry) → spec.IsReported self.old ws →
+            spec.IsReported self.new ws }
         ensures next { self.new.next ≡ self.old.next }
         ensures oldest { self.new.oldest ≡ self.old.oldest }
         ensures limit { self.new.limit ≡ self.old.limit }
@@ -268,7 +269,8 @@ impl<A: Allocator + Clone> Store<A> {
     /// Those of [`write_run`]: no id is left for a table, or a section is too large;
     /// [`Error::OutOfMemory`]. The store is not changed then.
     pub fn flush(&mut self) -> Result<(), Error>
-        ensures story { (ws : List spec.Entry) → spec.IsReported self.old ws → spec.IsReported self.new ws }
+        ensures story { (ws : List spec.Entry) → spec.IsReported self.old ws →
+            spec.IsReported self.new ws }
         ensures emptied { OnOk result (self.new.recent ≡ []) }
         ensures next { self.new.next ≡ self.old.next }
         ensures oldest { self.new.oldest ≡ self.old.oldest }
@@ -299,7 +301,8 @@ impl<A: Allocator + Clone> Store<A> {
             self.old.recent 0 (spec.arc_value run) }
         requires ids { ids ≡ spec.ids_behind self.old.ids self.old.target
             (length (spec.arc_value run)) }
-        ensures story { (ws : List spec.Entry) → spec.IsReported self.old ws → spec.IsReported self.new ws }
+        ensures story { (ws : List spec.Entry) → spec.IsReported self.old ws →
+            spec.IsReported self.new ws }
         ensures emptied { OnOk result (self.new.recent ≡ []) }
         ensures next { self.new.next ≡ self.old.next }
         ensures oldest { self.new.oldest ≡ self.old.oldest }

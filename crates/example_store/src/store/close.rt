@@ -37,7 +37,8 @@ impl<A: Allocator + Clone> Store<A> {
         ensures closed { IfOk result (λ closed. spec.IsStore self.new
             × spec.IsClosed self.new closed) }
         // The store reads as the same history.
-        ensures story { (ws : List spec.Entry) → spec.IsReported self.old ws → spec.IsReported self.new ws }
+        ensures story { (ws : List spec.Entry) → spec.IsReported self.old ws →
+            spec.IsReported self.new ws }
         ensures next { self.new.next ≡ self.old.next }
         ensures oldest { self.new.oldest ≡ self.old.oldest }
         ensures limit { self.new.limit ≡ self.old.limit }

@@ -25,7 +25,8 @@ impl<A: Allocator + Clone> Store<A> {
     ///
     /// Those of [`compact_to_run`]. The store is not changed then.
     pub fn compact(&mut self, watermark: SeqNo) -> Result<(), Error>
-        ensures story { (ws : List spec.Entry) → spec.IsReported self.old ws → spec.IsReported self.new ws }
+        ensures story { (ws : List spec.Entry) → spec.IsReported self.old ws →
+            spec.IsReported self.new ws }
         ensures oldest { OnOk result
             (self.new.oldest ≡ max self.old.oldest (min watermark self.old.next)) }
         ensures next { self.new.next ≡ self.old.next }
@@ -70,7 +71,8 @@ impl<A: Allocator + Clone> Store<A> {
     ///
     /// [`Error::OutOfMemory`] only. The store is not changed then.
     pub fn pack(&mut self) -> Result<(), Error>
-        ensures story { (ws : List spec.Entry) → spec.IsReported self.old ws → spec.IsReported self.new ws }
+        ensures story { (ws : List spec.Entry) → spec.IsReported self.old ws →
+            spec.IsReported self.new ws }
         ensures oldest { self.new.oldest ≡ self.old.oldest }
         ensures next { self.new.next ≡ self.old.next }
         ensures limit { self.new.limit ≡ self.old.limit }

@@ -27,7 +27,8 @@ impl<A: Allocator + Clone> Store<A> {
     ///
     /// Those of [`Store::compact`]. The store is not changed then.
     pub fn compact_part(&mut self, from: usize, to: usize, watermark: SeqNo) -> Result<(), Error>
-        ensures story { (ws : List spec.Entry) → spec.IsReported self.old ws → spec.IsReported self.new ws }
+        ensures story { (ws : List spec.Entry) → spec.IsReported self.old ws →
+            spec.IsReported self.new ws }
         ensures oldest { OnOk result
             (self.new.oldest ≡ max self.old.oldest (min watermark self.old.next)) }
         ensures next { self.new.next ≡ self.old.next }
@@ -78,7 +79,8 @@ fn cut_out<A: Allocator>(
 )
     ensures front { map spec.arc_value result.0.now ≡ spec.front_runs from to
         (spec.each_run runs.now) }
-    ensures part { map spec.arc_value result.1.now ≡ spec.part_runs from to (spec.each_run runs.now) }
+    ensures part { map spec.arc_value result.1.now ≡ spec.part_runs from to (spec.each_run runs.now)
+        }
     ensures behind { map spec.arc_value result.2.now ≡ drop to (spec.each_run runs.now) }
 {
     let (upper, behind) = runs.split_at(to.min(runs.len()));
