@@ -12,24 +12,23 @@ use Rattle.sst_entries.specs.Entry.{Entry, entry}
 use Rattle.sst_entries.specs.Error.{is_memory}
 use Rattle.sst_entries.specs.Lending.{came}
 use Rattle.sst_entries.specs.Stream.{YieldsExactly, answer_stops, nowhere, ok_results}
-use Rattle.sst_entries.specs.Strict.{IsStrict, IsStrictAfter, last_of, may_follow}
+use Rattle.sst_entries.specs.Strict.{IsStrict, last_of, may_follow}
 use Rattle.sst_entries.proofs.StreamLemmas.{yields_front}
 use Rattle.sst_blocks.specs.declared.table.label.Label.{Label}
 use Rattle.sst_blocks.specs.declared.table.options.Options.{Options}
 use Rattle.sst_blocks.specs.table.Chunks.{joined}
 use Rattle.lsm_writers.specs.declared.writer.FinishedTable.{FinishedTable}
 use Rattle.lsm_writers.specs.Cut.{rest_chunk}
-use Rattle.lsm_writers.specs.Streamed.{AreAll, AreFirst, EndsWith}
-use Rattle.lsm_writers.specs.Streamed.{Failed, IsBegun}
+use Rattle.lsm_writers.specs.Streamed.{AreAll, AreFirst, EndsInError, Failed}
 use Rattle.lsm_writers.specs.Streamed.{NoneFails, Took}
 use Rattle.lsm_writers.specs.Streamed.{entries_before}
 use Rattle.lsm_writers.specs.Streamed.{next_fault, next_left, took_each}
 use Rattle.lsm_writers.specs.Taken.{AreTakenFrom, IsLeft, IsWriting, taken, tables_left}
 use Rattle.lsm_writers.specs.Tables.{AreCuts, AreFinished, AreTables, GoesOn, IsFreshRun}
-use Rattle.lsm_writers.specs.Tables.{TablesWriting, all_written, drawn, first_label, gained_all}
+use Rattle.lsm_writers.specs.Tables.{TablesWriting, all_written, drawn, first_label}
 use Rattle.lsm_writers.specs.Tables.{ids_fault, is_due, next_writing, rotated, rotation_fault}
 use Rattle.lsm_writers.specs.Tables.{run_fault, tables_of, took, took_fault, turn_fault}
-use Rattle.lsm_writers.specs.Writing.{IsFresh, Writing, fresh_writing, gained}
+use Rattle.lsm_writers.specs.Writing.{IsFresh, Writing, gained}
 use Rattle.lsm_writers.specs.Writing.{may_be_written, written}
 use Rattle.lsm_writers.proofs.AllTables.{in_order, joined_all}
 use Rattle.lsm_writers.proofs.CutFronts.{first_tables}
@@ -167,20 +166,6 @@ all_taken {X} k xs none =
     append_none [] = refl
     append_none (y ∷ ys) = ap (λ (zs : List X). y ∷ zs) (append_none ys)
 
-pub took_nothing : {A : Type 0} (w : TablesWriting) → IsFreshRun w → all_written w ≡ []
-    → GoesOn w.target w.ids w.tables w.present → Took {A = A} w [] [] w
-took_nothing w fresh none goes = record {
-  none = tt;
-  listed = none;
-  writing = record { works = fresh.2; goes_on = goes };
-  taken = record {
-    finished = tt;
-    left = refl;
-    ids = omega (arith, ap length fresh.0);
-  };
-  left = fresh.0;
-}
-
 -- ---- the tables that an entry leaves that was not written
 
 -- how many they are does not depend on what was taken
@@ -237,36 +222,22 @@ take_few (e ∷ t) = refl
 
 -- ---- a writer that has written nothing
 
-fresh_is : (v : Writing) → IsFresh v → v ≡ fresh_writing v.label v.options
-fresh_is v h =
-    let cut : v ≡ record v { cut = [] } = ap (λ (cs : List (List Entry)). let u : Writing =
-    record v { cut = cs } in u) h.0 in
-    let pending : record v { cut = [] } ≡ record v { cut = []; pending = [] } =
-    ap (λ (es : List Entry). let u : Writing = record v { cut = []; pending = es } in u) h.1 in
-    let failed : record v { cut = []; pending = [] } ≡ fresh_writing v.label v.options =
-    ap (λ (b : Bool). let u : Writing = record v { cut = []; pending = []; failed = b } in u) h.2 in
-    cut ∙ (pending ∙ failed)
-
 written_none : (v : Writing) → IsFresh v → written v ≡ []
 written_none v h = rw (h.0, h.1) refl
 
-begun_goes : (w : TablesWriting) → IsBegun w → GoesOn w.target w.ids w.tables w.present
-unfolding IsStrictAfter
-begun_goes w h =
-    let none = written_none w.present h.0.1 in
-    record {
-      present = fresh_is w.present h.0.1
-          ∙ ap (gained_all (fresh_writing w.present.label w.present.options)) (sym none);
-      strict = rw (h.0.0, none) tt;
-      cuts = rw (h.0.0, none) tt;
-      next = h.1;
-      begun = λ _. h.0.0;
-    }
-
-pub begun_took : {A : Type 0} (w : TablesWriting) → IsBegun w → Took {A = A} w [] [] w
-begun_took w h =
-    let none : all_written w ≡ [] = rw (h.0.2, h.0.0, written_none w.present h.0.1) refl in
-    took_nothing w h.0 none (begun_goes w h)
+pub fresh_took : {A : Type 0} (w : TablesWriting) → IsFreshRun w → IsWriting w
+    → Took {A = A} w [] [] w
+fresh_took w fresh writing = record {
+  none = tt;
+  listed = rw (fresh.2, fresh.0, written_none w.present fresh.1) refl;
+  writing = writing;
+  taken = record {
+    finished = tt;
+    left = refl;
+    ids = omega (arith, ap length fresh.0);
+  };
+  left = fresh.0;
+}
 
 -- ---- what follows from what was taken
 
@@ -327,7 +298,7 @@ module _ {A : Type 0} (w : TablesWriting) (es : List Entry) (gs : List (Finished
     pub ends_now : (e : Error)
         → (is_memory e ≡ false → stops e ≡ false → next_fault m rest ≡ Some e)
         → (is_memory e ≡ false → stops e ≡ false → length gs ≡ length (next_left m rest))
-        → EndsWith stops w rs gs e
+        → EndsInError stops w rs gs e
     ends_now e fault count = record {
       front = es;
       rest = rest;
@@ -358,7 +329,7 @@ module _ {A : Type 0} (w : TablesWriting) (es : List Entry) (gs : List (Finished
     fault_now : is_memory f ≡ false → stops f ≡ false → took_fault m e ≡ Some f
     fault_now fine goes = sym (fault_is e) ∙ refused fine
 
-    none_left : v.tables ≡ [] → EndsWith stops w rs gs f
+    none_left : v.tables ≡ [] → EndsInError stops w rs gs f
     none_left none = ends_now stops rs (Ok e ∷ rest) whole f fault_now
         (λ fine goes. elim left.tables [
           | inl is ↦ omega (arith, counted, ap length (here_left is.0), ap length none)
@@ -446,7 +417,7 @@ module _ {A : Type 0} (w : TablesWriting) (es : List Entry) (gs : List (Finished
           subst (λ (us : List (List Entry)). AreFinished m.present.options (first_label m) us
           (gs ++ g ∷ [])) (sym (ap (λ (i : ℕ). take i ts) number ∙ front)) held_next
 
-      one_left : v.tables ≡ tables_left n e → EndsWith stops w rs (gs ++ g ∷ []) f
+      one_left : v.tables ≡ tables_left n e → EndsInError stops w rs (gs ++ g ∷ []) f
       one_left tables = record {
         front = es;
         rest = Ok e ∷ rest;
@@ -500,7 +471,7 @@ module _ {A : Type 0} (w : TablesWriting) (es : List Entry) (gs : List (Finished
         }
 
     pub took_ends : (stops : Error → Bool) (e : Error) → (is_memory e ≡ false → run_fault n ≡ Some e)
-        → EndsWith stops w rs gs e
+        → EndsInError stops w rs gs e
     took_ends stops e refused = ends_now stops rs [] (whole ∙ sym (results_nil (ok_results es))) e
         (λ fine goes. sym (ap run_fault h.taken.left) ∙ refused fine) (λ fine goes. sym count_is)
 

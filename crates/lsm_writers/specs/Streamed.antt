@@ -10,7 +10,7 @@ use Rattle.lsm_writers.specs.declared.table_stream.TableStream.{TableStream}
 use Rattle.lsm_writers.specs.declared.writer.FinishedTable.{FinishedTable}
 use Rattle.lsm_writers.specs.Taken.{AreTakenFrom, IsWriting, tables_left}
 use Rattle.lsm_writers.specs.Tables.{AreFinished, AreInKeyOrder, AreTables, IsFreshRun}
-use Rattle.lsm_writers.specs.Tables.{TablesWriting, all_written, first_label, next_id, run_fault}
+use Rattle.lsm_writers.specs.Tables.{TablesWriting, all_written, first_label, run_fault}
 use Rattle.lsm_writers.specs.Tables.{tables_of, took, took_fault}
 use Rattle.lsm_writers.specs.Writing.{IsWritable}
 
@@ -66,7 +66,7 @@ pub record AreAll {A : Type 0} (w : TablesWriting) (rs : List (Result Entry Erro
 
 -- After entries without a fault comes this error. The tables are the first ones of the list, and all
 -- that were finished before it.
-pub record EndsWith {A : Type 0} (stops : Error → Bool) (w : TablesWriting)
+pub record EndsInError {A : Type 0} (stops : Error → Bool) (w : TablesWriting)
     (rs : List (Result Entry Error)) (gs : List (FinishedTable A)) (e : Error) : Type 0 where
   pub front : List Entry
   pub rest : List (Result Entry Error)
@@ -109,18 +109,14 @@ pub record TookFrom {S A : Type 0} (stops : Error → Bool)
 abbrev pub IsAfter : {S A : Type 0} → (Error → Bool) → (S → Option (Result Entry Error) → S → Type 0)
     → TablesWriting → List (Result Entry Error) → List (FinishedTable A) → TableStream S A → Type 0
 IsAfter stops next w rs gs s = MatchOption s.writer
-    (MatchOption s.error (AreAll w rs gs s.ids) (EndsWith stops w rs gs))
+    (MatchOption s.error (AreAll w rs gs s.ids) (EndsInError stops w rs gs))
     (TookFrom stops next w rs gs s.source)
-
--- a writer that has drawn its first id, and to which no entry was written
-abbrev pub IsBegun : TablesWriting → Type 0
-IsBegun w = IsFreshRun w × (w.ids ≡ next_id w.present.label.table_id)
 
 -- a new stream is before the first table, for any results of the source whose entries can be written
 abbrev pub Starts : {S A : Type 0} → (S → Option (Result Entry Error) → S → Type 0) → S
     → TablesWriting → TableStream S A → Type 0
 Starts next source w s =
-    (stops : Error → Bool) (rs : List (Result Entry Error)) → IsBegun w →
+    (stops : Error → Bool) (rs : List (Result Entry Error)) → IsFreshRun w →
     IsWritable (entries_before rs) → YieldsExactly (answer_stops stops) next nowhere source rs →
     IsAfter stops next w rs [] s
 
@@ -131,28 +127,28 @@ abbrev pub YieldsAfter : {S A : Type 0} → (Error → Bool)
     → List (FinishedTable A) → Option (Result (FinishedTable A) Error) → TableStream S A → Type 0
 YieldsAfter stops next w rs gs None t = AreAll w rs gs t.ids
 YieldsAfter stops next w rs gs (Some (Ok f)) t = IsAfter stops next w rs (gs ++ f ∷ []) t
-YieldsAfter stops next w rs gs (Some (Err e)) t = EndsWith stops w rs gs e
+YieldsAfter stops next w rs gs (Some (Err e)) t = EndsInError stops w rs gs e
 
 -- a stream that yields only `None`
-abbrev pub IsOver : {S A : Type 0} → TableStream S A → Type 0
-IsOver s = (s.writer ≡ None) × (s.error ≡ None)
+abbrev pub IsExhausted : {S A : Type 0} → TableStream S A → Type 0
+IsExhausted s = (s.writer ≡ None) × (s.error ≡ None)
 
 -- an error or `None` is the last item
-abbrev pub EndsIn : {S A : Type 0} → Option (Result (FinishedTable A) Error) → TableStream S A
+abbrev pub EndsAfter : {S A : Type 0} → Option (Result (FinishedTable A) Error) → TableStream S A
     → Type 0
-EndsIn None t = IsOver t
-EndsIn (Some (Ok f)) t = Unit {0}
-EndsIn (Some (Err e)) t = IsOver t
+EndsAfter None t = IsExhausted t
+EndsAfter (Some (Ok f)) t = Unit {0}
+EndsAfter (Some (Err e)) t = IsExhausted t
 
 -- one call, for any results of the source
-pub record YieldsTable {S A : Type 0} (next : S → Option (Result Entry Error) → S → Type 0)
+pub record YieldsNextTable {S A : Type 0} (next : S → Option (Result Entry Error) → S → Type 0)
     (s : TableStream S A) (r : Option (Result (FinishedTable A) Error)) (t : TableStream S A)
     : Type 0 where
   pub steps : (stops : Error → Bool) (w : TablesWriting) (rs : List (Result Entry Error))
       (gs : List (FinishedTable A)) → IsAfter stops next w rs gs s →
       YieldsAfter stops next w rs gs r t
-  pub over : IsOver s → (r ≡ None) × IsOver t
-  pub ends : EndsIn r t
+  pub over : IsExhausted s → (r ≡ None) × IsExhausted t
+  pub ends : EndsAfter r t
 
 -- ---- when it may be called
 
@@ -176,7 +172,7 @@ CanPoll {A = A} next can s = MatchOption s.writer (Unit {0})
 abbrev pub StartsReady : {S A : Type 0} → (S → Option (Result Entry Error) → S → Type 0)
     → (S → Type 0) → S → TablesWriting → TableStream S A → Type 0
 StartsReady next can source w s =
-    (stops : Error → Bool) (rs : List (Result Entry Error)) → IsBegun w →
+    (stops : Error → Bool) (rs : List (Result Entry Error)) → IsFreshRun w →
     IsWritable (entries_before rs) → YieldsExactly (answer_stops stops) next nowhere source rs →
     CanYield next nowhere can can source → CanPoll next can s
 
@@ -192,7 +188,7 @@ items_left left s = most_items s.writer s.error (left s.source)
 -- ---- the parts of a call
 
 -- all results are entries, and the writer took them
-pub record TookAll {A : Type 0} (w : TablesWriting) (rs : List (Result Entry Error))
+pub record TookSource {A : Type 0} (w : TablesWriting) (rs : List (Result Entry Error))
     (gs : List (FinishedTable A)) (n : TablesWriting) : Type 0 where
   pub list : List Entry
   pub whole : rs ≡ ok_results list
@@ -203,45 +199,45 @@ pub record TookAll {A : Type 0} (w : TablesWriting) (rs : List (Result Entry Err
 pub record Failed {A : Type 0} (stops : Error → Bool) (w : TablesWriting)
     (rs : List (Result Entry Error)) (gs : List (FinishedTable A)) (e : Error) (n : TablesWriting)
     : Type 0 where
-  pub none : n.tables ≡ [] → EndsWith stops w rs gs e
+  pub none : n.tables ≡ [] → EndsInError stops w rs gs e
   pub some : (f : FinishedTable A) →
       AreFinished n.present.options (first_label n) (take 1 n.tables) (f ∷ []) →
-      EndsWith stops w rs (gs ++ f ∷ []) e
+      EndsInError stops w rs (gs ++ f ∷ []) e
 
 -- the result of writing until a table is finished: the table, the end of the source, or an error
-abbrev pub Writes : {S A : Type 0} → (Error → Bool) → (S → Option (Result Entry Error) → S → Type 0)
+abbrev pub WritesNextTable : {S A : Type 0} → (Error → Bool) → (S → Option (Result Entry Error) → S → Type 0)
     → TablesWriting → List (Result Entry Error) → List (FinishedTable A)
     → Result (Option (FinishedTable A)) Error → S → TablesWriting → Type 0
-Writes stops next w rs gs (Ok (Some f)) t v = TookFrom stops next w rs (gs ++ f ∷ []) t v
-Writes stops next w rs gs (Ok None) t v = TookAll w rs gs v
-Writes stops next w rs gs (Err e) t v = Failed stops w rs gs e v
+WritesNextTable stops next w rs gs (Ok (Some f)) t v = TookFrom stops next w rs (gs ++ f ∷ []) t v
+WritesNextTable stops next w rs gs (Ok None) t v = TookSource w rs gs v
+WritesNextTable stops next w rs gs (Err e) t v = Failed stops w rs gs e v
 
 abbrev pub WritesUntil : {S A : Type 0} → (S → Option (Result Entry Error) → S → Type 0) → S
     → TablesWriting → Result (Option (FinishedTable A)) Error → S → TablesWriting → Type 0
 WritesUntil {A = A} next s n r t v =
     (stops : Error → Bool) (w : TablesWriting) (rs : List (Result Entry Error))
     (gs : List (FinishedTable A)) → TookFrom stops next w rs gs s n →
-    Writes stops next w rs gs r t v
+    WritesNextTable stops next w rs gs r t v
 
 -- the result of finishing: the last table if there is one, or an error
-abbrev pub Finishes : {A : Type 0} → TablesWriting → List (Result Entry Error)
+abbrev pub FinishesLast : {A : Type 0} → TablesWriting → List (Result Entry Error)
     → List (FinishedTable A) → Option ℕ → Option (Result (FinishedTable A) Error) → Type 0
-Finishes w rs gs left None = AreAll w rs gs left
-Finishes w rs gs left (Some (Ok f)) = AreAll w rs (gs ++ f ∷ []) left
-Finishes w rs gs left (Some (Err e)) = (stops : Error → Bool) → EndsWith stops w rs gs e
+FinishesLast w rs gs left None = AreAll w rs gs left
+FinishesLast w rs gs left (Some (Ok f)) = AreAll w rs (gs ++ f ∷ []) left
+FinishesLast w rs gs left (Some (Err e)) = (stops : Error → Bool) → EndsInError stops w rs gs e
 
 abbrev pub EndsAll : {A : Type 0} → Option TablesWriting → Option (Result (FinishedTable A) Error)
     → Type 0
 EndsAll {A = A} writer r =
     (w n : TablesWriting) (rs : List (Result Entry Error)) (gs : List (FinishedTable A)) →
-    writer ≡ Some n → TookAll w rs gs n → Finishes w rs gs n.ids r
+    writer ≡ Some n → TookSource w rs gs n → FinishesLast w rs gs n.ids r
 
 -- the result after an error: the table that is finished, or the error
 abbrev pub Stops : {A : Type 0} → (Error → Bool) → TablesWriting → List (Result Entry Error)
     → List (FinishedTable A) → Error → Option (Result (FinishedTable A) Error) → Type 0
 Stops stops w rs gs error None = ⊥
-Stops stops w rs gs error (Some (Ok f)) = EndsWith stops w rs (gs ++ f ∷ []) error
-Stops stops w rs gs error (Some (Err e)) = EndsWith stops w rs gs e
+Stops stops w rs gs error (Some (Ok f)) = EndsInError stops w rs (gs ++ f ∷ []) error
+Stops stops w rs gs error (Some (Err e)) = EndsInError stops w rs gs e
 
 abbrev pub StopsAfter : {A : Type 0} → Option TablesWriting → Error
     → Option (Result (FinishedTable A) Error) → Type 0

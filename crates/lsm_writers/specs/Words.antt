@@ -65,7 +65,7 @@ pub use Rattle.sst_blocks.specs.table.Parts.{parts_by}
 pub use Rattle.lsm_writers.specs.Buffered.{IsMark, MarksFront}
 unfoldable pub use Rattle.lsm_writers.specs.Counts.{counted_items}
 pub use Rattle.lsm_writers.specs.Streamed.{CanPoll, CanTake, EndsAll, LeavesError, Starts, StartsReady}
-pub use Rattle.lsm_writers.specs.Streamed.{StopsAfter, WritesUntil, YieldsTable, items_left}
+pub use Rattle.lsm_writers.specs.Streamed.{StopsAfter, WritesUntil, YieldsNextTable, items_left}
 pub use Rattle.lsm_writers.specs.Tables.{AddsTable, AreFinished, AreInKeyOrder, AreTables, CutLaw}
 pub use Rattle.lsm_writers.specs.Tables.{HasRoomFor, IsFreshRun, IsStanding, OneCutLaw, OneKeyLaw}
 pub use Rattle.lsm_writers.specs.Tables.{SetsOptionOfAll}

@@ -64,7 +64,7 @@ impl<L: Lending + Drop, A: Allocator + Clone> Iterator for TableStream<L, A> {
 
     ghost can_next = { spec.CanPoll L.advances L.can_advance };
 
-    ghost next_gives = { spec.YieldsTable L.advances };
+    ghost next_gives = { spec.YieldsNextTable L.advances };
 
     ghost remaining = { λ s. at_most (spec.items_left L.left s) };
 
