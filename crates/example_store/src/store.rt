@@ -333,10 +333,9 @@ impl<A: Allocator + Clone> Store<A> {
             self.now.oldest ≤ snapshot → IfOk result (λ value.
             spec.option_copied value ≡ spec.value_in ws key.now snapshot) }
         // At any snapshot, it is the value in the entries of the memtable and of the tables' lists.
-        ensures read { (lists : List (List (List spec.Entry))) →
-            spec.RunsHoldLists self.now.runs lists →
-            IfOk result (λ value. spec.option_copied value
-            ≡ spec.value_in (self.now.recent ++ spec.union_in lists) key.now snapshot) }
+        ensures read { (lists : spec.TableLists) → spec.RunsHoldLists self.now.runs lists →
+            IfOk result (λ value. spec.option_copied value ≡ spec.value_in
+            (self.now.recent ++ spec.union_in lists) key.now snapshot) }
         ensures memory { IfErr result (λ e. e ≡ OutOfMemory) }
     {
         let found = find_in(&self.memtable, &self.runs, key, snapshot)?;
@@ -436,8 +435,7 @@ fn find_in<'a, A: Allocator + Clone>(
     key: &[u8],
     seqno: SeqNo,
 ) -> Result<Option<EntryRef<'a>>, Error>
-    ensures { (lists : List (List (List spec.Entry))) →
-        spec.RunsHoldLists (map spec.arc_value runs.now) lists →
+    ensures { (lists : spec.TableLists) → spec.RunsHold runs.now lists →
         spec.Gives (spec.option_map spec.entry_of_ref) result
         (Ok (spec.point (memtable.now ++ spec.union_in lists) key.now seqno)) }
 {

@@ -74,8 +74,8 @@ fn files_of<A: Allocator + Clone>(
     alloc: &A,
     runs: &[Arc<Run<Table<A>, A>, A>],
 ) -> Result<Vec<Vec<Slice<A>, A>, A>, Error>
-    ensures files { IfOk result (λ files.
-        map (λ run. run.items) files.items ≡ spec.bytes_by_run (map spec.arc_value runs.now)) }
+    ensures files { IfOk result (λ files. map (λ run. run.items) files.items ≡ spec.bytes_by_run
+        (spec.each_run runs.now)) }
     ensures memory { IfErr result (λ e. e ≡ OutOfMemory) }
 {
     let mut files = Vec::new(alloc.clone()?);
