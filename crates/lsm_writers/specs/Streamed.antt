@@ -81,11 +81,11 @@ pub record EndsInError {A : Type 0} (stops : Error → Bool) (w : TablesWriting)
   pub none : NoneFails w front
   pub first : AreFirst (took_each w front) (entries_before rs) gs
   pub kept : length (took_each w front).tables ≤ length gs
+  -- the call that failed may have finished a table and drawn an id
   pub most : length gs ≤ length (next_left (took_each w front) rest)
-  -- the call that failed may have drawn an id
   pub ids : (left ≡ (took_each w front).ids) ⊎ (left ≡ next_ids (took_each w front) rest)
-  -- except for `OutOfMemory` and errors that stop the source: the error is the first one, and a table
-  -- that was finished by the call that failed is among the tables
+  -- except for `OutOfMemory` and errors that stop the source: the error is the first one, a table that
+  -- was finished by the call that failed is among the tables, and an id that it drew stays drawn
   pub fault : is_memory e ≡ false → stops e ≡ false →
       next_fault (took_each w front) rest ≡ Some e
   pub count : is_memory e ≡ false → stops e ≡ false →
@@ -219,9 +219,9 @@ pub record Failed {A : Type 0} (stops : Error → Bool) (w : TablesWriting)
       EndsInError stops w rs (gs ++ f ∷ []) n.ids e
 
 -- the result of writing until a table is finished: the table, the end of the source, or an error
-abbrev pub WritesNextTable : {S A : Type 0} → (Error → Bool) → (S → Option (Result Entry Error) → S → Type 0)
-    → TablesWriting → List (Result Entry Error) → List (FinishedTable A)
-    → Result (Option (FinishedTable A)) Error → S → TablesWriting → Type 0
+abbrev pub WritesNextTable : {S A : Type 0} → (Error → Bool)
+    → (S → Option (Result Entry Error) → S → Type 0) → TablesWriting → List (Result Entry Error)
+    → List (FinishedTable A) → Result (Option (FinishedTable A)) Error → S → TablesWriting → Type 0
 WritesNextTable stops next w rs gs (Ok (Some f)) t v = TookFrom stops next w rs (gs ++ f ∷ []) t v
 WritesNextTable stops next w rs gs (Ok None) t v = TookSource w rs gs v
 WritesNextTable stops next w rs gs (Err e) t v = Failed stops w rs gs e v
