@@ -136,6 +136,13 @@ impl<A: Allocator + Clone> MultiWriter<A> {
         self.ids
     }
 
+    // States what holds of an unfailed writer between its calls. The call does nothing.
+    pub(crate) fn stays_writing(&self)
+        ensures { self.now.failed ≡ false → spec.IsWriting self.now }
+    {
+        let _writer: &Writer<A> = &self.writer;
+    }
+
     /// Writes an entry, and finishes the current table before it if the next table is due.
     ///
     /// The next table is due at the first entry of a key, once the cut data blocks of the current
