@@ -21,8 +21,7 @@ fn stream_of<L: Lending + Drop, A: Allocator + Clone>(
     source: Kept<L, A>,
     writer: MultiWriter<A>,
 ) -> TableStream<Kept<L, A>, A>
-    requires fresh { spec.IsFreshRun writer }
-    requires next { spec.RunsOn writer }
+    requires { spec.IsFreshRun writer }
     ensures starts { let advances = ⟦<Kept<L, A> as Lending>⟧.advances in
         (d : spec.YieldsWritable advances source) (stops : spec.Error → Bool) →
         stops spec.OutOfMemory ≡ true →
