@@ -173,8 +173,7 @@ fn write_observed<
         IfOk result (λ r.
         spec.IsWritten next writer source.old O.says observer.old r source.new observer.new) }
     ensures made { IfOk result (spec.HasMade writer) }
-    ensures returned { IfOk result (λ r. spec.WasNotified O.says writer r observer.old observer.new)
-        }
+    ensures returned { IfOk result (λ r. spec.WasNotified O.says writer r observer.old observer.new) }
     ensures refused { let next = ⟦<Compacted<L, F, C, A> as Lending>⟧.advances in
         IfErr result (λ e.
         spec.RefusesWritten next writer source.old O.says observer.old e observer.new) }

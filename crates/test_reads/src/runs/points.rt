@@ -63,8 +63,8 @@ fn number_in(found: Result<Option<EntryRef<'_>>, Error>) -> Found {
     }
 }
 
-// Whether the runs have the entry of a borrowing read at the handle that `place_in_runs` returns, or
-// both calls return the same error.
+// Whether the runs have the entry of a borrowing read at the handle that `place_in_runs` returns,
+// or both calls return the same error.
 fn is_placed(
     runs: &[Tables<Global>],
     place: Result<Option<RunPlace>, Error>,
