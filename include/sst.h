@@ -424,9 +424,11 @@ uint32_t sst_range_next(sst_handle *range, bool back, sst_entry *entry);
  * - when `entry_room` entries are copied, and returns 0;
  * - at the end, and returns 0;
  * - at an error, and returns it: the entries before it are copied, and no further entry follows;
- * - at an entry that does not fit into the rest of `bytes`, and returns 0. That entry is not lost:
- *   the handle has found it, so `sst_found_lend` and `sst_found_copy` return it. `found` has its
- *   kind, sequence number and lengths, and the next call continues after it.
+ * - at an entry that does not fit into the rest of `bytes`, and returns 0.
+ *
+ * An entry that does not fit is not lost. The handle has found it, so `sst_found_lend` and
+ * `sst_found_copy` return it. `found` has its kind, sequence number and lengths, and the next call
+ * continues after it.
  *
  * In the other cases the handle has found nothing, and `found` is all zeros. So the range is at its
  * end if the call returns 0, `count` is below `entry_room` and `found` is all zeros. The rest of
@@ -584,9 +586,10 @@ uint32_t sst_writer_open(const sst_options *options, sst_handle *writer);
  *
  * - SST_KEY_TOO_LONG if the key has more than 1,048,576 bytes;
  * - SST_VALUE_TOO_LONG if the value has 2^32 bytes or more;
- * - SST_BLOCK_TOO_LARGE if the current data block would have 2^32 bytes or more. These are 28, and
- *   for each entry 17 plus the lengths of its key and value;
+ * - SST_BLOCK_TOO_LARGE if the current data block would have 2^32 bytes or more;
  * - SST_OUT_OF_MEMORY.
+ *
+ * A data block has 28 bytes, and for each entry 17 plus the lengths of its key and value.
  *
  * A failed writer returns SST_WRITER_FAILED for each further entry, unless SST_OUT_OF_ORDER or
  * SST_NO_SUCH applies. A fault of the entry is found before any memory is allocated.
