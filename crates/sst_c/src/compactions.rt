@@ -44,7 +44,7 @@ fn compact_unfiltered(
     writer: MultiWriter,
 ) -> Result<CompactionOutcome, Error>
     requires { spec.IsFreshRun writer }
-    ensures is { spec.IsCompactionOf (spec.each_run runs.now) rules writer result }
+    ensures { spec.IsCompactionOf (spec.each_run runs.now) rules writer result }
 {
     let mut observer = NoObserver;
     let (outcome, _) = compact_any_runs(
