@@ -4,10 +4,12 @@
 
 mod bar;
 mod make;
+mod piped;
 mod running;
 mod show;
 mod systems;
 
+use piped::Piped;
 use running::run;
 use sst_script::run_script;
 use std::env::{Env, FillError, args};
@@ -43,10 +45,28 @@ fn answer_script(rt: &HostRuntime) -> u8 {
         let _ = rt.stderr().write_all(AT_TERMINAL.as_bytes());
     }
     match BufWriter::new(rt.alloc(), rt.stdout()) {
-        Ok(mut output) => run_script(rt.alloc(), rt.stdin(), &mut output, &mut rt.stderr()),
+        Ok(output) => answer_lines(rt, Piped::new(output)),
         // The answers need no buffer.
-        Err(_) => run_script(rt.alloc(), rt.stdin(), &mut rt.stdout(), &mut rt.stderr()),
+        Err(_) => answer_lines(rt, Piped::new(rt.stdout())),
     }
+}
+
+// Memory for the message of a script, taken before it runs.
+const MESSAGE_SIZE: usize = 256;
+
+// Runs the script on standard input, and returns its status. If the reader of the output closes its
+// pipe, the script ends without a message, and with status 0.
+fn answer_lines<W: Write + Drop>(rt: &HostRuntime, mut output: Piped<W>) -> u8 {
+    let mut message = Vec::new(rt.alloc());
+    // Without memory for it the message may be lost, and the status stays.
+    let _ = message.reserve(MESSAGE_SIZE);
+    let status = run_script(rt.alloc(), rt.stdin(), &mut output, &mut message);
+    if output.is_closed() {
+        return 0;
+    }
+    // If even this cannot be printed, only the status is left.
+    let _ = rt.stderr().write_all(&message);
+    status
 }
 
 // Runs the command of the arguments.

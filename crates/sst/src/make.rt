@@ -115,7 +115,7 @@ pub(crate) fn compact<'a, R: Files, C: Clock, P: Place, W: Write>(
     Ok(())
 }
 
-/// Prints the fewest runs of tables, and a chain of overlaps that shows why.
+/// Prints the fewest runs of tables. For several runs, a chain of overlaps shows why.
 pub(crate) fn pack<'a, P: Place, W: Write>(
     alloc: Global,
     place: &P,

@@ -6,8 +6,9 @@ use Rattle.std.specs.Char.{digit_char}
 use Rattle.std.proofs.lemmas.Bool.{eqb-true}
 use Rattle.std.proofs.lemmas.Bool.Decides.{nat_tests}
 use Rattle.sst_tool.specs.lines.Escapes.{AreCodes, Begins, WordMeans, escaped, is_plain}
-use Rattle.sst_tool.specs.lines.Faults.{lacks_memory}
+use Rattle.sst_tool.specs.lines.Faults.{IsSameFault, lacks_memory}
 use Rattle.sst_tool.specs.declared.lines.entry_line.LineError.{LineError}
+use Rattle.sst_tool.specs.declared.lines.entry_line.LineError.TheVariants.{Key, Value}
 
 -- a digit tells its value
 digit_once : (h l : ℕ) → h < 16 → l < 16 → digit_char h ≡ digit_char l → h ≡ l
@@ -145,11 +146,17 @@ empty_is [] b e h = refl
 empty_is (x ∷ xs) b e h =
     absurd (omega (arith, eqb-true (length (x ∷ xs)) 0 (sym e ∙ h)))
 
+-- an error is the same as itself
+pub same_fault : (fault : LineError) → IsSameFault fault fault
+same_fault (Key n) = (n, refl)
+same_fault (Value n) = (n, refl)
+same_fault fault = refl
+
 -- where codes are refused, so is the word
 pub refused_word : {X : Type 0} (r : Result X LineError) (word : List ℕ) (fault : LineError)
     → (word ≡ 45 ∷ [] → ⊥)
-    → IfErr r (λ e. lacks_memory e ≡ false → (e ≡ fault) × ((bs : List ℕ) → AreCodes word bs → ⊥))
-    → IfErr r (λ e. lacks_memory e ≡ false → (e ≡ fault) × ((bs : List ℕ) → WordMeans word bs → ⊥))
+    → IfErr r (λ e. lacks_memory e ≡ false → IsSameFault fault e × ((bs : List ℕ) → AreCodes word bs → ⊥))
+    → IfErr r (λ e. lacks_memory e ≡ false → IsSameFault fault e × ((bs : List ℕ) → WordMeans word bs → ⊥))
 refused_word (Ok x) word fault other h = tt
 refused_word (Err e) word fault other h = λ fine.
     ((h fine).0, λ bs stands. (h fine).1 bs (stand_codes word bs other stands))

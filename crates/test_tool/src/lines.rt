@@ -98,13 +98,13 @@ fn entries_have_their_lines_and_are_read_of_them(rt: HostRuntime) {
 const BAD_LINES: [(&[u8], LineError); 9] = [
     (b"k 7 V", LineError::Words),
     (b"k 7 V v ", LineError::Words),
-    (b" 7 V v", LineError::Key),
-    (b"k\\ 7 V v", LineError::Key),
-    (b"k\\x2D 7 V v", LineError::Key),
+    (b" 7 V v", LineError::Key(1)),
+    (b"k\\ 7 V v", LineError::Key(2)),
+    (b"k\\x2D 7 V v", LineError::Key(2)),
     (b"k 07 V v", LineError::Number),
     (b"k 18446744073709551616 V v", LineError::Number),
     (b"k 7 v v", LineError::Kind),
-    (b"k 7 V \xff", LineError::Value),
+    (b"k 7 V \xff", LineError::Value(7)),
 ];
 
 const BAD_OBJECTS: [(&[u8], LineError); 53] = [

@@ -26,9 +26,10 @@ malformed or out of order, and if its input or output fails.",
 // Notes on standard output and on the files that are left.
 const OUTPUT: &str = "\
 Results go to standard output, and errors to standard error. If the reader of
-a pipe ends early, as head does, the command ends early too. It ends without a
-message, and with status 0 or that of what it found so far. The commands write
-and compact print their line last. If that fails, the new files are there.
+a pipe ends early, as head does, the command or the script ends early too. It
+ends without a message, and with status 0 or that of what it found so far. The
+commands write and compact print their line last. If that fails, the new files
+are there.
 
 With --json, write reads an object from each line. The commands dump and get
 print an object for each entry, and stat prints one for each table. With

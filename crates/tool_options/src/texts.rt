@@ -451,8 +451,9 @@ error if FOLDER exists already.",
         usage: "sst pack [OPTIONS] <FILE>...",
         arguments: &PACK,
         notes: "\
-The tables of a run do not overlap. Prints the files of each run, and a chain
-of tables that each overlap the next. Each needs a run of its own.",
+The tables of a run do not overlap. Prints the files of each run. With several
+runs it also prints a chain of tables that each overlap the next. Each of these
+needs a run of its own. With --json the chain of one run is empty.",
     },
     CommandText {
         name: "completion",

@@ -88,10 +88,11 @@ pub enum LineError {
     #[error("expected KEY NUMBER KIND VALUE with one space between")]
     Words,
 
-    /// The key has a byte or an escape that is not allowed.
-    #[error("invalid key: write a backslash and each byte that is not visible ASCII as \\xNN in \
-         lower case; - is the empty key")]
-    Key,
+    /// The key has a byte or an escape that is not allowed. The number is that of the first such
+    /// byte in the line, or in a key that is parsed alone, from 1.
+    #[error("invalid key at byte {0}: write a backslash and each byte that is not visible ASCII as \
+         \\xNN in lower case; - is the empty key")]
+    Key(u64),
 
     /// The number has a byte other than digits, leading zeros, or is 2^64 or more.
     #[error("a sequence number is decimal digits without leading zeros, below \
@@ -102,10 +103,11 @@ pub enum LineError {
     #[error("a kind is V, T, W or I")]
     Kind,
 
-    /// The value has a byte or an escape that is not allowed.
-    #[error("invalid value: write a backslash and each byte that is not visible ASCII as \\xNN in \
-         lower case; - is the empty value")]
-    Value,
+    /// The value has a byte or an escape that is not allowed. The number is that of the first such
+    /// byte in the line, from 1.
+    #[error("invalid value at byte {0}: write a backslash and each byte that is not visible ASCII \
+         as \\xNN in lower case; - is the empty value")]
+    Value(u64),
 
     /// The line is not a JSON object, or an object in it has a member twice.
     #[error("not a JSON object, or it has a member twice")]
@@ -131,6 +133,20 @@ pub enum LineError {
     /// The member `value` is neither a string nor an object of hex digits.
     #[error("value is a string, or {{\"hex\":\"..\"}} with two digits for each byte")]
     ValueMember,
+}
+
+impl LineError {
+    // Returns the error at a byte that is so many bytes further.
+    pub(crate) fn further(self, bytes: usize) -> LineError
+        ensures { spec.IsSameFault self result }
+    {
+        let bytes = bytes as u64;
+        match self {
+            LineError::Key(byte) => LineError::Key(byte.saturating_add(bytes)),
+            LineError::Value(byte) => LineError::Value(byte.saturating_add(bytes)),
+            other => other,
+        }
+    }
 }
 
 impl From<AllocError> for LineError {

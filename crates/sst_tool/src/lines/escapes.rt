@@ -71,12 +71,13 @@ fn is_plain(byte: u8) -> bool
 pub fn parse_bytes<A: Allocator>(alloc: A, word: &[u8]) -> Result<Vec<u8, A>, LineError>
     ensures bytes { IfOk result (λ bytes. spec.WordMeans word.now bytes.items) }
     ensures refused { IfErr result (λ e. spec.lacks_memory e ≡ false →
-        (e ≡ spec.Key) × ((bytes : List ℕ) → ¬ spec.WordMeans word.now bytes)) }
+        spec.IsSameFault (spec.Key 1) e × ((bytes : List ℕ) → ¬ spec.WordMeans word.now bytes)) }
 {
-    parse_word(alloc, word, LineError::Key)
+    parse_word(alloc, word, LineError::Key(1))
 }
 
-/// Parses a word. Fails with `fault` if it is malformed, and with [`LineError::OutOfMemory`].
+/// Parses a word. Fails with `fault` if it is malformed, and with [`LineError::OutOfMemory`]. The
+/// byte of `fault` is that of the word's first byte.
 pub(crate) fn parse_word<A: Allocator>(
     alloc: A,
     word: &[u8],
@@ -84,7 +85,7 @@ pub(crate) fn parse_word<A: Allocator>(
 ) -> Result<Vec<u8, A>, LineError>
     ensures bytes { IfOk result (λ bytes. spec.WordMeans word.now bytes.items) }
     ensures refused { IfErr result (λ e. spec.lacks_memory e ≡ false →
-        (e ≡ fault) × ((bytes : List ℕ) → ¬ spec.WordMeans word.now bytes)) }
+        spec.IsSameFault fault e × ((bytes : List ℕ) → ¬ spec.WordMeans word.now bytes)) }
 {
     if word.is_empty() {
         return Err(fault);
@@ -103,13 +104,13 @@ fn parse_codes<A: Allocator>(
 ) -> Result<Vec<u8, A>, LineError>
     ensures bytes { IfOk result (λ bytes. spec.AreCodes word.now bytes.items) }
     ensures refused { IfErr result (λ e. spec.lacks_memory e ≡ false →
-        (e ≡ fault) × ((bytes : List ℕ) → ¬ spec.AreCodes word.now bytes)) }
+        spec.IsSameFault fault e × ((bytes : List ℕ) → ¬ spec.AreCodes word.now bytes)) }
 {
     let mut bytes = Vec::new(alloc);
     let mut rest = word;
     while !rest.is_empty() {
         match parse_code(rest) {
-            None => return Err(fault),
+            None => return Err(fault.further(word.len().saturating_sub(rest.len()))),
             Some((byte, behind)) => {
                 bytes.push(byte)?;
                 rest = behind;

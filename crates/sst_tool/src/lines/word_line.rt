@@ -59,8 +59,9 @@ pub(crate) fn parse_words<A: Allocator + Copy>(
     let Some(kind) = parse_kind(words.kind) else {
         return Err(LineError::Kind);
     };
-    let key = parse_slice(alloc, words.key, LineError::Key)?;
-    match parse_slice(alloc, words.value, LineError::Value) {
+    let key = parse_slice(alloc, words.key, LineError::Key(1))?;
+    let before = line.len().saturating_sub(words.value.len());
+    match parse_slice(alloc, words.value, LineError::Value(1).further(before)) {
         Ok(value) => Ok(InternalValue::from_components(key, value, seqno, kind)),
         Err(error) => Err(error),
     }
@@ -74,7 +75,7 @@ fn parse_slice<A: Allocator + Clone>(
 ) -> Result<Slice<A>, LineError>
     ensures bytes { IfOk result (λ bytes. spec.WordMeans word.now bytes) }
     ensures refused { IfErr result (λ e. spec.lacks_memory e ≡ false →
-        (e ≡ fault) × ((bytes : List ℕ) → ¬ spec.WordMeans word.now bytes)) }
+        spec.IsSameFault fault e × ((bytes : List ℕ) → ¬ spec.WordMeans word.now bytes)) }
 {
     slice_of(parse_word(alloc, word, fault)?)
 }

@@ -1,5 +1,5 @@
 //! Prints runs of files.
-ghost use Rattle.std.specs.Prelude.{◌≡◌};
+ghost use Rattle.std.specs.Prelude.{◌≡◌, ◌<◌, ◌≤◌, [], length};
 ghost use Rattle.sst_tool.specs.make.Words as spec;
 
 use crate::files::Escaped;
@@ -20,8 +20,21 @@ pub(crate) fn path_at<'a>(paths: &[&'a str], place: usize) -> &'a str
     }
 }
 
-/// Prints packed files: the number of runs, the files of each, and a chain of overlapping files,
-/// which shows that fewer runs do not suffice. `paths` are the paths of the files, by index.
+// Returns the chain of several runs. It is empty for one run, of which a chain shows nothing.
+fn shown_chain<T, A: Allocator>(packed: &Packed<T, A>) -> &[(usize, usize)]
+    ensures one { length packed.now.runs.items ≤ 1 → result.now ≡ [] }
+    ensures several { 1 < length packed.now.runs.items → result.now ≡ packed.now.chain.items }
+{
+    if packed.runs.len() > 1 {
+        packed.chain.as_slice()
+    } else {
+        &[]
+    }
+}
+
+/// Prints packed files: the number of runs and the files of each. After several runs it prints a
+/// chain of overlapping files, which shows that fewer runs do not suffice. `paths` are the paths of
+/// the files, by index.
 ///
 /// # Errors
 ///
@@ -41,15 +54,20 @@ pub fn print_packed<W: Write, T: Ranged, A: Allocator>(
         }
         output.write_all(b"\n")?;
     }
+    let chain = shown_chain(packed);
+    if chain.is_empty() {
+        return Ok(());
+    }
     output.write_all(b"each overlaps the next:")?;
-    for link in &packed.chain {
+    for link in chain {
         print_name(output, paths, link.0)?;
     }
     output.write_all(b"\n")
 }
 
 /// Returns packed files as a JSON object with a newline. It has the number of runs, the files of
-/// each, and a chain of overlapping files. `paths` are the paths of the files, by index.
+/// each, and a chain of overlapping files, which is empty for one run. `paths` are the paths of the
+/// files, by index.
 ///
 /// # Errors
 ///
@@ -74,7 +92,7 @@ pub fn packed_object<T: Ranged, A: Allocator + Copy>(
     writer.end_array()?;
     writer.key("each_overlaps_the_next")?;
     writer.begin_array()?;
-    for link in &packed.chain {
+    for link in shown_chain(packed) {
         writer.string(path_at(paths, link.0))?;
     }
     writer.end_array()?;

@@ -20,7 +20,7 @@ loop-rest-preserved g c =
 
 pub returns-in-None-clause-refused : goal.returns-in-None-clause-refused
 returns-in-None-clause-refused g c = λ fine. (
-  refl,
+  c.further.ensures,
   reading_stops c.args.word.now
       c.loop-rest.bytes.items c.loop-rest.rest.now c.loop-rest.invariant
       (λ none. some_is c.loop-rest.rest.now c.is_empty.result c.is_empty.ensures c.loop-rest-test.true
