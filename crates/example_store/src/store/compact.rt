@@ -49,8 +49,7 @@ impl<A: Allocator + Clone> Store<A> {
         ensures refused { (lists : spec.TableLists) → spec.RunsHoldLists self.old.runs lists →
             IfErr result (λ e. spec.is_memory e ≡ false
             → spec.tables_fault self.old.ids self.old.target 0
-            (spec.kept_in (spec.rules_by (min watermark self.old.next) true false) lists) ≡ Some e)
-            }
+            (spec.kept_in (spec.rules_by (min watermark self.old.next) true false) lists) ≡ Some e) }
     {
         let watermark = watermark.min(self.next);
         let rules = Rules {
@@ -115,8 +114,7 @@ pub(crate) fn compacted<A: Allocator + Clone>(
         r.1 ≡ spec.ids_behind ids target (sum_by length (map spec.arc_value r.0.items))) }
     ensures able { IfOk result (λ r. spec.AreCompactable (map spec.arc_value r.0.items)) }
     ensures own { (bound : ℕ) → spec.AllByRecursion (spec.IsOwnRun bound) (spec.each_run runs.now) →
-        IfOk result (λ r. spec.AllByRecursion (spec.IsOwnRun bound) (map spec.arc_value r.0.items))
-        }
+        IfOk result (λ r. spec.AllByRecursion (spec.IsOwnRun bound) (map spec.arc_value r.0.items)) }
     ensures refused { (lists : spec.TableLists) → spec.RunsHold runs.now lists →
         IfErr result (λ e. spec.is_memory e ≡ false → spec.tables_fault ids target 0
         (spec.kept_in rules lists) ≡ Some e) }

@@ -48,8 +48,7 @@ impl<A: Allocator + Clone> Store<A> {
             spec.RunsHoldLists (spec.part_runs from to self.old.runs) lists →
             IfErr result (λ e. spec.is_memory e ≡ false
             → spec.tables_fault self.old.ids self.old.target 0
-            (spec.kept_in (spec.rules_by (min watermark self.old.next) false false) lists) ≡ Some e)
-            }
+            (spec.kept_in (spec.rules_by (min watermark self.old.next) false false) lists) ≡ Some e) }
     {
         let watermark = watermark.min(self.next);
         let (front, part, behind) = cut_out(&self.runs, from, to);
@@ -79,8 +78,7 @@ fn cut_out<A: Allocator>(
 )
     ensures front { map spec.arc_value result.0.now ≡ spec.front_runs from to
         (spec.each_run runs.now) }
-    ensures part { map spec.arc_value result.1.now ≡ spec.part_runs from to (spec.each_run runs.now)
-        }
+    ensures part { map spec.arc_value result.1.now ≡ spec.part_runs from to (spec.each_run runs.now) }
     ensures behind { map spec.arc_value result.2.now ≡ drop to (spec.each_run runs.now) }
 {
     let (upper, behind) = runs.split_at(to.min(runs.len()));

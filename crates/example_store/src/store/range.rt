@@ -42,8 +42,7 @@ impl<A: Allocator + Clone> Store<A> {
             let back_gives = ⟦<Range<A> as DoubleEndedIterator>⟧.next_back_gives in
             (lists : spec.TableLists) → spec.RunsHoldLists self.now.runs lists →
             IfOk result (spec.YieldsList gives back_gives (spec.newest (spec.numbered_below snapshot
-            (spec.within bounds.0 bounds.1 (spec.union_in (spec.single self.now.recent ∷ lists))))))
-            }
+            (spec.within bounds.0 bounds.1 (spec.union_in (spec.single self.now.recent ∷ lists)))))) }
         ensures next { IfOk result (λ s. ⟦<Range<A> as Iterator>⟧.can_next s) }
         ensures next_back { IfOk result (λ s.
             ⟦<Range<A> as DoubleEndedIterator>⟧.can_next_back s) }
