@@ -93,7 +93,7 @@ fn share_behind<T: Drop, A: Allocator>(
     runs: &[Arc<T, A>],
 ) -> Result<(), Error>
     ensures runs { OnOk result (map spec.arc_value shared.new.items
-        ≡ map spec.arc_value shared.old.items ++ spec.each_run runs.now) }
+        ≡ map spec.arc_value shared.old.items ++ map spec.arc_value runs.now) }
     ensures memory { IfErr result (λ e. e ≡ OutOfMemory) }
 {
     for run in runs {
