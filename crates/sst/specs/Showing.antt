@@ -18,7 +18,8 @@ use Rattle.sst_tool.specs.lines.Escapes.{WordMeans}
 use Rattle.tool_options.specs.declared.tasks.DumpTask.{DumpTask}
 use Rattle.tool_options.specs.declared.tasks.GetTask.{GetTask}
 use Rattle.sst_tool.specs.show.Files.{runs_in}
-use Rattle.sst_tool.specs.show.Merged.{Prints, newest_found, newest_in, printed, ranges_in}
+use Rattle.sst_tool.specs.show.Merged.{PrintsMerged, merged_entries, newest_found, newest_in}
+use Rattle.sst_tool.specs.show.Merged.{ranges_in}
 use Rattle.sst_tool.specs.show.Read.{dumped, readable, seen_below}
 use Rattle.sst_tool.specs.declared.show.dumps.DumpOptions.{DumpOptions}
 use Rattle.sst_tool.specs.declared.show.gets.GetOptions.{GetOptions}
@@ -94,10 +95,10 @@ pub record DumpsMerged (o : DumpOptions) (seqno most : ℕ) (content : List ℕ 
   pub named : AreNamed content names files
   pub count : ℕ
   pub list : (lists : List (List (List Entry))) → RunsHoldLists (runs_in files) lists
-      → count ≡ length (printed o.reverse most (newest_in o seqno lists))
+      → count ≡ length (merged_entries o.reverse most (newest_in o seqno lists))
   pub returned : o.reverse ≡ false → AllByRecursion (IsInOrder range_of) (runs_in files)
       → AllByRecursion (λ rs. Ascends (entries_among rs)) (ranges_in o (runs_in files))
-      → Prints most (newest_found o seqno (runs_in files)) count
+      → PrintsMerged most (newest_found o seqno (runs_in files)) count
 
 -- The entries of the task's files are read, one file after another or all together.
 pub record DoesDump (task : DumpTask) (content : List ℕ → Option (List ℕ)) : Type 0 where
