@@ -1,6 +1,5 @@
-// Reads through the calls of sst.h, as a program in C makes them, by the signature of those of
-// `bench_library`: so they stand beside these, and the time of a call that does no pass is taken
-// off.
+// Reads through the calls of sst.h, as a program in C makes them. They have the signatures of
+// `bench_library`, so the same code times both and subtracts the time of a call without a pass.
 #pragma once
 
 #include <vector>
@@ -27,7 +26,7 @@ inline void AddLent(Digest* digest, const sst_lent& lent) {
       {reinterpret_cast<const char*>(lent.value), lent.value_len});
 }
 
-// Each key once. What is found is lent, and not copied.
+// Reads each key once. A found entry is borrowed, not copied.
 inline uint32_t CallGetEach(sst_handle* table, const uint8_t* keys, size_t keys_len, size_t key_len,
                             Digest* digest) {
   sst_entry entry;
@@ -83,7 +82,7 @@ inline uint32_t CallGetMany(const uint8_t* file, size_t file_len, const uint8_t*
   return code;
 }
 
-// A whole verification, at once and by steps, of which the digest has how many entries it told.
+// A whole verification, at once or by steps. The digest has the number of entries it reported.
 inline uint32_t CallVerify(const uint8_t* file, size_t file_len, uint64_t passes, Digest* digest) {
   Call table;
   sst_verified verified{};

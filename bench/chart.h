@@ -6,11 +6,11 @@
 #include <string>
 #include <vector>
 
-// Nanoseconds an operation; 0 where there is no such figure.
+// Nanoseconds an operation; 0 if there is no such figure.
 struct Row {
   std::string work;
   double ours;
-  double limit;                // the hashing alone that the format asks for
+  double limit;                // the hashing alone that the format requires
   std::vector<double> theirs;  // of each other store
 };
 
@@ -21,7 +21,7 @@ inline std::string Nanoseconds(double value) {
   return text;
 }
 
-// Another store's time, and how many times as long ours takes.
+// Another store's time, and our time divided by it.
 inline std::string Beside(double ours, double theirs) {
   if (ours <= 0 || theirs <= 0) return Nanoseconds(theirs);
   char text[32];
@@ -48,15 +48,15 @@ inline void PrintTable(const std::string& title, const std::vector<std::string>&
   fflush(stdout);
 }
 
-// How long ours takes beside two stores: bars on a scale of logarithms, whose middle line is the
-// other store's time.
+// Our times relative to two stores: bars on a logarithmic scale. The middle line is the other
+// store's time.
 class Chart {
  public:
   explicit Chart(const std::string& path) : file_(fopen(path.c_str(), "w")), path_(path) {}
 
   bool IsOpen() const { return file_ != nullptr; }
 
-  // The stores are named by their places in each row.
+  // The stores' indexes in each row.
   void Draw(const std::string& title, const std::vector<std::string>& stores,
             const std::vector<Row>& rows, size_t first, size_t second) {
     std::vector<const Row*> shown;
@@ -92,7 +92,7 @@ class Chart {
   }
 
  private:
-  // Words stand left of the shortest bar, and behind the longest one there is room for its figure.
+  // Labels are left of the shortest bar, and the figure of the longest bar has room after it.
   static constexpr double kWords = 350, kDoubling = 80, kLeast = -3.6, kMost = 3.2, kFigure = 48;
   static constexpr double kMiddle = kWords - kLeast * kDoubling;
   static constexpr int kWidth = static_cast<int>(kMiddle + kMost * kDoubling + kFigure);

@@ -1,9 +1,9 @@
-// Times whole workloads of the sorted tables beside LevelDB and RocksDB, and compares what all of
-// them answer. `run` in this folder builds and starts it.
+// Times whole workloads of this library, LevelDB and RocksDB, and compares their results. `run` in
+// this folder builds and starts it.
 //
-// Each figure is the least of several rounds, in which the stores take turns, of the processor time
-// of this thread; where several threads work at once, of the clock's time. A workload of the library
-// opens its tables anew, so the time of a call that does nothing else is taken off.
+// Each figure is the least of several rounds, in which the stores take turns. It is the processor
+// time of this thread or, for several threads, elapsed time. A workload of the library opens its
+// tables anew, so the time of a call that only opens them is subtracted.
 #include <malloc.h>
 
 #include <climits>
@@ -18,8 +18,7 @@
 
 namespace {
 
-// How many bits a key the other stores' filters have, where the command says nothing else: as many
-// as those of our tables.
+// The bits a key of the other stores' filters, unless an option sets them: as in our tables.
 constexpr int kFilterBits = 10;
 
 std::string FilterWords(int bits) {
@@ -58,7 +57,7 @@ int main(int argc, char** argv) {
     return 0;
   }
   if (counts.empty()) counts = {10000, 1000000};
-  // Memory that was given up stays at hand, so that no store's time has that of getting pages anew.
+  // Freed memory is kept, so that no store's time includes that of getting pages anew.
   Require(mallopt(M_MMAP_MAX, 0) == 1 && mallopt(M_TRIM_THRESHOLD, INT_MAX) == 1, "no mallopt");
   double cycle = CycleSeconds();
   printf("\na cycle takes %.3f ns: a byte of FNV-1a takes four\n", cycle * 1e9);

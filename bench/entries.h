@@ -1,4 +1,4 @@
-// The entries of the workloads, and what is kept of the entries that a store gives.
+// The entries of the workloads, and the digest of the entries that a store returns.
 #pragma once
 
 #include <cstdint>
@@ -69,7 +69,7 @@ inline std::string KeyOf(uint64_t number) {
   return std::string(text, kKeyLen);
 }
 
-// Entries in order of their keys: keys and values behind one another.
+// Entries in order of their keys. Keys and values are stored one after another.
 class Entries {
  public:
   // The value depends on the key and on the version.

@@ -36,14 +36,14 @@ def key_of(number):
 
 
 def numbers(count, stride, behind):
-    """Numbers of entries that lie so far apart, in no order; or of keys that lie behind them."""
+    """Numbers of entries with this stride, in random order; or of keys directly after them."""
     found = [2 * i + behind for i in range(stride // 2, count, stride)]
     random.Random(7).shuffle(found)
     return found
 
 
 class Read(NamedTuple):
-    """A kind of read: how many there are in a pass, what a reader does, and what it answers."""
+    """A kind of read: how many a pass has, the call, and its expected result."""
 
     title: str
     unit: str
@@ -53,7 +53,7 @@ class Read(NamedTuple):
 
 
 class Work:
-    """Entries, keys that are read, and what reads of them find."""
+    """Entries, keys that are read, and the results of reading them."""
 
     def __init__(self, count):
         dice = random.Random(count)
@@ -76,7 +76,7 @@ class Work:
         return self.entries[number // 2][1]
 
     def range_size(self, number):
-        """How many bytes the values of a short range have."""
+        """The bytes of the values of a short range."""
         return sum(len(value) for _, value in self.entries[number // 2:][:RANGE])
 
     @staticmethod
@@ -160,7 +160,7 @@ class Bench:
                 sys.exit("bench: a table from Python has other entries")
 
     def timed(self, store, title, count, call, wanted):
-        """Does some work, and keeps the least time for each of so many operations."""
+        """Does some work, and keeps the least time for each of this many operations."""
         gc.collect()
         start = time.thread_time()
         answer = call()
@@ -190,7 +190,7 @@ class Bench:
                 self.timed(store.name, read.title, read.count, lambda: read.by(store), read.wanted)
 
     def rows(self):
-        """What is printed of each row: a title, what of ours, and what of the other stores."""
+        """The printed rows: a title, the name of our time, and that of the other stores' times."""
         rows = [("write, an entry", "write", "write"),
                 ("write, many at once, an entry", "write at once", "write")]
         for read in self.work.reads:

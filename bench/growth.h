@@ -1,5 +1,5 @@
-// How the library's time and memory grow with a table's entries. Each call is made in a process of
-// its own, whose most resident memory is told beside what it had at its start.
+// Measures how the library's time and memory grow with a table's entries. Each call runs in a
+// process of its own. It reports the process's peak resident memory and that at its start.
 #pragma once
 
 #include <malloc.h>
@@ -34,7 +34,7 @@ inline Spent SpentOn(const std::function<uint32_t()>& call) {
   pid_t child = fork();
   Require(child >= 0, "no process");
   if (child == 0) {
-    malloc_trim(0);  // else the call finds memory that was given up before
+    malloc_trim(0);  // else the call reuses memory that was freed before
     double before = ResidentBytes();
     timespec start, end;
     clock_gettime(CLOCK_THREAD_CPUTIME_ID, &start);
@@ -107,7 +107,7 @@ inline void PrintGrowthOf(size_t count) {
     return tool_bench_get(table, file.size(), wanted, keys.size(), kKeyLen, 1, &digest);
   });
   Spent scan = LeastOf([&] { return tool_bench_scan(table, file.size(), 1, &digest); });
-  // What a call does before its work: it copies the table and opens it once.
+  // Before its work, a call copies the table and opens it once.
   double opening = (open.seconds - copy.seconds) / opens;
   double before = copy.seconds + opening;
   constexpr double kMegabyte = 1 << 20;

@@ -1,8 +1,8 @@
-// What the format makes a reader or a writer hash, and how long that takes at least.
+// The bytes that the format makes a reader or a writer hash, and the least time this takes.
 //
-// FNV-1a takes a byte in four cycles, since each waits for the multiplication of the one before it.
-// A sum that is only compared can be worked out from both ends at once, two bytes in four cycles;
-// and where several blocks are to be compared, four chains beside one another take four.
+// FNV-1a takes four cycles a byte, since each byte waits for the multiplication before it. A sum
+// that is only compared can be computed from both ends at once, two bytes in four cycles. If
+// several blocks are compared, four chains in one loop take four bytes in four cycles.
 #pragma once
 
 #include <time.h>
@@ -21,7 +21,7 @@ inline double ThreadSeconds() {
   return now.tv_sec + now.tv_nsec * 1e-9;
 }
 
-// How long a cycle of this processor is: a byte of one chain takes four.
+// The length of a cycle of this processor: a byte of one chain takes four cycles.
 inline double CycleSeconds() {
   constexpr uint64_t kBytes = 1 << 22;
   double least = 1;
@@ -30,20 +30,20 @@ inline double CycleSeconds() {
     double start = ThreadSeconds();
     for (uint64_t i = 0; i < kBytes; i++) {
       hash = (hash ^ (i & 255)) * 0x100000001b3u;
-      asm volatile("" : "+r"(hash));  // else the compiler may work several bytes out at once
+      asm volatile("" : "+r"(hash));  // else the compiler may compute several bytes at once
     }
     least = std::min(least, ThreadSeconds() - start);
   }
   return least / kBytes / 4;
 }
 
-// The lengths of a table's parts, as its trailer says them.
+// The lengths of a table's parts, from its trailer.
 class Parts {
  public:
   explicit Parts(std::string_view table) : table_(table) {}
 
   size_t table() const { return table_.size(); }
-  // The payloads of a section's blocks, which are what is hashed of them.
+  // The payloads of a section's blocks. Only these are hashed.
   std::vector<size_t> Data() const { return Payloads(0); }
   std::vector<size_t> Index() const { return Payloads(1); }
   std::vector<size_t> TopIndex() const { return Payloads(2); }

@@ -12,7 +12,7 @@
 constexpr uint64_t kStride = 40;  // more than the entries of a block
 constexpr size_t kRange = 50;     // how many entries a short range takes
 
-// Keys of one length behind one another, and each alone.
+// Keys of one length, one after another, and each alone.
 struct Keys {
   std::string joined;
   std::vector<std::string> each;
@@ -25,7 +25,7 @@ struct Keys {
   }
 };
 
-// Numbers of entries that lie so far apart, in no order; or of keys that lie behind them.
+// Numbers of entries with this stride, in random order; or of keys directly after them.
 inline std::vector<uint64_t> Numbers(size_t count, size_t stride, uint64_t behind) {
   std::vector<uint64_t> numbers;
   for (uint64_t i = stride / 2; i < count; i += stride) numbers.push_back(2 * i + behind);
@@ -33,10 +33,10 @@ inline std::vector<uint64_t> Numbers(size_t count, size_t stride, uint64_t behin
   return numbers;
 }
 
-// Which entry has a key.
+// The number of the entry with a key.
 inline size_t Place(const std::string& key) { return strtoull(key.c_str(), nullptr, 10) / 2; }
 
-// What point reads of these keys find, of a list that has them, in their order.
+// The results of point reads of these keys, in their order, from a list that has them.
 inline Digest FoundOf(const Entries& entries, const Keys& keys) {
   Digest found{};
   for (const std::string& key : keys.each) {
@@ -45,7 +45,7 @@ inline Digest FoundOf(const Entries& entries, const Keys& keys) {
   return found;
 }
 
-// What short ranges from these keys on have.
+// The entries of short ranges that start at these keys.
 inline Digest RangesOf(const Entries& entries, const Keys& keys) {
   Digest ranges{};
   for (const std::string& key : keys.each) {

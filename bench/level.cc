@@ -1,5 +1,6 @@
-// LevelDB by its public headers. `run` compiles this once for each build of LevelDB, and says the
-// build's function as MAKE_PEER; of the one in a namespace of its own it says that as `leveldb`.
+// LevelDB by its public headers. `run` compiles this once for each build of LevelDB, and defines
+// MAKE_PEER as the build's function. For the build in a namespace of its own, it defines `leveldb`
+// as that namespace.
 #include <leveldb/cache.h>
 #include <leveldb/db.h>
 #include <leveldb/env.h>
@@ -27,7 +28,7 @@ class LevelDb {
     options_.block_cache = cache_.get();
     options_.compression = leveldb::kNoCompression;
     options_.create_if_missing = true;
-    options_.paranoid_checks = true;  // an index's checksum is else not compared at opening
+    options_.paranoid_checks = true;  // else opening does not compare an index's checksum
     options_.write_buffer_size = size_t{1} << 30;
     options_.max_file_size = size_t{1} << 30;
     read_.verify_checksums = true;

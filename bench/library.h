@@ -1,5 +1,5 @@
-// What the static library `bench_library` exports. A slice is passed as a pointer and a length; the
-// library's allocator is the C library's, and takes no bytes.
+// The exports of the static library `bench_library`. A slice is passed as a pointer and a length.
+// The library uses the C library's allocator, which is passed as no bytes.
 #pragma once
 
 #include <cstddef>

@@ -17,8 +17,8 @@ struct Span {
   uint64_t number;
 };
 
-// The packing as its rule says it, with no search: each table goes behind the last new run that has
-// a table which overlaps it, or into the first.
+// The rule of packing, without a search: each table goes into the run after the last new run that
+// has a table overlapping it, or into the first.
 inline Packed PackedPlainly(const std::vector<Span>& spans) {
   std::vector<std::vector<const Span*>> runs;
   for (const Span& span : spans) {

@@ -1,4 +1,4 @@
-// What LevelDB and RocksDB do in the same way.
+// The code that LevelDB and RocksDB share.
 #pragma once
 
 #include <queue>
@@ -18,8 +18,8 @@ std::string_view View(const Slice& slice) {
   return std::string_view(slice.data(), slice.size());
 }
 
-// Several iterators as one, by a plain priority queue: of each key, the entry of the first of them
-// that has it.
+// Several iterators as one, by a plain priority queue: for each key, the entry of the first
+// iterator that has it.
 template <class Iterator, class Take>
 void MergeNewest(const std::vector<std::unique_ptr<Iterator>>& sources, Take take) {
   auto after = [&](size_t a, size_t b) {

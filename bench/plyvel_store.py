@@ -13,7 +13,7 @@ _ROOM = 1 << 30  # of a memtable and of a file, so that there is one table
 
 
 class Plyvel:
-    """A database of one table in a file that lies in memory.
+    """A database of one table in a file in memory.
 
     LevelDB maps the file and does not cache its blocks, since none is compressed. If `compares` is
     set, each read compares a block's checksum, as the driver's do; by default plyvel's do not.
@@ -32,7 +32,7 @@ class Plyvel:
         if tables != 1:
             raise RuntimeError(f"plyvel: {tables} tables and not one")
 
-    # An empty database, in a folder that lies in memory if there is such a file system.
+    # An empty database, in a folder in memory if there is such a file system.
     def _begin(self):
         memory = "/dev/shm" if os.path.isdir("/dev/shm") else None
         folder = tempfile.mkdtemp(prefix="bench-plyvel-", dir=memory)

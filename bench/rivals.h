@@ -1,4 +1,4 @@
-// The other stores: which there are, and one of each that has been set up.
+// The list of the other stores, and one instance of each.
 #pragma once
 
 #include <memory>
@@ -7,7 +7,7 @@
 
 #include "peer.h"
 
-// Another store. Its figures stand in a column of their own.
+// Another store. Its figures have a column of their own.
 struct Store {
   std::string name;
   MakePeer make;
@@ -26,7 +26,7 @@ constexpr MakePeer kRocks = BuiltRocksDb;
 constexpr MakePeer kRocks = PackagedRocksDb;
 #endif
 
-// Each as it was built from its sources, where it was, and then as it is packaged, too.
+// Each store as built from its sources, if it was, and as packaged.
 inline std::vector<Store> Stores() {
   std::vector<Store> stores = {{"LevelDB", kLevel, false, false}, {"RocksDB", kRocks, false, true}};
   if (kLevel != PackagedLevelDb) {
@@ -50,5 +50,5 @@ inline std::vector<std::string> StoreNames() {
 struct Rival {
   Store store;
   std::unique_ptr<Peer> peer;
-  std::unique_ptr<Peer> partitioned;  // with index and filter in partitions, where it has these
+  std::unique_ptr<Peer> partitioned;  // with index and filter in partitions, if it has these
 };

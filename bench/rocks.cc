@@ -1,5 +1,5 @@
-// RocksDB by its public headers. `run` compiles this once for each build of RocksDB, and says the
-// build's function as MAKE_PEER.
+// RocksDB by its public headers. `run` compiles this once for each build of RocksDB, and defines
+// MAKE_PEER as the build's function.
 #include <rocksdb/cache.h>
 #include <rocksdb/db.h>
 #include <rocksdb/env.h>

@@ -59,7 +59,7 @@ inline uint32_t ScanInBulk(sst_handle* table, Digest* digest) {
 
 using ScanTable = decltype(&ScanSingly);
 
-// Scans a table so many times.
+// Scans a table this many times.
 template <ScanTable scan>
 uint32_t CallScanBy(const uint8_t* file, size_t file_len, uint64_t passes, Digest* digest) {
   Call table;
@@ -105,7 +105,7 @@ inline uint32_t TakeInBulk(sst_handle* range, size_t count, Digest* digest) {
 
 using TakeEntries = decltype(&TakeSingly);
 
-// From each key on the first entries.
+// Reads the first entries from each key on.
 inline uint32_t RangeEach(sst_handle* table, const uint8_t* keys, size_t keys_len, size_t key_len,
                           size_t count, TakeEntries take, Digest* digest) {
   uint32_t code = 0;

@@ -50,8 +50,8 @@ class TableBench {
   // How often a second pass is made, for a time that can be measured.
   static uint64_t Again(size_t count) { return std::max<uint64_t>(1, 100000 / count); }
 
-  // One table has each even number up to twice the count. Of eight tables, each has each eighth
-  // number, but of every fourth a pair of them has the same.
+  // One table has each even number up to twice the count. Each of eight tables has every eighth of
+  // these, except that every fourth number is in two of them.
   void MakeEntries() {
     single_.Reserve(count_);
     for (uint64_t i = 0; i < count_; i++) single_.Append(2 * i, 0);
@@ -117,7 +117,7 @@ class TableBench {
     rivals_.push_back(std::move(rival));
   }
 
-  // What compaction writes is scanned once.
+  // The tables that compaction writes are scanned once.
   void CheckCompaction(const Rival& rival) {
     rival.peer->Keep(paths_);
     Digest digest{};
@@ -257,8 +257,8 @@ class TableBench {
             "compaction wrote other tables");
   }
 
-  // The call with no pass comes twice: only the second finds the table in the processor's caches,
-  // as the calls after it do.
+  // The call without a pass is made twice: only the second finds the table in the processor's
+  // caches, as the calls after it do.
   std::vector<uint64_t> Passes() const { return {0, 0, 1, 1 + again_}; }
   // How often a table is opened, for a time that can be measured beside that of copying it.
   uint64_t Opens() const { return std::max<uint64_t>(10, 10000000 / count_); }
@@ -312,8 +312,8 @@ class TableBench {
 
   // ---- the table
 
-  // A row of `count` operations, which take us so long, and which have to hash for so many cycles.
-  // The others do the work as many as `passes` times in their one call.
+  // A row of `count` operations, with our time and the cycles of the hashing that they need. The
+  // other stores repeat the work `passes` times in one call.
   Row RowOf(const std::string& title, const std::string& work, double ours, double cycles,
             double count, double passes) const {
     Row row{title, ours / count * 1e9, cycles * cycle_ / count * 1e9, {}};
@@ -324,15 +324,14 @@ class TableBench {
     return row;
   }
 
-  // Of a store without partitions the one kind of table that it has stands beside both of ours.
+  // The figures of a store without partitions are repeated for both kinds of our tables.
   double TimeOf(const Store& store, const std::string& work) const {
     size_t kind = work.find(", partitions");
     bool other = kind != std::string::npos && !store.has_partitions;
     return times_[store.name + " " + (other ? work.substr(0, kind) : work)];
   }
 
-  // Blocks that are compared when a table is opened: beside one another, and no faster than the
-  // longest of them alone.
+  // Opening a table compares these blocks in one loop, no faster than the longest of them alone.
   static double OpenCycles(std::vector<size_t> blocks, const std::vector<size_t>& more) {
     blocks.insert(blocks.end(), more.begin(), more.end());
     double longest = *std::max_element(blocks.begin(), blocks.end());
@@ -370,7 +369,7 @@ class TableBench {
                           again));
   }
 
-  // A workload's two passes. What was compared in the first is not compared again.
+  // A workload's two passes. The second does not compare a block again.
   void PassRows(const std::string& title, const std::string& unit, const std::string& name,
                 const std::string& theirs, double cycles, double count, double passes,
                 std::vector<Row>* rows) const {
@@ -442,7 +441,7 @@ class TableBench {
   std::string table_, partitioned_, files_, lists_;
   std::vector<uint64_t> lens_, list_lens_;
   std::vector<std::string> paths_;
-  double read_ = 0;  // how many bytes of blocks the eight tables have
+  double read_ = 0;  // the bytes of blocks in the eight tables
   Written compacted_{};
   std::vector<Rival> rivals_;
 };

@@ -19,8 +19,8 @@
 constexpr int kThreadCounts[] = {1, 2, 4};
 constexpr int kMostThreads = 4;
 
-// How long so many threads take, each for its call of `work`, from when all are ready until the
-// last is done: time of the clock, since a thread that waits for another takes no processor time.
+// The elapsed time of this many threads, each with its call of `work`, from when all are ready
+// until the last is done. A thread that waits for another takes no processor time.
 template <class Work>
 double SecondsAtOnce(int threads, Work work) {
   std::promise<void> start;
@@ -41,7 +41,7 @@ double SecondsAtOnce(int threads, Work work) {
   return ClockSeconds() - from;
 }
 
-// What one thread reads, and what it finds. All read the same keys, each from another one on.
+// The keys of one thread and its results. All read the same keys, each starting at another.
 struct Part {
   Keys present, absent;
   Digest none, found, whole, ranges;
@@ -59,7 +59,7 @@ struct ThreadWork {
   uint64_t operations;  // in one pass
   uint64_t passes;      // for a time that can be measured
   Digest Part::*wanted;
-  // One pass through the calls of sst.h, and the same in bulk, where there are such calls.
+  // One pass through the calls of sst.h, and the same in bulk, if there are such calls.
   std::function<uint32_t(sst_handle*, const Part&, Digest*)> call, bulk;
   // The library's own call, which opens a copy of the table first.
   std::function<uint32_t(const Part&, uint64_t passes, Digest*)> library;

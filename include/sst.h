@@ -40,8 +40,8 @@
  * - `sst_table_get`, `sst_runs_get`, `sst_range_next` and `sst_scan_next` set their outputs to
  *   zeros and keep no entry.
  * - `sst_table_verify`, `sst_table_verify_with` and `sst_verification_step` set `verified` to
- *   zeros, unless the error is SST_FAULTY. `sst_verification_step` also sets `progress`, to zeros
- *   if the handle is closed or of another kind.
+ *   zeros, unless the error is SST_FAULTY. `sst_verification_step` also sets `progress`. This is
+ *   zeros if the handle is closed or of another kind.
  * - `sst_range_take`, `sst_scan_take` and `sst_writer_add_many` set `count` to the number of
  *   entries that were read or written before the error.
  *
@@ -79,51 +79,51 @@ extern "C" {
 /* Error codes of the library. A call that succeeds returns 0. */
 enum {
   SST_OUT_OF_MEMORY = 1,
-  SST_TRUNCATED = 2,         /* a block reaches past the sections */
-  SST_INVALID_HEADER = 3,    /* a block's header is invalid */
-  SST_INVALID_TAG = 4,       /* a block is of another kind than required */
-  SST_CHECKSUM_MISMATCH = 5, /* a block was damaged */
-  SST_INVALID_BLOCK = 6,     /* a block's payload is invalid */
+  SST_TRUNCATED = 2,         /* A block reaches past the sections. */
+  SST_INVALID_HEADER = 3,    /* A block's header is invalid. */
+  SST_INVALID_TAG = 4,       /* A block is of another kind than required. */
+  SST_CHECKSUM_MISMATCH = 5, /* A block was damaged. */
+  SST_INVALID_BLOCK = 6,     /* A block's payload is invalid. */
   SST_KEY_TOO_LONG = 7,
   SST_VALUE_TOO_LONG = 8,
   SST_BLOCK_TOO_LARGE = 9,
   SST_SECTION_TOO_LARGE = 10,
-  SST_INVALID_TRAILER = 11, /* the bytes do not end as a table does */
+  SST_INVALID_TRAILER = 11, /* The bytes do not end as a table does. */
   SST_MISSING_SECTION = 12,
-  SST_META_KEY_MISSING = 13,          /* an item of the meta block is missing */
-  SST_INVALID_META_VALUE = 14,        /* the value of an item of the meta block is too short */
-  SST_UNSUPPORTED_TABLE_VERSION = 15, /* the version is not 3 or 4 */
+  SST_META_KEY_MISSING = 13,          /* An item of the meta block is missing. */
+  SST_INVALID_META_VALUE = 14,        /* The value of an item of the meta block is too short. */
+  SST_UNSUPPORTED_TABLE_VERSION = 15, /* The version is not 3 or 4. */
   SST_UNSUPPORTED_HASH_TYPE = 16,
   SST_UNSUPPORTED_CHECKSUM_TYPE = 17,
   SST_UNSUPPORTED_INDEX_INTERVAL = 18,
   SST_UNSUPPORTED_COMPRESSION = 19,
-  SST_GLOBAL_SEQNO_TOO_LARGE = 20, /* highest stored seqno plus global seqno overflows */
-  SST_SEQNO_OVERFLOW = 21,         /* an entry's seqno plus global seqno overflows */
+  SST_GLOBAL_SEQNO_TOO_LARGE = 20, /* Highest stored seqno plus global seqno overflows. */
+  SST_SEQNO_OVERFLOW = 21,         /* An entry's seqno plus global seqno overflows. */
   SST_TABLE_IDS_SPENT = 22,
-  SST_WRITER_FAILED = 23, /* the writer has failed before */
-  SST_SOURCE_ERROR = 24   /* a source of entries failed; none of these calls has one */
+  SST_WRITER_FAILED = 23, /* The writer has failed before. */
+  SST_SOURCE_ERROR = 24   /* A source of entries failed; none of these calls has one. */
 };
 
 /* Error codes of the calls themselves, and another name of SST_OUT_OF_MEMORY. */
 enum {
   SST_NO_MEMORY = SST_OUT_OF_MEMORY,
-  SST_CLOSED = 100,       /* the handle holds nothing */
-  SST_OPEN = 101,         /* the handle to fill holds something */
-  SST_OTHER_KIND = 102,   /* the handle holds something of another kind */
-  SST_NO_ROOM = 103,      /* the buffer is too small for what is copied */
-  SST_OUT_OF_ORDER = 104, /* an entry or a key does not follow the one before it */
-  SST_NO_SUCH = 105,      /* an index, a length, a kind or an option is invalid */
-  SST_NOTHING = 106,      /* the last read by the handle found nothing */
-  SST_FAULTY = 107        /* a verification found a fault */
+  SST_CLOSED = 100,       /* The handle holds nothing. */
+  SST_OPEN = 101,         /* The handle to fill holds something. */
+  SST_OTHER_KIND = 102,   /* The handle holds something of another kind. */
+  SST_NO_ROOM = 103,      /* The buffer is too small for the bytes to copy. */
+  SST_OUT_OF_ORDER = 104, /* An entry or a key does not follow the one before it. */
+  SST_NO_SUCH = 105,      /* An index, a length, a kind or an option is invalid. */
+  SST_NOTHING = 106,      /* The last read by the handle found nothing. */
+  SST_FAULTY = 107        /* A verification found a fault. */
 };
 
 /* Kinds of entries. */
 enum {
   SST_NO_ENTRY = 0,
   SST_VALUE = 1,
-  SST_TOMBSTONE = 2,      /* a deletion of every older version of the key */
-  SST_WEAK_TOMBSTONE = 3, /* a deletion of the next older version alone */
-  SST_INDIRECTION = 5     /* a value that is stored elsewhere */
+  SST_TOMBSTONE = 2,      /* A deletion of every older version of the key. */
+  SST_WEAK_TOMBSTONE = 3, /* A deletion of only the next older version. */
+  SST_INDIRECTION = 5     /* A value that is stored elsewhere. */
 };
 
 /* Bounds of a range. */
@@ -220,16 +220,16 @@ uint32_t sst_table_get(sst_handle *table, const uint8_t *key, size_t key_len, ui
 /* The metadata that a table claims. Sequence numbers are as stored, without the global one. */
 typedef struct sst_facts {
   uint64_t id;
-  uint64_t version; /* of the format: 3 or 4 */
+  uint64_t version; /* The format's: 3 or 4. */
   uint64_t global_seqno;
   uint64_t lowest_seqno;
   uint64_t highest_seqno;
   uint64_t item_count;
-  uint64_t tombstone_count; /* of either kind */
+  uint64_t tombstone_count; /* Of either kind. */
   uint64_t weak_tombstone_count;
   uint64_t data_block_count;
   uint64_t index_block_count;
-  uint64_t data_size; /* size of the data blocks in bytes */
+  uint64_t data_size; /* Size of the data blocks in bytes. */
 } sst_facts;
 
 /* Reports the metadata that a table claims. Bytes of another writer may have wrong metadata. */
@@ -239,13 +239,13 @@ uint32_t sst_table_facts(sst_handle *table, sst_facts *facts);
  * opened from them.
  */
 typedef struct sst_memory {
-  uint64_t file_len;           /* the file; the caller's memory after `sst_table_open_kept` */
-  uint64_t pinned_index_size;  /* part of the file: the pinned index, or the top level of a
-                                  partitioned one; 0 if none is pinned */
-  uint64_t pinned_filter_size; /* part of the file: the pinned filter; 0 if none is pinned, and for
-                                  a partitioned filter */
-  uint64_t marks_size;         /* beside the file, the verified-block cache: 8 for each 2,048 bytes
-                                  of the file and 8 more, or 0 if its allocation failed */
+  uint64_t file_len;           /* The file; the caller's memory after `sst_table_open_kept`. */
+  uint64_t pinned_index_size;  /* Part of the file: the pinned index, or the top level of a
+                                  partitioned one; 0 if none is pinned. */
+  uint64_t pinned_filter_size; /* Part of the file: the pinned filter; 0 if none is pinned, and for
+                                  a partitioned filter. */
+  uint64_t marks_size;         /* Beside the file, the verified-block cache: 8 for each 2,048 bytes
+                                  of the file and 8 more, or 0 if its allocation failed. */
 } sst_memory;
 
 /* Reports the memory of a table, without that of found entries and of the handles themselves. */
@@ -304,38 +304,38 @@ uint32_t sst_answers_take(sst_handle *answers, uint64_t first, uint8_t *bytes, s
 /* Sections of a table. */
 enum {
   SST_SECTION_DATA = 1,
-  SST_SECTION_INDEX = 2,      /* the partitions of a partitioned index */
-  SST_SECTION_TLI = 3,        /* the top level of the index, or the whole of it */
-  SST_SECTION_FILTER = 4,     /* the full filter, or the partitions of a partitioned one */
-  SST_SECTION_FILTER_TLI = 5, /* the top level of a partitioned filter */
+  SST_SECTION_INDEX = 2,      /* The partitions of a partitioned index. */
+  SST_SECTION_TLI = 3,        /* The top level of the index, or the whole of it. */
+  SST_SECTION_FILTER = 4,     /* The full filter, or the partitions of a partitioned one. */
+  SST_SECTION_FILTER_TLI = 5, /* The top level of a partitioned filter. */
   SST_SECTION_TABLE_VERSION = 6,
   SST_SECTION_META = 7
 };
 
 /* Faults of a block, and of a whole file. Only `sst_table_verify_with` reports the last one. */
 enum {
-  SST_FAULT_UNLOADED = 1,       /* it does not load */
-  SST_FAULT_HOLLOW = 2,         /* it is empty */
-  SST_FAULT_MISPLACED = 3,      /* it does not start where the one before it ends */
-  SST_FAULT_TOO_HIGH = 4,       /* an entry is stored with the largest seqno */
-  SST_FAULT_UNORDERED = 5,      /* an entry does not follow the one before it */
-  SST_FAULT_DENIED = 6,         /* a filter false negative for a key of the table */
-  SST_FAULT_UNFILTERED = 7,     /* a block of the filter does not load */
-  SST_FAULT_OTHER_KEY = 8,      /* it does not end with the key of its index entry */
-  SST_FAULT_OTHER_NUMBER = 9,   /* it does not end with the seqno of its index entry */
-  SST_FAULT_UNBORNE = 10,       /* the entries do not match an item of the meta block */
-  SST_FAULT_UNNAMED = 11,       /* a data block that is not in the index */
-  SST_FAULT_OTHER_CHECKSUM = 12 /* the file has another checksum than the given one */
+  SST_FAULT_UNLOADED = 1,       /* It does not load. */
+  SST_FAULT_HOLLOW = 2,         /* It is empty. */
+  SST_FAULT_MISPLACED = 3,      /* It does not start where the one before it ends. */
+  SST_FAULT_TOO_HIGH = 4,       /* An entry is stored with the largest seqno. */
+  SST_FAULT_UNORDERED = 5,      /* An entry does not follow the one before it. */
+  SST_FAULT_DENIED = 6,         /* A filter false negative for a key of the table. */
+  SST_FAULT_UNFILTERED = 7,     /* A block of the filter does not load. */
+  SST_FAULT_OTHER_KEY = 8,      /* It does not end with the key of its index entry. */
+  SST_FAULT_OTHER_NUMBER = 9,   /* It does not end with the seqno of its index entry. */
+  SST_FAULT_UNBORNE = 10,       /* The entries do not match an item of the meta block. */
+  SST_FAULT_UNNAMED = 11,       /* A data block is not in the index. */
+  SST_FAULT_OTHER_CHECKSUM = 12 /* The file has another checksum than the given one. */
 };
 
 /* The result of a verification: the two counts of a valid table, or the position of its fault. */
 typedef struct sst_verified {
   uint64_t item_count;
   uint64_t data_block_count;
-  uint64_t offset;  /* of the block with the fault, in bytes of the file; 0 for another checksum */
-  uint32_t section; /* one of the sections above */
-  uint32_t fault;   /* one of the faults above */
-  uint32_t detail;  /* SST_FAULT_UNLOADED, SST_FAULT_UNFILTERED: error code of the load */
+  uint64_t offset;  /* Of the block with the fault, in bytes; 0 for SST_FAULT_OTHER_CHECKSUM. */
+  uint32_t section; /* One of the sections above. */
+  uint32_t fault;   /* One of the faults above. */
+  uint32_t detail;  /* SST_FAULT_UNLOADED, SST_FAULT_UNFILTERED: error code of the load. */
   uint32_t unused;
 } sst_verified;
 
@@ -369,9 +369,9 @@ uint32_t sst_verification_open(sst_handle *table, sst_handle *verification);
 
 /* The progress of a verification. */
 typedef struct sst_progress {
-  uint64_t bytes_read; /* bytes of data blocks read so far */
-  uint64_t data_size;  /* bytes of data blocks that the table claims to have */
-  uint64_t at_end;     /* 1 if all was read and is valid, else 0 */
+  uint64_t bytes_read; /* Bytes of data blocks read so far. */
+  uint64_t data_size;  /* Bytes of data blocks that the table claims to have. */
+  uint64_t at_end;     /* 1 if all was read and is valid, else 0. */
 } sst_progress;
 
 /* Reads the next block of the filter, of the index or of the data, and reports the progress:
@@ -424,9 +424,11 @@ uint32_t sst_range_next(sst_handle *range, bool back, sst_entry *entry);
  * - when `entry_room` entries are copied, and returns 0;
  * - at the end, and returns 0;
  * - at an error, and returns it: the entries before it are copied, and no further entry follows;
- * - at an entry that does not fit into the rest of `bytes`, and returns 0. That entry is not lost:
- *   the handle has found it, so `sst_found_lend` and `sst_found_copy` return it. `found` has its
- *   kind, sequence number and lengths, and the next call continues after it.
+ * - at an entry that does not fit into the rest of `bytes`, and returns 0.
+ *
+ * An entry that does not fit is not lost. The handle has found it, so `sst_found_lend` and
+ * `sst_found_copy` return it. `found` has its kind, sequence number and lengths, and the next call
+ * continues after it.
  *
  * In the other cases the handle has found nothing, and `found` is all zeros. So the range is at its
  * end if the call returns 0, `count` is below `entry_room` and `found` is all zeros. The rest of
@@ -545,14 +547,14 @@ uint32_t sst_packing_chain(sst_handle *packing, uint64_t place, uint64_t *table)
 /* The options of a writer. */
 typedef struct sst_options {
   uint64_t id;
-  uint64_t created_at; /* in nanoseconds since 1970 */
-  uint32_t level;      /* at most 255 */
-  uint32_t data_block_size;             /* in bytes of keys and values, at most 4 MiB */
-  uint32_t data_block_restart_interval; /* 1 to 255; only stored in the meta block */
-  uint32_t data_block_hash_ratio;       /* only stored in the meta block */
-  uint32_t index_partition_size;        /* in bytes, at most 4 MiB; 0 for one block */
-  uint32_t filter_partition_size;       /* in bytes, at most 4 MiB; 0 for one block */
-  uint32_t filter_bits_per_key;         /* in tenths of a bit; 0 for no filter */
+  uint64_t created_at; /* In nanoseconds since 1970. */
+  uint32_t level;      /* At most 255. */
+  uint32_t data_block_size;             /* In bytes of keys and values, at most 4 MiB. */
+  uint32_t data_block_restart_interval; /* 1 to 255. Only stored in the meta block. */
+  uint32_t data_block_hash_ratio;       /* Only stored in the meta block. */
+  uint32_t index_partition_size;        /* In bytes, at most 4 MiB; 0 for one block. */
+  uint32_t filter_partition_size;       /* In bytes, at most 4 MiB; 0 for one block. */
+  uint32_t filter_bits_per_key;         /* In tenths of a bit; 0 for no filter. */
   uint32_t unused;
 } sst_options;
 
@@ -584,9 +586,10 @@ uint32_t sst_writer_open(const sst_options *options, sst_handle *writer);
  *
  * - SST_KEY_TOO_LONG if the key has more than 1,048,576 bytes;
  * - SST_VALUE_TOO_LONG if the value has 2^32 bytes or more;
- * - SST_BLOCK_TOO_LARGE if the current data block would have 2^32 bytes or more. These are 28, and
- *   for each entry 17 plus the lengths of its key and value;
+ * - SST_BLOCK_TOO_LARGE if the current data block would have 2^32 bytes or more;
  * - SST_OUT_OF_MEMORY.
+ *
+ * A data block has 28 bytes, and for each entry 17 plus the lengths of its key and value.
  *
  * A failed writer returns SST_WRITER_FAILED for each further entry, unless SST_OUT_OF_ORDER or
  * SST_NO_SUCH applies. A fault of the entry is found before any memory is allocated.
@@ -627,7 +630,7 @@ uint32_t sst_writer_finish(sst_handle *writer);
  * stores the finished tables in a handle that holds nothing; there are none if no entry is kept.
  * The list and its tables stay.
  *
- * `watermark` is the oldest snapshot that is still read. Of each key, the call keeps the versions
+ * `watermark` is the oldest snapshot that is still read. For each key, the call keeps the versions
  * with sequence numbers of at least `watermark`, and the newest version below it. It drops all
  * older versions. If the oldest version that is left is a deletion, it may be dropped, too:
  *
@@ -650,12 +653,13 @@ uint32_t sst_writer_finish(sst_handle *writer);
  *
  * - SST_NO_SUCH if an option is out of range, as for `sst_writer_open`;
  * - SST_OUT_OF_ORDER if an entry does not follow the one before it, or has the sequence number
- *   UINT64_MAX. Then a table is not as a writer makes it, two tables have one key with one sequence
- *   number, or a global sequence number raises an entry to UINT64_MAX;
+ *   UINT64_MAX;
  * - the first fault of the blocks, and the errors of a writer;
  * - SST_TABLE_IDS_SPENT if no id is left.
  *
- * After an error `files` holds nothing, and `next_id` stays.
+ * SST_OUT_OF_ORDER has one of three causes. A table is not as a writer makes it, two tables have
+ * the same key with the same sequence number, or a global sequence number raises an entry to
+ * UINT64_MAX. After an error `files` holds nothing, and `next_id` stays.
  */
 uint32_t sst_compact(sst_handle *runs, const sst_options *options, uint64_t watermark,
                      bool evict_tombstones, bool zero_seqnos, uint64_t target_size,
@@ -665,7 +669,7 @@ uint32_t sst_compact(sst_handle *runs, const sst_options *options, uint64_t wate
 
 typedef struct sst_file {
   uint64_t id;
-  uint64_t checksum; /* 64-bit FNV-1a hash of all bytes, for `sst_table_verify_with` */
+  uint64_t checksum; /* 64-bit FNV-1a hash of all bytes, for `sst_table_verify_with`. */
   uint64_t len;
 } sst_file;
 

@@ -1,5 +1,5 @@
-// Compares `crc32c::Extend` with CRC-32C worked out bit by bit, of all lengths up to two of its
-// widest steps and more.
+// Compares `crc32c::Extend` with a CRC-32C that is computed bit by bit, for all lengths beyond two
+// of its widest steps.
 #include "crc32c.h"
 
 #include <cstdio>

@@ -1,6 +1,6 @@
-// CRC-32C by the processor's instruction, under the name by which LevelDB asks a library for it.
-// The instruction takes eight bytes and waits three cycles for the one before it, so three chains
-// of it run beside one another.
+// CRC-32C by the processor's instruction, under the name that LevelDB expects of a library. The
+// instruction takes eight bytes and waits three cycles for the one before it, so three chains run
+// side by side.
 #pragma once
 
 #include <nmmintrin.h>
@@ -17,8 +17,8 @@ inline uint64_t Word(const uint8_t* data) {
   return word;
 }
 
-// What so many zero bytes, a multiple of 8, make of a sum. It is linear in the sum's bits, so a
-// table for each of the sum's bytes gives it.
+// The sum after this many zero bytes, a multiple of 8. It is linear in the sum's bits, so it is
+// looked up in one table for each of the sum's bytes.
 template <size_t kBytes>
 class Zeros {
  public:
@@ -41,7 +41,7 @@ class Zeros {
   uint32_t behind_[4][256];
 };
 
-// Takes three times so many bytes, a multiple of 8, as long as there are as many.
+// Takes three times this many bytes, a multiple of 8, as long as enough are left.
 template <size_t kBytes>
 uint64_t Threefold(uint64_t sum, const uint8_t** data, size_t* count) {
   static const Zeros<kBytes> zeros;
@@ -57,7 +57,7 @@ uint64_t Threefold(uint64_t sum, const uint8_t** data, size_t* count) {
   return sum;
 }
 
-// The sum of some bytes behind those whose sum is `crc`; 0 is that of none.
+// The sum after more bytes, if `crc` is the sum of those before them; 0 is that of none.
 inline uint32_t Extend(uint32_t crc, const uint8_t* data, size_t count) {
   uint64_t sum = ~crc;
   sum = Threefold<1344>(sum, &data, &count);

@@ -16,7 +16,7 @@ def save(path: Path, parts: Iterable[bytes]) -> str:
     """Writes a file, and returns its path.
 
     The parts go into a file beside it, which is synced and then renamed. So the path has the whole
-    file or what it had before. The new file gets the permissions of the one that it replaces.
+    file or its earlier file. The new file gets the permissions of the one that it replaces.
     """
     path = os.fspath(path)
     folder = os.path.dirname(path) or os.curdir

@@ -401,7 +401,7 @@ class Table(Returned, _Reader):
             start = end
         return found
 
-    # Returns a row for what is found of each of some keys, zeros if nothing is.
+    # Returns a row for the result of each key, zeros if nothing was found.
     def _find(self, keys: Iterable[BytesLike], at: int) -> Batch:
         if isinstance(keys, (bytes, bytearray, memoryview, str)):
             raise TypeError("keys are expected, and not one key")

@@ -54,7 +54,7 @@ class FinishedTable(bytes):
         """Writes the table to a file, which is then complete and synced.
 
         The bytes go into a file beside it, which is renamed. So the path has the whole table, or
-        what it had before. A file that is there is replaced. Raises `OSError`.
+        its earlier file. A file that is there is replaced. Raises `OSError`.
 
         >>> import os, tempfile
         >>> writer = Writer()

@@ -80,7 +80,7 @@ class Library(unittest.TestCase):
         self.assertNotIn(self.built, self.run_with().stderr)
 
     def test_one_that_is_named_and_not_there(self):
-        """The package takes no other one in its place."""
+        """If the named library is missing, the package loads no other one."""
         open(self.built, "wb").close()
         self.fails("cannot load libsst.so", self.named, named=self.named)
 

@@ -73,7 +73,7 @@ class Mappings(unittest.TestCase):
         self.check(table_of([Entry(b"a", 1, Kind.TOMBSTONE, b"")]), {})
 
     def test_there_is_no_len(self):
-        """It would be the number of keys, which takes a pass over the table."""
+        """A length would be the number of keys, which needs a pass over the table."""
         table = table_of(TWO)
         for reader in (table, Runs(table)):
             for each in (reader, reader.keys(), reader.values(), reader.items()):

@@ -155,7 +155,7 @@ class Misuse(unittest.TestCase):
             Writer(1)
 
     def test_default_options(self):
-        """Those of the signatures are those of the library, in the order of its structure."""
+        """The defaults in signatures are the library's, in the order of its structure."""
         defaults = _calls.Options()
         _calls.options_default(ctypes.byref(defaults))
         wanted = [(name, getattr(defaults, name)) for name, _ in _calls.Options._fields_[:-1]]

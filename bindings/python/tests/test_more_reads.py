@@ -86,7 +86,7 @@ class Items(unittest.TestCase):
                          sorted(READ + NOT_READ))
 
     def check(self, changes, error):
-        """Checks that opening fails so or, for `None`, that reads find the same."""
+        """Checks that opening fails with an error or, for `None`, that reads find the same."""
         if error is None:
             self.assertEqual(list(Table.open(changed(changes)).entries()), [A1])
         else:
@@ -113,7 +113,7 @@ class Items(unittest.TestCase):
                 self.check({name: bytes(value)}, error)
 
     def test_an_item_that_is_read_has_to_be_there(self):
-        """Below the largest number, and whatever its tag is. One that is not read may be gone."""
+        """It has to be below the largest number, with any tag. Other items may be missing."""
         for name in READ:
             with self.subTest(name=name):
                 self.check({name: GONE}, MISSING)
@@ -140,7 +140,7 @@ class Items(unittest.TestCase):
                 self.check(dict([first, second]), error)
 
     def test_an_item_that_is_not_borne_out(self):
-        """`test_reads` compares which item it is."""
+        """`verify` reports the fault. `test_reads` compares the reported item."""
         none, three = bytes(8), struct.pack("<Q", 3)
         for name, value in (("block_count#data", none), ("block_count#data", three),
                             ("file_size", none), ("item_count", none), ("item_count", three),
@@ -156,7 +156,7 @@ class Items(unittest.TestCase):
                              (Section.META, sections(file)[6][0], Fault.UNBORNE))
 
     def test_entries_above_what_the_meta_block_says(self):
-        """Their numbers are tested where they are read."""
+        """Their numbers are tested when they are read."""
         highest, three = Entry(b"a", NONE - 1, Kind.VALUE, b"x"), struct.pack("<Q", 3)
         file = changed({"seqno#max": three, "seqno#min": three},
                        file_of([highest], filter_bits_per_key=0))
@@ -217,7 +217,7 @@ class Laid(unittest.TestCase):
 
 class Written(unittest.TestCase):
     def test_options_that_change_the_meta_block_alone(self):
-        """The restart interval and the hash ratio: each is one item of it."""
+        """The restart interval and the hash ratio are one item each."""
         entries = [Entry(b"%03d" % place, 1, Kind.VALUE, b"v") for place in range(300)]
         file = file_of(entries, data_block_size=256)
         place, _ = sections(file)[6]
@@ -274,7 +274,7 @@ class Written(unittest.TestCase):
                     self.assertEqual(table.entry(key), wanted[0])
 
     def test_the_largest_numbers(self):
-        """Adds the global sequence number to each. No snapshot sees the largest one."""
+        """The global sequence number is added to each. No snapshot sees the largest one."""
         for seqno, added in ((NONE - 1, 0), (NONE - 1, 1), (0, NONE - 1), (0, NONE),
                              (3, NONE - 3), (3, 10)):
             table = Table.open(file_of([A1._replace(seqno=seqno)]), added)
@@ -293,7 +293,7 @@ EDGES = [(kind, key) for key in KEYS for kind in (1, 2)] + [(0, b"")]
 
 
 def lists():
-    """All lists of one to six versions of three keys, no two of one number."""
+    """All lists of one to six versions of three keys, each with its own number."""
     for counts in itertools.product(range(7), repeat=3):
         if 0 < sum(counts) <= 6:
             numbers = itertools.count(sum(counts), -1)

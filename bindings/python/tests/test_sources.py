@@ -29,8 +29,8 @@ def readers():
 
 
 def one_of(*lists):
-    """Returns the entries of some lists in order. Of two that agree in key and number, the first
-    list has the one that is kept."""
+    """Returns the entries of some lists in order. If two agree in key and number, that of the first
+    list is kept."""
     found = {}
     for entries in reversed(lists):
         found.update(((entry.key, entry.seqno), entry) for entry in entries)

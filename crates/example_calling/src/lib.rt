@@ -13,9 +13,8 @@
 #![tactic(auto)]
 
 ghost use Rattle.std.specs.Prelude.{◌≡◌, ◌-◌, ◌^◌, ◌≤◌, [], IfErr, IfOk, List, MatchOption, Some};
-ghost use Rattle.std.specs.Prelude.{false, length, map, min, true, ℕ};
+ghost use Rattle.std.specs.Prelude.{false, length, min, true, ℕ};
 ghost use Rattle.lsm_tables.specs.Words as spec;
-ghost use Rattle.std.specs.Arc.{arc_value};
 ghost use Rattle.std.specs.Iterator.{IsFinite};
 ghost use Rattle.std.specs.Option.{option_map_or};
 
@@ -126,19 +125,15 @@ pub fn compact_below<A: Allocator + Clone>(
     ids: TableIds,
     target: u64,
 ) -> Result<(Option<Run<Table<A>, A>>, TableIds), Error>
-    requires { spec.AreCompactable (map arc_value runs.now) }
-    ensures seen { (lists : List (List (List spec.Entry))) →
-        spec.RunsHoldLists (map arc_value runs.now) lists →
-        IfOk result (λ r. (es : List spec.Entry) ×
-        MatchOption r.0 (es ≡ []) (λ run. spec.IsRunOfList es 0 run) ×
-        ((key : List ℕ) (bound : ℕ) → watermark ≤ bound →
+    requires { spec.AreCompactable (spec.each_run runs.now) }
+    ensures seen { (lists : spec.TableLists) → spec.RunsHold runs.now lists →
+        IfOk result (λ r. (es : List spec.Entry) × MatchOption r.0 (es ≡ [])
+        (λ run. spec.IsRunOfList es 0 run) × ((key : List ℕ) (bound : ℕ) → watermark ≤ bound →
         spec.seen es key bound ≡ spec.seen (spec.union_in lists) key bound)) }
     ensures ids { IfOk result (λ r. r.1 ≡ spec.ids_behind ids target (option_map_or length r.0 0)) }
-    ensures refused { (lists : List (List (List spec.Entry))) →
-        spec.RunsHoldLists (map arc_value runs.now) lists →
-        IfErr result (λ e. spec.is_memory e ≡ false →
-        spec.tables_fault ids target 0 (spec.kept_in (spec.rules_by watermark true false) lists)
-        ≡ Some e) }
+    ensures refused { (lists : spec.TableLists) → spec.RunsHold runs.now lists →
+        IfErr result (λ e. spec.is_memory e ≡ false → spec.tables_fault ids target 0
+        (spec.kept_in (spec.rules_by watermark true false) lists) ≡ Some e) }
 {
     let rules = Rules {
         watermark,
@@ -160,12 +155,10 @@ pub fn count_below<A: Allocator + Clone>(
     runs: &[Arc<Run<Table<A>, A>, A>],
     seqno: SeqNo,
 ) -> Result<u64, Error>
-    ensures exact { (lists : List (List (List spec.Entry))) →
-        spec.RunsHoldLists (map arc_value runs.now) lists →
+    ensures exact { (lists : spec.TableLists) → spec.RunsHold runs.now lists →
         let found = spec.newest (spec.numbered_below seqno (spec.union_in lists)) in
         IfOk result (λ count. count ≡ min (length found) (2 ^ 64 - 1)) }
-    ensures memory { (lists : List (List (List spec.Entry))) →
-        spec.RunsHoldLists (map arc_value runs.now) lists →
+    ensures memory { (lists : spec.TableLists) → spec.RunsHold runs.now lists →
         IfErr result (λ e. e ≡ spec.OutOfMemory) }
 {
     let all = (Bound::Unbounded, Bound::Unbounded);

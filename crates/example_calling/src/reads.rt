@@ -1,6 +1,5 @@
 //! A point read and a range together, of several runs and of one.
-ghost use Rattle.std.specs.Prelude.{◌≡◌, ◌∷◌, ℕ, [], IfErr, IfOk, List, None, Ok, map};
-ghost use Rattle.std.specs.Arc.{arc_value};
+ghost use Rattle.std.specs.Prelude.{◌≡◌, ◌∷◌, ℕ, [], IfErr, IfOk, List, None, Ok};
 ghost use Rattle.std.specs.List.{AllByRecursion};
 ghost use Rattle.sst_entries.specs.Error.{Fails};
 ghost use Rattle.sst_entries.specs.declared.error.Error.TheVariants.{OutOfMemory};
@@ -28,27 +27,27 @@ pub(crate) fn read_runs<A: Allocator + Clone>(
 ) -> Result<Reads<A>, Error>
     ensures list { let gives = ⟦<NewestOfRuns<A> as Iterator>⟧.next_gives in
         let back_gives = ⟦<NewestOfRuns<A> as DoubleEndedIterator>⟧.next_back_gives in
-        (lists : List (List (List Entry))) → RunsHoldLists (map arc_value runs.now) lists →
-        IfOk result
-        (ReadsOf gives back_gives key.now seqno range.0 range.1 (union_in lists)) }
+        (lists : List (List (List Entry))) → RunsHoldLists (spec.each_run runs.now) lists →
+        IfOk result (ReadsOf gives back_gives key.now seqno range.0 range.1 (union_in lists)) }
     ensures can { IfOk result (λ read.
         CanYield ⟦<NewestOfRuns<A> as Iterator>⟧.next_gives
         ⟦<NewestOfRuns<A> as DoubleEndedIterator>⟧.next_back_gives
         ⟦<NewestOfRuns<A> as Iterator>⟧.can_next
         ⟦<NewestOfRuns<A> as DoubleEndedIterator>⟧.can_next_back read.1) }
     ensures taken { (lists : List (List (List Entry))) →
-        RunsHoldLists (map arc_value runs.now) lists → IfErr result (λ e. e ≡ OutOfMemory) }
+        RunsHoldLists (spec.each_run runs.now) lists → IfErr result (λ e. e ≡ OutOfMemory) }
     // For any tables in runs in order, the point read returns the result of reading these. Except
     // for `OutOfMemory`, so is the error.
-    ensures returned { AllByRecursion (IsInOrder range_of) (map arc_value runs.now) →
-        IfOk result (λ read. runs_result key.now seqno None (map arc_value runs.now) ≡ Ok read.0) }
-    ensures fails { AllByRecursion (IsInOrder range_of) (map arc_value runs.now) →
-        IfErr result (λ e. Fails e (runs_result key.now seqno None (map arc_value runs.now))) }
+    ensures returned { AllByRecursion (IsInOrder range_of) (spec.each_run runs.now) →
+        IfOk result (λ read. runs_result key.now seqno None (spec.each_run runs.now) ≡ Ok read.0) }
+    ensures fails { AllByRecursion (IsInOrder range_of) (spec.each_run runs.now) →
+        IfErr result (λ e. Fails e (runs_result key.now seqno None (spec.each_run runs.now))) }
     // The range is over the spans within the bounds.
     ensures steps { let gives = ⟦<NewestOfRuns<A> as Iterator>⟧.next_gives in
         let back_gives = ⟦<NewestOfRuns<A> as DoubleEndedIterator>⟧.next_back_gives in
-        AllByRecursion (IsInOrder range_of) (map arc_value runs.now) → IfOk result (λ read.
-        IsOverSpans gives back_gives range.0 range.1 (map arc_value runs.now) read.1) }
+        AllByRecursion (IsInOrder range_of) (spec.each_run runs.now) →
+        IfOk result (λ read. IsOverSpans gives back_gives range.0 range.1 (spec.each_run runs.now)
+        read.1) }
 {
     let found = get_runs(runs, key, seqno)?;
     let stream = range_runs(alloc.clone()?, runs, range)?;

@@ -220,7 +220,8 @@ impl<A: Allocator + Clone> Store<A> {
 
     // Flushes a memtable that is full.
     fn make_room(&mut self) -> Result<(), Error>
-        ensures story { (ws : List spec.Entry) → spec.IsReported self.old ws → spec.IsReported self.new ws }
+        ensures story { (ws : List spec.Entry) → spec.IsReported self.old ws →
+            spec.IsReported self.new ws }
         ensures next { self.new.next ≡ self.old.next }
         ensures oldest { self.new.oldest ≡ self.old.oldest }
         ensures limit { self.new.limit ≡ self.old.limit }
@@ -268,7 +269,8 @@ impl<A: Allocator + Clone> Store<A> {
     /// Those of [`write_run`]: no id is left for a table, or a section is too large;
     /// [`Error::OutOfMemory`]. The store is not changed then.
     pub fn flush(&mut self) -> Result<(), Error>
-        ensures story { (ws : List spec.Entry) → spec.IsReported self.old ws → spec.IsReported self.new ws }
+        ensures story { (ws : List spec.Entry) → spec.IsReported self.old ws →
+            spec.IsReported self.new ws }
         ensures emptied { OnOk result (self.new.recent ≡ []) }
         ensures next { self.new.next ≡ self.old.next }
         ensures oldest { self.new.oldest ≡ self.old.oldest }
@@ -299,7 +301,8 @@ impl<A: Allocator + Clone> Store<A> {
             self.old.recent 0 (spec.arc_value run) }
         requires ids { ids ≡ spec.ids_behind self.old.ids self.old.target
             (length (spec.arc_value run)) }
-        ensures story { (ws : List spec.Entry) → spec.IsReported self.old ws → spec.IsReported self.new ws }
+        ensures story { (ws : List spec.Entry) → spec.IsReported self.old ws →
+            spec.IsReported self.new ws }
         ensures emptied { OnOk result (self.new.recent ≡ []) }
         ensures next { self.new.next ≡ self.old.next }
         ensures oldest { self.new.oldest ≡ self.old.oldest }
@@ -333,10 +336,9 @@ impl<A: Allocator + Clone> Store<A> {
             self.now.oldest ≤ snapshot → IfOk result (λ value.
             spec.option_copied value ≡ spec.value_in ws key.now snapshot) }
         // At any snapshot, it is the value in the entries of the memtable and of the tables' lists.
-        ensures read { (lists : List (List (List spec.Entry))) →
-            spec.RunsHoldLists self.now.runs lists →
-            IfOk result (λ value. spec.option_copied value
-            ≡ spec.value_in (self.now.recent ++ spec.union_in lists) key.now snapshot) }
+        ensures read { (lists : spec.TableLists) → spec.RunsHoldLists self.now.runs lists →
+            IfOk result (λ value. spec.option_copied value ≡ spec.value_in
+            (self.now.recent ++ spec.union_in lists) key.now snapshot) }
         ensures memory { IfErr result (λ e. e ≡ OutOfMemory) }
     {
         let found = find_in(&self.memtable, &self.runs, key, snapshot)?;
@@ -436,8 +438,7 @@ fn find_in<'a, A: Allocator + Clone>(
     key: &[u8],
     seqno: SeqNo,
 ) -> Result<Option<EntryRef<'a>>, Error>
-    ensures { (lists : List (List (List spec.Entry))) →
-        spec.RunsHoldLists (map spec.arc_value runs.now) lists →
+    ensures { (lists : spec.TableLists) → spec.RunsHold runs.now lists →
         spec.Gives (spec.option_map spec.entry_of_ref) result
         (Ok (spec.point (memtable.now ++ spec.union_in lists) key.now seqno)) }
 {

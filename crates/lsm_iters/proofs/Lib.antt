@@ -14,6 +14,7 @@ pub mod Counting
 pub mod Laws
 pub mod Sought
 pub mod KindLaws
+pub mod Edges
 pub mod Taken
 pub mod Cuts
 pub mod Reach

@@ -1,6 +1,5 @@
 //! The handles of the blocks that are not loaded yet.
-ghost use Rattle.std.specs.Prelude.{◌≡◌, ◌↔◌, None, true, false, OnOk, OnErr, IfErr, List, ℕ};
-ghost use Rattle.std.specs.Prelude.{Option};
+ghost use Rattle.std.specs.Prelude.{◌≡◌, ◌↔◌, None, true, false, OnOk, OnErr, IfErr};
 ghost use Rattle.lsm_iters.specs.Words as spec;
 
 use crate::{BlockIndexIter, BlockIndexIterImpl, Bound};
@@ -90,8 +89,13 @@ impl<A: Allocator + Clone> Handles<A> {
         ensures err { IfErr result (λ e. e ≡ spec.OutOfMemory) }
     {
         self.sought = true;
-        seek_lower(&mut self.iter, lower)?;
-        seek_upper(&mut self.iter, upper)
+        if let Some(bound) = lower {
+            self.iter.keep_lower(bound.key())?;
+        }
+        if let Some(bound) = upper {
+            self.iter.keep_upper(bound.key())?;
+        }
+        Ok(())
     }
 
     /// Takes the next handle at an end and returns its block's offset and size.
@@ -120,41 +124,5 @@ impl<A: Allocator + Clone> Handles<A> {
         ensures { result ≡ (spec.left_in self.now).opened }
     {
         self.iter.opened()
-    }
-}
-
-/// Seeks a lower bound, if there is one.
-fn seek_lower<A: Allocator + Clone>(
-    iter: &mut BlockIndexIterImpl<A>,
-    lower: &Option<Bound<A>>,
-) -> Result<(), Error>
-    ensures sought { let low = spec.lower_edge (spec.edge_in lower.now) in
-        spec.IsSought iter.old None None → OnOk result (spec.IsSought iter.new low None) }
-    ensures none { spec.LoadsNone (spec.left_of iter.old) (spec.left_of iter.new) }
-    ensures refused { OnErr result (spec.TakesMemory iter.old) }
-    ensures wants { spec.TakesMemory iter.new → spec.TakesMemory iter.old }
-    ensures err { IfErr result (λ e. e ≡ spec.OutOfMemory) }
-{
-    match lower {
-        Some(bound) => iter.keep_lower(bound.key()),
-        None => Ok(()),
-    }
-}
-
-/// Seeks an upper bound, if there is one.
-fn seek_upper<A: Allocator + Clone>(
-    iter: &mut BlockIndexIterImpl<A>,
-    upper: &Option<Bound<A>>,
-) -> Result<(), Error>
-    ensures sought { let high = spec.upper_edge (spec.edge_in upper.now) in
-        (low : Option (List ℕ × ℕ)) → spec.IsSought iter.old low None →
-        OnOk result (spec.IsSought iter.new low high) }
-    ensures none { spec.LoadsNone (spec.left_of iter.old) (spec.left_of iter.new) }
-    ensures refused { OnErr result (spec.TakesMemory iter.old) }
-    ensures err { IfErr result (λ e. e ≡ spec.OutOfMemory) }
-{
-    match upper {
-        Some(bound) => iter.keep_upper(bound.key()),
-        None => Ok(()),
     }
 }

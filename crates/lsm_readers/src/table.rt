@@ -294,6 +294,15 @@ impl<A: Allocator + Clone> Table<A> {
     /// - The loads of the pinned blocks: the index, the filter's top level, then the filter.
     ///
     /// It can also fail with [`Error::OutOfMemory`].
+    ///
+    /// # Examples
+    ///
+    /// ```
+    /// match Table::recover(alloc, bytes, Checksum(0), 0, 0, true, true) {
+    ///     Ok(table) => Ok(table),
+    ///     Err(error) => Err(unopened(error, place)),
+    /// }
+    /// ```
     pub fn recover(
         alloc: A,
         bytes: Slice<A>,
@@ -386,6 +395,14 @@ impl<A: Allocator + Clone> Table<A> {
     /// The first fault of loading these blocks, or [`Error::OutOfMemory`]. The table does not
     /// change. If no block is loaded, the read does not fail. An example is a pinned filter that
     /// excludes the key, or that has no partition for it.
+    ///
+    /// # Examples
+    ///
+    /// ```
+    /// let found = table.get(key, seqno, Table::<A>::key_hash(key))?;
+    /// let scanner = table.scan()?;
+    /// Ok(Some((found, scanner)))
+    /// ```
     pub fn get(
         &self,
         key: &[u8],
@@ -415,6 +432,14 @@ impl<A: Allocator + Clone> Table<A> {
     /// # Errors
     ///
     /// The first fault of loading that block, or [`Error::OutOfMemory`].
+    ///
+    /// # Examples
+    ///
+    /// ```
+    /// for item in table.scan()? {
+    ///     println!(rt; "scanned number {}", item?.key.seqno)?;
+    /// }
+    /// ```
     pub fn scan(&self) -> Result<Scanner<A>, Error>
         ensures refused { spec.Faults result
             (spec.fault_of (spec.load_at_result (spec.body_of self.now.bytes) 0 spec.Data)) }

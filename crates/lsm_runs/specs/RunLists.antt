@@ -1,7 +1,9 @@
 -- Runs of tables whose bytes store lists, and the results of reading them.
-use Rattle.std.specs.Prelude.{◌≡◌, ℕ, suc, ◌-◌, Bool, true, List, [], ◌∷◌, drop, take, Option}
+use Rattle.std.specs.Prelude.{◌≡◌, ℕ, suc, ◌-◌, Bool, true, List, [], ◌∷◌, drop, map, take, Option}
 use Rattle.std.specs.Prelude.{Result, if◌then◌else◌}
+use Rattle.std.specs.Arc.{arc_value}
 use Rattle.std.specs.List.{AllByRecursion, AllZip}
+use Rattle.std.specs.declared.sync.Arc.{Arc}
 use Rattle.std.specs.declared.ops.Bound.{Bound}
 use Rattle.sst_entries.specs.declared.error.Error.{Error}
 use Rattle.sst_entries.specs.declared.error.Error.TheVariants.{OutOfMemory}
@@ -44,6 +46,22 @@ span_list s lists = joined (take (suc s.last - s.first) (drop s.first (lists_at 
 abbrev pub RunsHoldLists : List (List OpenTable) → List (List (List Entry)) → Type 0
 RunsHoldLists runs lists =
     AllZip (λ tables ls. IsInOrder range_of tables × HoldLists tables ls) runs lists
+
+-- for each run, the list of each of its tables
+abbrev pub TableLists : Type 0
+TableLists = List (List (List Entry))
+
+-- the tables of each of several shared runs
+abbrev pub each_run : {Z : Type 0} → List (Arc (List OpenTable) Z) → List (List OpenTable)
+each_run runs = map arc_value runs
+
+-- these runs are in order, and their tables' bytes store these lists
+abbrev pub RunsHold : {Z : Type 0} → List (Arc (List OpenTable) Z) → TableLists → Type 0
+RunsHold runs lists = RunsHoldLists (each_run runs) lists
+
+-- each of these runs is in order
+abbrev pub AreRunsInOrder : {Z : Type 0} → List (Arc (List OpenTable) Z) → Type 0
+AreRunsInOrder runs = AllByRecursion (IsInOrder range_of) (each_run runs)
 
 -- up to `OutOfMemory`, a source yields exactly these entries, for every list of ends
 abbrev pub YieldsList : {S : Type 0} (front back : S → Option (Result Entry Error) → S → Type 0)

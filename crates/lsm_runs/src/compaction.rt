@@ -1,7 +1,6 @@
 //! Making runs of tables: of a list, of several runs that are compacted, and of the tables of
 //! several runs that are packed.
 mod any_runs;
-mod any_runs_with;
 mod compact;
 mod compacted_run;
 mod observer;
@@ -12,7 +11,6 @@ mod tables;
 mod written_run;
 
 pub use any_runs::{CompactionOutcome, compact_any_runs};
-pub use any_runs_with::compact_any_runs_with;
 pub use compact::{compact_runs, compaction_law};
 pub use compacted_run::compact_to_run;
 pub use observer::{CompactionObserver, CompactionProgress, NoObserver};

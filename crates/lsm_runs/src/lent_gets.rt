@@ -1,6 +1,6 @@
 //! Point reads of several runs that borrow the entry from its table.
-ghost use Rattle.std.specs.Prelude.{◌≡◌, ◌⊎◌, [], IfOk, IfSome, IsOk, List, None, Ok, Option, length};
-ghost use Rattle.std.specs.Prelude.{is_some, map, slice_get, true};
+ghost use Rattle.std.specs.Prelude.{◌≡◌, ◌⊎◌, [], IfOk, IfSome, IsOk, List, None, Ok, Option};
+ghost use Rattle.std.specs.Prelude.{is_some, length, slice_get, true};
 ghost use Rattle.lsm_runs.specs.Words as spec;
 
 use crate::runs::together;
@@ -82,8 +82,8 @@ pub fn entry_in_runs<'a, A: Allocator + Clone>(
     runs: &'a [Arc<Run<Table<A>, A>, A>],
     place: &RunPlace,
 ) -> Option<EntryRef<'a>>
-    ensures { spec.option_map spec.entry_of_ref result
-        ≡ spec.placed_in_runs (map spec.arc_value runs.now) place.now }
+    ensures { spec.option_map spec.entry_of_ref result ≡ spec.placed_in_runs
+        (spec.each_run runs.now) place.now }
 {
     let run = runs.get(place.run)?;
     let table = run.as_slice().get(place.table)?;
@@ -95,8 +95,8 @@ fn found_entry<'a, A: Allocator + Clone>(
     runs: &'a [Arc<Run<Table<A>, A>, A>],
     found: &Option<RunPlace>,
 ) -> Option<EntryRef<'a>>
-    ensures { spec.option_map spec.entry_of_ref result
-        ≡ spec.option_and_then (spec.placed_in_runs (map spec.arc_value runs.now)) found.now }
+    ensures { spec.option_map spec.entry_of_ref result ≡ spec.option_and_then (spec.placed_in_runs
+        (spec.each_run runs.now)) found.now }
 {
     match found {
         Some(place) => entry_in_runs(runs, place),
@@ -112,9 +112,8 @@ fn leading_place<A: Allocator + Clone>(
     first: Option<RunPlace>,
     second: Option<RunPlace>,
 ) -> Option<RunPlace>
-    ensures leads { let entry = spec.option_and_then
-        (spec.placed_in_runs (map spec.arc_value runs.now)) in
-        entry result ≡ spec.leading_of (entry first) (entry second) }
+    ensures leads { let entry = spec.option_and_then (spec.placed_in_runs (spec.each_run runs.now))
+        in entry result ≡ spec.leading_of (entry first) (entry second) }
     ensures one { (result ≡ first) ⊎ (result ≡ second) }
 {
     let Some(before) = found_entry(runs, &first) else {
@@ -189,38 +188,30 @@ pub fn place_in_runs_counted<A: Allocator + Clone>(
 ) -> (Result<Option<RunPlace>, Error>, Opened)
     // For runs in order, it is the result of reading the runs' tables, whatever their bytes, except
     // for `OutOfMemory`.
-    ensures returned { spec.AllByRecursion (spec.IsInOrder spec.range_of)
-        (map spec.arc_value runs.now) →
-        spec.Gives (spec.option_and_then (spec.placed_in_runs (map spec.arc_value runs.now)))
-        result.0 (spec.runs_result key.now seqno None (map spec.arc_value runs.now)) }
+    ensures returned { spec.AreRunsInOrder runs.now → spec.Gives (spec.option_and_then
+        (spec.placed_in_runs (spec.each_run runs.now))) result.0 (spec.runs_result key.now seqno
+        None (spec.each_run runs.now)) }
     // For tables of lists, it is the first match in the sorted entries of all lists, global seqnos
     // applied.
-    ensures list { (lists : List (List (List spec.Entry))) →
-        spec.RunsHoldLists (map spec.arc_value runs.now) lists →
-        spec.Gives (spec.option_and_then (spec.placed_in_runs (map spec.arc_value runs.now)))
-        result.0 (Ok (spec.point (spec.union_in lists) key.now seqno)) }
+    ensures list { (lists : spec.TableLists) → spec.RunsHold runs.now lists →
+        spec.Gives (spec.option_and_then (spec.placed_in_runs (spec.each_run runs.now))) result.0
+        (Ok (spec.point (spec.union_in lists) key.now seqno)) }
     // The blocks loaded are those of reading the runs' tables, up to the first error.
-    ensures opened { spec.AllByRecursion (spec.IsInOrder spec.range_of)
-        (map spec.arc_value runs.now) →
-        let read = spec.runs_read key.now seqno None (map spec.arc_value runs.now) in
+    ensures opened { spec.AreRunsInOrder runs.now →
+        let read = spec.runs_read key.now seqno None (spec.each_run runs.now) in
         spec.Opens result.0 read.loads spec.none_opened result.1 }
     // An error of the first block loaded that is found before any allocation takes precedence over
     // `OutOfMemory`.
-    ensures early { spec.AllByRecursion (spec.IsInOrder spec.range_of)
-        (map spec.arc_value runs.now) →
-        spec.FaultsFirst result.0
-        (spec.runs_read key.now seqno None (map spec.arc_value runs.now)).early }
+    ensures early { spec.AreRunsInOrder runs.now → spec.FaultsFirst result.0 (spec.runs_read key.now
+        seqno None (spec.each_run runs.now)).early }
     // It does not fail if it loads no block, as when there are no runs.
-    ensures calm { spec.AllByRecursion (spec.IsInOrder spec.range_of)
-        (map spec.arc_value runs.now) →
-        (spec.runs_read key.now seqno None (map spec.arc_value runs.now)).loads ≡ [] →
-        IsOk result.0 }
+    ensures calm { spec.AreRunsInOrder runs.now →
+        (spec.runs_read key.now seqno None (spec.each_run runs.now)).loads ≡ [] → IsOk result.0 }
     // For any runs and any bytes, also on an error: at most one data block, one index block and one
     // filter block a run.
     ensures few { spec.LoadsEach (length runs.now) result.1 }
     // If a position was found, an entry is stored there.
-    ensures there { IfOk result.0
-        (λ found. IfSome found (spec.IsThere (map spec.arc_value runs.now))) }
+    ensures there { IfOk result.0 (λ found. IfSome found (spec.IsThere (spec.each_run runs.now))) }
 {
     let mut found = None;
     let mut opened = Opened::none();
@@ -250,29 +241,23 @@ pub fn place_in_runs<A: Allocator + Clone>(
 ) -> Result<Option<RunPlace>, Error>
     // For runs in order, it is the result of reading the runs' tables, whatever their bytes, except
     // for `OutOfMemory`.
-    ensures returned { spec.AllByRecursion (spec.IsInOrder spec.range_of)
-        (map spec.arc_value runs.now) →
-        spec.Gives (spec.option_and_then (spec.placed_in_runs (map spec.arc_value runs.now))) result
-        (spec.runs_result key.now seqno None (map spec.arc_value runs.now)) }
+    ensures returned { spec.AreRunsInOrder runs.now → spec.Gives (spec.option_and_then
+        (spec.placed_in_runs (spec.each_run runs.now))) result (spec.runs_result key.now seqno None
+        (spec.each_run runs.now)) }
     // For tables of lists, it is the first match in the sorted entries of all lists, global seqnos
     // applied.
-    ensures list { (lists : List (List (List spec.Entry))) →
-        spec.RunsHoldLists (map spec.arc_value runs.now) lists →
-        spec.Gives (spec.option_and_then (spec.placed_in_runs (map spec.arc_value runs.now))) result
+    ensures list { (lists : spec.TableLists) → spec.RunsHold runs.now lists →
+        spec.Gives (spec.option_and_then (spec.placed_in_runs (spec.each_run runs.now))) result
         (Ok (spec.point (spec.union_in lists) key.now seqno)) }
     // An error of the first block loaded that is found before any allocation takes precedence over
     // `OutOfMemory`.
-    ensures early { spec.AllByRecursion (spec.IsInOrder spec.range_of)
-        (map spec.arc_value runs.now) →
-        spec.FaultsFirst result
-        (spec.runs_read key.now seqno None (map spec.arc_value runs.now)).early }
+    ensures early { spec.AreRunsInOrder runs.now →
+        spec.FaultsFirst result (spec.runs_read key.now seqno None (spec.each_run runs.now)).early }
     // It does not fail if it loads no block, as when there are no runs.
-    ensures calm { spec.AllByRecursion (spec.IsInOrder spec.range_of)
-        (map spec.arc_value runs.now) →
-        (spec.runs_read key.now seqno None (map spec.arc_value runs.now)).loads ≡ [] → IsOk result }
+    ensures calm { spec.AreRunsInOrder runs.now →
+        (spec.runs_read key.now seqno None (spec.each_run runs.now)).loads ≡ [] → IsOk result }
     // If a position was found, an entry is stored there.
-    ensures there { IfOk result
-        (λ found. IfSome found (spec.IsThere (map spec.arc_value runs.now))) }
+    ensures there { IfOk result (λ found. IfSome found (spec.IsThere (spec.each_run runs.now))) }
 {
     place_in_runs_counted(runs, key, seqno).0
 }
@@ -282,9 +267,8 @@ fn borrowed<'a, A: Allocator + Clone>(
     runs: &'a [Arc<Run<Table<A>, A>, A>],
     found: Result<Option<RunPlace>, Error>,
 ) -> Result<Option<EntryRef<'a>>, Error>
-    ensures { spec.result_map (spec.option_map spec.entry_of_ref) result
-        ≡ spec.result_map (spec.option_and_then (spec.placed_in_runs (map spec.arc_value runs.now)))
-        found }
+    ensures { spec.result_map (spec.option_map spec.entry_of_ref) result ≡ spec.result_map
+        (spec.option_and_then (spec.placed_in_runs (spec.each_run runs.now))) found }
 {
     match found {
         Ok(found) => Ok(found_entry(runs, &found)),
@@ -304,31 +288,24 @@ pub fn get_runs_ref_counted<'a, A: Allocator + Clone>(
 ) -> (Result<Option<EntryRef<'a>>, Error>, Opened)
     // For runs in order, it is the result of reading the runs' tables, whatever their bytes, except
     // for `OutOfMemory`.
-    ensures returned { spec.AllByRecursion (spec.IsInOrder spec.range_of)
-        (map spec.arc_value runs.now) → spec.Gives (spec.option_map spec.entry_of_ref) result.0
-        (spec.runs_result key.now seqno None (map spec.arc_value runs.now)) }
+    ensures returned { spec.AreRunsInOrder runs.now → spec.Gives (spec.option_map spec.entry_of_ref)
+        result.0 (spec.runs_result key.now seqno None (spec.each_run runs.now)) }
     // For tables of lists, it is the first match in the sorted entries of all lists, global seqnos
     // applied.
-    ensures list { (lists : List (List (List spec.Entry))) →
-        spec.RunsHoldLists (map spec.arc_value runs.now) lists →
+    ensures list { (lists : spec.TableLists) → spec.RunsHold runs.now lists →
         spec.Gives (spec.option_map spec.entry_of_ref) result.0
         (Ok (spec.point (spec.union_in lists) key.now seqno)) }
     // The blocks loaded are those of reading the runs' tables, up to the first error.
-    ensures opened { spec.AllByRecursion (spec.IsInOrder spec.range_of)
-        (map spec.arc_value runs.now) →
-        let read = spec.runs_read key.now seqno None (map spec.arc_value runs.now) in
+    ensures opened { spec.AreRunsInOrder runs.now →
+        let read = spec.runs_read key.now seqno None (spec.each_run runs.now) in
         spec.Opens result.0 read.loads spec.none_opened result.1 }
     // An error of the first block loaded that is found before any allocation takes precedence over
     // `OutOfMemory`.
-    ensures early { spec.AllByRecursion (spec.IsInOrder spec.range_of)
-        (map spec.arc_value runs.now) →
-        spec.FaultsFirst result.0
-        (spec.runs_read key.now seqno None (map spec.arc_value runs.now)).early }
+    ensures early { spec.AreRunsInOrder runs.now → spec.FaultsFirst result.0 (spec.runs_read key.now
+        seqno None (spec.each_run runs.now)).early }
     // It does not fail if it loads no block, as when there are no runs.
-    ensures calm { spec.AllByRecursion (spec.IsInOrder spec.range_of)
-        (map spec.arc_value runs.now) →
-        (spec.runs_read key.now seqno None (map spec.arc_value runs.now)).loads ≡ [] →
-        IsOk result.0 }
+    ensures calm { spec.AreRunsInOrder runs.now →
+        (spec.runs_read key.now seqno None (spec.each_run runs.now)).loads ≡ [] → IsOk result.0 }
     // For any runs and any bytes, also on an error: at most one data block, one index block and one
     // filter block a run.
     ensures few { spec.LoadsEach (length runs.now) result.1 }
@@ -352,25 +329,20 @@ pub fn get_runs_ref<'a, A: Allocator + Clone>(
 ) -> Result<Option<EntryRef<'a>>, Error>
     // For runs in order, it is the result of reading the runs' tables, whatever their bytes, except
     // for `OutOfMemory`.
-    ensures returned { spec.AllByRecursion (spec.IsInOrder spec.range_of)
-        (map spec.arc_value runs.now) → spec.Gives (spec.option_map spec.entry_of_ref) result
-        (spec.runs_result key.now seqno None (map spec.arc_value runs.now)) }
+    ensures returned { spec.AreRunsInOrder runs.now → spec.Gives (spec.option_map spec.entry_of_ref)
+        result (spec.runs_result key.now seqno None (spec.each_run runs.now)) }
     // For tables of lists, it is the first match in the sorted entries of all lists, global seqnos
     // applied.
-    ensures list { (lists : List (List (List spec.Entry))) →
-        spec.RunsHoldLists (map spec.arc_value runs.now) lists →
-        spec.Gives (spec.option_map spec.entry_of_ref) result
-        (Ok (spec.point (spec.union_in lists) key.now seqno)) }
+    ensures list { (lists : spec.TableLists) → spec.RunsHold runs.now lists →
+        spec.Gives (spec.option_map spec.entry_of_ref) result (Ok (spec.point (spec.union_in lists)
+        key.now seqno)) }
     // An error of the first block loaded that is found before any allocation takes precedence over
     // `OutOfMemory`.
-    ensures early { spec.AllByRecursion (spec.IsInOrder spec.range_of)
-        (map spec.arc_value runs.now) →
-        spec.FaultsFirst result
-        (spec.runs_read key.now seqno None (map spec.arc_value runs.now)).early }
+    ensures early { spec.AreRunsInOrder runs.now →
+        spec.FaultsFirst result (spec.runs_read key.now seqno None (spec.each_run runs.now)).early }
     // It does not fail if it loads no block, as when there are no runs.
-    ensures calm { spec.AllByRecursion (spec.IsInOrder spec.range_of)
-        (map spec.arc_value runs.now) →
-        (spec.runs_read key.now seqno None (map spec.arc_value runs.now)).loads ≡ [] → IsOk result }
+    ensures calm { spec.AreRunsInOrder runs.now →
+        (spec.runs_read key.now seqno None (spec.each_run runs.now)).loads ≡ [] → IsOk result }
 {
     get_runs_ref_counted(runs, key, seqno).0
 }
@@ -388,40 +360,34 @@ pub fn place_in_runs_by_age_counted<A: Allocator + Clone>(
 ) -> (Result<Option<RunPlace>, Error>, Opened)
     // For runs in order, it is the result of reading the tables that are not skipped, whatever
     // their bytes, except for `OutOfMemory`.
-    ensures returned { spec.AllByRecursion (spec.IsInOrder spec.range_of)
-        (map spec.arc_value runs.now) →
-        let read = spec.runs_read_by_age key.now seqno None (map spec.arc_value runs.now) in
-        spec.Gives (spec.option_and_then (spec.placed_in_runs (map spec.arc_value runs.now)))
-        result.0 read.returned }
+    ensures returned { spec.AreRunsInOrder runs.now →
+        let read = spec.runs_read_by_age key.now seqno None (spec.each_run runs.now) in
+        spec.Gives (spec.option_and_then (spec.placed_in_runs (spec.each_run runs.now))) result.0
+        read.returned }
     // For tables of lists, it is the first match in the sorted entries of all lists, global seqnos
     // applied.
-    ensures list { (lists : List (List (List spec.Entry))) →
-        spec.RunsHoldLists (map spec.arc_value runs.now) lists →
-        spec.Gives (spec.option_and_then (spec.placed_in_runs (map spec.arc_value runs.now)))
-        result.0 (Ok (spec.point (spec.union_in lists) key.now seqno)) }
+    ensures list { (lists : spec.TableLists) → spec.RunsHold runs.now lists →
+        spec.Gives (spec.option_and_then (spec.placed_in_runs (spec.each_run runs.now))) result.0
+        (Ok (spec.point (spec.union_in lists) key.now seqno)) }
     // The blocks loaded are those of reading the tables that are not skipped, up to the first
     // error.
-    ensures opened { spec.AllByRecursion (spec.IsInOrder spec.range_of)
-        (map spec.arc_value runs.now) →
-        let read = spec.runs_read_by_age key.now seqno None (map spec.arc_value runs.now) in
+    ensures opened { spec.AreRunsInOrder runs.now →
+        let read = spec.runs_read_by_age key.now seqno None (spec.each_run runs.now) in
         spec.Opens result.0 read.loads spec.none_opened result.1 }
     // An error of the first block loaded that is found before any allocation takes precedence over
     // `OutOfMemory`.
-    ensures early { spec.AllByRecursion (spec.IsInOrder spec.range_of)
-        (map spec.arc_value runs.now) →
-        let read = spec.runs_read_by_age key.now seqno None (map spec.arc_value runs.now) in
+    ensures early { spec.AreRunsInOrder runs.now →
+        let read = spec.runs_read_by_age key.now seqno None (spec.each_run runs.now) in
         spec.FaultsFirst result.0 read.early }
     // It does not fail if it loads no block, as when there are no runs.
-    ensures calm { spec.AllByRecursion (spec.IsInOrder spec.range_of)
-        (map spec.arc_value runs.now) →
-        let read = spec.runs_read_by_age key.now seqno None (map spec.arc_value runs.now) in
+    ensures calm { spec.AreRunsInOrder runs.now →
+        let read = spec.runs_read_by_age key.now seqno None (spec.each_run runs.now) in
         read.loads ≡ [] → IsOk result.0 }
     // For any runs and any bytes, also on an error: at most one data block, one index block and one
     // filter block a run.
     ensures few { spec.LoadsEach (length runs.now) result.1 }
     // If a position was found, an entry is stored there.
-    ensures there { IfOk result.0
-        (λ found. IfSome found (spec.IsThere (map spec.arc_value runs.now))) }
+    ensures there { IfOk result.0 (λ found. IfSome found (spec.IsThere (spec.each_run runs.now))) }
 {
     let mut found = None;
     let mut opened = Opened::none();
@@ -440,12 +406,22 @@ pub fn place_in_runs_by_age_counted<A: Allocator + Clone>(
 /// Returns the newest version of a key visible at `seqno` in several runs, borrowed from its table,
 /// and skips older tables.
 ///
-/// It returns what [`crate::get_runs_by_age`] returns, without taking a reference count. It skips
-/// the same tables. A tombstone is returned as an entry.
+/// It reads as [`get_runs_ref`] does, but skips a table whose highest seqno is below that of the
+/// version found in earlier runs. It reads the fewest tables if the newest run comes first. For
+/// tables of lists, any order yields the same result. A tombstone is returned as an entry.
 ///
 /// # Errors
 ///
 /// The first error of these reads, in the order of the runs. A skipped table causes no error.
+///
+/// # Examples
+///
+/// ```
+/// if let Some(entry) = memtable.get(key, seqno) {
+///     return Ok(Some(entry));
+/// }
+/// get_runs_ref_by_age(runs, key, seqno)
+/// ```
 pub fn get_runs_ref_by_age<'a, A: Allocator + Clone>(
     runs: &'a [Arc<Run<Table<A>, A>, A>],
     key: &[u8],
@@ -453,26 +429,22 @@ pub fn get_runs_ref_by_age<'a, A: Allocator + Clone>(
 ) -> Result<Option<EntryRef<'a>>, Error>
     // For runs in order, it is the result of reading the tables that are not skipped, whatever
     // their bytes, except for `OutOfMemory`.
-    ensures returned { spec.AllByRecursion (spec.IsInOrder spec.range_of)
-        (map spec.arc_value runs.now) →
-        let read = spec.runs_read_by_age key.now seqno None (map spec.arc_value runs.now) in
+    ensures returned { spec.AreRunsInOrder runs.now →
+        let read = spec.runs_read_by_age key.now seqno None (spec.each_run runs.now) in
         spec.Gives (spec.option_map spec.entry_of_ref) result read.returned }
     // For tables of lists, it is the first match in the sorted entries of all lists, global seqnos
     // applied.
-    ensures list { (lists : List (List (List spec.Entry))) →
-        spec.RunsHoldLists (map spec.arc_value runs.now) lists →
-        spec.Gives (spec.option_map spec.entry_of_ref) result
-        (Ok (spec.point (spec.union_in lists) key.now seqno)) }
+    ensures list { (lists : spec.TableLists) → spec.RunsHold runs.now lists →
+        spec.Gives (spec.option_map spec.entry_of_ref) result (Ok (spec.point (spec.union_in lists)
+        key.now seqno)) }
     // An error of the first block loaded that is found before any allocation takes precedence over
     // `OutOfMemory`.
-    ensures early { spec.AllByRecursion (spec.IsInOrder spec.range_of)
-        (map spec.arc_value runs.now) →
-        let read = spec.runs_read_by_age key.now seqno None (map spec.arc_value runs.now) in
+    ensures early { spec.AreRunsInOrder runs.now →
+        let read = spec.runs_read_by_age key.now seqno None (spec.each_run runs.now) in
         spec.FaultsFirst result read.early }
     // It does not fail if it loads no block, as when there are no runs.
-    ensures calm { spec.AllByRecursion (spec.IsInOrder spec.range_of)
-        (map spec.arc_value runs.now) →
-        let read = spec.runs_read_by_age key.now seqno None (map spec.arc_value runs.now) in
+    ensures calm { spec.AreRunsInOrder runs.now →
+        let read = spec.runs_read_by_age key.now seqno None (spec.each_run runs.now) in
         read.loads ≡ [] → IsOk result }
 {
     let (found, _) = place_in_runs_by_age_counted(runs, key, seqno);

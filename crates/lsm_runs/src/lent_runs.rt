@@ -1,5 +1,5 @@
 //! Several runs as one lending stream.
-ghost use Rattle.std.specs.Prelude.{◌≡◌, ◌<◌, ℕ, [], All, IfErr, IfOk, List, None, map};
+ghost use Rattle.std.specs.Prelude.{◌≡◌, ◌<◌, [], All, IfErr, IfOk, None, map};
 ghost use Rattle.lsm_runs.specs.Words as spec;
 
 use crate::RunReader;
@@ -58,16 +58,14 @@ pub fn lend_runs_at<A: Allocator + Clone>(
     // For tables of lists in runs in order, it lends the newest versions below `seqno` of all
     // lists' entries within the bounds. Global seqnos are applied.
     ensures list { let advances = ⟦<LentNewestOfRunsAt<A> as Lending>⟧.advances in
-        (lists : List (List (List spec.Entry))) →
-        spec.RunsHoldLists (map spec.arc_value runs.now) lists →
-        let found = spec.newest
-        (spec.numbered_below seqno (spec.within range.0 range.1 (spec.union_in lists))) in
+        (lists : spec.TableLists) → spec.RunsHold runs.now lists →
+        let found = spec.newest (spec.numbered_below seqno (spec.within range.0 range.1
+        (spec.union_in lists))) in
         IfOk result (λ s. spec.YieldsList advances spec.nowhere found s) }
     // If every seqno is below `seqno`, it lends the newest versions of all entries within the
     // bounds.
     ensures whole { let advances = ⟦<LentNewestOfRunsAt<A> as Lending>⟧.advances in
-        (lists : List (List (List spec.Entry))) →
-        spec.RunsHoldLists (map spec.arc_value runs.now) lists →
+        (lists : spec.TableLists) → spec.RunsHold runs.now lists →
         All (λ e. e.seqno < seqno) (spec.union_in lists) →
         let found = spec.newest (spec.within range.0 range.1 (spec.union_in lists)) in
         IfOk result (λ s. spec.YieldsList advances spec.nowhere found s) }
@@ -75,8 +73,8 @@ pub fn lend_runs_at<A: Allocator + Clone>(
     // in order up to each run's first error. It lends the newest of these results below `seqno`,
     // merged up to the first error, which comes last.
     ensures places { let advances = ⟦<LentNewestOfRunsAt<A> as Lending>⟧.advances in
-        let returned = spec.runs_results_within range.0 range.1 (map spec.arc_value runs.now) in
-        spec.AllByRecursion (spec.IsInOrder spec.range_of) (map spec.arc_value runs.now) →
+        let returned = spec.runs_results_within range.0 range.1 (spec.each_run runs.now) in
+        spec.AreRunsInOrder runs.now →
         spec.AllByRecursion (λ rs. spec.Ascends (spec.entries_among rs)) returned →
         let found = spec.newest_results (spec.merge_of (map (spec.below_results seqno) returned)) in
         IfOk result (spec.LendsResults advances found) }

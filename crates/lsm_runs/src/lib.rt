@@ -12,8 +12,8 @@ mod sources;
 
 pub use compaction::{
     Compaction, CompactionObserver, CompactionOutcome, CompactionProgress, NoObserver, OpenOptions,
-    compact_any_runs, compact_any_runs_with, compact_each, compact_runs, compact_to_run,
-    compact_to_run_with, compaction_law, compaction_tables_law, pack_runs, packing_law, write_run,
+    compact_any_runs, compact_each, compact_runs, compact_to_run, compact_to_run_with,
+    compaction_law, compaction_tables_law, pack_runs, packing_law, write_run,
 };
 pub use lent_gets::{
     RunPlace, entry_in_runs, get_runs_ref, get_runs_ref_by_age, get_runs_ref_counted,
@@ -24,7 +24,6 @@ pub use lsm_run_parts::share;
 pub use run_reader::RunReader;
 pub use run_scanner::RunScanner;
 pub use runs::{
-    NewestOfRuns, NewestOfRunsAt, get_runs, get_runs_by_age, get_runs_by_age_counted,
-    get_runs_counted, range_runs, range_runs_at,
+    NewestOfRuns, NewestOfRunsAt, get_runs, get_runs_counted, range_runs, range_runs_at,
 };
 pub use sources::{NewestOfSourcesAt, range_sources_at};

@@ -135,9 +135,9 @@ impl<A: Allocator + Clone> RunReader<A> {
             IfOk result (λ reader. spec.IsRunOf tables (spec.span_of ends range.0 range.1) reader) }
         // For every list of ends, it yields the results of its tables, up to the first error.
         ensures yields { let gives = ⟦<RunReader<A> as Iterator>⟧.next_gives in
-            let back_gives = ⟦<RunReader<A> as DoubleEndedIterator>⟧.next_back_gives in
-            IfOk result (λ reader. spec.YieldsEnding gives back_gives (λ _. Unit {0}) (λ _. Unit {0})
-            reader (spec.run_left reader)) }
+            let back_gives = ⟦<RunReader<A> as DoubleEndedIterator>⟧.next_back_gives in IfOk result
+            (λ reader. spec.YieldsEnding gives back_gives (λ _. Unit {0}) (λ _. Unit {0}) reader
+            (spec.run_left reader)) }
         // For tables of lists, it yields the span's entries, global seqnos applied. The first and
         // the last list are cut at the bounds, those between are whole.
         ensures list { let gives = ⟦<RunReader<A> as Iterator>⟧.next_gives in

@@ -66,21 +66,18 @@ fn readers_of<A: Allocator + Clone>(
     // bounds.
     ensures list { let gives = ⟦<RunReader<A> as Iterator>⟧.next_gives in
         let back_gives = ⟦<RunReader<A> as DoubleEndedIterator>⟧.next_back_gives in
-        (lists : List (List (List spec.Entry))) →
-        spec.RunsHoldLists (map spec.arc_value runs.now) lists →
+        (lists : spec.TableLists) → spec.RunsHold runs.now lists →
         let found = map (λ ls. spec.within range.now.0 range.now.1 (spec.joined ls)) lists in
         IfOk result (λ v. spec.YieldTogether gives back_gives v.items found) }
     ensures lends { let advances = ⟦<RunReader<A> as Lending>⟧.advances in
         let back_gives = ⟦<RunReader<A> as DoubleEndedIterator>⟧.next_back_gives in
-        (lists : List (List (List spec.Entry))) →
-        spec.RunsHoldLists (map spec.arc_value runs.now) lists →
+        (lists : spec.TableLists) → spec.RunsHold runs.now lists →
         let found = map (λ ls. spec.within range.now.0 range.now.1 (spec.joined ls)) lists in
         IfOk result (λ v. spec.YieldTogether advances back_gives v.items found) }
     // For any tables in runs in order, they are the readers of the spans.
-    ensures spans { spec.AllByRecursion (spec.IsInOrder spec.range_of)
-        (map spec.arc_value runs.now) →
-        IfOk result (λ v. spec.AllZip (λ reader span. spec.IsRunOf span.0 span.1 reader) v.items
-        (spec.spans_within range.now.0 range.now.1 (map spec.arc_value runs.now))) }
+    ensures spans { spec.AreRunsInOrder runs.now → IfOk result (λ v. spec.AllZip
+        (λ reader span. spec.IsRunOf span.0 span.1 reader) v.items
+        (spec.spans_within range.now.0 range.now.1 (spec.each_run runs.now))) }
     ensures err { IfErr result (λ e. e ≡ spec.OutOfMemory) }
 {
     let mut readers = Vec::with_capacity(alloc, runs.len())?;
@@ -101,20 +98,17 @@ pub(crate) fn readers_within<A: Allocator + Clone>(
 ) -> Result<Vec<RunReader<A>, A>, Error>
     ensures list { let gives = ⟦<RunReader<A> as Iterator>⟧.next_gives in
         let back_gives = ⟦<RunReader<A> as DoubleEndedIterator>⟧.next_back_gives in
-        (lists : List (List (List spec.Entry))) →
-        spec.RunsHoldLists (map spec.arc_value runs.now) lists →
+        (lists : spec.TableLists) → spec.RunsHold runs.now lists →
         let found = map (λ ls. spec.within range.0 range.1 (spec.joined ls)) lists in
         IfOk result (λ v. spec.YieldTogether gives back_gives v.items found) }
     ensures lends { let advances = ⟦<RunReader<A> as Lending>⟧.advances in
         let back_gives = ⟦<RunReader<A> as DoubleEndedIterator>⟧.next_back_gives in
-        (lists : List (List (List spec.Entry))) →
-        spec.RunsHoldLists (map spec.arc_value runs.now) lists →
+        (lists : spec.TableLists) → spec.RunsHold runs.now lists →
         let found = map (λ ls. spec.within range.0 range.1 (spec.joined ls)) lists in
         IfOk result (λ v. spec.YieldTogether advances back_gives v.items found) }
-    ensures spans { spec.AllByRecursion (spec.IsInOrder spec.range_of)
-        (map spec.arc_value runs.now) →
-        IfOk result (λ v. spec.AllZip (λ reader span. spec.IsRunOf span.0 span.1 reader) v.items
-        (spec.spans_within range.0 range.1 (map spec.arc_value runs.now))) }
+    ensures spans { spec.AreRunsInOrder runs.now → IfOk result (λ v. spec.AllZip
+        (λ reader span. spec.IsRunOf span.0 span.1 reader) v.items
+        (spec.spans_within range.0 range.1 (spec.each_run runs.now))) }
     ensures err { IfErr result (λ e. e ≡ spec.OutOfMemory) }
 {
     readers_of(alloc, runs, &range)
@@ -164,8 +158,7 @@ pub fn range_runs<A: Allocator + Clone>(
     // within the bounds, for every list of ends. Global seqnos are applied.
     ensures list { let gives = ⟦<NewestOfRuns<A> as Iterator>⟧.next_gives in
         let back_gives = ⟦<NewestOfRuns<A> as DoubleEndedIterator>⟧.next_back_gives in
-        (lists : List (List (List spec.Entry))) →
-        spec.RunsHoldLists (map spec.arc_value runs.now) lists →
+        (lists : spec.TableLists) → spec.RunsHold runs.now lists →
         let found = spec.newest (spec.within range.0 range.1 (spec.union_in lists)) in
         IfOk result (λ s. spec.YieldsList gives back_gives found s) }
     // For any tables in runs in order, it is a stream over the readers of the spans within the
@@ -173,9 +166,8 @@ pub fn range_runs<A: Allocator + Clone>(
     // has taken yet. After it, only an entry already read at the other end is yielded.
     ensures steps { let gives = ⟦<NewestOfRuns<A> as Iterator>⟧.next_gives in
         let back_gives = ⟦<NewestOfRuns<A> as DoubleEndedIterator>⟧.next_back_gives in
-        spec.AllByRecursion (spec.IsInOrder spec.range_of) (map spec.arc_value runs.now) →
-        IfOk result
-        (spec.IsOverSpans gives back_gives range.0 range.1 (map spec.arc_value runs.now)) }
+        spec.AreRunsInOrder runs.now →
+        IfOk result (spec.IsOverSpans gives back_gives range.0 range.1 (spec.each_run runs.now)) }
     // Both ends may be called any number of times, whatever the tables' bytes.
     ensures can { IfOk result (λ s.
         spec.CanYield ⟦<NewestOfRuns<A> as Iterator>⟧.next_gives
@@ -202,6 +194,18 @@ pub fn range_runs<A: Allocator + Clone>(
 /// # Errors
 ///
 /// The call fails with [`Error::OutOfMemory`] only.
+///
+/// # Examples
+///
+/// ```
+/// let all = (Bound::Unbounded, Bound::Unbounded);
+/// count_newest(range_runs_at(alloc, runs, all, seqno)?)
+/// // ..
+/// for item in items {
+///     item?;
+///     count = count.saturating_add(1);
+/// }
+/// ```
 pub fn range_runs_at<A: Allocator + Clone>(
     alloc: A,
     runs: &[Arc<Run<Table<A>, A>, A>],
@@ -213,16 +217,13 @@ pub fn range_runs_at<A: Allocator + Clone>(
     // applied.
     ensures list { let gives = ⟦<NewestOfRunsAt<A> as Iterator>⟧.next_gives in
         let back_gives = ⟦<NewestOfRunsAt<A> as DoubleEndedIterator>⟧.next_back_gives in
-        (lists : List (List (List spec.Entry))) →
-        spec.RunsHoldLists (map spec.arc_value runs.now) lists →
-        let found = spec.newest
-        (spec.numbered_below seqno (spec.within range.0 range.1 (spec.union_in lists))) in
-        IfOk result (λ s. spec.YieldsList gives back_gives found s) }
+        (lists : spec.TableLists) → spec.RunsHold runs.now lists →
+        let found = spec.newest (spec.numbered_below seqno (spec.within range.0 range.1
+        (spec.union_in lists))) in IfOk result (λ s. spec.YieldsList gives back_gives found s) }
     // If every seqno is below `seqno`, it yields what `range_runs` yields.
     ensures whole { let gives = ⟦<NewestOfRunsAt<A> as Iterator>⟧.next_gives in
         let back_gives = ⟦<NewestOfRunsAt<A> as DoubleEndedIterator>⟧.next_back_gives in
-        (lists : List (List (List spec.Entry))) →
-        spec.RunsHoldLists (map spec.arc_value runs.now) lists →
+        (lists : spec.TableLists) → spec.RunsHold runs.now lists →
         All (λ e. e.seqno < seqno) (spec.union_in lists) →
         let found = spec.newest (spec.within range.0 range.1 (spec.union_in lists)) in
         IfOk result (λ s. spec.YieldsList gives back_gives found s) }
@@ -230,12 +231,10 @@ pub fn range_runs_at<A: Allocator + Clone>(
     // bounds, each below `seqno`. An error of a reader, `OutOfMemory` too, takes the place of all
     // entries that no step has taken yet. After it, only an entry already read at the other end is
     // yielded.
-    ensures steps { spec.AllByRecursion (spec.IsInOrder spec.range_of) (map spec.arc_value runs.now)
-        → IfOk result (spec.IsOverSpansBelow ⟦<Below<RunReader<A>> as Iterator>⟧.next_gives
-        ⟦<Below<RunReader<A>> as DoubleEndedIterator>⟧.next_back_gives
-        ⟦<NewestOfRunsAt<A> as Iterator>⟧.next_gives
-        ⟦<NewestOfRunsAt<A> as DoubleEndedIterator>⟧.next_back_gives
-        range.0 range.1 seqno (map spec.arc_value runs.now)) }
+    ensures steps { spec.AreRunsInOrder runs.now → IfOk result (spec.IsOverSpansBelow
+        ⟦<Below<RunReader<A>> as Iterator>⟧.next_gives ⟦<Below<RunReader<A>> as DoubleEndedIterator>⟧.next_back_gives ⟦<NewestOfRunsAt<A> as Iterator>⟧.next_gives
+        ⟦<NewestOfRunsAt<A> as DoubleEndedIterator>⟧.next_back_gives range.0 range.1 seqno
+        (spec.each_run runs.now)) }
     // Both ends may be called any number of times, whatever the tables' bytes.
     ensures can { IfOk result (λ s.
         spec.CanYield ⟦<NewestOfRunsAt<A> as Iterator>⟧.next_gives
@@ -284,39 +283,6 @@ pub(crate) fn together(first: Opened, second: Opened) -> Opened
     }
 }
 
-// Whether every seqno of a table is below that of the entry found.
-fn is_older<A: Allocator>(table: &Table<A>, found: &Option<InternalValue<A>>) -> bool
-    ensures { result ≡ spec.is_older found.now table.now }
-{
-    match found {
-        Some(entry) => table.get_highest_seqno() < entry.key.seqno,
-        None => false,
-    }
-}
-
-// The first match in the one table of a run whose range has the key, as in [`get_run_counted`]. It
-// is `None` if the table is older than the entry that was found.
-fn get_run_behind_counted<A: Allocator + Clone>(
-    run: &Run<Table<A>, A>,
-    key: &[u8],
-    seqno: SeqNo,
-    key_hash: u64,
-    found: &Option<InternalValue<A>>,
-) -> (Result<Option<InternalValue<A>>, Error>, Opened)
-    requires { key_hash ≡ spec.hash_of key.now }
-    ensures read { spec.IsInOrder spec.range_of run.now → spec.DoesRead result.0
-        (spec.run_read_behind key.now seqno found.now run.now) spec.none_opened result.1 }
-    ensures few { spec.LoadsEach 1 result.1 }
-{
-    let Some(table) = run.get_for_key(key) else {
-        return (Ok(None), Opened::none());
-    };
-    if is_older(table, found) {
-        return (Ok(None), Opened::none());
-    }
-    table.get_counted(key, seqno, key_hash)
-}
-
 /// Returns what [`get_runs`] returns, and the number of blocks loaded for it.
 ///
 /// # Errors
@@ -329,31 +295,24 @@ pub fn get_runs_counted<A: Allocator + Clone>(
 ) -> (Result<Option<InternalValue<A>>, Error>, Opened)
     // For runs in order, it is the result of reading the runs' tables, whatever their bytes, except
     // for `OutOfMemory`.
-    ensures returned { spec.AllByRecursion (spec.IsInOrder spec.range_of)
-        (map spec.arc_value runs.now) → spec.Gives (λ (x : Option spec.Entry). x) result.0
-        (spec.runs_result key.now seqno None (map spec.arc_value runs.now)) }
+    ensures returned { spec.AreRunsInOrder runs.now → spec.Gives (λ (x : Option spec.Entry). x)
+        result.0 (spec.runs_result key.now seqno None (spec.each_run runs.now)) }
     // For tables of lists, it is the first match in the sorted entries of all lists, global seqnos
     // applied.
-    ensures list { (lists : List (List (List spec.Entry))) →
-        spec.RunsHoldLists (map spec.arc_value runs.now) lists →
-        spec.Gives (λ (x : Option spec.Entry). x) result.0
-        (Ok (spec.point (spec.union_in lists) key.now seqno)) }
+    ensures list { (lists : spec.TableLists) → spec.RunsHold runs.now lists →
+        spec.Gives (λ (x : Option spec.Entry). x) result.0 (Ok (spec.point (spec.union_in lists)
+        key.now seqno)) }
     // The blocks loaded are those of reading the runs' tables, up to the first error.
-    ensures opened { spec.AllByRecursion (spec.IsInOrder spec.range_of)
-        (map spec.arc_value runs.now) →
-        let read = spec.runs_read key.now seqno None (map spec.arc_value runs.now) in
+    ensures opened { spec.AreRunsInOrder runs.now →
+        let read = spec.runs_read key.now seqno None (spec.each_run runs.now) in
         spec.Opens result.0 read.loads spec.none_opened result.1 }
     // An error of the first block loaded that is found before any allocation takes precedence over
     // `OutOfMemory`.
-    ensures early { spec.AllByRecursion (spec.IsInOrder spec.range_of)
-        (map spec.arc_value runs.now) →
-        spec.FaultsFirst result.0
-        (spec.runs_read key.now seqno None (map spec.arc_value runs.now)).early }
+    ensures early { spec.AreRunsInOrder runs.now → spec.FaultsFirst result.0 (spec.runs_read key.now
+        seqno None (spec.each_run runs.now)).early }
     // It does not fail if it loads no block, as when there are no runs.
-    ensures calm { spec.AllByRecursion (spec.IsInOrder spec.range_of)
-        (map spec.arc_value runs.now) →
-        (spec.runs_read key.now seqno None (map spec.arc_value runs.now)).loads ≡ [] →
-        IsOk result.0 }
+    ensures calm { spec.AreRunsInOrder runs.now →
+        (spec.runs_read key.now seqno None (spec.each_run runs.now)).loads ≡ [] → IsOk result.0 }
     // For any runs and any bytes, also on an error: at most one data block, one index block and one
     // filter block a run.
     ensures few { spec.LoadsEach (length runs.now) result.1 }
@@ -381,6 +340,14 @@ pub fn get_runs_counted<A: Allocator + Clone>(
 /// # Errors
 ///
 /// The first error of these reads, in the order of the runs. It does not fail if it loads no block.
+///
+/// # Examples
+///
+/// ```
+/// let found = get_runs(runs, key, seqno)?;
+/// let stream = range_runs(alloc.clone()?, runs, range)?;
+/// Ok((found, stream))
+/// ```
 pub fn get_runs<A: Allocator + Clone>(
     runs: &[Arc<Run<Table<A>, A>, A>],
     key: &[u8],
@@ -388,123 +355,20 @@ pub fn get_runs<A: Allocator + Clone>(
 ) -> Result<Option<InternalValue<A>>, Error>
     // For runs in order, it is the result of reading the runs' tables, whatever their bytes, except
     // for `OutOfMemory`.
-    ensures returned { spec.AllByRecursion (spec.IsInOrder spec.range_of)
-        (map spec.arc_value runs.now) → spec.Gives (λ (x : Option spec.Entry). x) result
-        (spec.runs_result key.now seqno None (map spec.arc_value runs.now)) }
+    ensures returned { spec.AreRunsInOrder runs.now → spec.Gives (λ (x : Option spec.Entry). x)
+        result (spec.runs_result key.now seqno None (spec.each_run runs.now)) }
     // For tables of lists, it is the first match in the sorted entries of all lists, global seqnos
     // applied.
-    ensures list { (lists : List (List (List spec.Entry))) →
-        spec.RunsHoldLists (map spec.arc_value runs.now) lists →
-        spec.Gives (λ (x : Option spec.Entry). x) result
-        (Ok (spec.point (spec.union_in lists) key.now seqno)) }
+    ensures list { (lists : spec.TableLists) → spec.RunsHold runs.now lists →
+        spec.Gives (λ (x : Option spec.Entry). x) result (Ok (spec.point (spec.union_in lists)
+        key.now seqno)) }
     // An error of the first block loaded that is found before any allocation takes precedence over
     // `OutOfMemory`.
-    ensures early { spec.AllByRecursion (spec.IsInOrder spec.range_of)
-        (map spec.arc_value runs.now) →
-        spec.FaultsFirst result
-        (spec.runs_read key.now seqno None (map spec.arc_value runs.now)).early }
+    ensures early { spec.AreRunsInOrder runs.now →
+        spec.FaultsFirst result (spec.runs_read key.now seqno None (spec.each_run runs.now)).early }
     // It does not fail if it loads no block, as when there are no runs.
-    ensures calm { spec.AllByRecursion (spec.IsInOrder spec.range_of)
-        (map spec.arc_value runs.now) →
-        (spec.runs_read key.now seqno None (map spec.arc_value runs.now)).loads ≡ [] → IsOk result }
+    ensures calm { spec.AreRunsInOrder runs.now →
+        (spec.runs_read key.now seqno None (spec.each_run runs.now)).loads ≡ [] → IsOk result }
 {
     get_runs_counted(runs, key, seqno).0
-}
-
-/// Returns what [`get_runs_by_age`] returns, and the number of blocks loaded for it.
-///
-/// # Errors
-///
-/// Those of [`get_runs_by_age`].
-pub fn get_runs_by_age_counted<A: Allocator + Clone>(
-    runs: &[Arc<Run<Table<A>, A>, A>],
-    key: &[u8],
-    seqno: SeqNo,
-) -> (Result<Option<InternalValue<A>>, Error>, Opened)
-    // For runs in order, it is the result of reading the tables that are not skipped, whatever
-    // their bytes, except for `OutOfMemory`.
-    ensures returned { spec.AllByRecursion (spec.IsInOrder spec.range_of)
-        (map spec.arc_value runs.now) →
-        let read = spec.runs_read_by_age key.now seqno None (map spec.arc_value runs.now) in
-        spec.Gives (λ (x : Option spec.Entry). x) result.0 read.returned }
-    // For tables of lists, it is the first match in the sorted entries of all lists, global seqnos
-    // applied.
-    ensures list { (lists : List (List (List spec.Entry))) →
-        spec.RunsHoldLists (map spec.arc_value runs.now) lists →
-        spec.Gives (λ (x : Option spec.Entry). x) result.0
-        (Ok (spec.point (spec.union_in lists) key.now seqno)) }
-    // The blocks loaded are those of reading the tables that are not skipped, up to the first
-    // error.
-    ensures opened { spec.AllByRecursion (spec.IsInOrder spec.range_of)
-        (map spec.arc_value runs.now) →
-        let read = spec.runs_read_by_age key.now seqno None (map spec.arc_value runs.now) in
-        spec.Opens result.0 read.loads spec.none_opened result.1 }
-    // An error of the first block loaded that is found before any allocation takes precedence over
-    // `OutOfMemory`.
-    ensures early { spec.AllByRecursion (spec.IsInOrder spec.range_of)
-        (map spec.arc_value runs.now) →
-        let read = spec.runs_read_by_age key.now seqno None (map spec.arc_value runs.now) in
-        spec.FaultsFirst result.0 read.early }
-    // It does not fail if it loads no block, as when there are no runs.
-    ensures calm { spec.AllByRecursion (spec.IsInOrder spec.range_of)
-        (map spec.arc_value runs.now) →
-        let read = spec.runs_read_by_age key.now seqno None (map spec.arc_value runs.now) in
-        read.loads ≡ [] → IsOk result.0 }
-    // For any runs and any bytes, also on an error: at most one data block, one index block and one
-    // filter block a run.
-    ensures few { spec.LoadsEach (length runs.now) result.1 }
-{
-    let mut best = None;
-    let mut loads = Opened::none();
-    let key_hash = Table::<A>::key_hash(key);
-    for run in runs {
-        let (returned, more) = get_run_behind_counted(run, key, seqno, key_hash, &best);
-        loads = together(loads, more);
-        match returned {
-            Ok(next) => best = leading(best, next),
-            Err(error) => return (Err(error), loads),
-        }
-    }
-    (Ok(best), loads)
-}
-
-/// Returns the newest version of a key visible at `seqno` in several runs, and skips older tables.
-///
-/// It reads as [`get_runs`] does, but skips a table whose highest seqno is below that of the
-/// version found in earlier runs. It reads the fewest tables if the newest run comes first. For
-/// tables of lists, any order yields the same result.
-///
-/// # Errors
-///
-/// The first error of these reads, in the order of the runs. A skipped table causes no error.
-pub fn get_runs_by_age<A: Allocator + Clone>(
-    runs: &[Arc<Run<Table<A>, A>, A>],
-    key: &[u8],
-    seqno: SeqNo,
-) -> Result<Option<InternalValue<A>>, Error>
-    // For runs in order, it is the result of reading the tables that are not skipped, whatever
-    // their bytes, except for `OutOfMemory`.
-    ensures returned { spec.AllByRecursion (spec.IsInOrder spec.range_of)
-        (map spec.arc_value runs.now) →
-        let read = spec.runs_read_by_age key.now seqno None (map spec.arc_value runs.now) in
-        spec.Gives (λ (x : Option spec.Entry). x) result read.returned }
-    // For tables of lists, it is the first match in the sorted entries of all lists, global seqnos
-    // applied.
-    ensures list { (lists : List (List (List spec.Entry))) →
-        spec.RunsHoldLists (map spec.arc_value runs.now) lists →
-        spec.Gives (λ (x : Option spec.Entry). x) result
-        (Ok (spec.point (spec.union_in lists) key.now seqno)) }
-    // An error of the first block loaded that is found before any allocation takes precedence over
-    // `OutOfMemory`.
-    ensures early { spec.AllByRecursion (spec.IsInOrder spec.range_of)
-        (map spec.arc_value runs.now) →
-        let read = spec.runs_read_by_age key.now seqno None (map spec.arc_value runs.now) in
-        spec.FaultsFirst result read.early }
-    // It does not fail if it loads no block, as when there are no runs.
-    ensures calm { spec.AllByRecursion (spec.IsInOrder spec.range_of)
-        (map spec.arc_value runs.now) →
-        let read = spec.runs_read_by_age key.now seqno None (map spec.arc_value runs.now) in
-        read.loads ≡ [] → IsOk result }
-{
-    get_runs_by_age_counted(runs, key, seqno).0
 }

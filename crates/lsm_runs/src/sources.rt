@@ -59,8 +59,7 @@ pub fn range_sources_at<S: DoubleEndedIterator<Item = IterItem<A>> + Drop, A: Al
     // these lists within the bounds.
     ensures list { let gives = ⟦<NewestOfSourcesAt<S, A> as Iterator>⟧.next_gives in
         let back_gives = ⟦<NewestOfSourcesAt<S, A> as DoubleEndedIterator>⟧.next_back_gives in
-        (lists : List (List (List spec.Entry))) →
-        spec.RunsHoldLists (map spec.arc_value runs.now) lists →
+        (lists : spec.TableLists) → spec.RunsHold runs.now lists →
         (further : List (List spec.Entry)) →
         spec.YieldWithin S.next_gives S.next_back_gives range.0 range.1 sources.items further →
         let all = spec.union_in (map spec.single further ++ lists) in
@@ -70,8 +69,7 @@ pub fn range_sources_at<S: DoubleEndedIterator<Item = IterItem<A>> + Drop, A: Al
     // bounds.
     ensures whole { let gives = ⟦<NewestOfSourcesAt<S, A> as Iterator>⟧.next_gives in
         let back_gives = ⟦<NewestOfSourcesAt<S, A> as DoubleEndedIterator>⟧.next_back_gives in
-        (lists : List (List (List spec.Entry))) →
-        spec.RunsHoldLists (map spec.arc_value runs.now) lists →
+        (lists : spec.TableLists) → spec.RunsHold runs.now lists →
         (further : List (List spec.Entry)) →
         spec.YieldWithin S.next_gives S.next_back_gives range.0 range.1 sources.items further →
         let all = spec.union_in (map spec.single further ++ lists) in
@@ -82,13 +80,10 @@ pub fn range_sources_at<S: DoubleEndedIterator<Item = IterItem<A>> + Drop, A: Al
     // the sources come the readers of the spans within the bounds, each below `seqno`. An error of
     // one of them, `OutOfMemory` too, takes the place of all entries that no step has taken yet.
     // After it, only an entry already read at the other end is yielded.
-    ensures steps { spec.AllByRecursion (spec.IsInOrder spec.range_of) (map spec.arc_value runs.now)
-        → IfOk result
-        (spec.IsOverSourcesBelow ⟦<Below<Either<RunReader<A>, S>> as Iterator>⟧.next_gives
-        ⟦<Below<Either<RunReader<A>, S>> as DoubleEndedIterator>⟧.next_back_gives
-        ⟦<NewestOfSourcesAt<S, A> as Iterator>⟧.next_gives
-        ⟦<NewestOfSourcesAt<S, A> as DoubleEndedIterator>⟧.next_back_gives
-        range.0 range.1 seqno (map spec.arc_value runs.now) sources.items) }
+    ensures steps { spec.AreRunsInOrder runs.now → IfOk result (spec.IsOverSourcesBelow
+        ⟦<Below<Either<RunReader<A>, S>> as Iterator>⟧.next_gives ⟦<Below<Either<RunReader<A>, S>> as DoubleEndedIterator>⟧.next_back_gives ⟦<NewestOfSourcesAt<S, A> as Iterator>⟧.next_gives
+        ⟦<NewestOfSourcesAt<S, A> as DoubleEndedIterator>⟧.next_back_gives range.0 range.1 seqno
+        (spec.each_run runs.now) sources.items) }
     // If the sources are finite and may be called at both ends, so may the stream, any number of
     // times. This holds for any bytes of the tables.
     ensures can { All (spec.CanYield S.next_gives S.next_back_gives S.can_next S.can_next_back)
@@ -101,8 +96,8 @@ pub fn range_sources_at<S: DoubleEndedIterator<Item = IterItem<A>> + Drop, A: Al
     ensures next { All (spec.CanYield S.next_gives S.next_back_gives S.can_next S.can_next_back)
         sources.items → All (λ s. spec.IsFinite (S.remaining s)) sources.items →
         IfOk result (λ s. ⟦<NewestOfSourcesAt<S, A> as Iterator>⟧.can_next s) }
-    ensures next_back { All (spec.CanYield S.next_gives S.next_back_gives S.can_next S.can_next_back)
-        sources.items → All (λ s. spec.IsFinite (S.remaining s)) sources.items →
+    ensures next_back { All (spec.CanYield S.next_gives S.next_back_gives S.can_next
+        S.can_next_back) sources.items → All (λ s. spec.IsFinite (S.remaining s)) sources.items →
         IfOk result (λ s. ⟦<NewestOfSourcesAt<S, A> as DoubleEndedIterator>⟧.can_next_back s) }
     ensures err { IfErr result (λ e. e ≡ spec.OutOfMemory) }
 {

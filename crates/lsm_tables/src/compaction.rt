@@ -2,11 +2,8 @@
 
 pub use lsm_runs::{
     Compaction, CompactionObserver, CompactionOutcome, CompactionProgress, NoObserver,
-    compact_any_runs, compact_any_runs_with, compact_each, compact_runs, compact_to_run,
-    compact_to_run_with,
+    compact_any_runs, compact_each, compact_runs, compact_to_run, compact_to_run_with,
 };
 pub use lsm_sorted::compaction::Rules;
-pub use lsm_sorted::compaction::lending::{LendingCompaction, LentCallback, LentFilter};
-pub use lsm_sorted::compaction::stream::{
-    CompactionStream, DroppedKvCallback, NoCallback, NoFilter, StreamFilter, StreamFilterVerdict,
-};
+pub use lsm_sorted::compaction::lending::{LentCallback, LentFilter};
+pub use lsm_sorted::compaction::stream::{NoCallback, NoFilter, StreamFilterVerdict};

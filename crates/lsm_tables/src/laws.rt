@@ -2,6 +2,4 @@
 //! that proves something gets by the call.
 
 pub use lsm_runs::{compaction_law, compaction_tables_law, packing_law};
-pub use lsm_sorted::compaction::stream::read_law;
-pub use lsm_sorted::{newest_from_both_ends, up_to_gap};
-pub use lsm_writers::{tables_law, taking_law};
+pub use lsm_writers::tables_law;

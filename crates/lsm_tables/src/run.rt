@@ -2,12 +2,8 @@
 //! the fewest.
 
 pub use lsm_runs::{
-    LentNewestOf, LentNewestOfRunsAt, NewestOfRuns, NewestOfRunsAt, NewestOfSourcesAt, RunPlace,
-    RunReader, RunScanner, entry_in_runs, get_runs, get_runs_by_age, get_runs_by_age_counted,
-    get_runs_counted, get_runs_ref, get_runs_ref_by_age, get_runs_ref_counted, lend_runs_at,
-    pack_runs, place_in_runs, place_in_runs_by_age_counted, place_in_runs_counted, range_runs,
-    range_runs_at, range_sources_at, share, write_run,
+    LentNewestOf, LentNewestOfRunsAt, NewestOfRuns, NewestOfRunsAt, NewestOfSourcesAt, RunReader,
+    RunScanner, get_runs, get_runs_counted, get_runs_ref, get_runs_ref_by_age, lend_runs_at,
+    pack_runs, range_runs, range_runs_at, range_sources_at, share, write_run,
 };
-pub use lsm_sorted::{
-    KeyRange, Packed, Placed, Ranged, Run, optimize_runs, overlap_chain, pack_each,
-};
+pub use lsm_sorted::{KeyRange, Run};

@@ -9,14 +9,12 @@ pub use lsm_iters::{
     OwnedDataBlockIter, OwnedIndexBlockIter, TwoLevelBlockIndex, VolatileBlockIndex,
 };
 pub use lsm_readers::{
-    Fault, Finding, Inner, ParsedMeta, ParsedRegions, PinnedBlockIndex, Query, Scanner, Table,
-    TableInner, Verification, Verified, VerifyError, get_many, get_many_places, point_in,
+    Fault, Finding, Inner, ParsedMeta, ParsedRegions, Query, Scanner, Table, TableInner,
+    Verification, Verified, VerifyError, get_many, point_in,
 };
 pub use lsm_runs::OpenOptions;
 pub use lsm_writers::{
     BloomConstructionPolicy, FilterKind, FinishedTable, IndexKind, Metadata, MultiWriter, Options,
     TableIds, TableStream, Writer, is_writable, write_list,
 };
-pub use sst_blocks::{
-    CompressionType, GlobalTableId, ItemName, SectionName, TableId, Timestamp, TreeId,
-};
+pub use sst_blocks::{CompressionType, TableId, Timestamp};

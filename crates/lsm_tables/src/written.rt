@@ -16,6 +16,15 @@ use std::alloc::Allocator;
 ///
 /// The first fault of writing; [`Error::GlobalSeqNoTooLarge`] if the highest sequence number plus
 /// `global_seqno` exceeds `u64::MAX`; [`Error::OutOfMemory`].
+///
+/// # Examples
+///
+/// ```
+/// match write_and_open(alloc, 1, Timestamp::from(0), items, 0)? {
+///     None => Ok(None),
+///     Some(table) => Ok(Some(table.get_by_key(key, seqno)?)),
+/// }
+/// ```
 pub fn write_and_open<A: Allocator + Clone>(
     alloc: A,
     id: TableId,

@@ -1,7 +1,7 @@
 -- Tables that are yielded one by one: what one call of the source, the writer or the stream makes.
 use Rattle.std.proofs.Common.{◌≡◌, refl, sym, ◌∙◌, ap, subst, ℕ, ◌+◌, ◌-◌, ◌<◌, Bool}
 use Rattle.std.proofs.Common.{false, List, [], ◌∷◌, ◌++◌, length}
-use Rattle.std.proofs.Common.{IsTrue}
+use Rattle.std.proofs.Common.{IsTrue, inl}
 use Rattle.std.specs.Prelude.{Option, Some, None, Result, Ok, Err, take}
 use Rattle.std.specs.Prelude.{IsErrAnd, MatchOption}
 use Rattle.std.specs.Option.{option_to_list}
@@ -13,20 +13,20 @@ use Rattle.sst_entries.specs.Stream.{Lowers, YieldsExactly, answer_stops, nowher
 use Rattle.sst_entries.proofs.StreamLemmas.{can_front, can_now, map_append}
 use Rattle.lsm_writers.specs.declared.writer.FinishedTable.{FinishedTable}
 use Rattle.lsm_writers.specs.declared.table_stream.TableStream.{TableStream}
-use Rattle.lsm_writers.specs.Streamed.{AreAll, CanPoll, CanTake, EndsAll, EndsIn, EndsWith}
-use Rattle.lsm_writers.specs.Streamed.{Failed, Finishes, IsAfter, IsOver, LeavesError}
-use Rattle.lsm_writers.specs.Streamed.{Stops, StopsAfter, Took, TookAll, TookFrom}
-use Rattle.lsm_writers.specs.Streamed.{WritesUntil, YieldsAfter, YieldsTable, entries_before}
-use Rattle.lsm_writers.specs.Streamed.{next_fault, next_left, took_each}
+use Rattle.lsm_writers.specs.Streamed.{AreAll, CanPoll, CanTake, EndsAll, EndsAfter, EndsInError}
+use Rattle.lsm_writers.specs.Streamed.{Failed, FinishesLast, IsAfter, IsExhausted, LeavesError}
+use Rattle.lsm_writers.specs.Streamed.{Stops, StopsAfter, Took, TookSource, TookFrom}
+use Rattle.lsm_writers.specs.Streamed.{WritesUntil, YieldsAfter, YieldsNextTable, entries_before}
+use Rattle.lsm_writers.specs.Streamed.{next_fault, next_ids, next_left, took_each}
 use Rattle.lsm_writers.specs.Taken.{IsLeft, taken}
 use Rattle.lsm_writers.specs.Tables.{AreFinished}
-use Rattle.lsm_writers.specs.Tables.{TablesWriting, all_written, first_label}
+use Rattle.lsm_writers.specs.Tables.{TablesWriting, all_written, first_label, ids_after}
 use Rattle.lsm_writers.specs.Tables.{run_fault, tables_of, took, took_fault}
 use Rattle.lsm_writers.specs.Writing.{IsWritable}
 use Rattle.lsm_writers.specs.Writing.{may_be_written}
 use Rattle.lsm_writers.proofs.ListWriting.{listed_follows}
 use Rattle.lsm_writers.proofs.Streaming.{Grown, count_is, ends_now, entries_all, entries_front}
-use Rattle.lsm_writers.proofs.Streaming.{finished_some, grown, grown_none, grown_some}
+use Rattle.lsm_writers.proofs.Streaming.{finished_some, grown, grown_none, grown_some, ids_now}
 use Rattle.lsm_writers.proofs.Streaming.{results_assoc, results_nil, took_all, took_ends}
 use Rattle.lsm_writers.proofs.Streaming.{took_failed, took_follows, yields_fault, yields_none}
 use Rattle.lsm_writers.proofs.Streaming.{yields_one}
@@ -60,10 +60,10 @@ module _ {S A : Type 0} (stops : Error → Bool) (next : S → Option (Result En
     from_follows = took_follows w h.front gs n h.took e next_one
 
     pub from_failed : (f : Error) (v : TablesWriting)
-        → (is_memory f ≡ false → took_fault n e ≡ Some f) → IsLeft n e f v
+        → (is_memory f ≡ false → took_fault n e ≡ Some f) → IsLeft n e f v → v.ids ≡ ids_after n e
         → Failed stops w rs gs f v
-    from_failed f v refused left =
-        took_failed w h.front gs n h.took stops rs one.0 e whole_one next_one f v refused left
+    from_failed f v refused left ids =
+        took_failed w h.front gs n h.took stops rs one.0 e whole_one next_one f v refused left ids
 
     module _ (v u : TablesWriting) (is : v ≡ took n e) (fine : took_fault n e ≡ None)
         (rest : u ≡ taken 1 v) where
@@ -93,7 +93,7 @@ module _ {S A : Type 0} (stops : Error → Bool) (next : S → Option (Result En
           (grown_none w (h.front ++ e ∷ []) gs v u grown_now rest none)
 
   -- nothing comes
-  pub from_over : next s None t → TookAll w rs gs n
+  pub from_over : next s None t → TookSource w rs gs n
   from_over step =
       let none : h.rest ≡ [] = yields_none stops next h.rest s t h.yields step in
       let all : rs ≡ ok_results h.front = h.whole
@@ -109,12 +109,16 @@ module _ {S A : Type 0} (stops : Error → Bool) (next : S → Option (Result En
   -- an error comes
   pub from_fails : (e : Error) → next s (Some (Err e)) t → Failed stops w rs gs e n
   from_fails e step = record {
-    none = λ none. ends_now w h.front gs n h.took stops rs h.rest h.whole e
+    none = λ none. ends_now w h.front gs n h.took stops rs h.rest h.whole e n.ids
         (λ fine goes. ap (next_fault (took_each w h.front))
         (yields_fault stops next h.rest s t e h.yields step goes).1)
         (λ fine goes. sym (ap length (ap (next_left (took_each w h.front))
         (yields_fault stops next h.rest s t e h.yields step goes).1)
-        ∙ count_is w h.front gs n h.took));
+        ∙ count_is w h.front gs n h.took))
+        (inl (ids_now w h.front gs n h.took))
+        (λ fine goes. ids_now w h.front gs n h.took
+        ∙ sym (ap (next_ids (took_each w h.front))
+        (yields_fault stops next h.rest s t e h.yields step goes).1));
     some = λ f one. absurd (finished_some n.present.options (first_label n) n.tables f one
         h.took.left);
   }
@@ -122,7 +126,7 @@ module _ {S A : Type 0} (stops : Error → Bool) (next : S → Option (Result En
 -- ---- the end
 
 module _ {A : Type 0} (w n : TablesWriting) (rs : List (Result Entry Error))
-    (gs : List (FinishedTable A)) (h : TookAll w rs gs n) where
+    (gs : List (FinishedTable A)) (h : TookSource w rs gs n) where
   pub all_some : (f : FinishedTable A)
       → AreFinished n.present.options (first_label n) (tables_of n) (f ∷ [])
       → AreAll w rs (gs ++ f ∷ []) n.ids
@@ -138,7 +142,7 @@ module _ {A : Type 0} (w n : TablesWriting) (rs : List (Result Entry Error))
       tables_nil (f ∷ fs) = ap (λ (xs : List (FinishedTable A)). f ∷ xs) (tables_nil fs)
 
   pub all_fails : (stops : Error → Bool) (e : Error)
-      → (is_memory e ≡ false → run_fault n ≡ Some e) → EndsWith stops w rs gs e
+      → (is_memory e ≡ false → run_fault n ≡ Some e) → EndsInError stops w rs gs n.ids e
   all_fails stops e refused = took_ends w h.list gs n h.took rs h.whole stops e refused
 
 some_is : (writer : Option TablesWriting) (m n : TablesWriting) → Some m ≡ writer → writer ≡ Some n
@@ -253,59 +257,67 @@ module _ {S A : Type 0} (next : S → Option (Result Entry Error) → S → Type
       (gs : List (FinishedTable A)) → IsAfter stops next w rs gs old
       → TookFrom stops next w rs gs old.source n
   from_old stops w rs gs at = subst (λ (o : Option TablesWriting). MatchOption o
-      (MatchOption old.error (AreAll w rs gs old.ids) (EndsWith stops w rs gs))
+      (MatchOption old.error (AreAll w rs gs old.ids) (EndsInError stops w rs gs old.ids))
       (TookFrom stops next w rs gs old.source)) is at
 
-  not_over : (r : Option (Result (FinishedTable A) Error)) → IsOver old → (r ≡ None) × IsOver new
+  not_over : (r : Option (Result (FinishedTable A) Error)) → IsExhausted old
+      → (r ≡ None) × IsExhausted new
   not_over r over = let no : Some n ≡ None = sym is ∙ over.0 in absurd cc
+
+  no_writer : MatchOption new.writer (Unit {0}) (λ x. new.ids ≡ x.ids)
+  no_writer = rw spent tt
 
   -- at the end of the source
   module _ (error : new.error ≡ None) (ids : new.ids ≡ v.ids) where
     end_after : (stops : Error → Bool) (w : TablesWriting) (rs : List (Result Entry Error))
         (gs : List (FinishedTable A)) (r : Option (Result (FinishedTable A) Error))
-        → Finishes w rs gs v.ids r → YieldsAfter stops next w rs gs r new
+        → FinishesLast w rs gs v.ids r → YieldsAfter stops next w rs gs r new
     end_after stops w rs gs None h =
         subst (λ (left : Option ℕ). AreAll w rs gs left) (sym ids) h
     end_after stops w rs gs (Some (Ok f)) h = rw (spent, error, ids) h
-    end_after stops w rs gs (Some (Err e)) h = h stops
+    end_after stops w rs gs (Some (Err e)) h =
+        subst (λ (left : Option ℕ). EndsInError stops w rs gs left e) (sym ids) (h stops)
 
-    end_in : (r : Option (Result (FinishedTable A) Error)) → EndsIn r new
+    end_in : (r : Option (Result (FinishedTable A) Error)) → EndsAfter r new
     end_in None = (spent, error)
     end_in (Some (Ok f)) = tt
     end_in (Some (Err e)) = (spent, error)
 
     pub yields_end : (r : Option (Result (FinishedTable A) Error))
         → WritesUntil {A = A} next old.source n (Ok None) new.source v → EndsAll (Some v) r
-        → YieldsTable next old r new
+        → YieldsNextTable next old r new
     yields_end r until ends = record {
       steps = λ stops w rs gs at. end_after stops w rs gs r
           (ends w v rs gs refl (until stops w rs gs (from_old stops w rs gs at)));
       over = not_over r;
       ends = end_in r;
+      ids = no_writer;
     }
 
   -- after an error
-  module _ (e : Error) (none : old.error ≡ None) where
+  module _ (e : Error) (none : old.error ≡ None) (ids : new.ids ≡ v.ids) where
     stop_after : (stops : Error → Bool) (w : TablesWriting) (rs : List (Result Entry Error))
         (gs : List (FinishedTable A)) (r : Option (Result (FinishedTable A) Error))
-        → Stops stops w rs gs e r → LeavesError r e old.error new.error
+        → Stops stops w rs gs v.ids e r → LeavesError r e old.error new.error
         → YieldsAfter stops next w rs gs r new
     stop_after stops w rs gs None h left = absurd h
-    stop_after stops w rs gs (Some (Ok f)) h left = rw (spent, left) h
-    stop_after stops w rs gs (Some (Err x)) h left = h
+    stop_after stops w rs gs (Some (Ok f)) h left = rw (spent, left, ids) h
+    stop_after stops w rs gs (Some (Err x)) h left =
+        subst (λ (o : Option ℕ). EndsInError stops w rs gs o x) (sym ids) h
 
     stop_in : (r : Option (Result (FinishedTable A) Error)) → LeavesError r e old.error new.error
-        → EndsIn r new
+        → EndsAfter r new
     stop_in None left = (spent, left ∙ none)
     stop_in (Some (Ok f)) left = tt
     stop_in (Some (Err x)) left = (spent, left ∙ none)
 
     pub yields_stop : (r : Option (Result (FinishedTable A) Error))
         → WritesUntil {A = A} next old.source n (Err e) new.source v → StopsAfter (Some v) e r
-        → LeavesError r e old.error new.error → YieldsTable next old r new
+        → LeavesError r e old.error new.error → YieldsNextTable next old r new
     yields_stop r until stops left = record {
       steps = λ some w rs gs at. stop_after some w rs gs r
           (stops some w v rs gs refl (until some w rs gs (from_old some w rs gs at))) left;
       over = not_over r;
       ends = stop_in r left;
+      ids = no_writer;
     }

@@ -3,7 +3,7 @@ use Rattle.std.proofs.Common.{◌≡◌, refl, sym, ◌∙◌, ap, subst, ℕ, �
 use Rattle.std.proofs.Common.{true, false, List, [], ◌∷◌, ◌++◌, length, append_assoc, arith}
 use Rattle.std.proofs.Common.{length-append, IsTrue, inl, inr}
 use Rattle.std.specs.Prelude.{Option, Some, None, Result, Ok, Err, drop, take, is_some, nat_lt}
-use Rattle.std.specs.Prelude.{◌&&◌, ◌||◌, if◌then◌else◌}
+use Rattle.std.specs.Prelude.{◌⊎◌, ◌&&◌, ◌||◌, if◌then◌else◌}
 use Rattle.std.proofs.lemmas.List.{length-drop, take-append-drop}
 use Rattle.sst_entries.specs.declared.error.Error.{Error}
 use Rattle.sst_entries.specs.declared.error.Error.TheVariants.{OutOfMemory}
@@ -12,24 +12,24 @@ use Rattle.sst_entries.specs.Entry.{Entry, entry}
 use Rattle.sst_entries.specs.Error.{is_memory}
 use Rattle.sst_entries.specs.Lending.{came}
 use Rattle.sst_entries.specs.Stream.{YieldsExactly, answer_stops, nowhere, ok_results}
-use Rattle.sst_entries.specs.Strict.{IsStrict, IsStrictAfter, last_of, may_follow}
+use Rattle.sst_entries.specs.Strict.{IsStrict, last_of, may_follow}
 use Rattle.sst_entries.proofs.StreamLemmas.{yields_front}
 use Rattle.sst_blocks.specs.declared.table.label.Label.{Label}
 use Rattle.sst_blocks.specs.declared.table.options.Options.{Options}
 use Rattle.sst_blocks.specs.table.Chunks.{joined}
 use Rattle.lsm_writers.specs.declared.writer.FinishedTable.{FinishedTable}
 use Rattle.lsm_writers.specs.Cut.{rest_chunk}
-use Rattle.lsm_writers.specs.Streamed.{AreAll, AreFirst, EndsWith}
-use Rattle.lsm_writers.specs.Streamed.{Failed, IsBegun}
+use Rattle.lsm_writers.specs.Streamed.{AreAll, AreFirst, EndsInError, Failed}
 use Rattle.lsm_writers.specs.Streamed.{NoneFails, Took}
 use Rattle.lsm_writers.specs.Streamed.{entries_before}
-use Rattle.lsm_writers.specs.Streamed.{next_fault, next_left, took_each}
+use Rattle.lsm_writers.specs.Streamed.{next_fault, next_ids, next_left, took_each}
 use Rattle.lsm_writers.specs.Taken.{AreTakenFrom, IsLeft, IsWriting, taken, tables_left}
 use Rattle.lsm_writers.specs.Tables.{AreCuts, AreFinished, AreTables, GoesOn, IsFreshRun}
-use Rattle.lsm_writers.specs.Tables.{TablesWriting, all_written, drawn, first_label, gained_all}
-use Rattle.lsm_writers.specs.Tables.{ids_fault, is_due, next_writing, rotated, rotation_fault}
-use Rattle.lsm_writers.specs.Tables.{run_fault, tables_of, took, took_fault, turn_fault}
-use Rattle.lsm_writers.specs.Writing.{IsFresh, Writing, fresh_writing, gained}
+use Rattle.lsm_writers.specs.Tables.{TablesWriting, all_written, drawn, first_label}
+use Rattle.lsm_writers.specs.Tables.{ids_after, ids_fault, is_due, next_writing, rotated}
+use Rattle.lsm_writers.specs.Tables.{rotation_fault, run_fault, tables_of, took, took_fault}
+use Rattle.lsm_writers.specs.Tables.{turn_fault}
+use Rattle.lsm_writers.specs.Writing.{IsFresh, Writing, gained}
 use Rattle.lsm_writers.specs.Writing.{may_be_written, written}
 use Rattle.lsm_writers.proofs.AllTables.{in_order, joined_all}
 use Rattle.lsm_writers.proofs.CutFronts.{first_tables}
@@ -167,20 +167,6 @@ all_taken {X} k xs none =
     append_none [] = refl
     append_none (y ∷ ys) = ap (λ (zs : List X). y ∷ zs) (append_none ys)
 
-pub took_nothing : {A : Type 0} (w : TablesWriting) → IsFreshRun w → all_written w ≡ []
-    → GoesOn w.target w.ids w.tables w.present → Took {A = A} w [] [] w
-took_nothing w fresh none goes = record {
-  none = tt;
-  listed = none;
-  writing = record { works = fresh.2; goes_on = goes };
-  taken = record {
-    finished = tt;
-    left = refl;
-    ids = omega (arith, ap length fresh.0);
-  };
-  left = fresh.0;
-}
-
 -- ---- the tables that an entry leaves that was not written
 
 -- how many they are does not depend on what was taken
@@ -196,6 +182,12 @@ left_count m k e false true all n none same =
     ap (λ (ts : List (List Entry)). length (ts ++ rest_chunk (written n.present))) none
     ∙ ap (λ (w : Writing). length (rest_chunk (written w))) same in
     omega (arith, all, here, length-append m.tables last)
+
+-- nor does the counter
+same_ids : (m n : TablesWriting) (due : Bool) → n.ids ≡ m.ids
+    → (if due then rotated n else n).ids ≡ (if due then rotated m else m).ids
+same_ids m n true is = ap drawn is
+same_ids m n false is = is
 
 -- if there is one, it is that of the present writer, which the entry ends
 left_some : (n : TablesWriting) (spent due : Bool) (us : List (List Entry)) → n.tables ≡ []
@@ -237,36 +229,22 @@ take_few (e ∷ t) = refl
 
 -- ---- a writer that has written nothing
 
-fresh_is : (v : Writing) → IsFresh v → v ≡ fresh_writing v.label v.options
-fresh_is v h =
-    let cut : v ≡ record v { cut = [] } = ap (λ (cs : List (List Entry)). let u : Writing =
-    record v { cut = cs } in u) h.0 in
-    let pending : record v { cut = [] } ≡ record v { cut = []; pending = [] } =
-    ap (λ (es : List Entry). let u : Writing = record v { cut = []; pending = es } in u) h.1 in
-    let failed : record v { cut = []; pending = [] } ≡ fresh_writing v.label v.options =
-    ap (λ (b : Bool). let u : Writing = record v { cut = []; pending = []; failed = b } in u) h.2 in
-    cut ∙ (pending ∙ failed)
-
 written_none : (v : Writing) → IsFresh v → written v ≡ []
 written_none v h = rw (h.0, h.1) refl
 
-begun_goes : (w : TablesWriting) → IsBegun w → GoesOn w.target w.ids w.tables w.present
-unfolding IsStrictAfter
-begun_goes w h =
-    let none = written_none w.present h.0.1 in
-    record {
-      present = fresh_is w.present h.0.1
-          ∙ ap (gained_all (fresh_writing w.present.label w.present.options)) (sym none);
-      strict = rw (h.0.0, none) tt;
-      cuts = rw (h.0.0, none) tt;
-      next = h.1;
-      begun = λ _. h.0.0;
-    }
-
-pub begun_took : {A : Type 0} (w : TablesWriting) → IsBegun w → Took {A = A} w [] [] w
-begun_took w h =
-    let none : all_written w ≡ [] = rw (h.0.2, h.0.0, written_none w.present h.0.1) refl in
-    took_nothing w h.0 none (begun_goes w h)
+pub fresh_took : {A : Type 0} (w : TablesWriting) → IsFreshRun w → IsWriting w
+    → Took {A = A} w [] [] w
+fresh_took w fresh writing = record {
+  none = tt;
+  listed = rw (fresh.2, fresh.0, written_none w.present fresh.1) refl;
+  writing = writing;
+  taken = record {
+    finished = tt;
+    left = refl;
+    ids = omega (arith, ap length fresh.0);
+  };
+  left = fresh.0;
+}
 
 -- ---- what follows from what was taken
 
@@ -307,6 +285,24 @@ module _ {A : Type 0} (w : TablesWriting) (es : List Entry) (gs : List (Finished
   fault_is : (e : Entry) → took_fault n e ≡ took_fault m e
   fault_is e = (written_law A m n gs e h.taken h.writing).1
 
+  -- the writer's counter
+  pub ids_now : n.ids ≡ m.ids
+  ids_now = ap (λ (x : TablesWriting). x.ids) h.taken.left
+
+  ids_next : (e : Entry) → ids_after n e ≡ ids_after m e
+  ids_next e = ap (λ (x : TablesWriting). ids_after x e) h.taken.left
+      ∙ ap (λ (o : Option ℕ). if m.failed then m.ids else o)
+      (same_ids m (taken (length gs) m) (is_due m.target m.present e) refl)
+
+  most_now : (rest : List (Result Entry Error)) → length gs ≤ length (next_left m rest)
+  most_now [] = omega (arith, count_is)
+  most_now (Ok e ∷ rest) = omega (
+    arith,
+    left_count m (length gs) e (m.failed || is_some (turn_fault m.target m.ids m.present e))
+        (is_due m.target m.present e) count_is (taken (length gs) m) dropped refl,
+  )
+  most_now (Err f ∷ rest) = omega (arith, count_is)
+
   first_now : (d : List Entry) → AreFirst m (es ++ d) gs
   first_now d = λ ts all.
       let whole : (joined m.tables ++ last) ++ d ≡ es ++ d = ap (λ (x : List Entry). x ++ d) listed in
@@ -324,11 +320,13 @@ module _ {A : Type 0} (w : TablesWriting) (es : List Entry) (gs : List (Finished
     entries_are : entries_before rs ≡ es ++ entries_before rest
     entries_are = ap entries_before whole ∙ entries_front es rest
 
-    pub ends_now : (e : Error)
+    pub ends_now : (e : Error) (left : Option ℕ)
         → (is_memory e ≡ false → stops e ≡ false → next_fault m rest ≡ Some e)
         → (is_memory e ≡ false → stops e ≡ false → length gs ≡ length (next_left m rest))
-        → EndsWith stops w rs gs e
-    ends_now e fault count = record {
+        → (left ≡ m.ids) ⊎ (left ≡ next_ids m rest)
+        → (is_memory e ≡ false → stops e ≡ false → left ≡ next_ids m rest)
+        → EndsInError stops w rs gs left e
+    ends_now e left fault count ids left_is = record {
       front = es;
       rest = rest;
       whole = whole;
@@ -336,15 +334,19 @@ module _ {A : Type 0} (w : TablesWriting) (es : List Entry) (gs : List (Finished
       first = subst (λ (xs : List Entry). AreFirst m xs gs) (sym entries_are)
           (first_now (entries_before rest));
       kept = omega (arith, count_is);
+      most = most_now rest;
+      ids = ids;
       fault = fault;
       count = count;
+      left_is = left_is;
     }
 
   -- an entry that is not written
   module _ (stops : Error → Bool) (rs rest : List (Result Entry Error)) (e : Entry)
       (whole : rs ≡ ok_results es ++ Ok e ∷ rest)
       (next : IsTrue (may_be_written es e.user_key e.seqno)) (f : Error) (v : TablesWriting)
-      (refused : is_memory f ≡ false → took_fault n e ≡ Some f) (left : IsLeft n e f v) where
+      (refused : is_memory f ≡ false → took_fault n e ≡ Some f) (left : IsLeft n e f v)
+      (ids : v.ids ≡ ids_after n e) where
     abbrev spent : Bool
     spent = m.failed || is_some (turn_fault m.target m.ids m.present e)
 
@@ -358,12 +360,15 @@ module _ {A : Type 0} (w : TablesWriting) (es : List Entry) (gs : List (Finished
     fault_now : is_memory f ≡ false → stops f ≡ false → took_fault m e ≡ Some f
     fault_now fine goes = sym (fault_is e) ∙ refused fine
 
-    none_left : v.tables ≡ [] → EndsWith stops w rs gs f
-    none_left none = ends_now stops rs (Ok e ∷ rest) whole f fault_now
+    ids_failed : v.ids ≡ ids_after m e
+    ids_failed = ids ∙ ids_next e
+
+    none_left : v.tables ≡ [] → EndsInError stops w rs gs v.ids f
+    none_left none = ends_now stops rs (Ok e ∷ rest) whole f v.ids fault_now
         (λ fine goes. elim left.tables [
           | inl is ↦ omega (arith, counted, ap length (here_left is.0), ap length none)
           | inr is ↦ absurd (no_memory f fine is.0)
-        ])
+        ]) (inr ids_failed) (λ fine goes. ids_failed)
 
     -- the present table was finished
     module _ (g : FinishedTable A)
@@ -446,7 +451,18 @@ module _ {A : Type 0} (w : TablesWriting) (es : List Entry) (gs : List (Finished
           subst (λ (us : List (List Entry)). AreFinished m.present.options (first_label m) us
           (gs ++ g ∷ [])) (sym (ap (λ (i : ℕ). take i ts) number ∙ front)) held_next
 
-      one_left : v.tables ≡ tables_left n e → EndsWith stops w rs (gs ++ g ∷ []) f
+      count_next : v.tables ≡ tables_left n e
+          → length (gs ++ g ∷ []) ≡ length (tables_left m e)
+      count_next tables = omega (
+        arith,
+        counted,
+        ap length (here_left tables),
+        ap length is,
+        one_last,
+        length-append gs (g ∷ []),
+      )
+
+      one_left : v.tables ≡ tables_left n e → EndsInError stops w rs (gs ++ g ∷ []) v.ids f
       one_left tables = record {
         front = es;
         rest = Ok e ∷ rest;
@@ -454,15 +470,11 @@ module _ {A : Type 0} (w : TablesWriting) (es : List Entry) (gs : List (Finished
         none = h.none;
         first = first_next;
         kept = omega (arith, count_is, length-append gs (g ∷ []));
+        most = omega (arith, count_next tables);
+        ids = inr ids_failed;
         fault = fault_now;
-        count = λ fine goes. omega (
-          arith,
-          counted,
-          ap length (here_left tables),
-          ap length is,
-          one_last,
-          length-append gs (g ∷ []),
-        );
+        count = λ fine goes. count_next tables;
+        left_is = λ fine goes. ids_failed;
       }
 
     pub took_failed : Failed stops w rs gs f v
@@ -500,9 +512,11 @@ module _ {A : Type 0} (w : TablesWriting) (es : List Entry) (gs : List (Finished
         }
 
     pub took_ends : (stops : Error → Bool) (e : Error) → (is_memory e ≡ false → run_fault n ≡ Some e)
-        → EndsWith stops w rs gs e
-    took_ends stops e refused = ends_now stops rs [] (whole ∙ sym (results_nil (ok_results es))) e
+        → EndsInError stops w rs gs n.ids e
+    took_ends stops e refused =
+        ends_now stops rs [] (whole ∙ sym (results_nil (ok_results es))) e n.ids
         (λ fine goes. sym (ap run_fault h.taken.left) ∙ refused fine) (λ fine goes. sym count_is)
+        (inl ids_now) (λ fine goes. ids_now)
 
 -- ---- an entry is written, and the table that it ended is taken
 

@@ -1,6 +1,6 @@
 -- Tables of the results of a source, which are yielded one by one.
-use Rattle.std.specs.Prelude.{◌≡◌, ℕ, ◌+◌, ◌≤◌, Bool, false, List, [], ◌∷◌, ◌++◌, length, take}
-use Rattle.std.specs.Prelude.{Option, None, Some, Result, Ok, Err, MatchOption}
+use Rattle.std.specs.Prelude.{◌≡◌, ◌⊎◌, ℕ, ◌+◌, ◌≤◌, Bool, false, List, [], ◌∷◌, ◌++◌, length}
+use Rattle.std.specs.Prelude.{take, Option, None, Some, Result, Ok, Err, MatchOption}
 use Rattle.sst_entries.specs.Entry.{Entry}
 use Rattle.sst_entries.specs.Error.{is_memory}
 use Rattle.sst_entries.specs.Stream.{CanYield, YieldsExactly, answer_stops, nowhere, ok_results}
@@ -10,8 +10,8 @@ use Rattle.lsm_writers.specs.declared.table_stream.TableStream.{TableStream}
 use Rattle.lsm_writers.specs.declared.writer.FinishedTable.{FinishedTable}
 use Rattle.lsm_writers.specs.Taken.{AreTakenFrom, IsWriting, tables_left}
 use Rattle.lsm_writers.specs.Tables.{AreFinished, AreInKeyOrder, AreTables, IsFreshRun}
-use Rattle.lsm_writers.specs.Tables.{TablesWriting, all_written, first_label, next_id, run_fault}
-use Rattle.lsm_writers.specs.Tables.{tables_of, took, took_fault}
+use Rattle.lsm_writers.specs.Tables.{TablesWriting, all_written, first_label, ids_after}
+use Rattle.lsm_writers.specs.Tables.{run_fault, tables_of, took, took_fault}
 use Rattle.lsm_writers.specs.Writing.{IsWritable}
 
 -- the entries before the first error
@@ -43,6 +43,12 @@ next_left m [] = m.tables
 next_left m (Ok e ∷ rs) = tables_left m e
 next_left m (Err f ∷ rs) = m.tables
 
+-- the id counter after that error
+abbrev pub next_ids : TablesWriting → List (Result Entry Error) → Option ℕ
+next_ids m [] = m.ids
+next_ids m (Ok e ∷ rs) = ids_after m e
+next_ids m (Err f ∷ rs) = m.ids
+
 -- finished tables of the first tables of a list
 abbrev pub AreFirst : {A : Type 0} → TablesWriting → List Entry → List (FinishedTable A) → Type 0
 AreFirst m es gs = (ts : List (List Entry)) →
@@ -65,21 +71,27 @@ pub record AreAll {A : Type 0} (w : TablesWriting) (rs : List (Result Entry Erro
   pub left_is : left ≡ (took_each w list).ids
 
 -- After entries without a fault comes this error. The tables are the first ones of the list, and all
--- that were finished before it.
-pub record EndsWith {A : Type 0} (stops : Error → Bool) (w : TablesWriting)
-    (rs : List (Result Entry Error)) (gs : List (FinishedTable A)) (e : Error) : Type 0 where
+-- that were finished before it. The counter is that of the writer.
+pub record EndsInError {A : Type 0} (stops : Error → Bool) (w : TablesWriting)
+    (rs : List (Result Entry Error)) (gs : List (FinishedTable A)) (left : Option ℕ) (e : Error)
+    : Type 0 where
   pub front : List Entry
   pub rest : List (Result Entry Error)
   pub whole : rs ≡ ok_results front ++ rest
   pub none : NoneFails w front
   pub first : AreFirst (took_each w front) (entries_before rs) gs
   pub kept : length (took_each w front).tables ≤ length gs
-  -- except for `OutOfMemory` and errors that stop the source: the error is the first one, and a table
-  -- that was finished by the call that failed is among the tables
+  -- the call that failed may have finished a table and drawn an id
+  pub most : length gs ≤ length (next_left (took_each w front) rest)
+  pub ids : (left ≡ (took_each w front).ids) ⊎ (left ≡ next_ids (took_each w front) rest)
+  -- except for `OutOfMemory` and errors that stop the source: the error is the first one, a table that
+  -- was finished by the call that failed is among the tables, and an id that it drew stays drawn
   pub fault : is_memory e ≡ false → stops e ≡ false →
       next_fault (took_each w front) rest ≡ Some e
   pub count : is_memory e ≡ false → stops e ≡ false →
       length gs ≡ length (next_left (took_each w front) rest)
+  pub left_is : is_memory e ≡ false → stops e ≡ false →
+      left ≡ next_ids (took_each w front) rest
 
 -- ---- a stream between its calls
 
@@ -109,18 +121,14 @@ pub record TookFrom {S A : Type 0} (stops : Error → Bool)
 abbrev pub IsAfter : {S A : Type 0} → (Error → Bool) → (S → Option (Result Entry Error) → S → Type 0)
     → TablesWriting → List (Result Entry Error) → List (FinishedTable A) → TableStream S A → Type 0
 IsAfter stops next w rs gs s = MatchOption s.writer
-    (MatchOption s.error (AreAll w rs gs s.ids) (EndsWith stops w rs gs))
+    (MatchOption s.error (AreAll w rs gs s.ids) (EndsInError stops w rs gs s.ids))
     (TookFrom stops next w rs gs s.source)
-
--- a writer that has drawn its first id, and to which no entry was written
-abbrev pub IsBegun : TablesWriting → Type 0
-IsBegun w = IsFreshRun w × (w.ids ≡ next_id w.present.label.table_id)
 
 -- a new stream is before the first table, for any results of the source whose entries can be written
 abbrev pub Starts : {S A : Type 0} → (S → Option (Result Entry Error) → S → Type 0) → S
     → TablesWriting → TableStream S A → Type 0
 Starts next source w s =
-    (stops : Error → Bool) (rs : List (Result Entry Error)) → IsBegun w →
+    (stops : Error → Bool) (rs : List (Result Entry Error)) → IsFreshRun w →
     IsWritable (entries_before rs) → YieldsExactly (answer_stops stops) next nowhere source rs →
     IsAfter stops next w rs [] s
 
@@ -131,28 +139,30 @@ abbrev pub YieldsAfter : {S A : Type 0} → (Error → Bool)
     → List (FinishedTable A) → Option (Result (FinishedTable A) Error) → TableStream S A → Type 0
 YieldsAfter stops next w rs gs None t = AreAll w rs gs t.ids
 YieldsAfter stops next w rs gs (Some (Ok f)) t = IsAfter stops next w rs (gs ++ f ∷ []) t
-YieldsAfter stops next w rs gs (Some (Err e)) t = EndsWith stops w rs gs e
+YieldsAfter stops next w rs gs (Some (Err e)) t = EndsInError stops w rs gs t.ids e
 
 -- a stream that yields only `None`
-abbrev pub IsOver : {S A : Type 0} → TableStream S A → Type 0
-IsOver s = (s.writer ≡ None) × (s.error ≡ None)
+abbrev pub IsExhausted : {S A : Type 0} → TableStream S A → Type 0
+IsExhausted s = (s.writer ≡ None) × (s.error ≡ None)
 
 -- an error or `None` is the last item
-abbrev pub EndsIn : {S A : Type 0} → Option (Result (FinishedTable A) Error) → TableStream S A
+abbrev pub EndsAfter : {S A : Type 0} → Option (Result (FinishedTable A) Error) → TableStream S A
     → Type 0
-EndsIn None t = IsOver t
-EndsIn (Some (Ok f)) t = Unit {0}
-EndsIn (Some (Err e)) t = IsOver t
+EndsAfter None t = IsExhausted t
+EndsAfter (Some (Ok f)) t = Unit {0}
+EndsAfter (Some (Err e)) t = IsExhausted t
 
 -- one call, for any results of the source
-pub record YieldsTable {S A : Type 0} (next : S → Option (Result Entry Error) → S → Type 0)
+pub record YieldsNextTable {S A : Type 0} (next : S → Option (Result Entry Error) → S → Type 0)
     (s : TableStream S A) (r : Option (Result (FinishedTable A) Error)) (t : TableStream S A)
     : Type 0 where
   pub steps : (stops : Error → Bool) (w : TablesWriting) (rs : List (Result Entry Error))
       (gs : List (FinishedTable A)) → IsAfter stops next w rs gs s →
       YieldsAfter stops next w rs gs r t
-  pub over : IsOver s → (r ≡ None) × IsOver t
-  pub ends : EndsIn r t
+  pub over : IsExhausted s → (r ≡ None) × IsExhausted t
+  pub ends : EndsAfter r t
+  -- the counter is that of the writer
+  pub ids : MatchOption t.writer (Unit {0}) (λ n. t.ids ≡ n.ids)
 
 -- ---- when it may be called
 
@@ -176,7 +186,7 @@ CanPoll {A = A} next can s = MatchOption s.writer (Unit {0})
 abbrev pub StartsReady : {S A : Type 0} → (S → Option (Result Entry Error) → S → Type 0)
     → (S → Type 0) → S → TablesWriting → TableStream S A → Type 0
 StartsReady next can source w s =
-    (stops : Error → Bool) (rs : List (Result Entry Error)) → IsBegun w →
+    (stops : Error → Bool) (rs : List (Result Entry Error)) → IsFreshRun w →
     IsWritable (entries_before rs) → YieldsExactly (answer_stops stops) next nowhere source rs →
     CanYield next nowhere can can source → CanPoll next can s
 
@@ -192,7 +202,7 @@ items_left left s = most_items s.writer s.error (left s.source)
 -- ---- the parts of a call
 
 -- all results are entries, and the writer took them
-pub record TookAll {A : Type 0} (w : TablesWriting) (rs : List (Result Entry Error))
+pub record TookSource {A : Type 0} (w : TablesWriting) (rs : List (Result Entry Error))
     (gs : List (FinishedTable A)) (n : TablesWriting) : Type 0 where
   pub list : List Entry
   pub whole : rs ≡ ok_results list
@@ -203,52 +213,53 @@ pub record TookAll {A : Type 0} (w : TablesWriting) (rs : List (Result Entry Err
 pub record Failed {A : Type 0} (stops : Error → Bool) (w : TablesWriting)
     (rs : List (Result Entry Error)) (gs : List (FinishedTable A)) (e : Error) (n : TablesWriting)
     : Type 0 where
-  pub none : n.tables ≡ [] → EndsWith stops w rs gs e
+  pub none : n.tables ≡ [] → EndsInError stops w rs gs n.ids e
   pub some : (f : FinishedTable A) →
       AreFinished n.present.options (first_label n) (take 1 n.tables) (f ∷ []) →
-      EndsWith stops w rs (gs ++ f ∷ []) e
+      EndsInError stops w rs (gs ++ f ∷ []) n.ids e
 
 -- the result of writing until a table is finished: the table, the end of the source, or an error
-abbrev pub Writes : {S A : Type 0} → (Error → Bool) → (S → Option (Result Entry Error) → S → Type 0)
-    → TablesWriting → List (Result Entry Error) → List (FinishedTable A)
-    → Result (Option (FinishedTable A)) Error → S → TablesWriting → Type 0
-Writes stops next w rs gs (Ok (Some f)) t v = TookFrom stops next w rs (gs ++ f ∷ []) t v
-Writes stops next w rs gs (Ok None) t v = TookAll w rs gs v
-Writes stops next w rs gs (Err e) t v = Failed stops w rs gs e v
+abbrev pub WritesNextTable : {S A : Type 0} → (Error → Bool)
+    → (S → Option (Result Entry Error) → S → Type 0) → TablesWriting → List (Result Entry Error)
+    → List (FinishedTable A) → Result (Option (FinishedTable A)) Error → S → TablesWriting → Type 0
+WritesNextTable stops next w rs gs (Ok (Some f)) t v = TookFrom stops next w rs (gs ++ f ∷ []) t v
+WritesNextTable stops next w rs gs (Ok None) t v = TookSource w rs gs v
+WritesNextTable stops next w rs gs (Err e) t v = Failed stops w rs gs e v
 
 abbrev pub WritesUntil : {S A : Type 0} → (S → Option (Result Entry Error) → S → Type 0) → S
     → TablesWriting → Result (Option (FinishedTable A)) Error → S → TablesWriting → Type 0
 WritesUntil {A = A} next s n r t v =
     (stops : Error → Bool) (w : TablesWriting) (rs : List (Result Entry Error))
     (gs : List (FinishedTable A)) → TookFrom stops next w rs gs s n →
-    Writes stops next w rs gs r t v
+    WritesNextTable stops next w rs gs r t v
 
 -- the result of finishing: the last table if there is one, or an error
-abbrev pub Finishes : {A : Type 0} → TablesWriting → List (Result Entry Error)
+abbrev pub FinishesLast : {A : Type 0} → TablesWriting → List (Result Entry Error)
     → List (FinishedTable A) → Option ℕ → Option (Result (FinishedTable A) Error) → Type 0
-Finishes w rs gs left None = AreAll w rs gs left
-Finishes w rs gs left (Some (Ok f)) = AreAll w rs (gs ++ f ∷ []) left
-Finishes w rs gs left (Some (Err e)) = (stops : Error → Bool) → EndsWith stops w rs gs e
+FinishesLast w rs gs left None = AreAll w rs gs left
+FinishesLast w rs gs left (Some (Ok f)) = AreAll w rs (gs ++ f ∷ []) left
+FinishesLast w rs gs left (Some (Err e)) = (stops : Error → Bool) →
+    EndsInError stops w rs gs left e
 
 abbrev pub EndsAll : {A : Type 0} → Option TablesWriting → Option (Result (FinishedTable A) Error)
     → Type 0
 EndsAll {A = A} writer r =
     (w n : TablesWriting) (rs : List (Result Entry Error)) (gs : List (FinishedTable A)) →
-    writer ≡ Some n → TookAll w rs gs n → Finishes w rs gs n.ids r
+    writer ≡ Some n → TookSource w rs gs n → FinishesLast w rs gs n.ids r
 
 -- the result after an error: the table that is finished, or the error
 abbrev pub Stops : {A : Type 0} → (Error → Bool) → TablesWriting → List (Result Entry Error)
-    → List (FinishedTable A) → Error → Option (Result (FinishedTable A) Error) → Type 0
-Stops stops w rs gs error None = ⊥
-Stops stops w rs gs error (Some (Ok f)) = EndsWith stops w rs (gs ++ f ∷ []) error
-Stops stops w rs gs error (Some (Err e)) = EndsWith stops w rs gs e
+    → List (FinishedTable A) → Option ℕ → Error → Option (Result (FinishedTable A) Error) → Type 0
+Stops stops w rs gs left error None = ⊥
+Stops stops w rs gs left error (Some (Ok f)) = EndsInError stops w rs (gs ++ f ∷ []) left error
+Stops stops w rs gs left error (Some (Err e)) = EndsInError stops w rs gs left e
 
 abbrev pub StopsAfter : {A : Type 0} → Option TablesWriting → Error
     → Option (Result (FinishedTable A) Error) → Type 0
 StopsAfter {A = A} writer error r =
     (stops : Error → Bool) (w n : TablesWriting) (rs : List (Result Entry Error))
     (gs : List (FinishedTable A)) → writer ≡ Some n → Failed stops w rs gs error n →
-    Stops stops w rs gs error r
+    Stops stops w rs gs n.ids error r
 
 -- the error is left for the next call exactly if a table comes first
 abbrev pub LeavesError : {A : Type 0} → Option (Result (FinishedTable A) Error) → Error

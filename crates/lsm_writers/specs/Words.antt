@@ -3,7 +3,7 @@ pub use Rattle.sst_entries.specs.Entry.{Entry}
 pub use Rattle.sst_entries.specs.Error.{Faults, FaultsFirst, Refuses}
 pub use Rattle.sst_entries.specs.Strict.{IsStrict, last_of}
 pub use Rattle.sst_blocks.specs.Fnv.{fnv1a}
-pub use Rattle.sst_blocks.specs.Sections.{Written, finished, slot_index}
+pub use Rattle.sst_blocks.specs.Sections.{finished, slot_index}
 pub use Rattle.sst_blocks.specs.filter.Policy.{fault_for, size_for, tenths_of}
 pub use Rattle.sst_blocks.specs.Bounds.{capped, empty_len, entry_head_len, index_block_bound_of}
 pub use Rattle.sst_blocks.specs.Encoding.{IsShortEntry, entries_fault, handles_fault}
@@ -18,8 +18,8 @@ pub use Rattle.sst_blocks.specs.table.Index.{handles, last_entry}
 pub use Rattle.sst_blocks.specs.table.Kinds.{filter_with_size, index_with_size}
 pub use Rattle.sst_blocks.specs.table.Layout.{appended, laid}
 pub use Rattle.sst_blocks.specs.table.Options.{label_of}
-pub use Rattle.lsm_writers.specs.section.FilterRefusing.{filter_fault, given_fault, key_parts_bound}
-pub use Rattle.lsm_writers.specs.section.FilterRefusing.{keys_fault, partition_size, register_fault}
+pub use Rattle.lsm_writers.specs.section.FilterRefusing.{filter_fault, key_parts_bound}
+pub use Rattle.lsm_writers.specs.section.FilterRefusing.{keys_fault, register_fault}
 pub use Rattle.lsm_writers.specs.section.FilterRefusing.{size_fault, top_fault}
 pub use Rattle.lsm_writers.specs.section.Writing.{WritesFilter, WritesParts, part_sections}
 pub use Rattle.lsm_writers.specs.section.Writing.{tops_block, tops_of}
@@ -47,9 +47,7 @@ pub use Rattle.sst_blocks.specs.Handles.{AreStrictHandles}
 unfoldable pub use Rattle.sst_blocks.specs.Handles.{handles_payload}
 unfoldable pub use Rattle.sst_blocks.specs.Number.{le16, le4, le8}
 unfoldable pub use Rattle.sst_blocks.specs.Payload.{spelled}
-pub use Rattle.sst_blocks.specs.declared.filter.policy.BloomConstructionPolicy.{BloomConstructionPolicy}
 pub use Rattle.sst_blocks.specs.declared.section.SectionName.TheVariants.{Data, FilterTli, Tli}
-pub use Rattle.sst_blocks.specs.declared.table.options.FilterKind.{FilterKind}
 pub use Rattle.sst_blocks.specs.declared.table.options.FilterKind.TheVariants.{Partitioned as PartitionedFilter}
 pub use Rattle.sst_blocks.specs.declared.table.options.IndexKind.TheVariants.{Partitioned as PartitionedIndex}
 pub use Rattle.sst_blocks.specs.declared.version.TableVersion.TheVariants.{V4}
@@ -65,7 +63,7 @@ pub use Rattle.sst_blocks.specs.table.Parts.{parts_by}
 pub use Rattle.lsm_writers.specs.Buffered.{IsMark, MarksFront}
 unfoldable pub use Rattle.lsm_writers.specs.Counts.{counted_items}
 pub use Rattle.lsm_writers.specs.Streamed.{CanPoll, CanTake, EndsAll, LeavesError, Starts, StartsReady}
-pub use Rattle.lsm_writers.specs.Streamed.{StopsAfter, WritesUntil, YieldsTable, items_left}
+pub use Rattle.lsm_writers.specs.Streamed.{StopsAfter, WritesUntil, YieldsNextTable, items_left}
 pub use Rattle.lsm_writers.specs.Tables.{AddsTable, AreFinished, AreInKeyOrder, AreTables, CutLaw}
 pub use Rattle.lsm_writers.specs.Tables.{HasRoomFor, IsFreshRun, IsStanding, OneCutLaw, OneKeyLaw}
 pub use Rattle.lsm_writers.specs.Tables.{SetsOptionOfAll}
@@ -73,10 +71,9 @@ pub use Rattle.lsm_writers.specs.Tables.{TakesLaw, all_written, drawn, early_ref
 pub use Rattle.lsm_writers.specs.Tables.{ids_after, ids_fault, is_due, new_tables, next_writing}
 pub use Rattle.lsm_writers.specs.Tables.{rotation_fault, run_fault, table_fault, tables_of, took}
 pub use Rattle.lsm_writers.specs.Tables.{took_fault, turn_fault, with_options}
-pub use Rattle.lsm_writers.specs.Taken.{BegunLaw, FinishedLaw, IsLeft, StayHeld, TakenLaw, WrittenLaw}
-pub use Rattle.lsm_writers.specs.Taken.{taken}
-pub use Rattle.lsm_writers.specs.section.Answering.{IsAdmitted, was_given}
-pub use Rattle.lsm_writers.specs.section.Given.{GivenKeys, all_keys, given_by, no_keys, rest_keys}
+pub use Rattle.lsm_writers.specs.Taken.{BegunLaw, FinishedLaw, IsLeft, IsWriting, StayHeld, TakenLaw}
+pub use Rattle.lsm_writers.specs.Taken.{WrittenLaw, taken}
+pub use Rattle.lsm_writers.specs.section.Given.{GivenKeys, given_by, no_keys, rest_keys}
 pub use Rattle.lsm_writers.specs.section.Given.{with_key}
 pub use Rattle.lsm_writers.specs.section.Held.{Cuts, HoldsAll, HoldsHashes, HoldsParts, end_keys}
 pub use Rattle.lsm_writers.specs.section.Held.{filters_of}
@@ -84,4 +81,6 @@ pub use Rattle.lsm_writers.specs.section.IndexEither.{registered_by}
 pub use Rattle.lsm_writers.specs.section.IndexRefusing.{kind_fault, part_fault}
 unfoldable pub use Rattle.lsm_writers.specs.section.IndexRefusing.{parts_fault}
 pub use Rattle.lsm_writers.specs.section.Kept.{AreAmong, handle_with, handles_among}
+pub use Rattle.lsm_writers.specs.section.Laws.{AdmittedLaw, AllKeysLaw, GivenMoreLaw, GivenNoneLaw}
+pub use Rattle.lsm_writers.specs.section.Laws.{SameFaultLaw, SameFiltersLaw, SmallPartsLaw}
 pub use Rattle.lsm_writers.specs.section.Rising.{AreRising}

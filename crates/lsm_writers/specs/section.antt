@@ -10,5 +10,6 @@ pub mod FilterRefusing
 pub mod Held
 pub mod Writing
 pub mod Answering
+pub mod Laws
 pub mod FilterWords
 pub mod FilterEither

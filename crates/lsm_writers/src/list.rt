@@ -17,6 +17,16 @@ fn are_numbered<A: Allocator>(items: &[InternalValue<A>]) -> bool
 ///
 /// It can if each entry sorts strictly before the next and each sequence number is below
 /// `u64::MAX`. Entries are sorted by key, then by descending sequence number.
+///
+/// # Examples
+///
+/// ```
+/// if is_writable(&items) {
+///     Ok(items)
+/// } else {
+///     Err(Error::Source(0))
+/// }
+/// ```
 pub fn is_writable<A: Allocator>(items: &[InternalValue<A>]) -> bool
     ensures { IsTrue result ↔ spec.IsWritable items.now }
 {
@@ -31,6 +41,18 @@ pub fn is_writable<A: Allocator>(items: &[InternalValue<A>]) -> bool
 /// # Errors
 ///
 /// The first error of [`Writer::write`] or [`Writer::finish`], or [`Error::OutOfMemory`].
+///
+/// # Examples
+///
+/// ```
+/// let (key, value) = (Slice::from(alloc, b"c")?, Slice::from(alloc, b"")?);
+/// let mut items = Vec::new(alloc);
+/// items.push(InternalValue::from_components(key, value, 2, V))?;
+/// match write_list(alloc, 2, 0, Timestamp::from(0), items)? {
+///     Some(table) => Ok(table.bytes),
+///     None => Err(Error::Source(1)),
+/// }
+/// ```
 pub fn write_list<A: Allocator + Clone>(
     alloc: A,
     id: TableId,

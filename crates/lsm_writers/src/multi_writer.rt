@@ -64,6 +64,13 @@ impl<A: Allocator + Clone> MultiWriter<A> {
     /// # Errors
     ///
     /// [`Error::TableIdsSpent`] if no id is left, else only [`Error::OutOfMemory`].
+    ///
+    /// # Examples
+    ///
+    /// ```
+    /// let writer = MultiWriter::new(alloc, TableIds::new(first), target, 0, Timestamp::from(0))?;
+    /// Ok(writer.use_data_block_size(size.min(4_096)))
+    /// ```
     pub fn new(
         alloc: A,
         mut ids: TableIds,
@@ -129,6 +136,13 @@ impl<A: Allocator + Clone> MultiWriter<A> {
         self.ids
     }
 
+    // States what holds of an unfailed writer between its calls. The call does nothing.
+    pub(crate) fn stays_writing(&self)
+        ensures { self.now.failed ≡ false → spec.IsWriting self.now }
+    {
+        let _writer: &Writer<A> = &self.writer;
+    }
+
     /// Writes an entry, and finishes the current table before it if the next table is due.
     ///
     /// The next table is due at the first entry of a key, once the cut data blocks of the current
@@ -148,6 +162,17 @@ impl<A: Allocator + Clone> MultiWriter<A> {
     /// call began the next table before it failed, the table before that is one of them. Each later
     /// call fails with [`Error::WriterFailed`] and changes nothing. An id that was drawn stays drawn,
     /// even if the call fails later.
+    ///
+    /// # Examples
+    ///
+    /// ```
+    /// let item = entry(row);
+    /// if self.can_follow(&item.key) {
+    ///     number(self.write(item))
+    /// } else {
+    ///     MAY_NOT_FOLLOW
+    /// }
+    /// ```
     pub fn write(&mut self, item: InternalValue<A>) -> Result<(), Error>
         requires { IsTrue (spec.may_be_written (spec.all_written self.old) item.user_key
             item.seqno) }
@@ -220,6 +245,16 @@ impl<A: Allocator + Clone> MultiWriter<A> {
     /// Tables can be taken between any two calls, also after an error. Taking a table changes no other
     /// one: the taken tables, followed by those that [`MultiWriter::finish`] returns, are exactly the
     /// tables that `finish` returns if none is taken.
+    ///
+    /// # Examples
+    ///
+    /// ```
+    /// for _ in 0..most {
+    ///     if let Some(table) = writer.take_finished() {
+    ///         push(seen, seen_of(&table));
+    ///     }
+    /// }
+    /// ```
     pub fn take_finished(&mut self) -> Option<FinishedTable<A>>
         ensures table { spec.AreFinished self.old.present.options (spec.first_label self.old)
             (take 1 self.old.tables) (spec.option_to_list result) }
@@ -242,6 +277,13 @@ impl<A: Allocator + Clone> MultiWriter<A> {
     ///
     /// [`Error::WriterFailed`] if an earlier call failed; else the errors of [`Writer::finish`] for
     /// the current table, or [`Error::OutOfMemory`]. The finished tables are dropped then.
+    ///
+    /// # Examples
+    ///
+    /// ```
+    /// let tables = writer.finish()?;
+    /// Ok((tables, count))
+    /// ```
     pub fn finish(self) -> Result<Vec<FinishedTable<A>, A>, Error>
         ensures tables { IfOk result (λ fs.
             spec.AreTables self.present.options.data_block_size self.target

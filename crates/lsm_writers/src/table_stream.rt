@@ -41,6 +41,7 @@ impl<L: Lending, A: Allocator + Clone> TableStream<L, A> {
         ensures can { spec.StartsReady L.advances L.can_advance source writer result }
         ensures ids { result.ids ≡ writer.ids }
     {
+        writer.stays_writing();
         let ids = writer.table_ids();
         TableStream {
             source,
@@ -50,8 +51,7 @@ impl<L: Lending, A: Allocator + Clone> TableStream<L, A> {
         }
     }
 
-    /// Returns the id counter of the writer. After the last table its next id is unused; the
-    /// contract states its value only then.
+    /// Returns the id counter of the writer. After the last table, or an error, its next id is unused.
     pub fn table_ids(&self) -> TableIds
         ensures { result ≡ self.now.ids }
     {
@@ -64,7 +64,7 @@ impl<L: Lending + Drop, A: Allocator + Clone> Iterator for TableStream<L, A> {
 
     ghost can_next = { spec.CanPoll L.advances L.can_advance };
 
-    ghost next_gives = { spec.YieldsTable L.advances };
+    ghost next_gives = { spec.YieldsNextTable L.advances };
 
     ghost remaining = { λ s. at_most (spec.items_left L.left s) };
 

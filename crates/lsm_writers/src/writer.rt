@@ -78,6 +78,17 @@ impl<A: Allocator + Clone> Writer<A> {
     /// # Errors
     ///
     /// Only [`Error::OutOfMemory`].
+    ///
+    /// # Examples
+    ///
+    /// ```
+    /// let mut writer = Writer::new(alloc, 1, 0, Timestamp::from(0))?;
+    /// let entries = ENTRIES;
+    /// for entry in entries {
+    ///     write_entry(alloc, &mut writer, entry)?;
+    /// }
+    /// writer.finish()
+    /// ```
     pub fn new(
         alloc: A,
         id: TableId,
@@ -210,6 +221,18 @@ impl<A: Allocator + Clone> Writer<A> {
     /// - [`Error::BlockTooLarge`] if the size bound of the current block reaches 2^32.
     ///
     /// After an error each later call fails with [`Error::WriterFailed`].
+    ///
+    /// # Examples
+    ///
+    /// ```
+    /// let key = Slice::from(alloc, key)?;
+    /// let value = Slice::from(alloc, value)?;
+    /// let item = InternalValue::from_components(key, value, seqno, ValueType::Value);
+    /// if !writer.can_follow(&item.key) {
+    ///     return Ok(());
+    /// }
+    /// writer.write(item)
+    /// ```
     pub fn write(&mut self, item: InternalValue<A>) -> Result<(), Error>
         requires { IsTrue (spec.may_be_written (spec.written self.old) item.user_key item.seqno) }
         ensures ok { OnOk result (self.new ≡ spec.gained self.old item) }
@@ -302,6 +325,17 @@ impl<A: Allocator + Clone> Writer<A> {
     /// - [`Error::BlockTooLarge`] or [`Error::SectionTooLarge`] if the size bound of a block or
     ///   section of the index, then of the filter, reaches 2^32;
     /// - [`Error::OutOfMemory`].
+    ///
+    /// # Examples
+    ///
+    /// ```
+    /// writer.finish()
+    /// // ..
+    /// let Some(written) = write_table(rt.alloc())? else {
+    ///     return Ok(());
+    /// };
+    /// let table = open_table(rt.alloc(), written)?;
+    /// ```
     pub fn finish(mut self) -> Result<Option<FinishedTable<A>>, Error>
         ensures table { IfOk result (λ t. MatchOption t (spec.written self ≡ [])
             (λ f. spec.IsFinished self f.id f.checksum.0 f.bytes)) }

@@ -83,8 +83,8 @@ abbrev pub most_of : DumpTask → ℕ
 most_of task = option_map_or (λ n. n) task.limit (2 ^ 64 - 1)
 
 -- The snapshot of the task, or all sequence numbers.
-abbrev pub below_of : DumpTask → ℕ
-below_of task = option_map_or (λ n. n) task.at (2 ^ 64 - 1)
+abbrev pub snapshot_of : DumpTask → ℕ
+snapshot_of task = option_map_or (λ n. n) task.at (2 ^ 64 - 1)
 
 -- The files are read together. Whatever their bytes, what is read from the front are entries; if
 -- they store lists, the newest visible versions of all lists in the range are printed.
@@ -106,4 +106,4 @@ pub record DoesDump (task : DumpTask) (content : List ℕ → Option (List ℕ))
   pub each : task.merged ≡ false
       → (rest : ℕ) × DumpsEach options content task.files.items (most_of task) rest
   pub merged : task.merged ≡ true
-      → DumpsMerged options (below_of task) (most_of task) content task.files.items
+      → DumpsMerged options (snapshot_of task) (most_of task) content task.files.items

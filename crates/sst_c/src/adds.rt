@@ -56,8 +56,8 @@ fn add_each(writer: &mut Writer, entries: &[EntryReport], bytes: &[u8], count: &
 fn add_fitting(writer: &mut Writer, entries: &[EntryReport], bytes: &[u8], count: &mut u64) -> u32
     ensures lengths { spec.sum (map spec.reported_size entries.now) ≢ length bytes.now →
         (result ≡ 105) × (writer.new ≡ writer.old) × (count.new ≡ count.old) }
-    ensures added { spec.sum (map spec.reported_size entries.now) ≡ length bytes.now →
-        spec.AddsMany writer.old (spec.rows_of_reports entries.now bytes.now) count.new result writer.new }
+    ensures added { spec.sum (map spec.reported_size entries.now) ≡ length bytes.now → spec.AddsMany
+        writer.old (spec.rows_of_reports entries.now bytes.now) count.new result writer.new }
 {
     if !have_bytes(entries, bytes.len() as u64) {
         return NO_SUCH;

@@ -1,13 +1,16 @@
 //! Results of point reads of many keys.
-ghost use Rattle.std.specs.Prelude.{◌≡◌, ◌<◌, IfErr, IfOk, IfSome, List, Ok, Option, Some, length, map};
+ghost use Rattle.std.specs.Prelude.{◌≡◌, ◌<◌, IfErr, IfOk, IfSome, List, Ok, Option, Some};
+ghost use Rattle.std.specs.Prelude.{length, map};
 ghost use Rattle.sst_c.specs.Words as spec;
 
 use lsm_readers::{Query, Table, get_many_places};
 use sst_blocks::{EntryPlace, EntryRef, Error};
 use std::marker::Model;
 
-/// The results of point reads of a table, one for each key: positions in the table's bytes, with one
-/// reference to the table. Contracts see the entries.
+/// The results of point reads of a table, one for each key.
+///
+/// They are positions in the table's bytes, with one reference to the table. Contracts see the
+/// entries.
 #[derive(Drop)]
 pub struct AnswerList {
     table: Table,

@@ -8,11 +8,15 @@ use crate::handle::Handle;
 use crate::held::{Files, Held, What};
 use crate::options::{TableOptions, are_usable, writer_options};
 use crate::run_list::RunList;
-use lsm_runs::{CompactionOutcome, compact_any_runs};
+use lsm_readers::Table;
+use lsm_runs::{CompactionOutcome, NoObserver, compact_any_runs};
+use lsm_sorted::Run;
 use lsm_sorted::compaction::Rules;
+use lsm_sorted::compaction::stream::{NoCallback, NoFilter};
 use lsm_writers::{FinishedTable, MultiWriter, TableIds, Timestamp};
 use sst_blocks::Error;
 use std::alloc::Global;
+use std::sync::Arc;
 
 // A writer of tables of `target_size` bytes of data blocks each. Table ids count up from that of
 // the options.
@@ -32,6 +36,29 @@ fn compactor_of(
     Ok(writer.use_options(writer_options(options)))
 }
 
+// Compacts runs without a filter, a callback and an observer.
+fn compact_unfiltered(
+    alloc: Global,
+    runs: &[Arc<Run<Table>>],
+    rules: Rules,
+    writer: MultiWriter,
+) -> Result<CompactionOutcome, Error>
+    requires { spec.IsFreshRun writer }
+    ensures { spec.IsCompactionOf (spec.each_run runs.now) rules writer result }
+{
+    let mut observer = NoObserver;
+    let (outcome, _) = compact_any_runs(
+        alloc,
+        runs,
+        rules,
+        writer,
+        NoFilter,
+        NoCallback,
+        &mut observer,
+    )?;
+    Ok(outcome)
+}
+
 fn compacted_by(
     alloc: Global,
     runs: &RunList,
@@ -41,7 +68,7 @@ fn compacted_by(
     requires { spec.IsFreshRun writer }
     ensures { spec.IsCompactionOf runs.now rules writer result }
 {
-    compact_any_runs(alloc, runs.as_slice(), rules, writer)
+    compact_unfiltered(alloc, runs.as_slice(), rules, writer)
 }
 
 fn compacted(

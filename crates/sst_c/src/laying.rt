@@ -1,5 +1,6 @@
 //! Copying keys and values back to back into one room.
-ghost use Rattle.std.specs.Prelude.{◌≡◌, ◌+◌, ◌≤◌, ◌++◌, true, false, length, take, drop, nat_lt, not};
+ghost use Rattle.std.specs.Prelude.{◌≡◌, ◌+◌, ◌≤◌, ◌++◌, true, false, length, take, drop};
+ghost use Rattle.std.specs.Prelude.{nat_lt, not};
 ghost use Rattle.sst_c.specs.Words as spec;
 
 use crate::found::copy_out;

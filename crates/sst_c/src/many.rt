@@ -55,8 +55,8 @@ fn found_of(
     requires { spec.sum lens.now ≡ length keys.now }
     ensures returned { spec.GivesMany result
         (spec.many_results table.now (spec.queries_for keys.now lens.now seqno)) }
-    ensures list { (es : List spec.Entry) → spec.StoresList table.now.bytes es → spec.GivesMany result
-        (Ok (spec.points_of es table.now.global_seqno keys.now lens.now seqno)) }
+    ensures list { (es : List spec.Entry) → spec.StoresList table.now.bytes es → spec.GivesMany
+        result (Ok (spec.points_of es table.now.global_seqno keys.now lens.now seqno)) }
     ensures count { IfOk result (λ found. length found ≡ length lens.now) }
 {
     let queries = queries_of(alloc, keys, lens, seqno)?;

@@ -174,7 +174,8 @@ pub extern "C" fn sst_table_verify(
     returned: &mut VerifyReport,
 ) -> u32
     ensures kept { table.new.boxed.value ≡ table.old.boxed.value }
-    ensures shut { table.old.boxed.value ≡ None → (result ≡ 100) × (returned.new ≡ spec.no_finding) }
+    ensures shut { table.old.boxed.value ≡ None →
+        (result ≡ 100) × (returned.new ≡ spec.no_finding) }
     ensures other { (h : spec.HeldValue) → table.old.boxed.value ≡ Some h →
         spec.is_table h.what ≡ false → (result ≡ 102) × (returned.new ≡ spec.no_finding) }
     // It reports the first fault, or the counts of a table that stores a list.
@@ -225,7 +226,8 @@ pub extern "C" fn sst_table_verify_with(
     returned: &mut VerifyReport,
 ) -> u32
     ensures kept { table.new.boxed.value ≡ table.old.boxed.value }
-    ensures shut { table.old.boxed.value ≡ None → (result ≡ 100) × (returned.new ≡ spec.no_finding) }
+    ensures shut { table.old.boxed.value ≡ None →
+        (result ≡ 100) × (returned.new ≡ spec.no_finding) }
     ensures other { (h : spec.HeldValue) → table.old.boxed.value ≡ Some h →
         spec.is_table h.what ≡ false → (result ≡ 102) × (returned.new ≡ spec.no_finding) }
     // It reports another checksum, or else what `sst_table_verify` does.

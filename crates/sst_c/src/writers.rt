@@ -144,8 +144,8 @@ pub(crate) fn add_kind(
 fn add(held: &mut Held, key: &[u8], seqno: SeqNo, kind: u64, value: &[u8]) -> u32
     ensures other { spec.writer_in held.old.what ≡ None →
         (result ≡ 102) × (held.new.what ≡ held.old.what) }
-    ensures writes { spec.WritesEntry (spec.row_of kind seqno key.now value.now) held.old.what result
-        held.new.what }
+    ensures writes { spec.WritesEntry (spec.row_of kind seqno key.now value.now) held.old.what
+        result held.new.what }
     ensures found { spec.found_by held.new ≡ spec.found_by held.old }
 {
     match &mut held.what {

@@ -137,8 +137,8 @@ fn parse_compact(words: &[u8]) -> Option<Command<'_>>
 
 // Whether tombstones are evicted and whether seqnos become 0, each by its word, in this order.
 fn parse_settings(settings: Option<&[u8]>) -> Option<(bool, bool)>
-    ensures words { IfSome result (λ returned.
-        spec.words_behind (spec.option_copied settings.entry) ≡ spec.setting_words returned.0 returned.1) }
+    ensures words { IfSome result (λ returned. spec.words_behind (spec.option_copied settings.entry)
+        ≡ spec.setting_words returned.0 returned.1) }
     ensures none { IfNone result ((evict zero : Bool) →
         ¬ (spec.words_behind (spec.option_copied settings.entry) ≡ spec.setting_words evict zero)) }
 {

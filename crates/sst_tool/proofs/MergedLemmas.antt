@@ -16,8 +16,8 @@ use Rattle.sst_entries.proofs.StreamLemmas.{yields_front}
 use Rattle.sst_tool.specs.declared.files.error.ToolError.{ToolError}
 use Rattle.sst_tool.specs.declared.files.error.ToolError.TheVariants as error
 use Rattle.sst_tool.specs.show.Failures.{NamesNone}
-use Rattle.sst_tool.specs.show.Merged.{FailsOnlyAs, Prints, ShowsLive, is_live, lines_of, live_of}
-use Rattle.sst_tool.specs.show.Merged.{printed}
+use Rattle.sst_tool.specs.show.Merged.{FailsOnlyAs, PrintsMerged, ShowsLive, is_live, merged_lines, live_of}
+use Rattle.sst_tool.specs.show.Merged.{merged_entries}
 use Rattle.sst_tool.specs.show.Read.{Outcome, first_error, in_turn}
 
 -- ---- the steps of a loop
@@ -27,7 +27,7 @@ lines_alone : (e : Entry) (b : Bool) → length (cond b (e ∷ []) []) ≡ (if b
 lines_alone e true = refl
 lines_alone e false = refl
 
-lines_more : (es : List Entry) (e : Entry) → length (live_of (es ++ e ∷ [])) ≡ length (live_of es) + lines_of e
+lines_more : (es : List Entry) (e : Entry) → length (live_of (es ++ e ∷ [])) ≡ length (live_of es) + merged_lines e
 lines_more es e =
     ap length (filter-append is_live es (e ∷ []))
     ∙ length-append (live_of es) (live_of (e ∷ []))
@@ -38,7 +38,7 @@ few_by true = omega arith
 few_by false = omega arith
 
 -- an entry has a line at most
-pub few_lines : (e : Entry) → lines_of e ≤ 1
+pub few_lines : (e : Entry) → merged_lines e ≤ 1
 few_lines e = few_by (is_live e)
 
 -- the head of what is left
@@ -71,8 +71,8 @@ module _ {S : Type 0} (step : S → Option Outcome → S → Type 0) (stops : Er
     pub split : ok_results read ++ rest ≡ rs
     pub counted : length (live_of read) + left ≡ most
 
-  pub one_read : (s t : S) (left : ℕ) (e : Entry) → lines_of e ≤ left → Printing s left
-      → step s (Some (Ok e)) t → Printing t (left - lines_of e)
+  pub one_read : (s t : S) (left : ℕ) (e : Entry) → merged_lines e ≤ left → Printing s left
+      → step s (Some (Ok e)) t → Printing t (left - merged_lines e)
   one_read s t left e few before at =
       let one = yields_front (answer_stops stops) step nowhere s before.rest (Some (Ok e)) t
       before.yields at refl in
@@ -89,7 +89,7 @@ module _ {S : Type 0} (step : S → Option Outcome → S → Type 0) (stops : Er
       }
 
   -- nothing more is to be read
-  pub all_read : (s t : S) (left : ℕ) → Printing s left → step s None t → Prints most rs (most - left)
+  pub all_read : (s t : S) (left : ℕ) → Printing s left → step s None t → PrintsMerged most rs (most - left)
   all_read s t left before at =
       let one = yields_front (answer_stops stops) step nowhere s before.rest None t
       before.yields at refl in
@@ -103,7 +103,7 @@ module _ {S : Type 0} (step : S → Option Outcome → S → Type 0) (stops : Er
       }
 
   -- as many lines as may be are printed
-  pub most_read : (s : S) (left : ℕ) → left ≤ 0 → Printing s left → Prints most rs most
+  pub most_read : (s : S) (left : ℕ) → left ≤ 0 → Printing s left → PrintsMerged most rs most
   most_read s left none before = record {
     read = before.read;
     rest = before.rest;
@@ -148,14 +148,14 @@ module _ {S : Type 0} (step : S → Option Outcome → S → Type 0) (s t : S) w
   ShowsStep r = (item : Option Outcome) × step s item t × ShowsLive item r
 
   entry_by : (count : ℕ) (item : Option Outcome) → step s item t → ShowsLive item (Ok (Some count))
-      → (e : Entry) × (count ≡ lines_of e) × step s (Some (Ok e)) t
+      → (e : Entry) × (count ≡ merged_lines e) × step s (Some (Ok e)) t
   entry_by count None at shows = absurd cc
-  entry_by count (Some (Ok e)) at shows = (e, let is : count ≡ lines_of e = cc in is, at)
+  entry_by count (Some (Ok e)) at shows = (e, let is : count ≡ merged_lines e = cc in is, at)
   entry_by count (Some (Err e)) at shows = absurd cc
 
   -- an entry was read
   pub entry_shown : (count : ℕ) → ShowsStep (Ok (Some count))
-      → (e : Entry) × (count ≡ lines_of e) × step s (Some (Ok e)) t
+      → (e : Entry) × (count ≡ merged_lines e) × step s (Some (Ok e)) t
   entry_shown count one = entry_by count one.0 one.1 one.2
 
   none_by : (item : Option Outcome) → step s item t → ShowsLive item (Ok None) → step s None t
@@ -191,7 +191,7 @@ module _ {S : Type 0} (step : S → Option Outcome → S → Type 0) (s t : S) w
   module _ (stops : Error → Bool) (most : ℕ) (rs : List Outcome) where
     pub error_shown : (left : ℕ) (r : Result ℕ ToolError) (f : ToolError)
         → IsErrAnd r (λ x. x ≡ f) → ShowsStep (Err f) → Printing step stops most rs s left
-        → IfOk r (Prints most rs)
+        → IfOk r (PrintsMerged most rs)
         × IfErr r (FailsOnlyAs (λ e. stops e ≡ false → first_error rs ≡ Some e))
     error_shown left (Ok x) f is one before = absurd is
     error_shown left (Err x) f is one before = (
@@ -213,7 +213,7 @@ module _ {S : Type 0} (step : S → Option Outcome → S → Type 0) (s t : S) w
 
     -- no entry was left
     pub entries_end : (left : ℕ) → ShowsStep (Ok None) → Printing step stops most rs s left
-        → Prints most rs (most - left)
+        → PrintsMerged most rs (most - left)
     entries_end left one before = all_read step stops most rs s t left before (none_shown one)
 
   -- at most one line was printed
@@ -266,7 +266,7 @@ count_by count most alone more is few ends = elim ends [
   | inr none ↦ omega (arith, is, few, none)
 ]
 
-counted_of : (most : ℕ) (es : List Entry) (count : ℕ) → Prints most (ok_results es) count
+counted_of : (most : ℕ) (es : List Entry) (count : ℕ) → PrintsMerged most (ok_results es) count
     → count ≡ length (take most (live_of es))
 counted_of most es count p =
     let parts = split_list p.read es p.rest p.split in
@@ -284,17 +284,17 @@ counted_of most es count p =
 
 -- so many entries are printed of a list that is read in turn
 pub list_printed : (back : Bool) (r : Result ℕ ToolError) (most : ℕ) (es : List Entry)
-    → IfOk r (Prints most (ok_results (in_turn back es)))
-    → IfOk r (λ count. count ≡ length (printed back most es))
+    → IfOk r (PrintsMerged most (ok_results (in_turn back es)))
+    → IfOk r (λ count. count ≡ length (merged_entries back most es))
 list_printed back (Ok count) most es p = counted_of most (in_turn back es) count p
 list_printed back (Err f) most es p = tt
 
 pub back_printed : (r : Result ℕ ToolError) (most : ℕ) (es : List Entry)
-    → IfOk r (Prints most (reverse (ok_results es)))
-    → IfOk r (λ count. count ≡ length (printed true most es))
+    → IfOk r (PrintsMerged most (reverse (ok_results es)))
+    → IfOk r (λ count. count ≡ length (merged_entries true most es))
 back_printed r most es p =
     list_printed true r most es
-    (subst (λ (rs : List Outcome). IfOk r (Prints most rs)) (map_reverse es) p)
+    (subst (λ (rs : List Outcome). IfOk r (PrintsMerged most rs)) (map_reverse es) p)
 
 none_by_list : (f : ToolError) (es : List Entry)
     → FailsOnlyAs (λ e. is_memory e ≡ false → first_error (ok_results es) ≡ Some e) f → NamesNone f

@@ -5,8 +5,8 @@ use crate::handle::{lent_by, room, Handle};
 use crate::{Error, InternalValue, LentValue, SeqNo, Table};
 use logpurple_sys as sys;
 
-/// Holds what [`Table::get_many_lent`] found of each key, in the order of the keys. Entries are
-/// borrowed from it:
+/// The results of [`Table::get_many_lent`], in the order of the keys. Entries are borrowed from
+/// it:
 ///
 /// ```compile_fail,E0505
 /// fn keep(answers: logpurple::Answers) {
@@ -61,7 +61,7 @@ impl<'f> Answers<'f> {
         self.told.is_empty()
     }
 
-    /// Returns what was found of the key at an index, from 0 on.
+    /// Returns the entry found for the key at an index, from 0 on.
     ///
     /// Returns `None` if the key has no version below the sequence number, or if there is no such
     /// index.
@@ -75,12 +75,12 @@ impl<'f> Answers<'f> {
         lent.expect("what was told to be found is lent")
     }
 
-    /// Iterates over what was found of each key, in the order of the keys.
+    /// Iterates over the results, in the order of the keys.
     pub fn iter<'l>(&'l self) -> impl ExactSizeIterator<Item = Option<LentValue<'l>>> + 'l {
         (0..self.len()).map(move |place| self.get(place))
     }
 
-    /// Copies everything that was found.
+    /// Copies all results.
     ///
     /// # Errors
     ///

@@ -24,8 +24,8 @@ use logpurple_sys as sys;
 /// No table is returned after an error.
 ///
 /// - `NoSuch` if an option is out of range.
-/// - `OutOfOrder` if a table is not as a writer makes it, or if two tables have one key with one
-///   sequence number.
+/// - `OutOfOrder` if a table is not as a writer makes it, or if two tables have the same key with
+///   the same sequence number.
 /// - The first fault of the blocks, and the errors of a writer.
 /// - `TableIdsSpent` if no id is left.
 /// - `OutOfMemory`.

@@ -58,8 +58,8 @@ impl std::error::Error for FileError {
     }
 }
 
-/// Writes a file beside a path, syncs it, and renames it. So the path has the whole file, or what
-/// it had before. A file that is replaced passes on its permissions.
+/// Writes a file beside a path, syncs it, and renames it. So the path has the whole file, or its
+/// earlier file. A file that is replaced passes on its permissions.
 pub(crate) fn save<E: From<io::Error>>(
     path: &Path,
     write: impl FnOnce(&mut File) -> Result<(), E>,

@@ -90,12 +90,12 @@ impl<'f> Handles<'f> {
         self.all.lock().unwrap_or_else(PoisonError::into_inner)
     }
 
-    /// Makes a call with a handle. Other threads wait until it returns, so it is a short one.
+    /// Makes a short call with a handle. Other threads wait until it returns.
     pub(crate) fn briefly<T>(&self, call: impl FnOnce(&Handle<'f>) -> T) -> T {
         call(&self.lock().first)
     }
 
-    /// Makes a call with a handle that no other call uses. It is a share, or one is made.
+    /// Makes a call with a handle that no other call uses: a kept share, or a new one.
     pub(crate) fn with<T>(
         &self,
         call: impl FnOnce(&Handle<'f>) -> Result<T, Error>,
@@ -127,7 +127,7 @@ impl<'f> Handles<'f> {
         self.share().map(|handle| unsafe { Handles::of(handle) })
     }
 
-    /// Returns a handle for who has the table alone.
+    /// Returns a handle for a caller that has exclusive access to the table.
     pub(crate) fn own(&mut self) -> &Handle<'f> {
         &self.all.get_mut().unwrap_or_else(PoisonError::into_inner).first
     }
@@ -141,8 +141,8 @@ impl Drop for Handle<'_> {
 }
 
 impl Drop for Handles<'_> {
-    /// Does nothing. The compiler ends no borrow for `'f` before a type that is dropped so, and the
-    /// handles are dropped then.
+    /// Does nothing. Because of this implementation, the compiler requires `'f` to outlive the drop
+    /// of the handles.
     fn drop(&mut self) {}
 }
 
@@ -154,7 +154,7 @@ pub(crate) fn require_version() {
     });
 }
 
-/// Borrows what a call lends of an entry that a read reported; `None` if there is no entry.
+/// Borrows the entry that a read reported, by a call that lends it. `None` if there is no entry.
 ///
 /// # Safety
 ///

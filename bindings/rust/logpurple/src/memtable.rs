@@ -183,7 +183,7 @@ fn precedes(entry: &InternalValue, other: &InternalValue) -> bool {
     key.user_key < other.user_key || key.user_key == other.user_key && key.seqno > other.seqno
 }
 
-/// Takes the items of an iterator from both ends, and shows the next one at each.
+/// A double-ended iterator that can be peeked at both ends.
 #[derive(Debug)]
 struct Ends<I, T> {
     iter: Fuse<I>,

@@ -51,7 +51,7 @@ impl<'f> Steps<'f> {
     }
 }
 
-/// Copies what was found. If the copy fails with `OutOfMemory`, the caller exhausts the reader:
+/// Copies the found entry. If the copy fails with `OutOfMemory`, the caller exhausts the reader:
 /// otherwise it would skip the entry.
 pub(crate) fn copied(
     found: Result<Option<LentValue<'_>>, Error>,

@@ -402,7 +402,7 @@ impl<'f> Table<'f> {
         }
     }
 
-    /// Returns what the table claims about itself.
+    /// Returns the metadata that the table claims.
     pub fn metadata(&self) -> Metadata {
         let facts = self.facts();
         Metadata {

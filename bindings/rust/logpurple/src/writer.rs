@@ -106,7 +106,7 @@ impl FinishedTable {
     /// Writes the table to a file, which is then complete and synced.
     ///
     /// The bytes go into a file beside it, which is renamed. So the path has the whole table, or
-    /// what it had before. A file that is there is replaced.
+    /// its earlier file. A file that is there is replaced.
     ///
     /// # Errors
     ///
@@ -258,7 +258,7 @@ fn count_of(files: &Handle<'_>) -> Result<u64, Error> {
     Ok(count)
 }
 
-/// Returns what a handle reports of a finished table.
+/// Returns the report of a handle on a finished table.
 fn told_of(files: &Handle<'_>, place: u64) -> Result<sys::sst_file, Error> {
     let mut told = sys::sst_file::default();
     // SAFETY: both are references of this call.

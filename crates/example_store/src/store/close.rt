@@ -37,7 +37,8 @@ impl<A: Allocator + Clone> Store<A> {
         ensures closed { IfOk result (λ closed. spec.IsStore self.new
             × spec.IsClosed self.new closed) }
         // The store reads as the same history.
-        ensures story { (ws : List spec.Entry) → spec.IsReported self.old ws → spec.IsReported self.new ws }
+        ensures story { (ws : List spec.Entry) → spec.IsReported self.old ws →
+            spec.IsReported self.new ws }
         ensures next { self.new.next ≡ self.old.next }
         ensures oldest { self.new.oldest ≡ self.old.oldest }
         ensures limit { self.new.limit ≡ self.old.limit }
@@ -74,8 +75,8 @@ fn files_of<A: Allocator + Clone>(
     alloc: &A,
     runs: &[Arc<Run<Table<A>, A>, A>],
 ) -> Result<Vec<Vec<Slice<A>, A>, A>, Error>
-    ensures files { IfOk result (λ files.
-        map (λ run. run.items) files.items ≡ spec.bytes_by_run (map spec.arc_value runs.now)) }
+    ensures files { IfOk result (λ files. map (λ run. run.items) files.items ≡ spec.bytes_by_run
+        (spec.each_run runs.now)) }
     ensures memory { IfErr result (λ e. e ≡ OutOfMemory) }
 {
     let mut files = Vec::new(alloc.clone()?);

@@ -25,7 +25,8 @@ impl<A: Allocator + Clone> Store<A> {
     ///
     /// Those of [`compact_to_run`]. The store is not changed then.
     pub fn compact(&mut self, watermark: SeqNo) -> Result<(), Error>
-        ensures story { (ws : List spec.Entry) → spec.IsReported self.old ws → spec.IsReported self.new ws }
+        ensures story { (ws : List spec.Entry) → spec.IsReported self.old ws →
+            spec.IsReported self.new ws }
         ensures oldest { OnOk result
             (self.new.oldest ≡ max self.old.oldest (min watermark self.old.next)) }
         ensures next { self.new.next ≡ self.old.next }
@@ -38,18 +39,17 @@ impl<A: Allocator + Clone> Store<A> {
         // At most one run is left.
         ensures few { OnOk result (length self.new.runs ≤ 1) }
         // The runs have what is kept of all that they had, cut by the target.
-        ensures made { (lists : List (List (List spec.Entry))) →
-            spec.RunsHoldLists self.old.runs lists → OnOk result (spec.AreMadeOf self.old
+        ensures made { (lists : spec.TableLists) → spec.RunsHoldLists self.old.runs lists →
+            OnOk result (spec.AreMadeOf self.old
             (spec.kept_in (spec.rules_by (min watermark self.old.next) true false) lists)
             self.new.runs) }
         ensures err { OnErr result (self.new ≡ self.old) }
         // Except for `OutOfMemory`, the error is that of writing what is kept of the runs as
         // tables.
-        ensures refused { (lists : List (List (List spec.Entry))) →
-            spec.RunsHoldLists self.old.runs lists → IfErr result (λ e. spec.is_memory e ≡ false →
-            spec.tables_fault self.old.ids self.old.target 0
-            (spec.kept_in (spec.rules_by (min watermark self.old.next) true false) lists)
-            ≡ Some e) }
+        ensures refused { (lists : spec.TableLists) → spec.RunsHoldLists self.old.runs lists →
+            IfErr result (λ e. spec.is_memory e ≡ false
+            → spec.tables_fault self.old.ids self.old.target 0
+            (spec.kept_in (spec.rules_by (min watermark self.old.next) true false) lists) ≡ Some e) }
     {
         let watermark = watermark.min(self.next);
         let rules = Rules {
@@ -70,7 +70,8 @@ impl<A: Allocator + Clone> Store<A> {
     ///
     /// [`Error::OutOfMemory`] only. The store is not changed then.
     pub fn pack(&mut self) -> Result<(), Error>
-        ensures story { (ws : List spec.Entry) → spec.IsReported self.old ws → spec.IsReported self.new ws }
+        ensures story { (ws : List spec.Entry) → spec.IsReported self.old ws →
+            spec.IsReported self.new ws }
         ensures oldest { self.new.oldest ≡ self.old.oldest }
         ensures next { self.new.next ≡ self.old.next }
         ensures limit { self.new.limit ≡ self.old.limit }
@@ -79,8 +80,7 @@ impl<A: Allocator + Clone> Store<A> {
         ensures recent { self.new.recent ≡ self.old.recent }
         // They have the same tables, and hold the same entries.
         ensures tables { OnOk result (spec.SameTables self.old.runs self.new.runs) }
-        ensures list { (lists : List (List (List spec.Entry))) →
-            spec.RunsHoldLists self.old.runs lists →
+        ensures list { (lists : spec.TableLists) → spec.RunsHoldLists self.old.runs lists →
             OnOk result (spec.HoldUnion self.new.runs (spec.union_in lists)) }
         // No fewer runs are possible.
         ensures least { OnOk result
@@ -103,26 +103,21 @@ pub(crate) fn compacted<A: Allocator + Clone>(
     ids: TableIds,
     target: u64,
 ) -> Result<(Runs<A>, TableIds), Error>
-    requires { spec.AreCompactable (map spec.arc_value runs.now) }
-    ensures kept { (lists : List (List (List spec.Entry))) →
-        spec.RunsHoldLists (map spec.arc_value runs.now) lists →
+    requires { spec.AreCompactable (spec.each_run runs.now) }
+    ensures kept { (lists : spec.TableLists) → spec.RunsHold runs.now lists →
         IfOk result (λ r. spec.HaveAll (spec.kept_in rules lists) (map spec.arc_value r.0.items)) }
     ensures few { IfOk result (λ r. length r.0.items ≤ 1) }
-    ensures cut { (lists : List (List (List spec.Entry))) →
-        spec.RunsHoldLists (map spec.arc_value runs.now) lists →
+    ensures cut { (lists : spec.TableLists) → spec.RunsHold runs.now lists →
         IfOk result (λ r. spec.AllByRecursion (spec.AreCutOf (spec.run_label ids target 0) target
         (spec.kept_in rules lists) 0) (map spec.arc_value r.0.items)) }
     ensures ids { IfOk result (λ r.
         r.1 ≡ spec.ids_behind ids target (sum_by length (map spec.arc_value r.0.items))) }
     ensures able { IfOk result (λ r. spec.AreCompactable (map spec.arc_value r.0.items)) }
-    ensures own { (bound : ℕ) →
-        spec.AllByRecursion (spec.IsOwnRun bound) (map spec.arc_value runs.now) →
-        IfOk result (λ r. spec.AllByRecursion (spec.IsOwnRun bound)
-        (map spec.arc_value r.0.items)) }
-    ensures refused { (lists : List (List (List spec.Entry))) →
-        spec.RunsHoldLists (map spec.arc_value runs.now) lists →
-        IfErr result (λ e. spec.is_memory e ≡ false →
-        spec.tables_fault ids target 0 (spec.kept_in rules lists) ≡ Some e) }
+    ensures own { (bound : ℕ) → spec.AllByRecursion (spec.IsOwnRun bound) (spec.each_run runs.now) →
+        IfOk result (λ r. spec.AllByRecursion (spec.IsOwnRun bound) (map spec.arc_value r.0.items)) }
+    ensures refused { (lists : spec.TableLists) → spec.RunsHold runs.now lists →
+        IfErr result (λ e. spec.is_memory e ≡ false → spec.tables_fault ids target 0
+        (spec.kept_in rules lists) ≡ Some e) }
 {
     let created_at = Timestamp::from(0);
     let (run, left) = compact_to_run(alloc.clone()?, runs, rules, ids, target, created_at)?;
@@ -166,21 +161,19 @@ fn packed<A: Allocator + Clone>(
     alloc: &A,
     runs: &[Arc<Run<Table<A>, A>, A>],
 ) -> Result<Runs<A>, Error>
-    ensures tables { IfOk result (λ packed.
-        spec.SameTables (map spec.arc_value runs.now) (map spec.arc_value packed.items)) }
-    ensures list { (lists : List (List (List spec.Entry))) →
-        spec.RunsHoldLists (map spec.arc_value runs.now) lists →
+    ensures tables { IfOk result (λ packed. spec.SameTables (spec.each_run runs.now)
+        (map spec.arc_value packed.items)) }
+    ensures list { (lists : spec.TableLists) → spec.RunsHold runs.now lists →
         IfOk result (λ packed. spec.HoldUnion (map spec.arc_value packed.items)
         (spec.union_in lists)) }
-    ensures able { spec.AreCompactable (map spec.arc_value runs.now) →
+    ensures able { spec.AreCompactable (spec.each_run runs.now) →
         IfOk result (λ packed. spec.AreCompactable (map spec.arc_value packed.items)) }
-    ensures own { (bound : ℕ) → spec.AreInOrder spec.range_of (map spec.arc_value runs.now) →
-        spec.AllByRecursion (spec.IsOwnRun bound) (map spec.arc_value runs.now) →
+    ensures own { (bound : ℕ) → spec.AreInOrder spec.range_of (spec.each_run runs.now) →
+        spec.AllByRecursion (spec.IsOwnRun bound) (spec.each_run runs.now) →
         IfOk result (λ packed. spec.AllByRecursion (spec.IsOwnRun bound)
         (map spec.arc_value packed.items)) }
-    ensures least { IfOk result
-        (λ packed. spec.AreInOrder spec.range_of (map spec.arc_value runs.now) →
-        spec.IsLeastSize spec.range_of (map spec.arc_value runs.now)
+    ensures least { IfOk result (λ packed. spec.AreInOrder spec.range_of (spec.each_run runs.now) →
+        spec.IsLeastSize spec.range_of (spec.each_run runs.now)
         (length (map spec.arc_value packed.items))) }
     ensures memory { IfErr result (λ e. e ≡ OutOfMemory) }
 {

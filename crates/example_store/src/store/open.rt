@@ -102,9 +102,8 @@ impl<A: Allocator + Clone> Store<A> {
         ensures limit { IfOk result (λ store. store.limit ≡ limit) }
         ensures target { IfOk result (λ store. store.target ≡ target) }
         // Each file stores a list, and its reads rest on these lists alone.
-        ensures lists { IfOk result (λ store. (lists : List (List (List spec.Entry))) ×
-            spec.StoreLists (spec.files_in closed.now) lists × spec.RunsHoldLists store.runs
-            lists) }
+        ensures lists { IfOk result (λ store. (lists : spec.TableLists) × spec.StoreLists
+            (spec.files_in closed.now) lists × spec.RunsHoldLists store.runs lists) }
         // The snapshot of all writes is kept.
         ensures kept { IfOk result (λ _. closed.now.oldest ≤ closed.now.next) }
         // It reads as the history that the closed store read as.
@@ -326,15 +325,13 @@ fn test_order<A: Allocator + Clone>(
     runs: &[Arc<Run<Table<A>, A>, A>],
 ) -> Result<(), OpenError>
     requires some { spec.AllByRecursion (λ (run : List spec.OpenTable). 0 < length run)
-        (map spec.arc_value runs.now) }
-    ensures strict { (lists : List (List (List spec.Entry))) →
-        spec.RunsHoldLists (map spec.arc_value runs.now) lists →
+        (spec.each_run runs.now) }
+    ensures strict { (lists : spec.TableLists) → spec.RunsHold runs.now lists →
         spec.AllByRecursion spec.HaveEntries lists →
         IfOk result (λ _. spec.IsStrict (spec.union_in lists)) }
-    ensures taken { (lists : List (List (List spec.Entry))) →
-        spec.RunsHoldLists (map spec.arc_value runs.now) lists →
-        spec.AllByRecursion spec.HaveEntries lists →
-        spec.IsStrict (spec.union_in lists) → IfErr result (λ e. e ≡ OutOfMemory) }
+    ensures taken { (lists : spec.TableLists) → spec.RunsHold runs.now lists →
+        spec.AllByRecursion spec.HaveEntries lists → spec.IsStrict (spec.union_in lists) →
+        IfErr result (λ e. e ≡ OutOfMemory) }
     ensures named { IfErr result (λ e. (e ≡ OutOfMemory) ⊎ (e ≡ spec.Repeated)) }
 {
     match are_strict(alloc, runs) {

@@ -24,13 +24,11 @@ pub fn are_strict<A: Allocator + Clone>(
     runs: &[Arc<Run<Table<A>, A>, A>],
 ) -> Result<bool, Error>
     requires some { spec.AllByRecursion (λ (run : List spec.OpenTable). 0 < length run)
-        (map spec.arc_value runs.now) }
-    ensures exact { (lists : List (List (List spec.Entry))) →
-        spec.RunsHoldLists (map spec.arc_value runs.now) lists →
+        (spec.each_run runs.now) }
+    ensures exact { (lists : spec.TableLists) → spec.RunsHold runs.now lists →
         spec.AllByRecursion spec.HaveEntries lists →
         IfOk result (λ b. IsTrue b ↔ spec.IsStrict (spec.union_in lists)) }
-    ensures memory { (lists : List (List (List spec.Entry))) →
-        spec.RunsHoldLists (map spec.arc_value runs.now) lists →
+    ensures memory { (lists : spec.TableLists) → spec.RunsHold runs.now lists →
         spec.AllByRecursion spec.HaveEntries lists → IfErr result (λ e. e ≡ OutOfMemory) }
 {
     let scanners = scanners_of(alloc, runs)?;
@@ -43,14 +41,12 @@ fn scanners_of<A: Allocator + Clone>(
     runs: &[Arc<Run<Table<A>, A>, A>],
 ) -> Result<Vec<RunScanner<A>, A>, Error>
     requires some { spec.AllByRecursion (λ (run : List spec.OpenTable). 0 < length run)
-        (map spec.arc_value runs.now) }
+        (spec.each_run runs.now) }
     ensures list { let gives = ⟦<RunScanner<A> as Iterator>⟧.next_gives in
-        (lists : List (List (List spec.Entry))) →
-        spec.RunsHoldLists (map spec.arc_value runs.now) lists →
+        (lists : spec.TableLists) → spec.RunsHold runs.now lists →
         spec.AllByRecursion spec.HaveEntries lists →
         IfOk result (λ v. spec.YieldTogether gives spec.nowhere v.items (map spec.joined lists)) }
-    ensures memory { (lists : List (List (List spec.Entry))) →
-        spec.RunsHoldLists (map spec.arc_value runs.now) lists →
+    ensures memory { (lists : spec.TableLists) → spec.RunsHold runs.now lists →
         spec.AllByRecursion spec.HaveEntries lists → IfErr result (λ e. e ≡ OutOfMemory) }
 {
     let mut scanners = Vec::new(alloc.clone()?);
@@ -83,10 +79,10 @@ fn come_in_order<I: Iterator<Item = IterItem<A>> + Drop, A: Allocator + Clone>(
     requires can { All (spec.CanYield I.next_gives spec.nowhere I.can_next I.can_next)
         sources.items }
     requires finite { All (λ s. spec.IsFinite (I.remaining s)) sources.items }
-    ensures exact { (lists : List (List (List spec.Entry))) →
+    ensures exact { (lists : spec.TableLists) →
         spec.YieldTogether I.next_gives spec.nowhere sources.items (map spec.joined lists) →
         IfOk result (λ b. IsTrue b ↔ spec.IsStrict (spec.union_in lists)) }
-    ensures memory { (lists : List (List (List spec.Entry))) →
+    ensures memory { (lists : spec.TableLists) →
         spec.YieldTogether I.next_gives spec.nowhere sources.items (map spec.joined lists) →
         IfErr result (λ e. e ≡ OutOfMemory) }
 {

@@ -27,7 +27,8 @@ impl<A: Allocator + Clone> Store<A> {
     ///
     /// Those of [`Store::compact`]. The store is not changed then.
     pub fn compact_part(&mut self, from: usize, to: usize, watermark: SeqNo) -> Result<(), Error>
-        ensures story { (ws : List spec.Entry) → spec.IsReported self.old ws → spec.IsReported self.new ws }
+        ensures story { (ws : List spec.Entry) → spec.IsReported self.old ws →
+            spec.IsReported self.new ws }
         ensures oldest { OnOk result
             (self.new.oldest ≡ max self.old.oldest (min watermark self.old.next)) }
         ensures next { self.new.next ≡ self.old.next }
@@ -36,19 +37,18 @@ impl<A: Allocator + Clone> Store<A> {
         ensures recent { self.new.recent ≡ self.old.recent }
         // The part has what is kept of all that it had, the other runs are unchanged, and the
         // counter of ids is after the new tables.
-        ensures made { (lists : List (List (List spec.Entry))) →
+        ensures made { (lists : spec.TableLists) →
             spec.RunsHoldLists (spec.part_runs from to self.old.runs) lists →
             OnOk result (spec.IsPartKept from to (min watermark self.old.next) lists self.old
             self.new) }
         ensures err { OnErr result (self.new ≡ self.old) }
         // Except for `OutOfMemory`, the error is that of writing what is kept of the part as
         // tables.
-        ensures refused { (lists : List (List (List spec.Entry))) →
+        ensures refused { (lists : spec.TableLists) →
             spec.RunsHoldLists (spec.part_runs from to self.old.runs) lists →
-            IfErr result (λ e. spec.is_memory e ≡ false →
-            spec.tables_fault self.old.ids self.old.target 0
-            (spec.kept_in (spec.rules_by (min watermark self.old.next) false false) lists)
-            ≡ Some e) }
+            IfErr result (λ e. spec.is_memory e ≡ false
+            → spec.tables_fault self.old.ids self.old.target 0
+            (spec.kept_in (spec.rules_by (min watermark self.old.next) false false) lists) ≡ Some e) }
     {
         let watermark = watermark.min(self.next);
         let (front, part, behind) = cut_out(&self.runs, from, to);
@@ -76,11 +76,10 @@ fn cut_out<A: Allocator>(
     &[Arc<Run<Table<A>, A>, A>],
     &[Arc<Run<Table<A>, A>, A>],
 )
-    ensures front { map spec.arc_value result.0.now
-        ≡ spec.front_runs from to (map spec.arc_value runs.now) }
-    ensures part { map spec.arc_value result.1.now
-        ≡ spec.part_runs from to (map spec.arc_value runs.now) }
-    ensures behind { map spec.arc_value result.2.now ≡ drop to (map spec.arc_value runs.now) }
+    ensures front { map spec.arc_value result.0.now ≡ spec.front_runs from to
+        (spec.each_run runs.now) }
+    ensures part { map spec.arc_value result.1.now ≡ spec.part_runs from to (spec.each_run runs.now) }
+    ensures behind { map spec.arc_value result.2.now ≡ drop to (spec.each_run runs.now) }
 {
     let (upper, behind) = runs.split_at(to.min(runs.len()));
     let (front, part) = upper.split_at(from.min(upper.len()));
@@ -94,7 +93,7 @@ fn share_behind<T: Drop, A: Allocator>(
     runs: &[Arc<T, A>],
 ) -> Result<(), Error>
     ensures runs { OnOk result (map spec.arc_value shared.new.items
-        ≡ map spec.arc_value shared.old.items ++ map spec.arc_value runs.now) }
+        ≡ map spec.arc_value shared.old.items ++ spec.each_run runs.now) }
     ensures memory { IfErr result (λ e. e ≡ OutOfMemory) }
 {
     for run in runs {

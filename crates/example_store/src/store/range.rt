@@ -1,5 +1,5 @@
 //! Ranges of a store at a snapshot.
-ghost use Rattle.std.specs.Prelude.{◌≡◌, [], ◌∷◌, ◌≤◌, IfErr, IfOk, List, map};
+ghost use Rattle.std.specs.Prelude.{◌≡◌, [], ◌∷◌, ◌≤◌, IfErr, IfOk, List};
 ghost use Rattle.example_store.specs.Words as spec;
 ghost use Rattle.lsm_tables.specs.Words.{OutOfMemory};
 
@@ -40,10 +40,9 @@ impl<A: Allocator + Clone> Store<A> {
         // At any snapshot, it yields the entries of the memtable and of the tables' lists.
         ensures read { let gives = ⟦<Range<A> as Iterator>⟧.next_gives in
             let back_gives = ⟦<Range<A> as DoubleEndedIterator>⟧.next_back_gives in
-            (lists : List (List (List spec.Entry))) → spec.RunsHoldLists self.now.runs lists →
+            (lists : spec.TableLists) → spec.RunsHoldLists self.now.runs lists →
             IfOk result (spec.YieldsList gives back_gives (spec.newest (spec.numbered_below snapshot
-            (spec.within bounds.0 bounds.1
-            (spec.union_in (spec.single self.now.recent ∷ lists)))))) }
+            (spec.within bounds.0 bounds.1 (spec.union_in (spec.single self.now.recent ∷ lists)))))) }
         ensures next { IfOk result (λ s. ⟦<Range<A> as Iterator>⟧.can_next s) }
         ensures next_back { IfOk result (λ s.
             ⟦<Range<A> as DoubleEndedIterator>⟧.can_next_back s) }
@@ -65,13 +64,11 @@ fn range_beside<S: DoubleEndedIterator<Item = IterItem<A>> + Drop, A: Allocator 
 ) -> Result<NewestOfSourcesAt<S, A>, Error>
     ensures list { let gives = ⟦<NewestOfSourcesAt<S, A> as Iterator>⟧.next_gives in
         let back_gives = ⟦<NewestOfSourcesAt<S, A> as DoubleEndedIterator>⟧.next_back_gives in
-        (lists : List (List (List spec.Entry))) →
-        spec.RunsHoldLists (map spec.arc_value runs.now) lists →
-        (es : List spec.Entry) → spec.IsStrict es →
-        IfOk source (spec.YieldsList S.next_gives S.next_back_gives
-        (spec.within bounds.0 bounds.1 es)) →
-        IfOk result (spec.YieldsList gives back_gives (spec.newest (spec.numbered_below snapshot
-        (spec.within bounds.0 bounds.1 (spec.union_in (spec.single es ∷ lists)))))) }
+        (lists : spec.TableLists) → spec.RunsHold runs.now lists → (es : List spec.Entry) →
+        spec.IsStrict es → IfOk source (spec.YieldsList S.next_gives S.next_back_gives
+        (spec.within bounds.0 bounds.1 es)) → IfOk result (spec.YieldsList gives back_gives
+        (spec.newest (spec.numbered_below snapshot (spec.within bounds.0 bounds.1
+        (spec.union_in (spec.single es ∷ lists)))))) }
     ensures next { IfOk source
         (spec.CanYield S.next_gives S.next_back_gives S.can_next S.can_next_back) →
         IfOk source (λ s. spec.IsFinite (S.remaining s)) →

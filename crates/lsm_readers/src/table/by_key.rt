@@ -16,6 +16,15 @@ impl<A: Allocator + Clone> Table<A> {
     /// # Errors
     ///
     /// Those of [`Table::get`].
+    ///
+    /// # Examples
+    ///
+    /// ```
+    /// // The newest version of a key with a sequence number below 5.
+    /// if let Some(item) = table.get_by_key(b"apple", 5)? {
+    ///     println!(rt; "found number {}", item.key.seqno)?;
+    /// }
+    /// ```
     #[tactic(auto, using(crate::proofs::ByKey::value_is))]
     pub fn get_by_key(&self, key: &[u8], seqno: SeqNo) -> Result<Option<InternalValue<A>>, Error>
         ensures returned { spec.Gives (λ (found : Option spec.Entry). found) result

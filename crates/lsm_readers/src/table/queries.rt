@@ -33,6 +33,18 @@ fn answers<A: Allocator + Clone>(
 /// then, and the table does not change. The list is allocated first, so `OutOfMemory` can replace
 /// any other error. It can also occur if `get` would load nothing. Without queries, the call fails
 /// only if a clone of the allocator does.
+///
+/// # Examples
+///
+/// ```
+/// queries.push(Query {
+///     key: Slice::from(alloc, one.0)?,
+///     seqno: one.1,
+/// })?;
+/// // ..
+/// let queries = queries_of(by.0, by.1)?;
+/// let found = get_many(table, &queries);
+/// ```
 pub fn get_many<A: Allocator + Clone>(
     table: &Table<A>,
     queries: &[Query<A>],

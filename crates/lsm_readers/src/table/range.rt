@@ -17,6 +17,13 @@ impl<A: Allocator + Clone> Table<A> {
     /// # Errors
     ///
     /// [`Error::OutOfMemory`] only.
+    ///
+    /// # Examples
+    ///
+    /// ```
+    /// let range = table.range(lower, upper)?;
+    /// let all = table.iter();
+    /// ```
     pub fn iter(&self) -> Result<Iter<A>, Error>
         ensures is { IfOk result (spec.IsRangeOf self.now spec.Unbounded spec.Unbounded) }
         ensures yields { let gives = ⟦<Iter<A> as Iterator>⟧.next_gives in
@@ -68,6 +75,18 @@ impl<A: Allocator + Clone> Table<A> {
     /// # Errors
     ///
     /// [`Error::OutOfMemory`] only.
+    ///
+    /// # Examples
+    ///
+    /// ```
+    /// let items = table.range(bounds.0, bounds.1)?;
+    /// dump_items(alloc, output, items, options, left)
+    /// // ..
+    /// let lower = match options.from {
+    ///     None => Bound::Unbounded,
+    ///     Some(key) => Bound::Included(Slice::from(alloc, key)?),
+    /// };
+    /// ```
     pub fn range(
         &self,
         lower: Bound<UserKey<A>>,

@@ -19,6 +19,17 @@ impl<A: Allocator + Clone> Table<A> {
     ///
     /// - [`VerifyError::Found`] with the first fault in this order and its position.
     /// - [`VerifyError::OutOfMemory`]. Nothing is known about the table then.
+    ///
+    /// # Examples
+    ///
+    /// ```
+    /// table.verify()?;
+    /// match table.get_by_key(key, seqno) {
+    ///     Ok(found) => Ok(found),
+    ///     // A read of a table that stores a list fails with `OutOfMemory` only.
+    ///     Err(_) => Err(VerifyError::OutOfMemory),
+    /// }
+    /// ```
     pub fn verify(&self) -> Result<Verified, VerifyError>
         // Except for `OutOfMemory`, it reports the first fault.
         ensures returned { spec.Finds (λ (v : spec.Verification). v) result

@@ -27,9 +27,9 @@ use Rattle.lsm_runs.specs.declared.compaction.any_runs.CompactionOutcome.{Compac
 use Rattle.lsm_runs.specs.declared.compaction.any_runs.CompactionOutcome.TheVariants.{OutOfOrder}
 use Rattle.lsm_runs.specs.declared.compaction.any_runs.CompactionOutcome.TheVariants.{Stopped}
 use Rattle.lsm_runs.specs.declared.compaction.any_runs.CompactionOutcome.TheVariants.{Tables}
-use Rattle.lsm_runs.specs.declared.compaction.any_runs_with.Ending.{Ending}
-use Rattle.lsm_runs.specs.declared.compaction.any_runs_with.Ending.TheVariants.{AtDisorder, AtEnd}
-use Rattle.lsm_runs.specs.declared.compaction.any_runs_with.Ending.TheVariants.{AtStop}
+use Rattle.lsm_runs.specs.declared.compaction.any_runs.Ending.{Ending}
+use Rattle.lsm_runs.specs.declared.compaction.any_runs.Ending.TheVariants.{AtDisorder, AtEnd}
+use Rattle.lsm_runs.specs.declared.compaction.any_runs.Ending.TheVariants.{AtStop}
 use Rattle.lsm_runs.specs.declared.compaction.observer.CompactionProgress.{CompactionProgress}
 
 -- ---- a stream whose entries are written

@@ -15,6 +15,7 @@ pub use Rattle.lsm_readers.specs.point.Parts.{recovered_result}
 pub use Rattle.lsm_readers.specs.Stored.{StoresList}
 pub use Rattle.lsm_readers.specs.point.Table.{OpenTable}
 pub use Rattle.lsm_runs.specs.RunLists.{YieldTogether, YieldsList, HoldLists, RunsHoldLists}
+pub use Rattle.lsm_runs.specs.RunLists.{RunsHold, TableLists, each_run}
 pub use Rattle.lsm_runs.specs.SeveralRuns.{union_in}
 pub use Rattle.lsm_runs.specs.compaction.AnyRuns.{AreTablesBy, BeginsWith, CameInOrder, CameOf}
 pub use Rattle.lsm_runs.specs.compaction.AnyRuns.{YieldsResults, GoesThrough, HasMade, RefusesOf}
@@ -59,7 +60,7 @@ pub use Rattle.lsm_runs.specs.compaction.ReadsCompacted.{StayStrict}
 pub use Rattle.lsm_runs.specs.compaction.ReadsCompacted.{StayWritable}
 pub use Rattle.lsm_runs.specs.declared.compaction.any_runs.CompactionOutcome.TheVariants.{OutOfOrder}
 pub use Rattle.lsm_runs.specs.declared.compaction.any_runs.CompactionOutcome.TheVariants.{Stopped}
-pub use Rattle.lsm_runs.specs.declared.compaction.any_runs_with.Ending.TheVariants.{AtDisorder}
-pub use Rattle.lsm_runs.specs.declared.compaction.any_runs_with.Ending.TheVariants.{AtEnd}
-pub use Rattle.lsm_runs.specs.declared.compaction.any_runs_with.Ending.TheVariants.{AtStop}
+pub use Rattle.lsm_runs.specs.declared.compaction.any_runs.Ending.TheVariants.{AtDisorder}
+pub use Rattle.lsm_runs.specs.declared.compaction.any_runs.Ending.TheVariants.{AtEnd}
+pub use Rattle.lsm_runs.specs.declared.compaction.any_runs.Ending.TheVariants.{AtStop}
 pub use Rattle.lsm_runs.specs.declared.compaction.observer.CompactionProgress.{CompactionProgress}

@@ -44,20 +44,19 @@ pub(crate) fn scanners_of<A: Allocator + Clone>(
 ) -> Result<Vec<RunScanner<A>, A>, Error>
     // They yield together the entries of each run.
     ensures list { let gives = ⟦<RunScanner<A> as Iterator>⟧.next_gives in
-        (able : spec.AreMergeable (map spec.arc_value runs.now)) →
-        IfOk result (λ v. spec.YieldTogether gives spec.nowhere v.items
-        (map spec.joined able.lists)) }
-    ensures err { spec.AreMergeable (map spec.arc_value runs.now) →
+        (able : spec.AreMergeable (spec.each_run runs.now)) → IfOk result
+        (λ v. spec.YieldTogether gives spec.nowhere v.items (map spec.joined able.lists)) }
+    ensures err { spec.AreMergeable (spec.each_run runs.now) →
         IfErr result (λ e. e ≡ spec.OutOfMemory) }
     // For any tables, each yields the results of its scan. Else, except for `OutOfMemory`, the
     // error is that of the first run whose first data block cannot be loaded.
     ensures any { let gives = ⟦<RunScanner<A> as Iterator>⟧.next_gives in
         IfOk result (λ v. spec.AllZip (λ s rs. spec.YieldsResults gives rs s) v.items
-        (spec.scans_of (map spec.arc_value runs.now))) }
-    ensures returned { IfErr result (λ e. spec.is_memory e ≡ false →
-        spec.BeginsWith (map spec.arc_value runs.now) e) }
+        (spec.scans_of (spec.each_run runs.now))) }
+    ensures returned { IfErr result (λ e. spec.is_memory e ≡ false → spec.BeginsWith
+        (spec.each_run runs.now) e) }
     // It loads the first data block of each run, in their order.
-    ensures opens { spec.Faults result (spec.first_blocks_fault (map spec.arc_value runs.now)) }
+    ensures opens { spec.Faults result (spec.first_blocks_fault (spec.each_run runs.now)) }
 {
     let mut scanners = Vec::new(alloc);
     for run in runs {
@@ -86,9 +85,7 @@ fn kept_from<L: Lending + Drop, A: Allocator + Clone>(
         sources.items → IfOk result (spec.CanYield ⟦<Kept<L, A> as Lending>⟧.advances
         spec.nowhere ⟦<Kept<L, A> as Lending>⟧.can_advance
         ⟦<Kept<L, A> as Lending>⟧.can_advance) }
-    ensures list { let advances =
-        ⟦<Kept<L, A> as Lending>⟧.advances in
-        (lists : List (List (List spec.Entry))) →
+    ensures list { let advances = ⟦<Kept<L, A> as Lending>⟧.advances in (lists : spec.TableLists) →
         spec.YieldTogether L.advances spec.nowhere sources.items (map spec.joined lists) →
         IfOk result (spec.YieldsList advances spec.nowhere (spec.kept_in rules lists)) }
     ensures err { IfErr result (λ e. e ≡ spec.OutOfMemory) }
@@ -108,11 +105,10 @@ pub(crate) fn kept_of<A: Allocator + Clone>(
         ⟦<Kept<RunScanner<A>, A> as Lending>⟧.advances spec.nowhere
         ⟦<Kept<RunScanner<A>, A> as Lending>⟧.can_advance
         ⟦<Kept<RunScanner<A>, A> as Lending>⟧.can_advance) }
-    ensures list { let advances =
-        ⟦<Kept<RunScanner<A>, A> as Lending>⟧.advances in
-        (able : spec.AreMergeable (map spec.arc_value runs.now)) →
+    ensures list { let advances = ⟦<Kept<RunScanner<A>, A> as Lending>⟧.advances in
+        (able : spec.AreMergeable (spec.each_run runs.now)) →
         IfOk result (spec.YieldsList advances spec.nowhere (spec.kept_in rules able.lists)) }
-    ensures err { spec.AreMergeable (map spec.arc_value runs.now) →
+    ensures err { spec.AreMergeable (spec.each_run runs.now) →
         IfErr result (λ e. e ≡ spec.OutOfMemory) }
 {
     let scanners = scanners_of(alloc.clone()?, runs)?;
@@ -204,6 +200,15 @@ fn write_all<L: Lending + Drop, A: Allocator + Clone>(
 /// # Errors
 ///
 /// The errors of [`MultiWriter::write`] and [`MultiWriter::finish`]; [`Error::OutOfMemory`].
+///
+/// # Examples
+///
+/// ```
+/// let runs = [run(alloc)?];
+/// let writer = MultiWriter::new(alloc, TableIds::new(1), 0, 0, Timestamp::from(0))?;
+/// let (tables, _) = compact_runs(alloc, &runs, 0, false, false, writer)?;
+/// Ok(tables)
+/// ```
 pub fn compact_runs<A: Allocator + Clone>(
     alloc: A,
     runs: &[Arc<Run<Table<A>, A>, A>],
@@ -213,21 +218,18 @@ pub fn compact_runs<A: Allocator + Clone>(
     writer: MultiWriter<A>,
 ) -> Result<(Vec<FinishedTable<A>, A>, TableIds), Error>
     requires fresh { spec.IsFreshRun writer }
-    requires able { spec.AreCompactable (map spec.arc_value runs.now) }
+    requires able { spec.AreCompactable (spec.each_run runs.now) }
     // The tables are those of what is kept of all entries, as the writer cuts them.
     ensures tables { let rules = spec.rules_by gc_seqno_threshold evict_tombstones zero_seqnos in
-        (lists : List (List (List spec.Entry))) →
-        spec.RunsHoldLists (map spec.arc_value runs.now) lists →
+        (lists : spec.TableLists) → spec.RunsHold runs.now lists →
         IfOk result (λ r. spec.AreWrittenBy writer (spec.kept_in rules lists) r.0.items r.1) }
     // The error is the writer's first one: reading fails with `OutOfMemory` only.
     ensures refused { let rules = spec.rules_by gc_seqno_threshold evict_tombstones zero_seqnos in
-        (lists : List (List (List spec.Entry))) →
-        spec.RunsHoldLists (map spec.arc_value runs.now) lists →
+        (lists : spec.TableLists) → spec.RunsHold runs.now lists →
         spec.Faults result (spec.writes_fault writer (spec.kept_in rules lists)) }
     // If the tables fit and enough ids remain, the only error is `OutOfMemory`.
     ensures taken { let rules = spec.rules_by gc_seqno_threshold evict_tombstones zero_seqnos in
-        (lists : List (List (List spec.Entry))) →
-        spec.RunsHoldLists (map spec.arc_value runs.now) lists →
+        (lists : spec.TableLists) → spec.RunsHold runs.now lists →
         spec.FitsBy writer (spec.kept_in rules lists) → IfErr result (λ e. e ≡ spec.OutOfMemory) }
 {
     // A list whose tables fit is written whole.

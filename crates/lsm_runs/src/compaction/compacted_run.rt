@@ -1,6 +1,6 @@
 //! Compacting several runs into one.
 ghost use Rattle.std.specs.Prelude.{◌≡◌, ◌∷◌, ◌+◌, ◌<◌, ◌^◌, ℕ, [], List, Option, IfErr, IfOk};
-ghost use Rattle.std.specs.Prelude.{IfSome, MatchOption, length, map};
+ghost use Rattle.std.specs.Prelude.{IfSome, MatchOption, length};
 ghost use Rattle.lsm_runs.specs.compaction.Words as spec;
 
 use crate::compact_runs;
@@ -48,6 +48,18 @@ fn run_of_tables<A: Allocator + Clone>(
 /// # Errors
 ///
 /// The errors of [`MultiWriter::new`] and [`compact_runs`]; [`Error::OutOfMemory`].
+///
+/// # Examples
+///
+/// ```
+/// let rules = Rules {
+///     watermark,
+///     evict: true,
+///     zeroing: false,
+/// };
+/// let made = compact_to_run(alloc, runs, rules, ids, target, Timestamp::from(0))?;
+/// Ok(made)
+/// ```
 pub fn compact_to_run<A: Allocator + Clone>(
     alloc: A,
     runs: &[Arc<Run<Table<A>, A>, A>],
@@ -56,36 +68,29 @@ pub fn compact_to_run<A: Allocator + Clone>(
     target_size: u64,
     created_at: Timestamp,
 ) -> Result<(Option<Run<Table<A>, A>>, TableIds), Error>
-    requires { spec.AreCompactable (map spec.arc_value runs.now) }
+    requires { spec.AreCompactable (spec.each_run runs.now) }
     // The tables hold what is kept of all entries, one after another, and are in order.
-    ensures run { (lists : List (List (List spec.Entry))) →
-        spec.RunsHoldLists (map spec.arc_value runs.now) lists →
+    ensures run { (lists : spec.TableLists) → spec.RunsHold runs.now lists →
         let left = spec.kept_in rules lists in
         IfOk result (λ r. MatchOption r.0 (left ≡ []) (λ run. spec.IsRunOfList left 0 run)) }
     // The entries that are kept are cut by the target size, and the tables' ids are consecutive.
-    ensures cut { (lists : List (List (List spec.Entry))) →
-        spec.RunsHoldLists (map spec.arc_value runs.now) lists →
-        IfOk result (λ r. IfSome r.0 (λ run.
-        spec.AreCutOf (spec.run_label ids target_size created_at) target_size
-        (spec.kept_in rules lists) 0 run)) }
+    ensures cut { (lists : spec.TableLists) → spec.RunsHold runs.now lists →
+        IfOk result (λ r. IfSome r.0 (λ run. spec.AreCutOf (spec.run_label ids target_size
+        created_at) target_size (spec.kept_in rules lists) 0 run)) }
     ensures ids { IfOk result (λ r.
         r.1 ≡ spec.ids_behind ids target_size (spec.option_map_or length r.0 0)) }
     // The run may be compacted again.
     ensures able { IfOk result (λ r. IfSome r.0 (λ run. spec.AreCompactable (run ∷ []))) }
     // The entries that are kept can be written again: no key has one seqno twice, and each seqno is
     // below the largest.
-    ensures writable { (lists : List (List (List spec.Entry))) →
-        spec.RunsHoldLists (map spec.arc_value runs.now) lists →
+    ensures writable { (lists : spec.TableLists) → spec.RunsHold runs.now lists →
         IfOk result (λ _. spec.IsWritable (spec.kept_in rules lists)) }
     // Except for `OutOfMemory`, the error is the first one: of the counter, of the kept entries in
     // order, of the last table.
-    ensures refused { (lists : List (List (List spec.Entry))) →
-        spec.RunsHoldLists (map spec.arc_value runs.now) lists →
-        spec.Faults result (spec.tables_fault ids target_size created_at
-        (spec.kept_in rules lists)) }
+    ensures refused { (lists : spec.TableLists) → spec.RunsHold runs.now lists →
+        spec.Faults result (spec.tables_fault ids target_size created_at (spec.kept_in rules lists)) }
     // If the tables fit and enough ids remain, the only error is `OutOfMemory`.
-    ensures taken { (lists : List (List (List spec.Entry))) →
-        spec.RunsHoldLists (map spec.arc_value runs.now) lists →
+    ensures taken { (lists : spec.TableLists) → spec.RunsHold runs.now lists →
         spec.FitsAsTables ids target_size (spec.kept_in rules lists) →
         IfErr result (λ e. e ≡ spec.OutOfMemory) }
 {

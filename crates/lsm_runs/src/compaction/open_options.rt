@@ -48,6 +48,18 @@ impl OpenOptions {
     /// # Errors
     ///
     /// Those of [`Table::recover`].
+    ///
+    /// # Examples
+    ///
+    /// ```
+    /// // Bytes that are shorter than a trailer are no table.
+    /// let short = OpenOptions::default().open_bytes(
+    ///     rt.alloc(),
+    ///     Slice::from_static(b"sst"),
+    ///     Checksum(0),
+    /// );
+    /// assert!(rt; matches!(short, Err(Error::InvalidTrailer)));
+    /// ```
     pub fn open_bytes<A: Allocator + Clone>(
         &self,
         alloc: A,
@@ -95,6 +107,14 @@ impl OpenOptions {
     /// - [`Error::UnsupportedIndexInterval`] if its index has a restart interval other than 1;
     /// - [`Error::GlobalSeqNoTooLarge`] if the highest seqno plus the global one passes `u64`;
     /// - [`Error::OutOfMemory`].
+    ///
+    /// # Examples
+    ///
+    /// ```
+    /// OpenOptions::default().open(alloc, &written)
+    /// // ..
+    /// let table = open_table(rt.alloc(), written)?;
+    /// ```
     pub fn open<A: Allocator + Clone>(
         &self,
         alloc: A,

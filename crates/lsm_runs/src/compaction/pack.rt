@@ -1,5 +1,5 @@
 //! Packing runs of tables, and the entries that packed runs hold.
-ghost use Rattle.std.specs.Prelude.{◌≡◌, ◌<◌, ◌≤◌, IfErr, IfOk, List, filter, length, map};
+ghost use Rattle.std.specs.Prelude.{◌≡◌, ◌<◌, ◌≤◌, IfErr, IfOk, filter, length};
 ghost use Rattle.lsm_runs.specs.compaction.Words as spec;
 
 use lsm_readers::Table;
@@ -44,8 +44,8 @@ fn share_runs<A: Allocator + Clone>(
     alloc: A,
     runs: &[Arc<Run<Table<A>, A>, A>],
 ) -> Result<Vec<Run<Table<A>, A>, A>, Error>
-    ensures runs { IfOk result (λ shared.
-        shared.items ≡ filter spec.has_table (map spec.arc_value runs.now)) }
+    ensures runs { IfOk result (λ shared. shared.items ≡ filter spec.has_table
+        (spec.each_run runs.now)) }
     ensures err { IfErr result (λ e. e ≡ spec.OutOfMemory) }
 {
     let mut shared = Vec::new(alloc.clone()?);
@@ -65,41 +65,44 @@ fn share_runs<A: Allocator + Clone>(
 /// # Errors
 ///
 /// [`Error::OutOfMemory`] only.
+///
+/// # Examples
+///
+/// ```
+/// let packed = pack_runs(self.alloc.clone()?, &self.runs)?;
+/// self.runs = share_all(self.alloc.clone()?, packed)?;
+/// Ok(self.runs.len() as u64)
+/// ```
 pub fn pack_runs<A: Allocator + Clone>(
     alloc: A,
     runs: &[Arc<Run<Table<A>, A>, A>],
 ) -> Result<Vec<Run<Table<A>, A>, A>, Error>
     // For tables of lists in runs in order, the packed runs hold the same lists' entries, so each
     // read returns the same.
-    ensures list { (lists : List (List (List spec.Entry))) →
-        spec.RunsHoldLists (map spec.arc_value runs.now) lists →
+    ensures list { (lists : spec.TableLists) → spec.RunsHold runs.now lists →
         IfOk result (λ packed. spec.HoldUnion packed.items (spec.union_in lists)) }
     // If the runs may be compacted, so may the packed ones.
-    ensures able { spec.AreCompactable (map spec.arc_value runs.now) →
+    ensures able { spec.AreCompactable (spec.each_run runs.now) →
         IfOk result (λ packed. spec.AreCompactable packed.items) }
     // A single run is returned unchanged, in order or not.
-    ensures one { let given = filter spec.has_table (map spec.arc_value runs.now) in
-        length given ≤ 1 → IfOk result (λ packed. packed.items ≡ given) }
+    ensures one { let given = filter spec.has_table (spec.each_run runs.now) in length given ≤ 1 →
+        IfOk result (λ packed. packed.items ≡ given) }
     // The tables are the same, each as often.
-    ensures tables { IfOk result (λ packed.
-        spec.SameTables (map spec.arc_value runs.now) packed.items) }
+    ensures tables { IfOk result (λ packed. spec.SameTables (spec.each_run runs.now) packed.items) }
     // For runs in order, each key has the tables whose range has it in the same order.
-    ensures holders { IfOk result
-        (λ packed. spec.AreInOrder spec.range_of (map spec.arc_value runs.now) →
-        spec.SameHolders spec.range_of (map spec.arc_value runs.now) packed.items) }
+    ensures holders { IfOk result (λ packed. spec.AreInOrder spec.range_of (spec.each_run runs.now)
+        → spec.SameHolders spec.range_of (spec.each_run runs.now) packed.items) }
     // For runs in order, if more than one has a table: a table is one run after the last run with
     // an earlier table that it overlaps. Without such a table it is in the first run.
-    ensures placed { let given = map spec.arc_value runs.now in IfOk result (λ packed.
-        spec.AreInOrder spec.range_of given → 1 < length (filter spec.has_table given) →
+    ensures placed { let given = spec.each_run runs.now in IfOk result
+        (λ packed. spec.AreInOrder spec.range_of given → 1 < length (filter spec.has_table given) →
         spec.ArePlaced spec.range_of (spec.tables_in given) packed.items) }
     // For runs in order, each packed run is in order and has a table.
-    ensures ordered { IfOk result
-        (λ packed. spec.AreInOrder spec.range_of (map spec.arc_value runs.now) →
-        spec.ArePacked spec.range_of packed.items) }
+    ensures ordered { IfOk result (λ packed. spec.AreInOrder spec.range_of (spec.each_run runs.now)
+        → spec.ArePacked spec.range_of packed.items) }
     // For runs in order, no fewer runs are possible.
-    ensures least { IfOk result
-        (λ packed. spec.AreInOrder spec.range_of (map spec.arc_value runs.now) →
-        spec.IsLeastSize spec.range_of (map spec.arc_value runs.now) (length packed.items)) }
+    ensures least { IfOk result (λ packed. spec.AreInOrder spec.range_of (spec.each_run runs.now) →
+        spec.IsLeastSize spec.range_of (spec.each_run runs.now) (length packed.items)) }
     ensures err { IfErr result (λ e. e ≡ spec.OutOfMemory) }
 {
     let shared = share_runs(alloc.clone()?, runs)?;

@@ -1,13 +1,14 @@
 //! A run of the tables of a compaction, opened with options.
 ghost use Rattle.std.specs.Prelude.{◌≡◌, ◌∷◌, ◌+◌, ◌^◌, ◌<◌, [], IfErr, IfOk, IfSome, List};
-ghost use Rattle.std.specs.Prelude.{MatchOption, map};
+ghost use Rattle.std.specs.Prelude.{MatchOption};
 ghost use Rattle.lsm_runs.specs.compaction.Words as spec;
 
 use crate::compaction::open_options::open_all;
-use crate::{CompactionOutcome, OpenOptions, compact_any_runs};
+use crate::{CompactionOutcome, NoObserver, OpenOptions, compact_any_runs};
 use lsm_readers::Table;
 use lsm_sorted::Run;
 use lsm_sorted::compaction::Rules;
+use lsm_sorted::compaction::stream::{NoCallback, NoFilter};
 use lsm_writers::MultiWriter;
 use sst_blocks::Error;
 use std::alloc::Allocator;
@@ -30,11 +31,47 @@ fn open_outcome<A: Allocator + Clone>(
     }
 }
 
+// Compacts several runs of any opened tables, without a filter, a callback and an observer.
+fn compact_unfiltered<A: Allocator + Clone>(
+    alloc: A,
+    runs: &[Arc<Run<Table<A>, A>, A>],
+    rules: Rules,
+    writer: MultiWriter<A>,
+) -> Result<CompactionOutcome<A>, Error>
+    requires fresh { spec.IsFreshRun writer }
+    ensures tables { spec.AreCompactable (spec.each_run runs.now) → (lists : spec.TableLists) →
+        spec.RunsHold runs.now lists →
+        IfOk result (spec.AreTablesBy writer (spec.kept_in rules lists)) }
+    ensures refused { spec.AreCompactable (spec.each_run runs.now) → (lists : spec.TableLists) →
+        spec.RunsHold runs.now lists →
+        spec.Faults result (spec.writes_fault writer (spec.kept_in rules lists)) }
+    ensures taken { spec.AreCompactable (spec.each_run runs.now) → (lists : spec.TableLists) →
+        spec.RunsHold runs.now lists → spec.FitsBy writer (spec.kept_in rules lists) →
+        IfErr result (λ e. e ≡ spec.OutOfMemory) }
+    ensures merged { (lists : spec.TableLists) → spec.RunsHold runs.now lists →
+        spec.AllByRecursion spec.HaveEntries lists →
+        IfOk result (spec.CameInOrder writer (spec.kept_in rules lists)) }
+    ensures made { IfOk result (spec.HasMade writer) }
+    ensures through { IfOk result spec.GoesThrough }
+{
+    let mut observer = NoObserver;
+    let (outcome, _) = compact_any_runs(
+        alloc,
+        runs,
+        rules,
+        writer,
+        NoFilter,
+        NoCallback,
+        &mut observer,
+    )?;
+    Ok(outcome)
+}
+
 /// Compacts several runs of any opened tables, and opens each new table with the options `how`.
 ///
-/// It compacts as [`compact_any_runs`] does. It returns the outcome, with the finished tables and
-/// the id counter, and the run that has the tables in order. There is no run if nothing is kept, or
-/// if entries came out of order. The given runs are not changed.
+/// It compacts as [`compact_any_runs`] does without a filter. It returns the outcome, with the
+/// finished tables and the id counter, and the run that has the tables in order. There is no run if
+/// nothing is kept, or if entries came out of order. The given runs are not changed.
 ///
 /// # Errors
 ///
@@ -49,15 +86,13 @@ pub fn compact_to_run_with<A: Allocator + Clone>(
     requires fresh { spec.IsFreshRun writer }
     // For compactable runs, the finished tables are those of what is kept, as the writer cuts it.
     // For any tables, they are those of a list that can be written.
-    ensures tables { spec.AreCompactable (map spec.arc_value runs.now) →
-        (lists : List (List (List spec.Entry))) →
-        spec.RunsHoldLists (map spec.arc_value runs.now) lists →
+    ensures tables { spec.AreCompactable (spec.each_run runs.now) → (lists : spec.TableLists) →
+        spec.RunsHold runs.now lists →
         IfOk result (λ r. spec.AreTablesBy writer (spec.kept_in rules lists) r.0) }
     ensures made { IfOk result (λ r. spec.HasMade writer r.0) }
     // For tables of lists that have entries, also if a key has one seqno twice: they are those of
     // what is kept. It ends out of order at the first kept entry that may not follow.
-    ensures merged { (lists : List (List (List spec.Entry))) →
-        spec.RunsHoldLists (map spec.arc_value runs.now) lists →
+    ensures merged { (lists : spec.TableLists) → spec.RunsHold runs.now lists →
         spec.AllByRecursion spec.HaveEntries lists →
         IfOk result (λ r. spec.CameInOrder writer (spec.kept_in rules lists) r.0) }
     // No observer stops it.
@@ -65,9 +100,8 @@ pub fn compact_to_run_with<A: Allocator + Clone>(
     // The run has exactly these, opened with the options `how`, in their order.
     ensures opened { IfOk result (λ r. spec.HasRunBy how.now r.0 r.1) }
     // Together they hold what is kept, one after another, and are in order.
-    ensures run { spec.AreCompactable (map spec.arc_value runs.now) →
-        (lists : List (List (List spec.Entry))) →
-        spec.RunsHoldLists (map spec.arc_value runs.now) lists →
+    ensures run { spec.AreCompactable (spec.each_run runs.now) → (lists : spec.TableLists) →
+        spec.RunsHold runs.now lists →
         let left = spec.kept_in rules lists in IfOk result (λ r. MatchOption r.1 (left ≡ [])
         (λ run. spec.IsRunOfList left how.now.global_seqno run)) }
     // Without a global seqno, the run may be compacted again, whatever the tables held.
@@ -75,23 +109,20 @@ pub fn compact_to_run_with<A: Allocator + Clone>(
         IfOk result (λ r. IfSome r.1 (λ run. spec.AreCompactable (run ∷ []))) }
     // Except for `OutOfMemory`, the error is the writer's first one. Or else it reports an index
     // restart interval other than 1, or else a seqno that is too large.
-    ensures refused { spec.AreCompactable (map spec.arc_value runs.now) →
-        (lists : List (List (List spec.Entry))) →
-        spec.RunsHoldLists (map spec.arc_value runs.now) lists →
-        spec.Faults result (spec.run_with_fault writer (spec.kept_in rules lists)
-        how.now.global_seqno) }
+    ensures refused { spec.AreCompactable (spec.each_run runs.now) → (lists : spec.TableLists) →
+        spec.RunsHold runs.now lists → spec.Faults result (spec.run_with_fault writer
+        (spec.kept_in rules lists) how.now.global_seqno) }
     // With an interval of 1, the only error is `OutOfMemory` if the tables of what is kept fit,
     // enough ids remain and no seqno is too large.
-    ensures taken { spec.AreCompactable (map spec.arc_value runs.now) →
-        (lists : List (List (List spec.Entry))) →
-        spec.RunsHoldLists (map spec.arc_value runs.now) lists →
+    ensures taken { spec.AreCompactable (spec.each_run runs.now) → (lists : spec.TableLists) →
+        spec.RunsHold runs.now lists →
         let left = spec.kept_in rules lists in
         writer.present.options.index_block_restart_interval ≡ 1 → spec.FitsBy writer left →
         spec.highest_seqno left + how.now.global_seqno < 2 ^ 64 →
         IfErr result (λ e. e ≡ spec.OutOfMemory) }
 {
     let own = alloc.clone()?;
-    let outcome = compact_any_runs(own, runs, rules, writer)?;
+    let outcome = compact_unfiltered(own, runs, rules, writer)?;
     let opened = open_outcome(alloc, &outcome, how)?;
     Ok((outcome, opened))
 }

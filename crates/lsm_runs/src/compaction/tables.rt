@@ -1,5 +1,5 @@
 //! Compacting several runs into tables that are yielded one by one.
-ghost use Rattle.std.specs.Prelude.{◌≡◌, [], Bool, IfErr, IfOk, map, true};
+ghost use Rattle.std.specs.Prelude.{◌≡◌, [], Bool, IfErr, IfOk, true};
 ghost use Rattle.lsm_runs.specs.compaction.Words as spec;
 
 use crate::RunScanner;
@@ -21,8 +21,7 @@ fn stream_of<L: Lending + Drop, A: Allocator + Clone>(
     source: Kept<L, A>,
     writer: MultiWriter<A>,
 ) -> TableStream<Kept<L, A>, A>
-    requires fresh { spec.IsFreshRun writer }
-    requires next { spec.RunsOn writer }
+    requires { spec.IsFreshRun writer }
     ensures starts { let advances = ⟦<Kept<L, A> as Lending>⟧.advances in
         (d : spec.YieldsWritable advances source) (stops : spec.Error → Bool) →
         stops spec.OutOfMemory ≡ true →
@@ -41,8 +40,8 @@ fn stream_of<L: Lending + Drop, A: Allocator + Clone>(
 /// soon as it is finished.
 ///
 /// Nothing is written before the first table is taken. Then the compaction has in memory a block or
-/// two of each run, the current table, and no table that it yielded. The runs are not changed; if it
-/// is dropped early, the current table is lost.
+/// two of each run, the current table, and no table that it yielded. The runs are not changed; if
+/// it is dropped early, the current table is lost.
 ///
 /// The tables, one after another, are those that `compact_runs` returns
 /// ([`compaction_tables_law`]). [`TableStream::table_ids`] returns the id counter after them.
@@ -62,12 +61,11 @@ pub fn compact_each<A: Allocator + Clone>(
     writer: MultiWriter<A>,
 ) -> Result<Compaction<A>, Error>
     requires fresh { spec.IsFreshRun writer }
-    requires able { spec.AreCompactable (map spec.arc_value runs.now) }
+    requires able { spec.AreCompactable (spec.each_run runs.now) }
     // It is before the first table of what is kept of all entries.
     ensures starts { let advances = ⟦<Kept<RunScanner<A>, A> as Lending>⟧.advances in
-        (able : spec.AreCompactable (map spec.arc_value runs.now))
-        (stops : spec.Error → Bool) → stops spec.OutOfMemory ≡ true →
-        IfOk result (spec.IsAfter stops advances writer
+        (able : spec.AreCompactable (spec.each_run runs.now)) (stops : spec.Error → Bool) →
+        stops spec.OutOfMemory ≡ true → IfOk result (spec.IsAfter stops advances writer
         (spec.ok_results (spec.kept_in rules able.lists)) []) }
     ensures can { IfOk result ⟦<Compaction<A> as Iterator>⟧.can_next }
     ensures ids { IfOk result (λ s. s.ids ≡ writer.ids) }
@@ -78,8 +76,8 @@ pub fn compact_each<A: Allocator + Clone>(
 }
 
 /// States that the tables that a compaction yields until its end are those that
-/// [`compact_runs`](crate::compact_runs) returns for the same entries, with the same id counter. The
-/// call does nothing: its contract states the law.
+/// [`compact_runs`](crate::compact_runs) returns for the same entries, with the same id counter.
+/// The call does nothing: its contract states the law.
 pub fn compaction_tables_law<A: Allocator>()
     ensures { spec.StreamedLaw A }
 {}

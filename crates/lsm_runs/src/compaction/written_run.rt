@@ -126,6 +126,16 @@ pub(crate) fn open_tables<A: Allocator + Clone>(
 /// The errors of [`MultiWriter::new`], [`MultiWriter::write`] and [`MultiWriter::finish`]; then
 /// [`Error::GlobalSeqNoTooLarge`] if the highest seqno plus `global_seqno` passes `u64`;
 /// [`Error::OutOfMemory`].
+///
+/// # Examples
+///
+/// ```
+/// let (ids, created_at) = (TableIds::new(1), Timestamp::from(0));
+/// let (run, ids) = write_run(alloc.clone()?, ids, target_size, created_at, items, 0)?;
+/// let Some(run) = run else {
+///     return Ok(None);
+/// };
+/// ```
 pub fn write_run<A: Allocator + Clone>(
     alloc: A,
     ids: TableIds,

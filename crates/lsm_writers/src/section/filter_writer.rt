@@ -1,5 +1,4 @@
 //! The trait of filter writers, and laws of the filters that they write.
-ghost use Rattle.std.specs.Prelude.{◌≡◌, ◌<◌, ◌≤◌, ◌^◌, ◌++◌, ◌∷◌, ℕ, List, [], None, true};
 ghost use Rattle.lsm_writers.specs.Words as spec;
 
 use sst_blocks::{BloomConstructionPolicy, CompressionType, Error, SectionWriter, UserKey};
@@ -156,10 +155,7 @@ pub trait FilterWriter<A: Allocator> {
 /// The partition size is at most 4,194,304 bytes. The options must stay unchanged from the first
 /// key on. The call does nothing.
 pub fn small_partitions_fit()
-    ensures { (kind : spec.FilterKind) (policy : spec.BloomConstructionPolicy)
-        (keys : List (List ℕ))
-        (key : List ℕ) → spec.tenths_of policy < 2 ^ 32 → spec.partition_size kind ≤ 4194304 →
-        spec.register_fault kind policy (spec.given_by kind policy keys).pending key ≡ None }
+    ensures { spec.SmallPartsLaw }
 {}
 
 /// States the keys and filters of a writer whose kind and policy are set before the first key.
@@ -177,20 +173,10 @@ pub fn small_partitions_fit()
 ///
 /// The call does nothing.
 pub fn options_set_before_keys()
-    ensures none { (kind : spec.FilterKind) (policy : spec.BloomConstructionPolicy) →
-        spec.given_by kind policy [] ≡ spec.no_keys }
-    ensures more { (kind : spec.FilterKind) (policy : spec.BloomConstructionPolicy)
-        (keys : List (List ℕ)) (key : List ℕ) →
-        spec.with_key kind policy (spec.given_by kind policy keys) key
-        ≡ spec.given_by kind policy (keys ++ key ∷ []) }
-    ensures writes { (kind : spec.FilterKind) (policy : spec.BloomConstructionPolicy)
-        (keys : List (List ℕ)) (before after : spec.Written) (count : ℕ) →
-        spec.WritesParts kind policy (spec.given_by kind policy keys) before after count →
-        spec.WritesFilter kind policy keys before after count }
-    ensures fault { (kind : spec.FilterKind) (policy : spec.BloomConstructionPolicy)
-        (keys : List (List ℕ)) →
-        spec.given_fault kind policy (spec.given_by kind policy keys)
-        ≡ spec.filter_fault kind policy keys }
+    ensures none { spec.GivenNoneLaw }
+    ensures more { spec.GivenMoreLaw }
+    ensures writes { spec.SameFiltersLaw }
+    ensures fault { spec.SameFaultLaw }
 {}
 
 /// States that the filter written by [`FilterWriter::finish`] admits each registered key.
@@ -203,12 +189,6 @@ pub fn options_set_before_keys()
 ///
 /// A second clause: registering a key appends it to the registered keys. The call does nothing.
 pub fn registered_keys_are_admitted()
-    ensures admitted { (kind : spec.FilterKind) (policy : spec.BloomConstructionPolicy)
-        (given : spec.GivenKeys) (before after : spec.Written) (count : ℕ) (behind key : List ℕ) →
-        spec.WritesParts kind policy given before after count →
-        spec.AreRising (spec.all_keys given) →
-        spec.was_given given key ≡ true → spec.IsAdmitted kind before after behind key }
-    ensures gained { (kind : spec.FilterKind) (policy : spec.BloomConstructionPolicy)
-        (given : spec.GivenKeys) (key : List ℕ) →
-        spec.all_keys (spec.with_key kind policy given key) ≡ spec.all_keys given ++ key ∷ [] }
+    ensures admitted { spec.AdmittedLaw }
+    ensures gained { spec.AllKeysLaw }
 {}

@@ -34,8 +34,8 @@ abbrev pub live_of : List Entry → List Entry
 live_of es = filter is_live es
 
 -- The first n entries in turn that are no tombstones.
-abbrev pub printed : Bool → ℕ → List Entry → List Entry
-printed back n es = take n (live_of (in_turn back es))
+abbrev pub merged_entries : Bool → ℕ → List Entry → List Entry
+merged_entries back n es = take n (live_of (in_turn back es))
 
 -- The newest versions below a seqno of all lists together, in the range.
 abbrev pub newest_in : DumpOptions → ℕ → List (List (List Entry)) → List Entry
@@ -51,14 +51,14 @@ abbrev pub newest_found : DumpOptions → ℕ → List (List OpenTable) → List
 newest_found o seqno runs = newest_results (merge_of (map (below_results seqno) (ranges_in o runs)))
 
 -- The number of lines of an entry.
-abbrev pub lines_of : Entry → ℕ
-lines_of e = if is_live e then 1 else 0
+abbrev pub merged_lines : Entry → ℕ
+merged_lines e = if is_live e then 1 else 0
 
 -- The result of printing an item: none for no item, and else its number of lines unless printing
 -- fails. An error of the item is passed on.
 abbrev pub ShowsLive : Option Outcome → Result (Option ℕ) ToolError → Type 0
 ShowsLive None r = r ≡ Ok None
-ShowsLive (Some (Ok e)) r = MatchResult r (λ shown. shown ≡ Some (lines_of e)) NamesNone
+ShowsLive (Some (Ok e)) r = MatchResult r (λ shown. shown ≡ Some (merged_lines e)) NamesNone
 ShowsLive (Some (Err e)) r = r ≡ Err (error.Refused e)
 
 -- The error is one of the output or OutOfMemory, or another of the library with this property. So
@@ -70,7 +70,7 @@ FailsOnlyAs IsReported e = ⊥
 
 -- The first of these results were read. All of them are entries, and those that are no tombstones
 -- were printed: as many as may be, or all that there are.
-pub record Prints (most : ℕ) (rs : List Outcome) (count : ℕ) : Type 0 where
+pub record PrintsMerged (most : ℕ) (rs : List Outcome) (count : ℕ) : Type 0 where
   pub read : List Entry
   pub rest : List Outcome
   pub split : ok_results read ++ rest ≡ rs
@@ -84,7 +84,7 @@ abbrev pub PrintsSteps : {S : Type 0} (step : S → Option Outcome → S → Typ
     → Result ℕ ToolError → Type 0
 PrintsSteps step s most result =
     (stops : Error → Bool) (rs : List Outcome) → YieldsExactly (answer_stops stops) step nowhere s rs
-    → IfOk result (Prints most rs)
+    → IfOk result (PrintsMerged most rs)
     × IfErr result (FailsOnlyAs (λ e. stops e ≡ false → first_error rs ≡ Some e))
 
 -- The first error of reading the file's range, in the order of printing.

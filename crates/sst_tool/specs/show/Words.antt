@@ -17,8 +17,8 @@ pub use Rattle.lsm_runs.specs.SeveralRuns.{runs_result, union_in}
 pub use Rattle.sst_tool.specs.show.Failures.{BlamesFaulty, BlamesFile, FailsAs, NamesFaulty, NamesNone}
 pub use Rattle.sst_tool.specs.show.Failures.{NamesOnly, NamesRefusal, read_refusal}
 pub use Rattle.sst_tool.specs.show.Files.{IsSoundTable, runs_in}
-pub use Rattle.sst_tool.specs.show.Merged.{FailsOnlyAs, NamesUnread, Prints, PrintsSteps}
-pub use Rattle.sst_tool.specs.show.Merged.{ShowsLive, lines_of}
-pub use Rattle.sst_tool.specs.show.Merged.{newest_found, newest_in, printed, ranges_in}
+pub use Rattle.sst_tool.specs.show.Merged.{FailsOnlyAs, NamesUnread, PrintsMerged, PrintsSteps}
+pub use Rattle.sst_tool.specs.show.Merged.{ShowsLive, merged_lines}
+pub use Rattle.sst_tool.specs.show.Merged.{newest_found, newest_in, merged_entries, ranges_in}
 pub use Rattle.sst_tool.specs.show.Read.{DealsTo, Outcome, ShowsItem, chosen, dumped, first_error}
 pub use Rattle.sst_tool.specs.show.Read.{from_key, readable, seen_below, up_to_key}

@@ -39,14 +39,14 @@ pub fn dump_merged<'a, A: Allocator + Copy, W: Write>(
     // are in the range and no tombstones.
     ensures list { (lists : List (List (List spec.Entry))) →
         spec.RunsHoldLists (spec.runs_in files.now) lists → IfOk result (λ count. count ≡ length
-        (spec.printed options.now.reverse most (spec.newest_in options.now seqno lists))) }
+        (spec.merged_entries options.now.reverse most (spec.newest_in options.now seqno lists))) }
     // Whatever the bytes, if each key range is well formed and each file's entries in the range are
     // in order, all results that it read from the front are entries. No error is skipped.
     ensures returned { options.now.reverse ≡ false →
         spec.AllByRecursion (spec.IsInOrder spec.range_of) (spec.runs_in files.now) →
         spec.AllByRecursion (λ rs. spec.Ascends (spec.entries_among rs))
         (spec.ranges_in options.now (spec.runs_in files.now)) →
-        IfOk result (spec.Prints most
+        IfOk result (spec.PrintsMerged most
         (spec.newest_found options.now seqno (spec.runs_in files.now))) }
     // An error that names a file names the first whose range cannot be read, with the first error
     // in the range. It stores no list: if all do, no error names a file.
@@ -73,12 +73,12 @@ fn print_merged<A: Allocator + Copy, W: Write>(
     ensures list { (lists : List (List (List spec.Entry))) →
         spec.RunsHoldLists (map spec.arc_value runs.now) lists → IfOk result (λ count.
         count ≡ length
-        (spec.printed options.now.reverse most (spec.newest_in options.now seqno lists))) }
+        (spec.merged_entries options.now.reverse most (spec.newest_in options.now seqno lists))) }
     ensures returned { options.now.reverse ≡ false →
         spec.AllByRecursion (spec.IsInOrder spec.range_of) (map spec.arc_value runs.now) →
         spec.AllByRecursion (λ rs. spec.Ascends (spec.entries_among rs))
         (spec.ranges_in options.now (map spec.arc_value runs.now)) →
-        IfOk result (spec.Prints most
+        IfOk result (spec.PrintsMerged most
         (spec.newest_found options.now seqno (map spec.arc_value runs.now))) }
     // No file is named yet.
     ensures unnamed { IfErr result (spec.FailsOnlyAs (λ _. Unit {0})) }
@@ -229,7 +229,7 @@ fn print_live<A: Allocator + Copy, W: Write>(
     entry: &EntryRef<'_>,
     format: Format,
 ) -> Result<u64, ToolError<'static>>
-    ensures { MatchResult result (λ count. count ≡ spec.lines_of (spec.entry_of_ref entry.now))
+    ensures { MatchResult result (λ count. count ≡ spec.merged_lines (spec.entry_of_ref entry.now))
         spec.NamesNone }
 {
     if entry.is_tombstone() {

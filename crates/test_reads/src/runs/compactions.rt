@@ -4,8 +4,8 @@ use crate::tables::number_of;
 use lsm_sorted::compaction::lending::{LentCallback, LentFilter};
 use lsm_sorted::compaction::stream::{NoCallback, NoFilter, StreamFilterVerdict};
 use lsm_tables::compaction::{
-    CompactionObserver, CompactionOutcome, CompactionProgress, NoObserver, Rules,
-    compact_any_runs_with, compact_to_run_with,
+    CompactionObserver, CompactionOutcome, CompactionProgress, NoObserver, Rules, compact_any_runs,
+    compact_to_run_with,
 };
 use lsm_tables::laws::compaction_law;
 use lsm_tables::run::get_runs;
@@ -217,7 +217,7 @@ fn compacted(
         stop,
     };
     let writer = MultiWriter::new(alloc, TableIds::new(first), target, 0, Timestamp::from(0))?;
-    let (outcome, callback) = compact_any_runs_with(
+    let (outcome, callback) = compact_any_runs(
         alloc,
         runs,
         rules_of(watermark),
@@ -604,7 +604,7 @@ fn runs_that_nobody_verified_are_compacted(rt: HostRuntime) {
 // The number of tables of a compaction. Fails with `Source(9)` if it makes none.
 fn count_of<A: Allocator + Copy>(alloc: A, runs: &[Tables<A>]) -> Result<usize, Error> {
     let writer = MultiWriter::new(alloc, TableIds::new(5), 0, 0, Timestamp::from(0))?;
-    let (outcome, _) = compact_any_runs_with(
+    let (outcome, _) = compact_any_runs(
         alloc,
         runs,
         rules_of(0),

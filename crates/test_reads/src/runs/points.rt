@@ -4,14 +4,14 @@
 //! damaged table.
 use crate::tables::{cloned, lends_same, number_of};
 use example_calling::read_run;
-use lsm_runs::{get_runs_ref_counted, place_in_runs_counted};
-use lsm_sorted::Run;
-use lsm_tables::run::{
-    RunPlace, entry_in_runs, get_runs, get_runs_by_age, get_runs_by_age_counted, get_runs_counted,
-    get_runs_ref, get_runs_ref_by_age, place_in_runs, place_in_runs_by_age_counted,
+use lsm_runs::{
+    RunPlace, entry_in_runs, get_runs_ref_counted, place_in_runs, place_in_runs_by_age_counted,
+    place_in_runs_counted,
 };
+use lsm_sorted::Run;
+use lsm_tables::run::{get_runs, get_runs_counted, get_runs_ref, get_runs_ref_by_age};
 use lsm_tables::table::Table;
-use sst_blocks::{Error, InternalValue, Opened, SeqNo, ValueType};
+use sst_blocks::{EntryRef, Error, InternalValue, Opened, SeqNo, ValueType};
 use std::alloc::Global;
 use test_support::samples::large::{add, asked_with};
 use test_support::samples::rows::Row;
@@ -42,27 +42,42 @@ type Read = (Found, u64);
 // A key, a snapshot, and the reads of all runs and of runs by age.
 type Case = (&'static [u8], SeqNo, Read, Read);
 
+// Whether a read loads this number of data blocks, and no blocks of other kinds.
+fn loads_only(opened: Opened, data_loads: u64) -> bool {
+    let others = (opened.index_loads, opened.filter_loads, opened.meta_loads);
+    opened.data_loads == data_loads && others == (0, 0, 0)
+}
+
 // Whether a read has this result, and loads no blocks of other kinds.
 fn is_so(read: (Result<Option<InternalValue>, Error>, Opened), wanted: &Read) -> bool {
     let (found, opened) = read;
-    let others = (opened.index_loads, opened.filter_loads, opened.meta_loads);
-    number_of(found) == wanted.0 && opened.data_loads == wanted.1 && others == (0, 0, 0)
+    number_of(found) == wanted.0 && loads_only(opened, wanted.1)
 }
 
-// Whether the runs have the entry of `get_runs` at the handle that `place_in_runs` returns, or both
-// calls return the same error.
+// The sequence number of the entry that a borrowing read found, if any.
+fn number_in(found: Result<Option<EntryRef<'_>>, Error>) -> Found {
+    match found {
+        Ok(Some(entry)) => Ok(Some(entry.seqno)),
+        Ok(None) => Ok(None),
+        Err(error) => Err(error),
+    }
+}
+
+// Whether the runs have the entry of a borrowing read at the handle that `place_in_runs` returns,
+// or both calls return the same error.
 fn is_placed(
     runs: &[Tables<Global>],
     place: Result<Option<RunPlace>, Error>,
-    found: &Result<Option<InternalValue>, Error>,
+    lent: &Result<Option<EntryRef<'_>>, Error>,
 ) -> bool {
-    match place {
-        Ok(Some(place)) => match entry_in_runs(runs, &place) {
-            Some(entry) => lends_same(found, &Ok(Some(entry))),
+    match (place, lent) {
+        (Ok(Some(place)), Ok(Some(wanted))) => match entry_in_runs(runs, &place) {
+            Some(entry) => entry == *wanted,
             None => false,
         },
-        Ok(None) => lends_same(found, &Ok(None)),
-        Err(error) => lends_same(found, &Err(error)),
+        (Ok(None), Ok(None)) => true,
+        (Err(error), Err(wanted)) => error == *wanted,
+        _ => false,
     }
 }
 
@@ -75,23 +90,18 @@ fn is_found_each_way(runs: &[Tables<Global>], key: &[u8], bound: SeqNo, wanted: 
     lent_opened == opened
         && place_opened == opened
         && lends_same(&found, &lent)
-        && is_placed(runs, place, &found)
+        && is_placed(runs, place, &lent)
         && lends_same(&found, &get_runs_ref(runs, key, bound))
-        && is_placed(runs, place_in_runs(runs, key, bound), &found)
+        && is_placed(runs, place_in_runs(runs, key, bound), &lent)
         && lends_same(&get_runs(runs, key, bound), &lent)
         && number_of(found) == *wanted
 }
 
-// Whether a read of runs by age has this result by value, borrowed and by handle, with the loads
-// counted and without.
+// Whether a read of runs by age has this result, borrowed and by handle.
 fn is_found_by_age(runs: &[Tables<Global>], key: &[u8], bound: SeqNo, wanted: &Read) -> bool {
-    let (found, opened) = get_runs_by_age_counted(runs, key, bound);
-    let (place, place_opened) = place_in_runs_by_age_counted(runs, key, bound);
-    place_opened == opened
-        && is_placed(runs, place, &found)
-        && lends_same(&found, &get_runs_ref_by_age(runs, key, bound))
-        && number_of(get_runs_by_age(runs, key, bound)) == wanted.0
-        && is_so((found, opened), wanted)
+    let lent = get_runs_ref_by_age(runs, key, bound);
+    let (place, opened) = place_in_runs_by_age_counted(runs, key, bound);
+    is_placed(runs, place, &lent) && loads_only(opened, wanted.1) && number_in(lent) == wanted.0
 }
 
 // Whether reads of runs have the results of a case, with the loads counted and without.

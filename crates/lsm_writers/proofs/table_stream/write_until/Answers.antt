@@ -39,7 +39,7 @@ returns-in_err-write_ref-clause-steps g c =
     let v = c.write_ref.new.self in
     let step = lent_next next _ _ _ c.in_ok-advance.field-0 _ c.in-Some.ensures c.in_ok-advance.ensures.goes in
     until_fails next c.args.source.now c.advance.new.self c.args.writer.now v c.from_residual-in_err-write_ref.result f c.from_residual-in_err-write_ref.ensures.1
-    (λ stops w rs gs h. from_failed stops next w rs gs l.source c.advance.new.self l.writer (l.invariant.took stops w rs gs h) (entry_of_ref c.in-Some.entry) step f v c.in_err-write_ref.ensures.refused c.in_err-write_ref.ensures.left)
+    (λ stops w rs gs h. from_failed stops next w rs gs l.source c.advance.new.self l.writer (l.invariant.took stops w rs gs h) (entry_of_ref c.in-Some.entry) step f v c.in_err-write_ref.ensures.refused c.in_err-write_ref.ensures.left c.in_err-write_ref.ensures.ids)
 
 pub returns-in-Some-take_finished-clause-steps : goal.returns-in-Some-take_finished-clause-steps
 returns-in-Some-take_finished-clause-steps g c =

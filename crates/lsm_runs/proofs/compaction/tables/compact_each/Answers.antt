@@ -1,17 +1,10 @@
-use Rattle.std.proofs.Common.{◌∙◌, ap, subst}
-use Rattle.lsm_writers.specs.Tables.{TablesWriting}
-use Rattle.lsm_runs.specs.compaction.Compacted.{RunsOn, kept_in, merged_as}
+use Rattle.lsm_runs.specs.compaction.Compacted.{kept_in, merged_as}
 use Rattle.lsm_runs.specs.SeveralRuns.{union_in}
 use Rattle.lsm_runs.proofs.Keeping.{stays_writable}
 use Rattle.lsm_runs.proofs.compaction.tables.compact_each.Goals as goal
 
 pub stream_of-requires : goal.stream_of-requires
-stream_of-requires g c =
-    record {
-      fresh = c.requires.fresh;
-      next = subst RunsOn c.writer.view_is (c.writer.invariant.1
-          (ap (λ (w : TablesWriting). w.failed) c.writer.view_is ∙ c.requires.fresh.2)).next;
-    }
+stream_of-requires g c = c.requires.fresh
 
 pub returns-clause-starts : goal.returns-clause-starts
 returns-clause-starts g c able stops memory =

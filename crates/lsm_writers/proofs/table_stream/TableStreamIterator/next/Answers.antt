@@ -14,4 +14,4 @@ pub returns-in-Err-clause-steps : goal.returns-in-Err-clause-steps
 returns-in-Err-clause-steps g c =
     yields_stop g.L.Lending.advances c.args.self.now _ c.in-Some.writer c.write_until-made.new.writer c.in-Some.is c.stop.ensures.over c.in-Err.error
     (no_error g.row.A.Denot g.L.Lending.advances g.L.Lending.can_advance c.args.self.now c.in-Some.writer c.in-Some.is c.requires)
-    c.stop.result c.in-Err.ensures.steps c.stop.ensures.stops c.stop.ensures.left
+    c.table_ids-self.ensures c.stop.result c.in-Err.ensures.steps c.stop.ensures.stops c.stop.ensures.left

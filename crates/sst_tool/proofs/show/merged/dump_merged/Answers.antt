@@ -7,7 +7,7 @@ use Rattle.lsm_readers.specs.point.Table.{OpenTable}
 use Rattle.lsm_runs.specs.RunLists.{RunsHoldLists}
 use Rattle.lsm_run_parts.specs.RunParts.{range_of}
 use Rattle.sst_tool.specs.show.Files.{runs_in}
-use Rattle.sst_tool.specs.show.Merged.{Prints, newest_found, ranges_in}
+use Rattle.sst_tool.specs.show.Merged.{PrintsMerged, newest_found, ranges_in}
 use Rattle.sst_tool.proofs.show.merged.dump_merged.Goals as goal
 
 pub returns-in-Ok-clause-list : goal.returns-in-Ok-clause-list
@@ -25,5 +25,5 @@ returns-in-Ok-clause-returned g c =
     subst (λ (ts : List (List OpenTable)). o.reverse ≡ false
     → AllByRecursion (IsInOrder range_of) ts
     → AllByRecursion (λ rs. Ascends (entries_among rs)) (ranges_in o ts)
-    → Prints c.args.most (newest_found o c.args.seqno ts) c.in-Ok.count) same
+    → PrintsMerged c.args.most (newest_found o c.args.seqno ts) c.in-Ok.count) same
     c.in-Ok.ensures.returned

@@ -3,7 +3,7 @@ use Rattle.sst_entries.specs.Stream.{CanYield, nowhere}
 use Rattle.lsm_writers.specs.Streamed.{took_each}
 use Rattle.lsm_writers.specs.Tables.{all_written}
 use Rattle.lsm_runs.proofs.Observing.{Observing}
-use Rattle.lsm_runs.proofs.compaction.any_runs_with.write_while_observed.Given as goal
+use Rattle.lsm_runs.proofs.compaction.any_runs.write_while_observed.Given as goal
 
 abbrev pub invariant-loop-source : goal.invariant-loop-source
 invariant-loop-source g l = record {

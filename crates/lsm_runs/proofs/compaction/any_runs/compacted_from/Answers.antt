@@ -6,7 +6,7 @@ use Rattle.lsm_sorted.specs.merge.InPlace.{merge_of}
 use Rattle.lsm_runs.specs.SeveralRuns.{union_in}
 use Rattle.lsm_runs.proofs.AnyScans.{compacts_as, each_stops}
 use Rattle.lsm_runs.proofs.Scanners.{merged_together}
-use Rattle.lsm_runs.proofs.compaction.any_runs_with.compacted_from.Goals as goal
+use Rattle.lsm_runs.proofs.compaction.any_runs.compacted_from.Goals as goal
 
 pub returns-clause-list : goal.returns-clause-list
 returns-clause-list g c lists together =

@@ -7,7 +7,7 @@ use Rattle.sst_blocks.specs.table.Chunks.{joined}
 use Rattle.lsm_runs.proofs.Observing.{counted_one_more, counted_same, finished_len, none_counted}
 use Rattle.lsm_runs.proofs.Observing.{none_finished, one_finished, other_ids, same_ids}
 use Rattle.lsm_runs.proofs.Observing.{some_counted, reported_more_tables}
-use Rattle.lsm_runs.proofs.compaction.any_runs_with.write_and_tell.Goals as goal
+use Rattle.lsm_runs.proofs.compaction.any_runs.write_and_tell.Goals as goal
 
 pub returns-then-written-eq0-clause-returned : goal.returns-then-written-eq0-clause-returned
 returns-then-written-eq0-clause-returned g c counted begun =

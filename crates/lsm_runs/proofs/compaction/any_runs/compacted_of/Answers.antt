@@ -2,7 +2,7 @@ use Rattle.sst_entries.proofs.Refusals.{faults_refusal}
 use Rattle.lsm_runs.proofs.FilteredCame.{memory_faults, memory_reports}
 use Rattle.lsm_runs.proofs.Scanners.{scan_asked}
 use Rattle.lsm_runs.proofs.Together.{all_of}
-use Rattle.lsm_runs.proofs.compaction.any_runs_with.compacted_of.Goals as goal
+use Rattle.lsm_runs.proofs.compaction.any_runs.compacted_of.Goals as goal
 
 pub returns-clause-can : goal.returns-clause-can
 returns-clause-can g c =

@@ -1,5 +1,5 @@
 use Rattle.lsm_runs.proofs.Endings.{ends_so}
-use Rattle.lsm_runs.proofs.compaction.any_runs_with.write_observed.Goals as goal
+use Rattle.lsm_runs.proofs.compaction.any_runs.write_observed.Goals as goal
 
 pub returns-clause-written : goal.returns-clause-written
 returns-clause-written g c =

@@ -13,7 +13,7 @@ use Rattle.lsm_runs.proofs.Observing.{reported_stopped}
 use Rattle.lsm_runs.proofs.TookList.{took_list, took_more, took_none}
 use Rattle.lsm_runs.proofs.WritesOn.{lent_next, lent_over}
 use Rattle.lsm_runs.proofs.WrittenBy.{Since, nothing_yet, since_more}
-use Rattle.lsm_runs.proofs.compaction.any_runs_with.write_while_observed.Goals as goal
+use Rattle.lsm_runs.proofs.compaction.any_runs.write_while_observed.Goals as goal
 
 pub loop-source-init : goal.loop-source-init
 loop-source-init g c =
