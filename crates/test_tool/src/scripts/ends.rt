@@ -84,9 +84,7 @@ fn ends_where_errors_fail(alloc: Global, room: usize) -> bool {
     let mut output = Vec::new(alloc);
     let mut errors = TightWriter::new(alloc, room);
     let status = run_script(alloc, AT_FAULT, &mut output, &mut errors);
-    status == 2
-        && output.as_slice() == AT_FAULT_OUTPUT
-        && errors.taken() == front(FORM_AT_2, room)
+    status == 2 && output.as_slice() == AT_FAULT_OUTPUT && errors.taken() == front(FORM_AT_2, room)
 }
 
 #[test]
