@@ -8,7 +8,6 @@ use Rattle.std.specs.List.{onto_first}
 use Rattle.std.specs.Io.BufRead.{take_through, drop_through, first_piece, strip_last}
 use Rattle.std.specs.Io.KnownBytes.{Appends, Keeps}
 use Rattle.std.proofs.KnownBytes.{Appends-nil, Appends-trans}
-use Rattle.sst_script.specs.declared.stop.LineFault.{LineFault}
 use Rattle.sst_script.specs.declared.stop.Stop.{Stop}
 use Rattle.sst_script.specs.declared.stop.Stop.TheVariants.{Line, Input, Output}
 use Rattle.sst_script.specs.declared.command.Command.{Command}
@@ -219,7 +218,7 @@ stop_at : (X Y : Type 0) {A : Type 0} {input left before between : Option (List 
     → LineEnds {X = X} A (count + 1) line now next between after (Err stop)
     → ScriptEnds {X = Y} A input before after (Err stop)
 stop_at X Y {A} {input} {left} {before} {between} {count} {now} new after next line
-    (Line n fault) here loses ended = (
+    (Line n) here loses ended = (
       here.front,
       line,
       known_lines new,
@@ -318,11 +317,10 @@ ends_printed {X} {A} number line command old new (Err (Refused error)) before af
     subst (λ (s : Stop). LineEnds {X = X} A number line old new before after (Err s))
     (sym ends.0) shown
 ends_printed {X} {A} number line command old new
-    (Err (BadLine fault)) before after result some asked does ends =
-    let stopped : LineEnds {X = X} A number line old new before after (Err (Line number fault)) =
+    (Err BadLine) before after result some asked does ends =
+    let fault : LineEnds {X = X} A number line old new before after (Err (Line number)) =
     (refl, some, inr (new, (command, asked, does)), ends.1) in
-    subst (λ (r : Result X Stop). LineEnds A number line old new before after r) (sym ends.0)
-    stopped
+    subst (λ (r : Result X Stop). LineEnds A number line old new before after r) (sym ends.0) fault
 
 -- whether the line of a stop was written makes no difference
 pub reported : {X E : Type 0} (before after : Option (List ℕ)) (stop : Stop) (r : Result X E)
@@ -340,16 +338,15 @@ shows_kept a b c text (Err e) written kept = front_all a c text
 -- the result of printing a text
 pub ends_shown : {X : Type 0} (number : ℕ) (text : List ℕ) (a b : Option (List ℕ))
     (r : Result X Stop) → ShowsText a b r text → IfErr r (λ stop. stop ≡ Output)
-    → PrintEnds number (Ok text) a b r
+    → PrintEnds number (Some text) a b r
 ends_shown number text a b (Ok x) shows stops = shows
 ends_shown number text a b (Err stop) shows stops = (stops, shows)
 
 -- it stops at the line, or because the output fails
-pub ends_stops : {X : Type 0} (number : ℕ) (text : Result (List ℕ) LineFault)
-    (a b : Option (List ℕ)) (r : Result X Stop) → PrintEnds number text a b r
-    → IfErr r (λ stop. ((fault : LineFault) × (stop ≡ Line number fault)) ⊎ (stop ≡ Output))
-ends_stops number (Err fault) a b (Ok x) ends = tt
-ends_stops number (Err fault) a b (Err stop) ends =
-    let same : stop ≡ Line number fault = cc (ends.0) in inl (fault, same)
-ends_stops number (Ok text) a b (Ok x) ends = tt
-ends_stops number (Ok text) a b (Err stop) ends = inr ends.0
+pub ends_stops : {X : Type 0} (number : ℕ) (text : Option (List ℕ)) (a b : Option (List ℕ))
+    (r : Result X Stop) → PrintEnds number text a b r
+    → IfErr r (λ stop. (stop ≡ Line number) ⊎ (stop ≡ Output))
+ends_stops number None a b (Ok x) ends = tt
+ends_stops number None a b (Err stop) ends = let same : stop ≡ Line number = cc (ends.0) in inl same
+ends_stops number (Some text) a b (Ok x) ends = tt
+ends_stops number (Some text) a b (Err stop) ends = inr ends.0

@@ -1,5 +1,5 @@
 -- The output for the lines of a script.
-use Rattle.std.specs.Prelude.{◌≡◌, ◌<◌, ℕ, ◌+◌, List, [], ◌∷◌, ◌++◌, length, Option, Some}
+use Rattle.std.specs.Prelude.{◌≡◌, ◌<◌, ℕ, ◌+◌, List, [], ◌∷◌, ◌++◌, length, Option, Some, None}
 use Rattle.std.specs.Prelude.{Result, Ok, Err, MatchResult, ◌⊎◌}
 use Rattle.std.specs.Io.KnownBytes.{Appends, Keeps}
 use Rattle.sst_entries.specs.Error.{number_of}
@@ -7,8 +7,6 @@ use Rattle.sst_script.specs.declared.command.Command.{Command}
 use Rattle.sst_script.specs.declared.print.Answer.{Answer}
 use Rattle.sst_script.specs.declared.stop.Failure.{Failure}
 use Rattle.sst_script.specs.declared.stop.Failure.TheVariants.{BadLine, Refused}
-use Rattle.sst_script.specs.declared.stop.LineFault.{LineFault}
-use Rattle.sst_script.specs.declared.stop.LineFault.TheVariants.{Form}
 use Rattle.sst_script.specs.declared.stop.Stop.{Stop}
 use Rattle.sst_script.specs.declared.stop.Stop.TheVariants.{Line, Input, Output}
 use Rattle.sst_script.specs.Answer.{answer_lines, refusal_line}
@@ -18,18 +16,18 @@ use Rattle.sst_script.specs.Stop.{stop_line}
 use Rattle.sst_script.specs.Lines.{HasLines}
 use Rattle.sst_script.specs.Script.{Store, store, Executes}
 
--- the text of a command's result, or what is wrong with the line
-abbrev pub outcome_text : {A : Type 0} → Result (Answer A) Failure → Result (List ℕ) LineFault
-outcome_text (Ok answer) = Ok (answer_lines answer)
-outcome_text (Err (Refused error)) = Ok (refusal_line (number_of error))
-outcome_text (Err (BadLine fault)) = Err fault
+-- the text of a command's result; none if the line is at fault
+abbrev pub outcome_text : {A : Type 0} → Result (Answer A) Failure → Option (List ℕ)
+outcome_text (Ok answer) = Some (answer_lines answer)
+outcome_text (Err (Refused error)) = Some (refusal_line (number_of error))
+outcome_text (Err BadLine) = None
 
 -- the text was printed; or the output failed after a prefix of it; or there was no text, and the
--- line with this number ended the script by its fault
-abbrev pub PrintEnds : {X : Type 0} → ℕ → Result (List ℕ) LineFault → Option (List ℕ)
-    → Option (List ℕ) → Result X Stop → Type 0
-PrintEnds number (Err fault) before after r = (r ≡ Err (Line number fault)) × (after ≡ before)
-PrintEnds number (Ok text) before after r =
+-- line with this number ended the script
+abbrev pub PrintEnds : {X : Type 0} → ℕ → Option (List ℕ) → Option (List ℕ) → Option (List ℕ)
+    → Result X Stop → Type 0
+PrintEnds number None before after r = (r ≡ Err (Line number)) × (after ≡ before)
+PrintEnds number (Some text) before after r =
     MatchResult r (λ _. Appends before after text)
     (λ stop. (stop ≡ Output) × AppendsFront before after text)
 
@@ -41,13 +39,13 @@ Does A line old r new =
 -- the result of a line's command is printed as a text
 abbrev pub Prints : (A : Type 0) → List ℕ → Store → List ℕ → Store → Type 0
 Prints A line old text new =
-    (r : Result (Answer A) Failure) × Does A line old r new × (outcome_text r ≡ Ok text)
+    (r : Result (Answer A) Failure) × Does A line old r new × (outcome_text r ≡ Some text)
 
 -- a line is no command, or one that finds the line at fault
-abbrev pub IsAtFault : (A : Type 0) → List ℕ → Store → LineFault → Type 0
-IsAtFault A line old fault =
-    ((fault ≡ Form) × ((command : Command) → ¬ AskFor (words_of line) command))
-    ⊎ ((new : Store) × Does A line old (Err (BadLine fault)) new)
+abbrev pub IsAtFault : (A : Type 0) → List ℕ → Store → Type 0
+IsAtFault A line old =
+    ((command : Command) → ¬ AskFor (words_of line) command)
+    ⊎ ((new : Store) × Does A line old (Err BadLine) new)
 
 -- the text of a line and its effect: an empty line has no text, and changes nothing
 abbrev pub AnswersLine : (A : Type 0) → List ℕ → Store → List ℕ → Store → Type 0
@@ -59,8 +57,8 @@ abbrev pub LineEnds : {X : Type 0} → (A : Type 0) → ℕ → List ℕ → Sto
     → Option (List ℕ) → Result X Stop → Type 0
 LineEnds A number line old new before after (Ok x) =
     (text : List ℕ) × AnswersLine A line old text new × Appends before after text
-LineEnds A number line old new before after (Err (Line n fault)) =
-    (n ≡ number) × (0 < length line) × IsAtFault A line old fault × (after ≡ before)
+LineEnds A number line old new before after (Err (Line n)) =
+    (n ≡ number) × (0 < length line) × IsAtFault A line old × (after ≡ before)
 LineEnds A number line old new before after (Err Input) = ⊥
 LineEnds A number line old new before after (Err Output) =
     (text : List ℕ) × Prints A line old text new × AppendsFront before after text
@@ -95,11 +93,11 @@ abbrev pub ScriptEnds : {X : Type 0} → (A : Type 0) → Option (List ℕ) → 
 ScriptEnds A input before after (Ok x) =
     (lines : List (List ℕ)) × (text : List ℕ) × (now : Store)
     × HasAnswered A input lines [] text now × Appends before after text
-ScriptEnds A input before after (Err (Line n fault)) =
+ScriptEnds A input before after (Err (Line n)) =
     (front : List (List ℕ)) × (line : List ℕ) × (rest : List (List ℕ)) × (text : List ℕ)
     × (now : Store)
     × HasAnswered A input front (line ∷ rest) text now × Appends before after text
-    × (n ≡ length front + 1) × (0 < length line) × IsAtFault A line now fault
+    × (n ≡ length front + 1) × (0 < length line) × IsAtFault A line now
 ScriptEnds A input before after (Err Input) =
     (front : List (List ℕ)) × (rest : List (List ℕ)) × (text : List ℕ) × (now : Store)
     × HasAnswered A input front rest text now × Appends before after text

@@ -21,7 +21,6 @@ use Rattle.sst_script.specs.declared.print.Answer.{Answer}
 use Rattle.sst_script.specs.declared.print.Answer.TheVariants.{Silent, Tables, Runs as PackedInto}
 use Rattle.sst_script.specs.declared.print.Answer.TheVariants.{Lines}
 use Rattle.sst_script.specs.declared.stop.Failure.{Failure}
-use Rattle.sst_script.specs.declared.stop.LineFault.TheVariants.{Order, Repeated}
 use Rattle.sst_script.specs.declared.stop.Failure.TheVariants.{BadLine, Refused}
 use Rattle.sst_script.specs.Answer.{entry_lines, found_line}
 use Rattle.sst_script.specs.Runs.{Run, repeats, run_tables, union}
@@ -48,7 +47,7 @@ pending_fault ids (e ∷ es) = tables_fault ids target_size 0 (e ∷ es)
 -- why pending entries become no run: a run holds one of them, or else writing them fails
 abbrev pub adding_fault : Store → Option Failure
 adding_fault s =
-    if repeats s.runs s.pending then Some (BadLine Repeated)
+    if repeats s.runs s.pending then Some BadLine
     else option_map Refused (pending_fault s.next_id s.pending)
 
 -- the pending entries became a run before the others, cut by the target into so many tables with
@@ -131,8 +130,7 @@ PacksRuns old r new =
 
 -- why an entry is not added: it may not follow the pending ones, or else `OutOfMemory`
 abbrev pub entry_failure : List Entry → List ℕ → ℕ → Failure
-entry_failure es key seqno =
-    if may_be_written es key seqno then Refused OutOfMemory else BadLine Order
+entry_failure es key seqno = if may_be_written es key seqno then Refused OutOfMemory else BadLine
 
 -- a result is this text
 abbrev pub IsText : {A : Type 0} → List ℕ → Answer A → Type 0

@@ -34,9 +34,8 @@ pub use Rattle.sst_script.specs.Runs.{ForRuns, HasRuns, has_entry, repeats, unio
 pub use Rattle.sst_script.specs.Script.{CompactsRuns, Executes, PacksRuns, WritesPending}
 pub use Rattle.sst_script.specs.Script.{entry_failure, kept_by, store, target_size}
 pub use Rattle.sst_script.specs.Shown.{ShowsText}
-pub use Rattle.sst_script.specs.Stop.{fault_end, stop_line}
+pub use Rattle.sst_script.specs.Stop.{stop_line}
 pub use Rattle.sst_script.specs.Text.{IsNumber, letter_of, printed}
 pub use Rattle.sst_script.specs.declared.command.Command.{Command}
-pub use Rattle.sst_script.specs.declared.stop.LineFault.{LineFault}
 pub use Rattle.sst_script.specs.declared.stop.Stop.{Stop}
 pub use Rattle.sst_script.specs.declared.stop.Stop.TheVariants.{Input, Line, Output}

@@ -24,4 +24,4 @@ mod write;
 pub(crate) use command::{Command, parse_command};
 pub(crate) use print::{Answer, print_answer, print_refusal, print_stop};
 pub use script::run_script;
-pub(crate) use stop::{Failure, LineFault, Stop};
+pub(crate) use stop::{Failure, Stop};

@@ -3,7 +3,7 @@ ghost use Rattle.std.specs.Prelude.{◌≡◌, ◌↔◌, [], ◌∷◌, ◌++�
 ghost use Rattle.std.specs.Prelude.{OnErr, OnOk, MatchOption};
 ghost use Rattle.sst_script.specs.Words as spec;
 
-use crate::{Failure, LineFault};
+use crate::Failure;
 use lsm_readers::Table;
 use lsm_runs::write_run;
 use lsm_sorted::Run;
@@ -95,7 +95,7 @@ impl<A: Allocator + Clone> Pending<A> {
         ensures err { OnErr result (self.new ≡ self.old) }
     {
         if !self.can_follow(key, seqno) {
-            return Err(Failure::BadLine(LineFault::Order));
+            return Err(Failure::BadLine);
         }
         let alloc = self.items.allocator();
         let key = Slice::from(alloc.clone()?, key)?;

@@ -6,8 +6,7 @@ ghost use Rattle.sst_script.specs.Words as spec;
 use crate::pending::{Pending, TARGET_SIZE};
 use crate::runs::{is_repeated, newest_line, newest_lines, share, share_all, share_one};
 use crate::{
-    Answer, Command, Failure, LineFault, Stop, parse_command, print_answer, print_refusal,
-    print_stop,
+    Answer, Command, Failure, Stop, parse_command, print_answer, print_refusal, print_stop,
 };
 use lsm_readers::Table;
 use lsm_runs::{compact_to_run, pack_runs};
@@ -28,8 +27,8 @@ use std::{io, mem};
 ///
 /// The script ends early in three cases, each with one line on `errors`:
 ///
-/// - `sst: line`, the line's number and what is wrong with it, if a line is no command, or one that
-///   the script's state does not allow;
+/// - `sst: line` and the line's number, if a line is no command, or one that the script's state
+///   does not allow;
 /// - `sst: input`, if the input fails, or there is no memory for it;
 /// - `sst: output`, if the output fails.
 ///
@@ -110,7 +109,7 @@ fn print_outcome<W: Write, A: Allocator>(
     match outcome {
         Ok(answer) => pass_on(print_answer(output, answer), output),
         Err(Failure::Refused(error)) => pass_on(print_refusal(output, error.number()), output),
-        Err(Failure::BadLine(fault)) => Err(Stop::Line(number, *fault)),
+        Err(Failure::BadLine) => Err(Stop::Line(number)),
     }
 }
 
@@ -159,8 +158,7 @@ impl<A: Allocator + Clone> Script<A> {
     ) -> Result<(), Stop>
         requires { spec.AreCompactable (map spec.arc_value self.old.runs.items) }
         ensures able { spec.AreCompactable (map spec.arc_value self.new.runs.items) }
-        ensures stops { IfErr result (λ stop.
-            ((fault : spec.LineFault) × (stop ≡ spec.Line number fault)) ⊎ (stop ≡ spec.Output)) }
+        ensures stops { IfErr result (λ stop. (stop ≡ spec.Line number) ⊎ (stop ≡ spec.Output)) }
         ensures ended { spec.ForRuns (map spec.arc_value self.old.runs.items) (λ before.
             spec.HasRuns (map spec.arc_value self.new.runs.items) (λ after.
             spec.LineEnds A number line.now
@@ -171,7 +169,7 @@ impl<A: Allocator + Clone> Script<A> {
         if line.is_empty() {
             return Ok(());
         }
-        let command = parse_command(line).ok_or(Stop::Line(number, LineFault::Form))?;
+        let command = parse_command(line).ok_or(Stop::Line(number))?;
         print_outcome(output, number, &self.execute(command))
     }
 
@@ -230,7 +228,7 @@ impl<A: Allocator + Clone> Script<A> {
             (spec.store [] after self.new.ids))) }
     {
         if is_repeated(&self.runs, self.pending.items())? {
-            return Err(Failure::BadLine(LineFault::Repeated));
+            return Err(Failure::BadLine);
         }
         if self.pending.is_empty() {
             return Ok(0);

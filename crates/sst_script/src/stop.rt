@@ -3,22 +3,11 @@
 use sst_entries::Error;
 use std::alloc::{AllocError, AllocFailed};
 
-/// What is wrong with a line.
-#[derive(Clone, Copy)]
-pub enum LineFault {
-    /// It is no command.
-    Form,
-    /// Its entry may not follow the pending ones.
-    Order,
-    /// A run has the key and the seqno of a pending entry.
-    Repeated,
-}
-
 /// Why a script ends before its last line.
 #[derive(Clone, Copy)]
 pub enum Stop {
-    /// A line, counted from 1, is at fault.
-    Line(u64, LineFault),
+    /// A line, counted from 1, is no command, or one that the script's state does not allow.
+    Line(u64),
     /// The script cannot be read.
     Input,
     /// The results cannot be written.
@@ -41,7 +30,7 @@ impl From<AllocError> for Stop {
 #[derive(Drop)]
 pub enum Failure {
     /// The line is at fault, and the script ends.
-    BadLine(LineFault),
+    BadLine,
     /// The command fails, and the script goes on.
     Refused(Error),
 }

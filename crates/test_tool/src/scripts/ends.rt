@@ -1,5 +1,4 @@
 //! Scripts whose streams fail at each byte: the output and the report by then, and the status.
-use crate::scripts::scripts::FORM_AT_2;
 use crate::scripts::streams::{FailingReader, TightWriter};
 use sst_script::run_script;
 use std::alloc::Global;
@@ -79,18 +78,22 @@ const AT_FAULT: &[u8] = b"get a 1\nrange\nget a 1\n";
 
 const AT_FAULT_OUTPUT: &[u8] = b"none\n";
 
+const AT_FAULT_ERRORS: &[u8] = b"sst: line 2\n";
+
 // Whether a failed error stream is ignored.
 fn ends_where_errors_fail(alloc: Global, room: usize) -> bool {
     let mut output = Vec::new(alloc);
     let mut errors = TightWriter::new(alloc, room);
     let status = run_script(alloc, AT_FAULT, &mut output, &mut errors);
-    status == 2 && output.as_slice() == AT_FAULT_OUTPUT && errors.taken() == front(FORM_AT_2, room)
+    status == 2
+        && output.as_slice() == AT_FAULT_OUTPUT
+        && errors.taken() == front(AT_FAULT_ERRORS, room)
 }
 
 #[test]
 fn errors_fail_at_each_byte(rt: HostRuntime) {
     let alloc = rt.alloc();
-    for room in 0..=FORM_AT_2.len() {
+    for room in 0..=AT_FAULT_ERRORS.len() {
         assert!(rt; ends_where_errors_fail(alloc, room));
     }
 }

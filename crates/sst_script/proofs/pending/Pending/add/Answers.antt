@@ -6,7 +6,6 @@ use Rattle.sst_entries.specs.declared.value_type.ValueType.{ValueType}
 use Rattle.sst_entries.specs.Entry.{Entry, entry}
 use Rattle.lsm_writers.specs.Writing.{may_be_written}
 use Rattle.sst_script.specs.declared.stop.Failure.{Failure}
-use Rattle.sst_script.specs.declared.stop.LineFault.TheVariants.{Order}
 use Rattle.sst_script.specs.declared.stop.Failure.TheVariants.{BadLine, Refused}
 use Rattle.sst_script.proofs.PendingLemmas.{pending_more}
 use Rattle.sst_script.proofs.RefusalLemmas.{passes}
@@ -16,12 +15,12 @@ same_entry : (k l v w : List ℕ) (n : ℕ) (kind : ValueType) → k ≡ l → v
 same_entry k l v w n kind p q = rw (p, q)
 
 -- if an entry may follow, the only error is `OutOfMemory`
-memory_only : (follow : Bool) (e : Error) → follow ≡ true → e ≡ OutOfMemory → Refused e ≡ (if follow then Refused OutOfMemory else BadLine Order)
+memory_only : (follow : Bool) (e : Error) → follow ≡ true → e ≡ OutOfMemory → Refused e ≡ (if follow then Refused OutOfMemory else BadLine)
 memory_only follow e p q = rw (p, q)
 
 -- why an entry is not added
 abbrev Refuses : List Entry → List ℕ → ℕ → Failure → Type 0
-Refuses es key n failure = failure ≡ (if may_be_written es key n then Refused OutOfMemory else BadLine Order)
+Refuses es key n failure = failure ≡ (if may_be_written es key n then Refused OutOfMemory else BadLine)
 
 pub invariant_of-self-2 : goal.invariant_of-self-2
 invariant_of-self-2 g c =
