@@ -17,8 +17,8 @@ from ._resources import Returned
 
 _Steps = TypeVar("_Steps", bound="Steps")
 
-# The numbers of entries that the first call, the second and each later one fetch.
-_BATCHES = (16, 64, 256)
+# The numbers of entries that the first call and each later one fetch.
+_BATCHES = (64, 256)
 # A call fetches at most so many bytes of keys and values, or one entry that has more.
 _BATCH_BYTES = 1 << 16
 
@@ -46,29 +46,28 @@ def entries_of(batch: Batch) -> Iterator[Entry]:
 
 
 class _Room:
-    """Room for a number of entries that a call copies."""
+    """Room for the entries that a call copies."""
 
-    __slots__ = ("_size", "_rows", "_bytes", "_count", "_words")
+    __slots__ = ("_rows", "_bytes", "_count", "_words")
 
-    def __init__(self, size: int) -> None:
-        self._size = size
-        self._rows = array.array("Q", bytes(32 * size))
+    def __init__(self) -> None:
+        self._rows = array.array("Q", bytes(32 * _BATCHES[-1]))
         self._bytes = ctypes.create_string_buffer(_BATCH_BYTES)
         self._count = ctypes.c_uint64()
-        self._words = (self._rows.buffer_info()[0], size, addressof(self._bytes), _BATCH_BYTES,
-                       addressof(self._count))
+        self._words = (addressof(self._bytes), _BATCH_BYTES, addressof(self._count))
 
-    # Returns the entries that a call copies, with the one that does not fit, if there is one;
-    # `None` if there are no entries. Returns the call's error code, and whether the end is reached.
-    def fill(self, steps: Steps, back: bool) -> Tuple[Optional[Batch], int, bool]:
-        code = steps._call(back, *self._words, steps._entry_ref)
+    # Returns up to `size` entries that a call copies, with the one that does not fit, if there is
+    # one; `None` if there are no entries. Returns the call's error code, and whether the end is
+    # reached.
+    def fill(self, steps: Steps, back: bool, size: int) -> Tuple[Optional[Batch], int, bool]:
+        code = steps._call(back, self._rows.buffer_info()[0], size, *self._words, steps._entry_ref)
         if code == Closed.code:
             return None, code, False
         rows = self._rows[:4 * self._count.value]
         keys, values = rows[2::4], rows[3::4]
-        data = copied(self._words[2], sum(keys) + sum(values))
+        data = copied(self._words[0], sum(keys) + sum(values))
         entry = steps._entry
-        is_over = code != 0 or not entry.kind and self._count.value < self._size
+        is_over = code != 0 or not entry.kind and self._count.value < size
         if entry.kind:
             steps._check(_calls.found_lend(steps._reader(back), steps._lent_ref))
             lent = steps._lent
@@ -77,6 +76,11 @@ class _Room:
             data += copied(lent.key, lent.key_len) + copied(lent.value, lent.value_len)
         batch = (zip(rows[0::4], rows[1::4], keys, values), data) if rows else None
         return batch, code, is_over
+
+
+# Rooms that no iterator uses, for later ones. Appending and popping are atomic.
+_ROOMS: List[_Room] = []
+_MOST_ROOMS = 8
 
 
 class Steps(Returned):
@@ -150,8 +154,23 @@ class Steps(Returned):
     def _end(self) -> None:
         for queue in self._queues:
             queue.clear()
-        self._room = None
+        self._give_room()
         self._release()
+
+    # Leaves the room to a later iterator.
+    def _give_room(self) -> None:
+        room, self._room = self._room, None
+        if room is not None and len(_ROOMS) < _MOST_ROOMS:
+            _ROOMS.append(room)
+
+    # Returns the room, that of an earlier iterator if there is one.
+    def _take_room(self) -> _Room:
+        if self._room is None:
+            try:
+                self._room = _ROOMS.pop()
+            except IndexError:
+                self._room = _Room()
+        return self._room
 
     # Returns the next entries at an end of the source, within a turn; `None` at its end.
     def _batch(self, back: bool) -> Optional[Batch]:
@@ -161,12 +180,11 @@ class Steps(Returned):
             raise pending
         if self._is_over:
             return None
-        if self._fetched < len(_BATCHES) or self._room is None:
-            self._room = _Room(_BATCHES[min(self._fetched, len(_BATCHES) - 1)])
+        size = _BATCHES[min(self._fetched, len(_BATCHES) - 1)]
         self._fetched += 1
         self._is_over = True
         try:
-            batch, code, is_over = self._room.fill(self, back)
+            batch, code, is_over = self._take_room().fill(self, back, size)
             if batch is None:
                 self._check(code)
         except Closed:
@@ -185,7 +203,8 @@ class Steps(Returned):
 
     # Releases the source at its end. Entries that were fetched stay.
     def _finish(self) -> None:
-        self._is_over, self._room = True, None
+        self._is_over = True
+        self._give_room()
         self._release()
 
     # Yields each batch at an end.
