@@ -144,10 +144,10 @@ class Bulk(unittest.TestCase):
             self.assertIsNone(writer.finish())
 
     def test_a_short_range_takes_one_call(self):
-        for count in (0, 1, 15):
+        for count, calls in ((0, 1), (1, 1), (31, 1), (32, 2), (40, 2)):
             entries = table_of(ENTRIES).entries(b"%05d" % 0, b"%05d" % count)
-            self.assertEqual(len(list(entries)), 2 * count if count < 8 else 30)
-            self.assertEqual(entries._fetched, 1 if count < 8 else 2)
+            self.assertEqual(len(list(entries)), 2 * count)
+            self.assertEqual(entries._fetched, calls)
 
     def test_many_out_of_order(self):
         writer = Writer()
