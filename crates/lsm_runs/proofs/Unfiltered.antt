@@ -128,7 +128,8 @@ module _ {F C : Type 0} (gives : F → Entry → Result Verdict Error → F → 
       let rest : List R = past_hidden p.key p.left in
       let stay : AllByRecursion Stays (asked rules h.judged) =
       subst (λ (js : List Judged). AllByRecursion Stays js) h.said_are
-      (all_append Stays h.said (asked rules (as_they_are rest)) (stays_said gives keeps f g h.said h.says)
+      (all_append Stays h.said (asked rules (as_they_are rest))
+      (stays_said gives keeps f g h.said h.says)
       (all_asked rules (by_key (as_they_are rest)) (keys_stay rest))) in
       keeps_all rules f f xs (gave ++ lent_outs rules rest) (record {
         judged = h.judged;

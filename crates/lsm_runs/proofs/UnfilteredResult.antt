@@ -60,7 +60,8 @@ module _ {F C O A : Type 0} (gives : F → Entry → Result Verdict Error → F 
       (λ x. CameUntil gives gets rules f c (merge_of (scans_of runs)) w says o x q
       ⊎ BeginsWith runs x))
       → (first_blocks_fault runs ≢ None → Faults r (first_blocks_fault runs) × (q ≡ o))
-      → IsUnfiltered {A} runs rules w (result_map (λ x. x.0) r)
+      → IsUnfiltered {A = A} runs rules w
+      (result_map (λ (x : CompactionOutcome A × C). x.0) r)
   plain_err (Ok x) e is until fits any opens = absurd is
   plain_err (Err y) e is until fits any opens =
       let came : Result (CompactionOutcome A) Error = Err y in
@@ -92,7 +93,7 @@ module _ {F C O A : Type 0} (gives : F → Entry → Result Verdict Error → F 
       → CameUpTo gives gets rules f c (ok_results (union_in lists)) w says o out d q)
       → (InOrder runs → CameUpTo gives gets rules f c (merge_of (scans_of runs)) w says o out d q)
       → first_blocks_fault runs ≡ None → HasMade w out → WasNotified says w out o q
-      → IsUnfiltered {A} runs rules w (Ok out)
+      → IsUnfiltered {A = A} runs rules w (Ok out)
   plain_ok out d merged any opens made returned =
       let came : (lists : Lists) → RunsHoldLists runs lists → AllByRecursion HaveEntries lists
           → CameOf w (ok_results (kept_in rules lists)) (Ok out) =
@@ -131,15 +132,15 @@ pub came_alone : {A : Type 0} (w : TablesWriting) (rs : List R) (out : Compactio
 came_alone w rs out P h = elim h [ inl came ↦ came | inr no ↦ absurd no ]
 
 -- the error of writing, of opening the runs, or of opening the new tables
-pub refused_three : {A : Type 0} (w : TablesWriting) (rs : List R) (g : ℕ)
-    (P : Error → Type 0) (e : Error)
-    → CameOf {A} w rs (Err e) ⊎ IsErrAnd {CompactionOutcome A} (Err e) P → is_memory e ≡ false
+pub refused_three : (w : TablesWriting) (rs : List R) (g : ℕ) (P : Error → Type 0) (e : Error)
+    → (is_memory e ≡ false → RefusesOf w rs e) ⊎ P e → is_memory e ≡ false
     → RefusesOf w rs e ⊎ (P e ⊎ FailsToOpen w rs g e)
 refused_three w rs g P e h fine = elim h [
   | inl came ↦ inl (came fine)
   | inr begins ↦ inr (inl begins)
 ]
 
+-- the error of opening the new tables
 pub open_fails : {A : Type 0} (w : TablesWriting) (rs : List R) (g : ℕ)
     (out : CompactionOutcome A) (e : Error) → CameOf w rs (Ok out) → (out ≡ OutOfOrder → ⊥)
     → ((es : List Entry) → AreTablesBy w es out → is_memory e ≡ false

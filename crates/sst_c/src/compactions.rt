@@ -44,10 +44,9 @@ fn compacted_by(
     ensures { spec.IsUnfiltered runs.now rules writer result }
 {
     let mut observer = NoObserver;
-    let shared = runs.as_slice();
     let (outcome, _) = compact_any_runs(
         alloc,
-        shared,
+        runs.as_slice(),
         rules,
         writer,
         NoFilter,

@@ -17,9 +17,9 @@ returns-in_err-outcome c =
     let a = c.args in
     let r = c.from_residual in
     passed (IsUnfiltered a.runs.now a.rules a.writer) r.result c.in_err-outcome.field-0.0 r.ensures.1
-    (subst (λ (runs : List (List OpenTable)). IsUnfiltered {Global} runs a.rules a.writer (Err c.in_err-outcome.field-0.0)) c.as_slice-shared.ensures.runs (c.in_err-outcome.ensures.plain (λ f g x v k. k) (λ o q p goes k. k)))
+    (subst (λ (runs : List (List OpenTable)). IsUnfiltered {A = Global} runs a.rules a.writer (Err c.in_err-outcome.field-0.0)) c.as_slice.ensures.runs (c.in_err-outcome.ensures.plain (λ f g x v k. k) (λ o q p goes k. k)))
 
 pub returns : goal.returns
 returns c =
     let a = c.args in
-    subst (λ (runs : List (List OpenTable)). IsUnfiltered runs a.rules a.writer (Ok c.in_ok-outcome.outcome)) c.as_slice-shared.ensures.runs (c.in_ok-outcome.ensures.plain (λ f g x v k. k) (λ o q p goes k. k))
+    subst (λ (runs : List (List OpenTable)). IsUnfiltered runs a.rules a.writer (Ok c.in_ok-outcome.outcome)) c.as_slice.ensures.runs (c.in_ok-outcome.ensures.plain (λ f g x v k. k) (λ o q p goes k. k))
