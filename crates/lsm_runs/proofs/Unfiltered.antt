@@ -158,7 +158,7 @@ module _ {F C : Type 0} (gives : F → Entry → Result Verdict Error → F → 
       ∙ lent_kept rules es) ∙ entries_of (kept rules (unfiltered es)))) fits
 
   module _ {O : Type 0} (says : O → CompactionProgress → Bool → O → Type 0)
-        (never : NeverStops says) (o q : O) (xs : List R) (w : TablesWriting) where
+      (never : NeverStops says) (o q : O) (xs : List R) (w : TablesWriting) where
     stands : (gave : List R) (d : C)
         → KeepsSome gives gets rules f c xs w gave d
         → (rest : List R) × (lent_outs rules xs ≡ gave ++ rest)

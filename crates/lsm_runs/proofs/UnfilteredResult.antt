@@ -1,5 +1,5 @@
 -- The result of a compaction without a filter and an observer, from what holds with any.
-use Rattle.std.proofs.Common.{◌≡◌, refl, inl, inr, subst, ℕ, false, List, ◌⊎◌}
+use Rattle.std.proofs.Common.{◌≡◌, refl, inl, inr, subst, ℕ, false, true, List, ◌⊎◌}
 use Rattle.std.specs.Prelude.{◌≢◌, Bool, IfErr, IsErrAnd, MatchResult, None, Ok, Err, Result, Some}
 use Rattle.std.specs.List.{AllByRecursion}
 use Rattle.sst_blocks.specs.Asked.{result_map}
@@ -96,7 +96,7 @@ module _ {F C O A : Type 0} (gives : F → Entry → Result Verdict Error → F 
       → IsUnfiltered {A = A} runs rules w (Ok out)
   plain_ok out d merged any opens made returned =
       let came : (lists : Lists) → RunsHoldLists runs lists → AllByRecursion HaveEntries lists
-          → CameOf w (ok_results (kept_in rules lists)) (Ok out) =
+      → CameOf w (ok_results (kept_in rules lists)) (Ok out) =
       λ lists held some. list_came gives keeps gets rules f c says never o q (union_in lists) w out
       d (merged lists held some) in
       record {
@@ -129,7 +129,7 @@ module _ {F C O A : Type 0} (gives : F → Entry → Result Verdict Error → F 
 -- an outcome is not an error
 pub came_alone : {A : Type 0} (w : TablesWriting) (rs : List R) (out : CompactionOutcome A)
     (P : Error → Type 0) → CameOf w rs (Ok out) ⊎ IsErrAnd (Ok out) P → CameOf w rs (Ok out)
-came_alone w rs out P h = elim h [ inl came ↦ came | inr no ↦ absurd no ]
+came_alone w rs out P h = elim h [ inl came ↦ came | inr fails ↦ absurd fails ]
 
 -- the error of writing, of opening the runs, or of opening the new tables
 pub refused_three : (w : TablesWriting) (rs : List R) (g : ℕ) (P : Error → Type 0) (e : Error)
@@ -142,7 +142,7 @@ refused_three w rs g P e h fine = elim h [
 
 -- the error of opening the new tables
 pub open_fails : {A : Type 0} (w : TablesWriting) (rs : List R) (g : ℕ)
-    (out : CompactionOutcome A) (e : Error) → CameOf w rs (Ok out) → (out ≡ OutOfOrder → ⊥)
+    (out : CompactionOutcome A) (e : Error) → CameOf w rs (Ok out) → (out ≡ OutOfOrder → false ≡ true)
     → ((es : List Entry) → AreTablesBy w es out → is_memory e ≡ false
     → opens_fault w.present.options es g ≡ Some e) → is_memory e ≡ false → FailsToOpen w rs g e
 open_fails w rs g (Tables tables left) e came order opens fine = record {
@@ -151,5 +151,6 @@ open_fails w rs g (Tables tables left) e came order opens fine = record {
   none = came.none;
   fault = opens came.list came.written fine;
 }
-open_fails w rs g OutOfOrder e came order opens fine = absurd (order refl)
+open_fails w rs g OutOfOrder e came order opens fine =
+    let fails : false ≡ true = order refl in absurd cc
 open_fails w rs g Stopped e came order opens fine = absurd came
