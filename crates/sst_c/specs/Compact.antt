@@ -1,5 +1,5 @@
 -- Compactions as reported to C.
-use Rattle.std.specs.Prelude.{◌≡◌, ◌⊎◌, ℕ, false, true, IsSomeAnd, Option, Some}
+use Rattle.std.specs.Prelude.{◌≡◌, ◌⊎◌, ℕ, false, true, IsSomeAnd, None, Option, Some}
 use Rattle.std.specs.Prelude.{Result, Ok, Err, unwrap_or}
 use Rattle.std.specs.Global.{Global}
 use Rattle.sst_entries.specs.Error.{number_of}
