@@ -232,7 +232,9 @@ pub fn range_runs_at<A: Allocator + Clone>(
     // entries that no step has taken yet. After it, only an entry already read at the other end is
     // yielded.
     ensures steps { spec.AreRunsInOrder runs.now → IfOk result (spec.IsOverSpansBelow
-        ⟦<Below<RunReader<A>> as Iterator>⟧.next_gives ⟦<Below<RunReader<A>> as DoubleEndedIterator>⟧.next_back_gives ⟦<NewestOfRunsAt<A> as Iterator>⟧.next_gives
+        ⟦<Below<RunReader<A>> as Iterator>⟧.next_gives
+        ⟦<Below<RunReader<A>> as DoubleEndedIterator>⟧.next_back_gives
+        ⟦<NewestOfRunsAt<A> as Iterator>⟧.next_gives
         ⟦<NewestOfRunsAt<A> as DoubleEndedIterator>⟧.next_back_gives range.0 range.1 seqno
         (spec.each_run runs.now)) }
     // Both ends may be called any number of times, whatever the tables' bytes.

@@ -81,7 +81,9 @@ pub fn range_sources_at<S: DoubleEndedIterator<Item = IterItem<A>> + Drop, A: Al
     // one of them, `OutOfMemory` too, takes the place of all entries that no step has taken yet.
     // After it, only an entry already read at the other end is yielded.
     ensures steps { spec.AreRunsInOrder runs.now → IfOk result (spec.IsOverSourcesBelow
-        ⟦<Below<Either<RunReader<A>, S>> as Iterator>⟧.next_gives ⟦<Below<Either<RunReader<A>, S>> as DoubleEndedIterator>⟧.next_back_gives ⟦<NewestOfSourcesAt<S, A> as Iterator>⟧.next_gives
+        ⟦<Below<Either<RunReader<A>, S>> as Iterator>⟧.next_gives
+        ⟦<Below<Either<RunReader<A>, S>> as DoubleEndedIterator>⟧.next_back_gives
+        ⟦<NewestOfSourcesAt<S, A> as Iterator>⟧.next_gives
         ⟦<NewestOfSourcesAt<S, A> as DoubleEndedIterator>⟧.next_back_gives range.0 range.1 seqno
         (spec.each_run runs.now) sources.items) }
     // If the sources are finite and may be called at both ends, so may the stream, any number of

@@ -88,7 +88,8 @@ fn lists_of(alloc: Global, seed: u64, count: u8) -> Result<Vec<Vec<IterItem>>, E
 
 fn merger_of(alloc: Global, lists: Vec<Vec<IterItem>>) -> Result<Merger<IntoIter<IterItem>>, Error>
     ensures can { IfOk result (CanYield ⟦<Merger<IntoIter<IterItem>> as Iterator>⟧.next_gives
-        nowhere ⟦<Merger<IntoIter<IterItem>> as Iterator>⟧.can_next ⟦<Merger<IntoIter<IterItem>> as Iterator>⟧.can_next) }
+        nowhere ⟦<Merger<IntoIter<IterItem>> as Iterator>⟧.can_next
+        ⟦<Merger<IntoIter<IterItem>> as Iterator>⟧.can_next) }
 {
     let mut sources = Vec::new(alloc);
     for list in lists {
