@@ -19,10 +19,12 @@ use Rattle.lsm_sorted.specs.declared.lending_merger.LendingMerger.{LendingMerger
 use Rattle.lsm_writers.specs.Streamed.{IsAfter}
 use Rattle.lsm_writers.specs.Tables.{TablesWriting}
 use Rattle.lsm_writers.specs.declared.table_stream.TableStream.{TableStream}
+use Rattle.lsm_writers.specs.declared.table_stream.TableStreamError.{TableStreamError}
+use Rattle.lsm_writers.specs.declared.table_stream.TableStreamError.TheVariants.{Failed, OutOfOrder}
 use Rattle.lsm_writers.specs.declared.writer.FinishedTable.{FinishedTable}
 use Rattle.lsm_readers.specs.point.Table.{OpenTable}
 use Rattle.lsm_runs.specs.RunScan.{RunScan}
-use Rattle.lsm_runs.specs.compaction.Words.{AreCompactable, kept_in, scans_of}
+use Rattle.lsm_runs.specs.compaction.Words.{AreMergeable, kept_in, scans_of}
 
 -- the entries that a compaction of runs keeps, between two calls
 abbrev pub KeptEntries : Type 0
@@ -37,8 +39,8 @@ pub record StartsCompaction
     (advances : KeptEntries → Option (Result Entry Error) → KeptEntries → Type 0)
     (runs : List (List OpenTable)) (rules : Rules) (w : TablesWriting) (s : Compacting) : Type 0
   where
-    -- for compactable runs, it is before the first table of the entries kept
-    pub able : (able : AreCompactable runs) (stops : Error → Bool) → stops OutOfMemory ≡ true →
+    -- for tables of lists with entries, it is before the first table of the entries kept
+    pub lists : (able : AreMergeable runs) (stops : Error → Bool) → stops OutOfMemory ≡ true →
         IsAfter stops advances w (ok_results (kept_in rules able.lists)) [] s
     -- if the tables' scans are in order, it is before the first table of what is kept of their
     -- merge, each error in its position
@@ -53,14 +55,15 @@ abbrev pub Taken : Type 0
 Taken = Result (FinishedTable Global × Option ℕ) ℕ
 
 -- the next item of a compaction as this
-abbrev pub item_taken : Option (Result (FinishedTable Global) Error) → Option ℕ → Taken
+abbrev pub item_taken : Option (Result (FinishedTable Global) TableStreamError) → Option ℕ → Taken
 item_taken None ids = Err 106
 item_taken (Some (Ok f)) ids = Ok (f, ids)
-item_taken (Some (Err e)) ids = Err (number_of e)
+item_taken (Some (Err OutOfOrder)) ids = Err 104
+item_taken (Some (Err (Failed e))) ids = Err (number_of e)
 
 -- one call of the compaction takes it from s to t, and yields an item, which is taken with the id
 -- counter after it
-abbrev pub TakesNext : (Compacting → Option (Result (FinishedTable Global) Error) → Compacting → Type 0)
-    → Compacting → Taken → Compacting → Type 0
-TakesNext gives s taken t = (item : Option (Result (FinishedTable Global) Error)) × gives s item t
+abbrev pub TakesNext : (Compacting → Option (Result (FinishedTable Global) TableStreamError) → Compacting
+    → Type 0) → Compacting → Taken → Compacting → Type 0
+TakesNext gives s taken t = (item : Option (Result (FinishedTable Global) TableStreamError)) × gives s item t
     × (taken ≡ item_taken item t.ids)

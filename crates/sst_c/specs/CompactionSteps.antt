@@ -5,8 +5,9 @@ use Rattle.std.specs.Global.{Global}
 use Rattle.sst_entries.specs.Entry.{Entry}
 use Rattle.sst_entries.specs.declared.error.Error.{Error}
 use Rattle.lsm_sorted.specs.declared.compaction.Rules.{Rules}
+use Rattle.lsm_writers.specs.declared.table_stream.TableStreamError.{TableStreamError}
 use Rattle.lsm_writers.specs.declared.writer.FinishedTable.{FinishedTable}
-use Rattle.lsm_runs.specs.compaction.Words.{first_blocks_fault}
+use Rattle.lsm_runs.specs.compaction.Words.{AreMergeable, first_blocks_fault}
 use Rattle.sst_c.specs.Codes.{fault_code}
 use Rattle.sst_c.specs.Compact.{decode_compactor}
 use Rattle.sst_c.specs.Compacting.{Compacting, KeptEntries, StartsCompaction, Taken, TakesNext}
@@ -30,6 +31,9 @@ pub record OpensCompaction
   -- 1 if out of memory
   pub codes : are_runs w ≡ true → are_usable options ≡ true →
       (code ≡ 1) ⊎ (code ≡ fault_code (first_blocks_fault (runs_held w)))
+  -- there is none if the tables store lists with entries
+  pub memory : are_runs w ≡ true → are_usable options ≡ true → AreMergeable (runs_held w) →
+      (code ≡ 0) ⊎ (code ≡ 1)
   pub starts : are_usable options ≡ true → code ≡ 0 → IsSomeAnd after (λ k. IsCompactionWhere
       (StartsCompaction advances (runs_held w) rules (decode_compactor options target)) k.what)
 
@@ -44,7 +48,7 @@ ReportsTable code held next (Err c) = code ≡ c
 -- one call of a compaction, whose result is reported. It leaves the compaction after the call, or none
 -- at the end and after an error
 pub record HandsOut
-    (gives : Compacting → Option (Result (FinishedTable Global) Error) → Compacting → Type 0)
+    (gives : Compacting → Option (Result (FinishedTable Global) TableStreamError) → Compacting → Type 0)
     (s : Compacting) (code : ℕ) (files : Option Held) (next : ℕ) (left : Option Compacting) : Type 0
   where
     pub taken : Taken
@@ -56,7 +60,7 @@ pub record HandsOut
 
 -- the next table of the object w is handed out, which leads to the object v
 pub record StepsCompaction
-    (gives : Compacting → Option (Result (FinishedTable Global) Error) → Compacting → Type 0)
+    (gives : Compacting → Option (Result (FinishedTable Global) TableStreamError) → Compacting → Type 0)
     (w : What) (code : ℕ) (files : Option Held) (next : ℕ) (v : What) : Type 0 where
   pub other : is_compaction w ≡ false → (code ≡ 102) × (v ≡ w)
   -- after the end and after an error, nothing is left

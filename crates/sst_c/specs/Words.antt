@@ -44,7 +44,7 @@ pub use Rattle.lsm_runs.specs.SeveralRuns.{runs_read, runs_result, union_in}
 pub use Rattle.lsm_runs.specs.Words.{range_of}
 pub use Rattle.lsm_runs.specs.compaction.AnyRuns.{GoesThrough}
 pub use Rattle.lsm_runs.specs.compaction.AnyRuns.{first_blocks_fault}
-pub use Rattle.lsm_runs.specs.compaction.Compacted.{rules_by}
+pub use Rattle.lsm_runs.specs.compaction.Compacted.{AreMergeable, rules_by}
 pub use Rattle.sst_c.specs.Adds.{AddsOne, AddsMany, WritesEntry, WritesMany, row, row_of}
 pub use Rattle.sst_c.specs.Adds.{rows_of_reports, reported_size}
 pub use Rattle.sst_c.specs.Codes.{ReportsCode, ReportsFirst, result_code}

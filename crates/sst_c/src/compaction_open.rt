@@ -32,6 +32,7 @@ fn opened_by(
     ensures starts { IfOk result
         (spec.StartsCompaction ⟦<Kept as Lending>⟧.advances runs.now rules writer) }
     ensures opens { spec.Faults result (spec.first_blocks_fault runs.now) }
+    ensures err { spec.AreMergeable runs.now → IfErr result (λ e. e ≡ spec.OutOfMemory) }
 {
     Ok(OpenCompaction::new(compact_each(
         alloc,
@@ -52,6 +53,7 @@ fn opened(
     ensures starts { IfOk result (spec.StartsCompaction ⟦<Kept as Lending>⟧.advances runs.now rules
         (spec.decode_compactor options.now target_size)) }
     ensures opens { spec.Faults result (spec.first_blocks_fault runs.now) }
+    ensures err { spec.AreMergeable runs.now → IfErr result (λ e. e ≡ spec.OutOfMemory) }
 {
     let writer = compactor_of(alloc, options, target_size)?;
     opened_by(alloc, runs, rules, writer)

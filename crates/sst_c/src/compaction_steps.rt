@@ -3,14 +3,14 @@ ghost use Rattle.std.specs.Prelude.{◌≡◌, ◌≢◌, ◌∷◌, ◌⊎◌, 
 ghost use Rattle.std.specs.Prelude.{true, unwrap_or};
 ghost use Rattle.sst_c.specs.Words as spec;
 
-use crate::codes::{CLOSED, NO_MEMORY, NOTHING, OPEN, OTHER_KIND};
+use crate::codes::{CLOSED, NO_MEMORY, NOTHING, OPEN, OTHER_KIND, OUT_OF_ORDER};
 use crate::compactions::tell_tables;
 use crate::handle::Handle;
 use crate::held::{Held, What};
 use crate::merged::give_up;
 use lsm_runs::Compaction;
-use lsm_writers::{FinishedTable, TableIds, TableStream};
-use sst_blocks::{Error, Lending};
+use lsm_writers::{FinishedTable, TableIds, TableStream, TableStreamError};
+use sst_blocks::Lending;
 use std::alloc::Global;
 use std::marker::Model;
 
@@ -36,7 +36,7 @@ impl Model for OpenCompaction {
 // concrete stream costs much.
 fn next_of<L: Lending + Drop>(
     tables: &mut TableStream<L, Global>,
-) -> Option<Result<FinishedTable, Error>>
+) -> Option<Result<FinishedTable, TableStreamError>>
     requires { ⟦<TableStream<L, Global> as Iterator>⟧.can_next tables.old }
     ensures can { ⟦<TableStream<L, Global> as Iterator>⟧.can_next tables.new }
     ensures gives { ⟦<TableStream<L, Global> as Iterator>⟧.next_gives tables.old result tables.new }
@@ -46,14 +46,15 @@ fn next_of<L: Lending + Drop>(
 
 // Returns the table and the id counter after it, or the code of an error or of the end.
 fn taken(
-    item: Option<Result<FinishedTable, Error>>,
+    item: Option<Result<FinishedTable, TableStreamError>>,
     ids: TableIds,
 ) -> Result<(FinishedTable, TableIds), u32>
     ensures { result ≡ spec.item_taken item ids }
 {
     match item {
         Some(Ok(table)) => Ok((table, ids)),
-        Some(Err(error)) => Err(u32::from(error.number())),
+        Some(Err(TableStreamError::OutOfOrder)) => Err(OUT_OF_ORDER),
+        Some(Err(TableStreamError::Failed(error))) => Err(u32::from(error.number())),
         None => Err(NOTHING),
     }
 }
