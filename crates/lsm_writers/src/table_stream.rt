@@ -43,13 +43,14 @@ impl From<Error> for TableStreamError {
 /// # Errors
 ///
 /// The stream yields one error, after every table that was finished before it. After that it yields
-/// only `None`, and the entries of the current table are lost. The error is the first of these:
+/// only `None`, and the entries of the current table are lost. The error is the first of these, or
+/// [`Error::OutOfMemory`]:
 ///
-/// - [`TableStreamError::OutOfOrder`] exactly if the next entry may not follow those before it;
+/// - [`TableStreamError::OutOfOrder`] exactly if the next entry cannot follow those before it;
 /// - [`TableStreamError::Failed`] with an error of the source or of the writer.
 ///
-/// For `OutOfMemory` of the writer the contract leaves open whether a table that the failing call
-/// finished is yielded.
+/// For `OutOfMemory` the contract leaves open whether a table that the failing call finished is
+/// yielded.
 #[derive(Drop)]
 pub struct TableStream<L, A: Allocator = Global> {
     source: L,

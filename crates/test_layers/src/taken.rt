@@ -1,8 +1,9 @@
 //! Finished tables that are taken from a writer of several tables before it ends, by calls or by a
 //! stream.
 use crate::given::{Given, MAY_NOT_FOLLOW, NO_TABLES, Seen, Tables, Takes, entry, seen_of, tables};
-use lsm_writers::{FinishedTable, MultiWriter, TableId, TableIds, TableStream, TableStreamError};
-use lsm_writers::Timestamp;
+use lsm_writers::{
+    FinishedTable, MultiWriter, TableId, TableIds, TableStream, TableStreamError, Timestamp,
+};
 use sst_blocks::{Error, IterItem, ValueType};
 use std::alloc::{Allocator, Global};
 use test_support::samples::rows::Row;
