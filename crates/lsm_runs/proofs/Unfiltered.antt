@@ -1,4 +1,5 @@
--- A compaction without a filter: what it gave is in front of what the rules keep of all entries.
+-- A compaction whose filter keeps each entry: what it yields is a prefix of what the rules keep of all
+-- entries.
 use Rattle.std.proofs.Common.{◌≡◌, sym, ◌∙◌, ap, refl, subst, ℕ, Bool, true, false, cond, not, List}
 use Rattle.std.proofs.Common.{[], ◌∷◌, ◌++◌, ◌⊎◌, inl, inr, append_assoc}
 use Rattle.std.specs.Prelude.{None, Result, Ok, Err, IsErrAnd, filter}

@@ -1,4 +1,5 @@
--- The result of a compaction without a filter and an observer, from what holds with any.
+-- The result of a compaction whose filter keeps each entry and whose observer never stops it, from
+-- the clauses for any filter and observer.
 use Rattle.std.proofs.Common.{◌≡◌, refl, inl, inr, subst, ℕ, false, true, List, ◌⊎◌}
 use Rattle.std.specs.Prelude.{◌≢◌, Bool, IfErr, IsErrAnd, MatchResult, None, Ok, Err, Result, Some}
 use Rattle.std.specs.List.{AllByRecursion}

@@ -89,8 +89,8 @@ fn readers_of<A: Allocator + Clone>(
     Ok(readers)
 }
 
-// The readers of several runs within bounds. It takes the bounds and drops them. A reader yields the
-// entries that it lends.
+// The readers of several runs within bounds, which the call takes and drops. Each yields the same
+// entries by value and borrowed.
 pub(crate) fn readers_within<A: Allocator + Clone>(
     alloc: A,
     runs: &[Arc<Run<Table<A>, A>, A>],

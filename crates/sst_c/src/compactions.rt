@@ -33,7 +33,7 @@ fn compactor_of(
     Ok(writer.use_options(writer_options(options)))
 }
 
-// Compacts a list of runs without a filter, a callback and an observer.
+// Compacts a list of runs with this writer, without a filter, a callback and an observer.
 fn compacted_by(
     alloc: Global,
     runs: &RunList,
@@ -56,7 +56,7 @@ fn compacted_by(
     Ok(outcome)
 }
 
-// The same with a writer made of the options.
+// Compacts a list of runs with a writer that has these options.
 fn compacted(
     alloc: Global,
     runs: &RunList,
@@ -176,9 +176,10 @@ fn compact_held(
 /// Compacts the tables of a list of runs into new finished tables.
 ///
 /// `files` must be closed; it then holds the new tables, written with `options`. A new table starts
-/// at the next key once the current one has `target_size` bytes of data blocks. The first table has
-/// the id of the options, or the id after it if `target_size` is 0. Each further table has the next
-/// id. `next_id` gets the first unused id, or 0 if none is left.
+/// at the next key once the current one has `target_size` bytes of data blocks; with 0 each key has
+/// a table of its own. The first table has the id of the options, or the id after it if
+/// `target_size` is 0. Each further table has the next id. `next_id` gets the first unused id, or 0
+/// if none is left.
 ///
 /// No reader may read at a sequence number below `watermark`. With `evict_tombstones`, a tombstone
 /// is dropped if no older version of its key is kept. With `zero_seqnos`, sequence numbers below

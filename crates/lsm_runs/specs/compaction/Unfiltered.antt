@@ -34,7 +34,8 @@ abbrev pub NeverStops : {O : Type 0} → (O → CompactionProgress → Bool → 
 NeverStops {O} says =
     (o q : O) (progress : CompactionProgress) (goes : Bool) → says o progress goes q → goes ≡ true
 
--- the result of compacting these runs with a writer, without a filter and an observer
+-- the result of compacting these runs with a writer, if the filter keeps each entry and the observer
+-- never stops it
 pub record IsUnfiltered {A : Type 0} (runs : List (List OpenTable)) (rules : Rules)
     (w : TablesWriting) (came : Result (CompactionOutcome A) Error) : Type 0 where
   -- compactable runs yield the tables of the entries kept. Except for `OutOfMemory`, an error is the

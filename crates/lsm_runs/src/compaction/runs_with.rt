@@ -61,8 +61,8 @@ pub fn compact_to_run_with<A: Allocator + Clone>(
         spec.AllByRecursion spec.HaveEntries lists →
         IfOk result (λ r. spec.CameInOrder writer (spec.kept_in rules lists) r.0) }
     // For any tables whose scans come in order in each run, it is the outcome of writing what is kept
-    // of their merge. Or it is the error of the first data block that cannot be loaded, or of
-    // opening the new tables.
+    // of their merge, or the first fault of that. Or it is the error of the first run whose first
+    // data block cannot be loaded, or of opening the new tables.
     ensures any { let scans = spec.scans_of (spec.each_run runs.now) in
         spec.AllByRecursion (λ rs. spec.Ascends (spec.entries_among rs)) scans →
         let left = spec.lent_outs rules (spec.merge_of scans) in
@@ -70,8 +70,8 @@ pub fn compact_to_run_with<A: Allocator + Clone>(
         (λ e. spec.is_memory e ≡ false → spec.RefusesOf writer left e
         ⊎ (spec.BeginsWith (spec.each_run runs.now) e
         ⊎ spec.FailsToOpen writer left how.now.global_seqno e)) }
-    // For any tables, the error of the first run whose first data block cannot be loaded comes
-    // first.
+    // For any tables, except for `OutOfMemory`, the error is that of the first run whose first data
+    // block cannot be loaded, if there is one.
     ensures opens { let first = spec.first_blocks_fault (spec.each_run runs.now) in
         first ≢ None → spec.Faults result first }
     // No observer stops it.
