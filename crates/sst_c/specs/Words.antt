@@ -37,7 +37,7 @@ pub use Rattle.lsm_readers.specs.Stored.{StoresList, fits_result}
 pub use Rattle.lsm_readers.specs.Verification.{Verifying, verifying}
 pub use Rattle.lsm_readers.specs.Verify.{table_early}
 unfoldable pub use Rattle.lsm_readers.specs.Verify.{table_found}
-pub use Rattle.lsm_runs.specs.RunLists.{RunsHoldLists, each_run}
+pub use Rattle.lsm_runs.specs.RunLists.{RunsHoldLists}
 pub use Rattle.lsm_runs.specs.RunPlaces.{placed_in_runs}
 pub use Rattle.lsm_runs.specs.RunScan.{early_scan_fault, scan_fault}
 pub use Rattle.lsm_runs.specs.SeveralRuns.{runs_read, runs_result, union_in}
