@@ -54,12 +54,14 @@ pub record IsUnfiltered {A : Type 0} (runs : List (List OpenTable)) (rules : Rul
       AllByRecursion HaveEntries lists → IfErr came (λ e. is_memory e ≡ false →
       RefusesOf w (ok_results (kept_in rules lists)) e)
   -- if the tables' scans are in order, it writes the entries kept of their merge, up to the first
-  -- fault. Or it fails with the first run's first data block that cannot be loaded
+  -- fault. Or it fails with the error of the first run whose first data block cannot be loaded
   pub any : AllByRecursion (λ (rs : List R). Ascends (entries_among rs)) (scans_of runs) →
       CameOf w (lent_outs rules (merge_of (scans_of runs))) came
       ⊎ IsErrAnd came (BeginsWith runs)
-  -- for any tables, the error of the first run whose first data block cannot be loaded comes first
+  -- for any tables, if the first data block of a run cannot be loaded, it fails with the error of the
+  -- first such run, except for `OutOfMemory`
   pub opens : first_blocks_fault runs ≢ None → Faults came (first_blocks_fault runs)
-  -- for any tables, the new tables are those of a list that can be written
+  -- for any tables, the new tables are those of a list that can be written, and no observer stopped
+  -- it
   pub made : IfOk came (HasMade w)
   pub through : IfOk came GoesThrough
