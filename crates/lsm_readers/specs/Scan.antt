@@ -89,8 +89,8 @@ pub record Scan : Type 0 where
   pub opened : Opened
 
 -- The next block was loaded, and its entries come next.
-abbrev pub OpensNext : Scan → Scan → Type 0
-OpensNext s t = (es : List Entry) × (next : ℕ) × (block_result s.body s.position ≡ Ok (es, next))
+abbrev pub OpensNextBlock : Scan → Scan → Type 0
+OpensNextBlock s t = (es : List Entry) × (next : ℕ) × (block_result s.body s.position ≡ Ok (es, next))
     × (t ≡ record s {
       lent = None;
       entries = es;

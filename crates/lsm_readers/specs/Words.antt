@@ -30,7 +30,7 @@ pub use Rattle.lsm_readers.specs.point.Parts.{parts_result, pinned_filter, pinne
 pub use Rattle.lsm_readers.specs.point.Parts.{place_size, places_result, recovered_result}
 pub use Rattle.lsm_readers.specs.point.Parts.{tops_result}
 pub use Rattle.lsm_readers.specs.point.Read.{DoesRead, Opens}
-pub use Rattle.lsm_readers.specs.Scan.{EndsAtErrors, IsNewScan, LendsList, OpensNext, Scan, ScanYields}
+pub use Rattle.lsm_readers.specs.Scan.{EndsAtErrors, IsNewScan, LendsList, OpensNextBlock, Scan, ScanYields}
 pub use Rattle.lsm_readers.specs.Scan.{ScansLent, ScansList, ScansNext, table_scan}
 pub use Rattle.lsm_readers.specs.Scan.{block_result, ended, fault_of, lend_next, lifted_result}
 pub use Rattle.lsm_readers.specs.Scan.{scan_results, scan_size}
@@ -91,7 +91,7 @@ pub use Rattle.lsm_readers.specs.declared.verify.Finding.{Finding}
 pub use Rattle.lsm_readers.specs.declared.verify.Verified.{Verified as Verification}
 pub use Rattle.lsm_readers.specs.declared.verify.VerifyError.TheVariants.{Found}
 pub use Rattle.lsm_readers.specs.point.Batch.{AreFound, IsLookup, entries_by}
-pub use Rattle.lsm_readers.specs.point.Batch.{entries_placed, entry_result, query_in, query_result}
+pub use Rattle.lsm_readers.specs.point.Batch.{entries_placed, placed_entry, query_in, query_result}
 pub use Rattle.lsm_readers.specs.point.Keeping.{IsLoaded, KeepsOf}
 pub use Rattle.lsm_readers.specs.point.Many.{answers_to, many_results, points}
 unfoldable pub use Rattle.lsm_readers.specs.point.Meta.{byte_result, compressions_result}

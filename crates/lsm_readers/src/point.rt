@@ -214,7 +214,7 @@ pub(crate) fn place_at<A: Allocator + Clone>(
     opened: &mut Opened,
 ) -> Result<Option<EntryPlace>, Error>
     requires { seqno + global_seqno < 2 ^ 64 }
-    ensures read { spec.DoesRead (spec.entry_result source.now result) (spec.match_at (spec.body_of source.now) global_seqno key.now seqno handle.now) opened.old opened.new }
+    ensures read { spec.DoesRead (spec.placed_entry source.now result) (spec.match_at (spec.body_of source.now) global_seqno key.now seqno handle.now) opened.old opened.new }
     ensures placed { IfOk result (λ found. IfSome found (spec.IsPlacedIn source.now)) }
 {
     let found = source.point_place(handle, key, seqno, opened)?;
@@ -230,7 +230,7 @@ fn read_place<A: Allocator + Clone>(
     key_hash: u64,
 ) -> (Result<Option<EntryPlace>, Error>, Opened)
     requires { key_hash ≡ spec.hash_of key.now }
-    ensures read { spec.DoesRead (spec.entry_result source.now result.0) (spec.table_answer (spec.table_of source.now inner.now) key.now seqno) spec.none_opened result.1 }
+    ensures read { spec.DoesRead (spec.placed_entry source.now result.0) (spec.table_answer (spec.table_of source.now inner.now) key.now seqno) spec.none_opened result.1 }
     ensures placed { IfOk result.0 (λ found. IfSome found (spec.IsPlacedIn source.now)) }
 {
     let add = inner.global_seqno;

@@ -178,7 +178,7 @@ impl<A: Allocator + Clone> Scanner<A> {
     /// Loads the next block. An error ends the scan.
     fn next_block(&mut self) -> Result<(), Error>
         requires { 0 < self.old.blocks }
-        ensures ok { IfOk result (λ _. spec.OpensNext self.old self.new) }
+        ensures ok { IfOk result (λ _. spec.OpensNextBlock self.old self.new) }
         ensures err { IfErr result (λ e.
             self.new ≡ record (spec.ended self.old)
             { opened = spec.with_load spec.Data self.old.opened }) }

@@ -40,8 +40,8 @@ abbrev pub entries_placed : List ℕ → List (Option EntryPlace) → List (Opti
 entries_placed bytes places = entries_by (entry_placed bytes) places
 
 -- The result of a read that returns a position, with the entry there.
-abbrev pub entry_result : List ℕ → Result (Option EntryPlace) Error → Result (Option Entry) Error
-entry_result bytes r = result_map (option_map (entry_placed bytes)) r
+abbrev pub placed_entry : List ℕ → Result (Option EntryPlace) Error → Result (Option Entry) Error
+placed_entry bytes r = result_map (option_map (entry_placed bytes)) r
 
 -- The queries flagged as done were answered: the entries of what was found are their results, and
 -- are within the bytes.
