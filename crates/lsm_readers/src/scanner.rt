@@ -105,14 +105,16 @@ impl<A: Allocator + Clone> Scanner<A> {
         ensures left { IfOk result
             (spec.IsNewScan (spec.body_of source.now) block_count global_seqno) }
         // Except for `OutOfMemory`, it yields the entries of the blocks.
-        ensures yields { spec.ScanYields ⟦<Scanner<A> as Iterator>⟧.next_gives (spec.scan_results (spec.body_of source.now) block_count global_seqno) result }
+        ensures yields { spec.ScanYields ⟦<Scanner<A> as Iterator>⟧.next_gives (spec.scan_results
+            (spec.body_of source.now) block_count global_seqno) result }
         ensures can { let gives = ⟦<Scanner<A> as Iterator>⟧.next_gives in
             let may = ⟦<Scanner<A> as Iterator>⟧.can_next in
             IfOk result (λ s. spec.CanYield gives spec.nowhere may may s) }
         // After any error it is exhausted.
         ensures ends { spec.EndsAtErrors ⟦<Scanner<A> as Iterator>⟧.next_gives }
         // As a lending iterator it yields the same.
-        ensures lends { spec.ScanYields ⟦<Scanner<A> as Lending>⟧.advances (spec.scan_results (spec.body_of source.now) block_count global_seqno) result }
+        ensures lends { spec.ScanYields ⟦<Scanner<A> as Lending>⟧.advances (spec.scan_results
+            (spec.body_of source.now) block_count global_seqno) result }
         ensures can_lend { let advances = ⟦<Scanner<A> as Lending>⟧.advances in
             let may = ⟦<Scanner<A> as Lending>⟧.can_advance in
             IfOk result (λ s. spec.CanYield advances spec.nowhere may may s) }

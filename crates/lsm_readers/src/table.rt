@@ -447,14 +447,16 @@ impl<A: Allocator + Clone> Table<A> {
         ensures early { spec.FaultsFirst result
             (spec.position_fault (spec.body_of self.now.bytes) 0 spec.Data) }
         // Except for `OutOfMemory`, it yields the entries of `data_block_count` blocks.
-        ensures yields { spec.ScanYields ⟦<Scanner<A> as Iterator>⟧.next_gives (spec.table_scan self.now) result }
+        ensures yields { spec.ScanYields ⟦<Scanner<A> as Iterator>⟧.next_gives (spec.table_scan
+            self.now) result }
         ensures can { let gives = ⟦<Scanner<A> as Iterator>⟧.next_gives in
             let may = ⟦<Scanner<A> as Iterator>⟧.can_next in
             IfOk result (λ s. spec.CanYield gives spec.nowhere may may s) }
         // After any error it is exhausted.
         ensures ends { spec.EndsAtErrors ⟦<Scanner<A> as Iterator>⟧.next_gives }
         // As a lending iterator it yields the same.
-        ensures lends { spec.ScanYields ⟦<Scanner<A> as Lending>⟧.advances (spec.table_scan self.now) result }
+        ensures lends { spec.ScanYields ⟦<Scanner<A> as Lending>⟧.advances (spec.table_scan
+            self.now) result }
         ensures can_lend { let advances = ⟦<Scanner<A> as Lending>⟧.advances in
             let may = ⟦<Scanner<A> as Lending>⟧.can_advance in
             IfOk result (λ s. spec.CanYield advances spec.nowhere may may s) }

@@ -26,17 +26,27 @@ impl<A: Allocator + Clone> Table<A> {
     /// ```
     pub fn iter(&self) -> Result<Iter<A>, Error>
         ensures is { IfOk result (spec.IsRangeOf self.now spec.Unbounded spec.Unbounded) }
-        ensures yields { spec.RangeYields ⟦<Iter<A> as Iterator>⟧.next_gives ⟦<Iter<A> as DoubleEndedIterator>⟧.next_back_gives self.now spec.Unbounded spec.Unbounded result }
+        ensures yields { spec.RangeYields ⟦<Iter<A> as Iterator>⟧.next_gives
+            ⟦<Iter<A> as DoubleEndedIterator>⟧.next_back_gives self.now spec.Unbounded
+            spec.Unbounded result }
         // On bytes that store a list it yields the list, global seqno applied.
-        ensures list { spec.RangeYieldsAll ⟦<Iter<A> as Iterator>⟧.next_gives ⟦<Iter<A> as DoubleEndedIterator>⟧.next_back_gives self.now result }
+        ensures list { spec.RangeYieldsAll ⟦<Iter<A> as Iterator>⟧.next_gives
+            ⟦<Iter<A> as DoubleEndedIterator>⟧.next_back_gives self.now result }
         // As a lending iterator it yields the same at the front, also with calls at the back in
         // between.
-        ensures lends { spec.RangeYields ⟦<Iter<A> as Lending>⟧.advances ⟦<Iter<A> as DoubleEndedIterator>⟧.next_back_gives self.now spec.Unbounded spec.Unbounded result }
-        ensures lends_list { spec.RangeYieldsAll ⟦<Iter<A> as Lending>⟧.advances ⟦<Iter<A> as DoubleEndedIterator>⟧.next_back_gives self.now result }
+        ensures lends { spec.RangeYields ⟦<Iter<A> as Lending>⟧.advances
+            ⟦<Iter<A> as DoubleEndedIterator>⟧.next_back_gives self.now spec.Unbounded
+            spec.Unbounded result }
+        ensures lends_list { spec.RangeYieldsAll ⟦<Iter<A> as Lending>⟧.advances
+            ⟦<Iter<A> as DoubleEndedIterator>⟧.next_back_gives self.now result }
         // It loads at most all data blocks, and the index blocks that lead to them. As a lending
         // iterator it loads no more.
-        ensures few { spec.RangeLoadsFew ⟦<Iter<A> as Iterator>⟧.next_gives ⟦<Iter<A> as DoubleEndedIterator>⟧.next_back_gives self.now spec.Unbounded spec.Unbounded result }
-        ensures lends_few { spec.RangeLoadsFew ⟦<Iter<A> as Lending>⟧.advances ⟦<Iter<A> as DoubleEndedIterator>⟧.next_back_gives self.now spec.Unbounded spec.Unbounded result }
+        ensures few { spec.RangeLoadsFew ⟦<Iter<A> as Iterator>⟧.next_gives
+            ⟦<Iter<A> as DoubleEndedIterator>⟧.next_back_gives self.now spec.Unbounded
+            spec.Unbounded result }
+        ensures lends_few { spec.RangeLoadsFew ⟦<Iter<A> as Lending>⟧.advances
+            ⟦<Iter<A> as DoubleEndedIterator>⟧.next_back_gives self.now spec.Unbounded
+            spec.Unbounded result }
         ensures err { IfErr result (λ e. e ≡ OutOfMemory) }
     {
         self.range(Bound::Unbounded, Bound::Unbounded)
@@ -73,18 +83,24 @@ impl<A: Allocator + Clone> Table<A> {
         ensures is { IfOk result (spec.IsRangeOf self.now lower upper) }
         // For any sequence of calls at the two ends, it yields the entries of the blocks between
         // the bounds, up to the first error.
-        ensures yields { spec.RangeYields ⟦<Iter<A> as Iterator>⟧.next_gives ⟦<Iter<A> as DoubleEndedIterator>⟧.next_back_gives self.now lower upper result }
+        ensures yields { spec.RangeYields ⟦<Iter<A> as Iterator>⟧.next_gives
+            ⟦<Iter<A> as DoubleEndedIterator>⟧.next_back_gives self.now lower upper result }
         // On bytes that store a list it yields the list's entries within the bounds, global seqno
         // applied.
-        ensures list { spec.RangeYieldsList ⟦<Iter<A> as Iterator>⟧.next_gives ⟦<Iter<A> as DoubleEndedIterator>⟧.next_back_gives self.now lower upper result }
+        ensures list { spec.RangeYieldsList ⟦<Iter<A> as Iterator>⟧.next_gives
+            ⟦<Iter<A> as DoubleEndedIterator>⟧.next_back_gives self.now lower upper result }
         // As a lending iterator it yields the same at the front, also with calls at the back in
         // between.
-        ensures lends { spec.RangeYields ⟦<Iter<A> as Lending>⟧.advances ⟦<Iter<A> as DoubleEndedIterator>⟧.next_back_gives self.now lower upper result }
-        ensures lends_list { spec.RangeYieldsList ⟦<Iter<A> as Lending>⟧.advances ⟦<Iter<A> as DoubleEndedIterator>⟧.next_back_gives self.now lower upper result }
+        ensures lends { spec.RangeYields ⟦<Iter<A> as Lending>⟧.advances
+            ⟦<Iter<A> as DoubleEndedIterator>⟧.next_back_gives self.now lower upper result }
+        ensures lends_list { spec.RangeYieldsList ⟦<Iter<A> as Lending>⟧.advances
+            ⟦<Iter<A> as DoubleEndedIterator>⟧.next_back_gives self.now lower upper result }
         // It loads at most the data blocks between the bounds, and the index blocks that lead to
         // them. As a lending iterator it loads no more.
-        ensures few { spec.RangeLoadsFew ⟦<Iter<A> as Iterator>⟧.next_gives ⟦<Iter<A> as DoubleEndedIterator>⟧.next_back_gives self.now lower upper result }
-        ensures lends_few { spec.RangeLoadsFew ⟦<Iter<A> as Lending>⟧.advances ⟦<Iter<A> as DoubleEndedIterator>⟧.next_back_gives self.now lower upper result }
+        ensures few { spec.RangeLoadsFew ⟦<Iter<A> as Iterator>⟧.next_gives
+            ⟦<Iter<A> as DoubleEndedIterator>⟧.next_back_gives self.now lower upper result }
+        ensures lends_few { spec.RangeLoadsFew ⟦<Iter<A> as Lending>⟧.advances
+            ⟦<Iter<A> as DoubleEndedIterator>⟧.next_back_gives self.now lower upper result }
         ensures err { IfErr result (λ e. e ≡ OutOfMemory) }
     {
         let ((lower, upper), mut iter) = beside((lower, upper), self.unbounded())?;
