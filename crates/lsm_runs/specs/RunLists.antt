@@ -42,7 +42,7 @@ lists_at s place (es ∷ ls) = list_at s place es ∷ lists_at s (suc place) ls
 abbrev pub span_list : RunSpan → List (List Entry) → List Entry
 span_list s lists = joined (take (suc s.last - s.first) (drop s.first (lists_at s 0 lists)))
 
--- the same of each of several runs, which are in order
+-- each of several runs is in order, and their tables yield these lists, global seqnos applied
 abbrev pub RunsHoldLists : List (List OpenTable) → List (List (List Entry)) → Type 0
 RunsHoldLists runs lists =
     AllZip (λ tables ls. IsInOrder range_of tables × HoldLists tables ls) runs lists
@@ -55,7 +55,7 @@ TableLists = List (List (List Entry))
 abbrev pub each_run : {Z : Type 0} → List (Arc (List OpenTable) Z) → List (List OpenTable)
 each_run runs = map arc_value runs
 
--- these runs are in order, and their tables' bytes store these lists
+-- these runs are in order, and their tables yield these lists, global seqnos applied
 abbrev pub RunsHold : {Z : Type 0} → List (Arc (List OpenTable) Z) → TableLists → Type 0
 RunsHold runs lists = RunsHoldLists (each_run runs) lists
 

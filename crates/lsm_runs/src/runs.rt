@@ -89,8 +89,8 @@ fn readers_of<A: Allocator + Clone>(
     Ok(readers)
 }
 
-// The readers of several runs within bounds, which it takes and drops. They yield and lend the
-// same.
+// The readers of several runs within bounds, which the call takes and drops. Each yields the same
+// entries by value and borrowed.
 pub(crate) fn readers_within<A: Allocator + Clone>(
     alloc: A,
     runs: &[Arc<Run<Table<A>, A>, A>],

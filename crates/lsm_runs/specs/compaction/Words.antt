@@ -3,6 +3,7 @@
 pub use Rattle.sst_entries.specs.Entry.{Entry}
 pub use Rattle.sst_entries.specs.Error.{Faults, Gives, is_memory}
 pub use Rattle.sst_entries.specs.Stream.{CanYield, first, nowhere, ok_results}
+pub use Rattle.sst_blocks.specs.Asked.{result_map}
 pub use Rattle.sst_blocks.specs.table.Chunks.{joined}
 pub use Rattle.sst_blocks.specs.table.Facts.{highest_seqno}
 pub use Rattle.sst_blocks.specs.table.Options.{default_options}
@@ -35,7 +36,8 @@ pub use Rattle.lsm_runs.specs.compaction.Filtered.{RefusesForMemory, RefusesWrit
 pub use Rattle.lsm_runs.specs.compaction.Observed.{HasBegun, IsCounted, NotifiesNext, WasNotified}
 pub use Rattle.lsm_runs.specs.compaction.Observed.{WasNotifiedUntil}
 pub use Rattle.lsm_runs.specs.compaction.OpenedBy.{AreOpenedBy, HasRunBy, IsOpenedBy, IsRunBy}
-pub use Rattle.lsm_runs.specs.compaction.OpenedBy.{run_with_fault}
+pub use Rattle.lsm_runs.specs.compaction.OpenedBy.{FailsToOpen, run_with_fault}
+pub use Rattle.lsm_runs.specs.compaction.Unfiltered.{IsUnfiltered, KeepsEach, NeverStops}
 pub use Rattle.lsm_runs.specs.compaction.Written.{number_fault, opens_fault}
 pub use Rattle.std.specs.Arc.{arc_value}
 pub use Rattle.std.specs.List.{AllByRecursion, AllZip}

@@ -351,6 +351,11 @@ pub fn compact_any_runs<
         spec.RunsHold runs.now lists → spec.RefusesForMemory F.gives →
         spec.FitsThroughout F.gives C.gets rules filter callback (spec.union_in lists) writer →
         IfErr result (λ e. e ≡ spec.OutOfMemory) }
+    // If the filter keeps each entry and the observer never stops it, the outcome is the tables of
+    // what the rules keep, or the first error.
+    ensures plain { spec.KeepsEach F.gives → spec.NeverStops O.says →
+        spec.IsUnfiltered (spec.each_run runs.now) rules writer
+        (spec.result_map (λ r. r.0) result) }
 {
     // A list whose tables fit is written whole.
     tables_law();
