@@ -73,7 +73,8 @@
 extern "C" {
 #endif
 
-/* The version of these calls. `sst_version` returns that of the library. */
+/* The version of these calls, the first number of the release's version. `sst_version` returns that
+ * of the library. */
 #define SST_VERSION 4
 
 /* Error codes of the library. A call that succeeds returns 0. */

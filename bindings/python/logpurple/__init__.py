@@ -54,7 +54,7 @@ from ._tables import Runs, Table
 from ._views import Items, Keys, Values
 from ._writing import Compacted, FinishedTable, Writer, compact
 
-__version__ = "1.0.0"
+__version__ = "4.0.0"
 
 __all__ = ["NEWEST", "BytesLike", "Compacted", "Entries", "Entry", "Facts", "Fault", "Finding",
            "FinishedTable", "Items", "Keys", "Kind", "Memory", "Packing", "Runs", "Scan",

@@ -88,7 +88,7 @@ _BINDINGS = os.path.normpath(os.path.join(_FOLDER, "..", ".."))
 _PACKAGED = os.path.join(_FOLDER, "libsst.so")
 _BUILT = os.path.join(_BINDINGS, "out", "libsst.so")
 # The names by which the system's loader may know it.
-_INSTALLED = ("libsst.so.1", "libsst.so")
+_INSTALLED = ("libsst.so.4", "libsst.so")
 
 
 def _load() -> ctypes.CDLL:

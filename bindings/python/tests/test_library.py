@@ -31,7 +31,7 @@ class Library(unittest.TestCase):
         self.built = os.path.join(self.folder, "site", "out", "libsst.so")
         self.script = os.path.join(self.folder, "site", "build")
         open(self.script, "wb").close()
-        self.installed = os.path.join(self.folder, "libsst.so.1")
+        self.installed = os.path.join(self.folder, "libsst.so.4")
         os.mkdir(os.path.dirname(self.built))
 
     def copy(self, path):
@@ -53,7 +53,7 @@ class Library(unittest.TestCase):
 
     @unittest.skipUnless(os.path.isabs(_calls._library._name), "the library has no path here")
     def test_the_order(self):
-        for path, name in ((self.installed, "libsst.so.1"), (self.built, self.built),
+        for path, name in ((self.installed, "libsst.so.4"), (self.built, self.built),
                            (self.named, self.named), (self.packaged, self.packaged)):
             self.copy(path)
             named = self.named if os.path.exists(self.named) else None
@@ -62,7 +62,7 @@ class Library(unittest.TestCase):
         os.remove(self.packaged)
         self.finds(self.built)
         os.remove(self.script)  # which only a checkout has
-        self.finds("libsst.so.1")
+        self.finds("libsst.so.4")
 
     def fails(self, *texts, named=None):
         found = self.run_with(named)

@@ -146,7 +146,7 @@ const LINES: [(&str, &str); 40] = [
     ("sst", "mistaken "),
     (
         "sst man",
-        "shown .TH SST 1 2026-11-30 \"sst 1.0.0\" \"User Commands\"\n.SH NAME\nsst \\- Writes, ",
+        "shown .TH SST 1 2026-11-30 \"sst 4.0.0\" \"User Commands\"\n.SH NAME\nsst \\- Writes, ",
     ),
     (
         "sst completion bash",
@@ -170,7 +170,7 @@ const LINES: [(&str, &str); 40] = [
         "sst completion",
         "mistaken error: the following required arguments were not provided:\n  <SHELL>\n",
     ),
-    ("sst --version", "shown sst 1.0.0\n"),
+    ("sst --version", "shown sst 4.0.0\n"),
     (
         "sst help pack",
         "shown Prints the fewest runs of tables\n\nUsage: sst pack [OPTIONS] <FILE>...\n",

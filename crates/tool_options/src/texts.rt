@@ -71,7 +71,7 @@ pub(crate) struct CommandText {
 pub(crate) const PROGRAM: &str = "sst";
 
 /// The version, as in the file `VERSION`.
-pub(crate) const VERSION: &str = "1.0.0";
+pub(crate) const VERSION: &str = "4.0.0";
 
 /// The date of the version, for the manual page.
 pub(crate) const DATE: &str = "2026-11-30";

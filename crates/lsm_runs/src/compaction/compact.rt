@@ -197,6 +197,8 @@ fn write_all<L: Lending + Drop, A: Allocator + Clone>(
 /// - in all lists together, global seqnos applied, no key has one seqno twice, and each seqno is
 ///   below `u64::MAX`.
 ///
+/// [`compact_any_runs`](crate::compact_any_runs) has only the first condition.
+///
 /// # Errors
 ///
 /// The errors of [`MultiWriter::write`] and [`MultiWriter::finish`]; [`Error::OutOfMemory`].

@@ -43,7 +43,9 @@ fn run_of_tables<A: Allocator + Clone>(
 /// opens each table without a global seqno. There is no run if nothing is kept. It also returns the
 /// id counter after the last table.
 ///
-/// The conditions on the runs are those of [`compact_runs`]. The given runs are not changed.
+/// The conditions on the runs are those of [`compact_runs`].
+/// [`compact_to_run_with`](crate::compact_to_run_with) has none on them: use it for tables from
+/// elsewhere. The given runs are not changed.
 ///
 /// # Errors
 ///
