@@ -86,6 +86,13 @@ fn kept_from<L: Lending + Drop, A: Allocator + Clone>(
     ensures list { let advances = ⟦<Kept<L, A> as Lending>⟧.advances in (lists : spec.TableLists) →
         spec.YieldTogether L.advances spec.nowhere sources.items (map spec.joined lists) →
         IfOk result (spec.YieldsList advances spec.nowhere (spec.kept_in rules lists)) }
+    // For any results that come in order from each source, it yields what is kept of their merge,
+    // each error in its position.
+    ensures any { let advances = ⟦<Kept<L, A> as Lending>⟧.advances in
+        (lists : List (List spec.R)) →
+        spec.AllZip (λ s rs. spec.YieldsResults L.advances rs s) sources.items lists →
+        spec.AllByRecursion (λ rs. spec.Ascends (spec.entries_among rs)) lists →
+        IfOk result (spec.YieldsResults advances (spec.lent_outs rules (spec.merge_of lists))) }
     ensures err { IfErr result (λ e. e ≡ spec.OutOfMemory) }
 {
     let own = alloc.clone()?;
@@ -106,6 +113,13 @@ pub(crate) fn kept_of<A: Allocator + Clone>(
         rules able.lists)) }
     ensures err { spec.AreMergeable (spec.each_run runs.now) →
         IfErr result (λ e. e ≡ spec.OutOfMemory) }
+    // For any tables whose scans come in order in each run, it yields what is kept of their merge.
+    ensures any { let advances = ⟦<Kept<RunScanner<A>, A> as Lending>⟧.advances in
+        let scans = spec.scans_of (spec.each_run runs.now) in
+        spec.AllByRecursion (λ rs. spec.Ascends (spec.entries_among rs)) scans →
+        IfOk result (spec.YieldsResults advances (spec.lent_outs rules (spec.merge_of scans))) }
+    // The first data block of each run is loaded.
+    ensures opens { spec.Faults result (spec.first_blocks_fault (spec.each_run runs.now)) }
 {
     let scanners = scanners_of(alloc.clone()?, runs)?;
     kept_from(alloc, scanners, rules)
