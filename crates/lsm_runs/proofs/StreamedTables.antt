@@ -7,7 +7,6 @@ use Rattle.sst_entries.specs.Strict.{IsStrict}
 use Rattle.lsm_writers.specs.declared.writer.FinishedTable.{FinishedTable}
 use Rattle.lsm_writers.specs.Streamed.{AreAll, NoneFails, entries_before, took_each}
 use Rattle.lsm_writers.specs.Tables.{AreTables, TablesWriting, tables_of, took, took_fault}
-use Rattle.lsm_writers.specs.Writing.{IsWritable}
 use Rattle.lsm_runs.specs.compaction.AnyRuns.{results_fault}
 use Rattle.lsm_runs.specs.compaction.Compacted.{StreamedLaw}
 use Rattle.lsm_runs.proofs.TookList.{since_all}
@@ -17,9 +16,6 @@ use Rattle.lsm_runs.proofs.WrittenBy.{list_finished, since_now}
 listed_results : (es : List Entry) → entries_before (ok_results es) ≡ es
 listed_results [] = refl
 listed_results (e ∷ es) = ap (λ (xs : List Entry). e ∷ xs) (listed_results es)
-
-pub writable_results : (es : List Entry) → IsWritable es → IsWritable (entries_before (ok_results es))
-writable_results es h = subst IsWritable (sym (listed_results es)) h
 
 none_results : (m : TablesWriting) (es : List Entry) → NoneFails m es
     → results_fault m (ok_results es) ≡ None
@@ -34,6 +30,6 @@ streamed_law A w es gs left fresh next all =
     let same : all.list ≡ es =
     sym (listed_results all.list) ∙ ap entries_before (sym all.whole) ∙ listed_results es in
     let since = since_all w fresh w all.list (since_now w fresh) (none_results w all.list all.none) in
-    list_finished w m fresh next since es gs left all.left_is (subst IsStrict same all.strict)
+    list_finished w m fresh next since es gs left all.left_is (subst IsStrict same all.writable.strict)
     (subst (λ (xs : List Entry). AreTables m.present.options.data_block_size m.target xs
     (tables_of m)) same all.cut) all.order all.finished

@@ -9,7 +9,7 @@ use Rattle.sst_entries.specs.declared.error.Error.{Error}
 use Rattle.sst_entries.specs.declared.error.Error.TheVariants.{OutOfMemory}
 use Rattle.sst_entries.specs.Entry.{Entry}
 use Rattle.sst_entries.specs.Point.{within}
-use Rattle.sst_entries.specs.Stream.{YieldsExactly, answer_stops, ok_results}
+use Rattle.sst_entries.specs.Stream.{CanYield, YieldsExactly, answer_stops, nowhere, ok_results}
 use Rattle.sst_blocks.specs.table.Chunks.{joined}
 use Rattle.lsm_iters.specs.Lift.{lift}
 use Rattle.lsm_sorted.specs.merge.Union.{Ascends}
@@ -59,6 +59,10 @@ each_run runs = map arc_value runs
 abbrev pub RunsHold : {Z : Type 0} → List (Arc (List OpenTable) Z) → TableLists → Type 0
 RunsHold runs lists = RunsHoldLists (each_run runs) lists
 
+-- this holds of any lists that the runs hold
+abbrev pub OnLists : {Z : Type 0} → List (Arc (List OpenTable) Z) → (TableLists → Type 0) → Type 0
+OnLists runs P = (lists : TableLists) → RunsHold runs lists → P lists
+
 -- each of these runs is in order
 abbrev pub AreRunsInOrder : {Z : Type 0} → List (Arc (List OpenTable) Z) → Type 0
 AreRunsInOrder runs = AllByRecursion (IsInOrder range_of) (each_run runs)
@@ -69,6 +73,11 @@ abbrev pub YieldsList : {S : Type 0} (front back : S → Option (Result Entry Er
 YieldsList front back es s =
     (stops : Error → Bool) → stops OutOfMemory ≡ true →
     YieldsExactly (answer_stops stops) front back s (ok_results es)
+
+-- the source may be polled from the front
+abbrev pub CanLend : {S : Type 0} (next : S → Option (Result Entry Error) → S → Type 0)
+    → (S → Type 0) → S → Type 0
+CanLend next can s = CanYield next nowhere can can s
 
 -- sources yield sorted lists, one each, which have together exactly the entries of these lists
 pub record YieldTogether {S : Type 0} (front back : S → Option (Result Entry Error) → S → Type 0)

@@ -15,6 +15,6 @@ pub use lsm_readers::{
 pub use lsm_runs::OpenOptions;
 pub use lsm_writers::{
     BloomConstructionPolicy, FilterKind, FinishedTable, IndexKind, Metadata, MultiWriter, Options,
-    TableIds, TableStream, Writer, is_writable, write_list,
+    TableIds, TableStream, TableStreamError, Writer, is_writable, write_list,
 };
 pub use sst_blocks::{CompressionType, TableId, Timestamp};

@@ -13,23 +13,23 @@ use Rattle.sst_entries.specs.Stream.{Lowers, YieldsExactly, answer_stops, nowher
 use Rattle.sst_entries.proofs.StreamLemmas.{can_front, can_now, map_append}
 use Rattle.lsm_writers.specs.declared.writer.FinishedTable.{FinishedTable}
 use Rattle.lsm_writers.specs.declared.table_stream.TableStream.{TableStream}
+use Rattle.lsm_writers.specs.declared.table_stream.TableStreamError.{TableStreamError}
+use Rattle.lsm_writers.specs.declared.table_stream.TableStreamError.TheVariants.{Failed, OutOfOrder}
 use Rattle.lsm_writers.specs.Streamed.{AreAll, CanPoll, CanTake, EndsAll, EndsAfter, EndsInError}
-use Rattle.lsm_writers.specs.Streamed.{Failed, FinishesLast, IsAfter, IsExhausted, LeavesError}
+use Rattle.lsm_writers.specs.Streamed.{EndsWith, FinishesLast, IsAfter, IsExhausted, LeavesError}
 use Rattle.lsm_writers.specs.Streamed.{Stops, StopsAfter, Took, TookSource, TookFrom}
-use Rattle.lsm_writers.specs.Streamed.{WritesUntil, YieldsAfter, YieldsNextTable, entries_before}
-use Rattle.lsm_writers.specs.Streamed.{next_fault, next_ids, next_left, took_each}
+use Rattle.lsm_writers.specs.Streamed.{WritesUntil, YieldsAfter, YieldsNextTable, calls_writer}
+use Rattle.lsm_writers.specs.Streamed.{may_replace, next_fault, next_ids, next_left, took_each}
 use Rattle.lsm_writers.specs.Taken.{IsLeft, taken}
 use Rattle.lsm_writers.specs.Tables.{AreFinished}
 use Rattle.lsm_writers.specs.Tables.{TablesWriting, all_written, first_label, ids_after}
 use Rattle.lsm_writers.specs.Tables.{run_fault, tables_of, took, took_fault}
-use Rattle.lsm_writers.specs.Writing.{IsWritable}
 use Rattle.lsm_writers.specs.Writing.{may_be_written}
-use Rattle.lsm_writers.proofs.ListWriting.{listed_follows}
-use Rattle.lsm_writers.proofs.Streaming.{Grown, count_is, ends_now, entries_all, entries_front}
-use Rattle.lsm_writers.proofs.Streaming.{finished_some, grown, grown_none, grown_some, ids_now}
-use Rattle.lsm_writers.proofs.Streaming.{results_assoc, results_nil, took_all, took_ends}
-use Rattle.lsm_writers.proofs.Streaming.{took_failed, took_follows, yields_fault, yields_none}
-use Rattle.lsm_writers.proofs.Streaming.{yields_one}
+use Rattle.lsm_writers.proofs.Streaming.{Grown, count_is, ends_now, few_took, finished_some}
+use Rattle.lsm_writers.proofs.Streaming.{follows_is, grown, grown_none, grown_some, ids_now}
+use Rattle.lsm_writers.proofs.Streaming.{none_stops, results_assoc, results_nil, took_all}
+use Rattle.lsm_writers.proofs.Streaming.{took_disorder, took_ends, took_failed, yields_fault}
+use Rattle.lsm_writers.proofs.Streaming.{yields_none, yields_one}
 
 -- ---- one call of the source
 
@@ -51,24 +51,28 @@ module _ {S A : Type 0} (stops : Error → Bool) (next : S → Option (Result En
         ∙ sym (ap (λ (xs : List (Result Entry Error)). xs ++ one.0) (map_append h.front (e ∷ []))
         ∙ results_assoc (ok_results h.front) (Ok e ∷ []) one.0)
 
-    next_one : IsTrue (may_be_written h.front e.user_key e.seqno)
-    next_one = listed_follows h.front e (entries_before one.0)
-        (subst IsWritable (ap entries_before whole_one ∙ entries_front h.front (Ok e ∷ one.0))
-        h.writable)
+    -- it may not follow
+    pub from_disorder : may_be_written (all_written n) e.user_key e.seqno ≡ false
+        → EndsWith stops w rs gs OutOfOrder n
+    from_disorder after = took_disorder w h.front gs n h.took stops rs one.0 e whole_one
+        (sym (follows_is w h.front gs n h.took e) ∙ after)
 
-    pub from_follows : IsTrue (may_be_written (all_written n) e.user_key e.seqno)
-    from_follows = took_follows w h.front gs n h.took e next_one
+    front_follows : IsTrue (may_be_written (all_written n) e.user_key e.seqno)
+        → IsTrue (may_be_written h.front e.user_key e.seqno)
+    front_follows follows = sym (follows_is w h.front gs n h.took e) ∙ follows
 
-    pub from_failed : (f : Error) (v : TablesWriting)
-        → (is_memory f ≡ false → took_fault n e ≡ Some f) → IsLeft n e f v → v.ids ≡ ids_after n e
-        → Failed stops w rs gs f v
-    from_failed f v refused left ids =
-        took_failed w h.front gs n h.took stops rs one.0 e whole_one next_one f v refused left ids
+    pub from_failed : IsTrue (may_be_written (all_written n) e.user_key e.seqno)
+        → (f : Error) (v : TablesWriting) → (is_memory f ≡ false → took_fault n e ≡ Some f)
+        → IsLeft n e f v → v.ids ≡ ids_after n e → EndsWith stops w rs gs (Failed f) v
+    from_failed follows f v refused left ids =
+        took_failed w h.front gs n h.took stops rs one.0 e whole_one (front_follows follows) f v refused
+        left ids
 
-    module _ (v u : TablesWriting) (is : v ≡ took n e) (fine : took_fault n e ≡ None)
+    module _ (follows : IsTrue (may_be_written (all_written n) e.user_key e.seqno))
+        (v u : TablesWriting) (is : v ≡ took n e) (fine : took_fault n e ≡ None)
         (rest : u ≡ taken 1 v) where
       grown_now : Grown w (h.front ++ e ∷ []) gs v
-      grown_now = grown w h.front gs n v e h.took next_one fine is
+      grown_now = grown w h.front gs n v e h.took (front_follows follows) fine is
 
       from_next : (fs : List (FinishedTable A)) → Took w (h.front ++ e ∷ []) fs u
           → TookFrom stops next w rs fs t u
@@ -76,7 +80,6 @@ module _ {S A : Type 0} (stops : Error → Bool) (next : S → Option (Result En
         front = h.front ++ e ∷ [];
         rest = one.0;
         whole = whole_more;
-        writable = h.writable;
         took = took;
         yields = one.2;
       }
@@ -102,26 +105,28 @@ module _ {S A : Type 0} (stops : Error → Bool) (next : S → Option (Result En
       record {
         list = h.front;
         whole = all;
-        writable = subst IsWritable (ap entries_before all ∙ entries_all h.front) h.writable;
         took = h.took;
       }
 
   -- an error comes
-  pub from_fails : (e : Error) → next s (Some (Err e)) t → Failed stops w rs gs e n
-  from_fails e step = record {
-    none = λ none. ends_now w h.front gs n h.took stops rs h.rest h.whole e n.ids
-        (λ fine goes. ap (next_fault (took_each w h.front))
-        (yields_fault stops next h.rest s t e h.yields step goes).1)
-        (λ fine goes. sym (ap length (ap (next_left (took_each w h.front))
-        (yields_fault stops next h.rest s t e h.yields step goes).1)
-        ∙ count_is w h.front gs n h.took))
-        (inl (ids_now w h.front gs n h.took))
-        (λ fine goes. ids_now w h.front gs n h.took
-        ∙ sym (ap (next_ids (took_each w h.front))
-        (yields_fault stops next h.rest s t e h.yields step goes).1));
-    some = λ f one. absurd (finished_some n.present.options (first_label n) n.tables f one
-        h.took.left);
-  }
+  module _ (e : Error) (step : next s (Some (Err e)) t) where
+    rest_is : may_replace stops (calls_writer h.front h.rest) (Failed e) ≡ false
+        → (more : List (Result Entry Error)) × (h.rest ≡ Err e ∷ more)
+    rest_is fine = yields_fault stops next h.rest s t e h.yields step
+        (none_stops (stops e) (calls_writer h.front h.rest) (is_memory e) fine)
+
+    pub from_fails : EndsWith stops w rs gs (Failed e) n
+    from_fails = record {
+      none = λ none. ends_now w h.front gs n h.took stops rs h.rest h.whole (Failed e) n.ids
+          (λ fine. ap (next_fault h.front (took_each w h.front)) (rest_is fine).1)
+          (λ fine. sym (ap length (ap (next_left h.front (took_each w h.front)) (rest_is fine).1)
+          ∙ count_is w h.front gs n h.took))
+          (inl (ids_now w h.front gs n h.took))
+          (λ fine. ids_now w h.front gs n h.took
+          ∙ sym (ap (next_ids h.front (took_each w h.front)) (rest_is fine).1));
+      some = λ f one. absurd (finished_some n.present.options (first_label n) n.tables f one
+          h.took.left);
+    }
 
 -- ---- the end
 
@@ -130,19 +135,19 @@ module _ {A : Type 0} (w n : TablesWriting) (rs : List (Result Entry Error))
   pub all_some : (f : FinishedTable A)
       → AreFinished n.present.options (first_label n) (tables_of n) (f ∷ [])
       → AreAll w rs (gs ++ f ∷ []) n.ids
-  all_some f last = took_all w h.list gs n h.took rs h.whole (f ∷ []) h.writable.strict last
+  all_some f last = took_all w h.list gs n h.took rs h.whole (f ∷ []) last
 
   pub all_none : AreFinished {A = A} n.present.options (first_label n) (tables_of n) []
       → AreAll w rs gs n.ids
   all_none none = subst (λ (fs : List (FinishedTable A)). AreAll w rs fs n.ids) (tables_nil gs)
-      (took_all w h.list gs n h.took rs h.whole [] h.writable.strict none)
+      (took_all w h.list gs n h.took rs h.whole [] none)
     where
       tables_nil : (fs : List (FinishedTable A)) → fs ++ [] ≡ fs
       tables_nil [] = refl
       tables_nil (f ∷ fs) = ap (λ (xs : List (FinishedTable A)). f ∷ xs) (tables_nil fs)
 
   pub all_fails : (stops : Error → Bool) (e : Error)
-      → (is_memory e ≡ false → run_fault n ≡ Some e) → EndsInError stops w rs gs n.ids e
+      → (is_memory e ≡ false → run_fault n ≡ Some e) → EndsInError stops w rs gs n.ids (Failed e)
   all_fails stops e refused = took_ends w h.list gs n h.took rs h.whole stops e refused
 
 some_is : (writer : Option TablesWriting) (m n : TablesWriting) → Some m ≡ writer → writer ≡ Some n
@@ -168,7 +173,7 @@ module _ {A : Type 0} (writer : Option TablesWriting) (m : TablesWriting)
       (tables_of x) []) (some_is writer m n value is) none)
 
   pub ends_fails : (e : Error) → (is_memory e ≡ false → run_fault m ≡ Some e)
-      → EndsAll {A = A} writer (Some (Err e))
+      → EndsAll {A = A} writer (Some (Err (Failed e)))
   ends_fails e refused = λ w n rs gs is h stops. all_fails w n rs gs h stops e
       (subst (λ (x : TablesWriting). is_memory e ≡ false → run_fault x ≡ Some e)
       (some_is writer m n value is) refused)
@@ -176,41 +181,17 @@ module _ {A : Type 0} (writer : Option TablesWriting) (m : TablesWriting)
 -- ---- writing until a table is finished
 
 -- the next state may be polled
-module _ {S : Type 0} (A : Type 0) (next : S → Option (Result Entry Error) → S → Type 0)
-    (can : S → Type 0) (s t : S) (n : TablesWriting) (h : CanTake A next can s n) where
+module _ {S : Type 0} (next : S → Option (Result Entry Error) → S → Type 0) (can : S → Type 0)
+    (s t : S) (n : TablesWriting) (h : CanTake next can s n) where
   pub can_advance : can s
   can_advance = can_now next nowhere can can s h.asks
 
-  pub can_write : (e : Entry) → next s (Some (Ok e)) t
-      → IsTrue (may_be_written (all_written n) e.user_key e.seqno)
-  can_write e step = from_follows h.stops next h.writer h.list h.tables s t n h.took e step
-
-  module _ (e : Entry) (step : next s (Some (Ok e)) t) (v u : TablesWriting) (is : v ≡ took n e)
-      (fine : took_fault n e ≡ None) (rest : u ≡ taken 1 v) where
-    pub can_some : (f : FinishedTable A)
-        → AreFinished v.present.options (first_label v) (take 1 v.tables) (f ∷ [])
-        → CanTake A next can t u
-    can_some f table = record {
-      stops = h.stops;
-      writer = h.writer;
-      list = h.list;
-      tables = h.tables ++ f ∷ [];
-      took = from_some h.stops next h.writer h.list h.tables s t n h.took e step v u is fine rest f
-          table;
-      asks = can_front next nowhere can can s (Some (Ok e)) t h.asks step;
-    }
-
-    pub can_none : AreFinished {A = A} v.present.options (first_label v) (take 1 v.tables) []
-        → CanTake A next can t u
-    can_none none = record {
-      stops = h.stops;
-      writer = h.writer;
-      list = h.list;
-      tables = h.tables;
-      took = from_none h.stops next h.writer h.list h.tables s t n h.took e step v u is fine rest
-          none;
-      asks = can_front next nowhere can can s (Some (Ok e)) t h.asks step;
-    }
+  pub can_next : (e : Entry) → next s (Some (Ok e)) t → (v u : TablesWriting) → v ≡ took n e
+      → u ≡ taken 1 v → CanTake next can t u
+  can_next e step v u is rest = record {
+    asks = can_front next nowhere can can s (Some (Ok e)) t h.asks step;
+    taken = few_took n v u e h.taken is rest;
+  }
 
 pub lowers_came : (lent : Option Entry) (more : Bool) (e : Entry) (old new : ℕ) → Some e ≡ lent
     → Lowers (came (Ok more) lent) old new → new < old
@@ -219,35 +200,24 @@ lowers_came (Some x) more e old new is less = less
 
 -- an error that is passed on
 pub until_fails : {S A : Type 0} (next : S → Option (Result Entry Error) → S → Type 0) (s t : S)
-    (n v : TablesWriting) (r : Result (Option (FinishedTable A)) Error) (e : Error)
-    → IsErrAnd r (λ y. y ≡ e)
+    (n v : TablesWriting) (r : Result (Option (FinishedTable A)) TableStreamError)
+    (e : TableStreamError) → IsErrAnd r (λ y. y ≡ e)
     → ((stops : Error → Bool) (w : TablesWriting) (rs : List (Result Entry Error))
-    (gs : List (FinishedTable A)) → TookFrom stops next w rs gs s n → Failed stops w rs gs e v)
+    (gs : List (FinishedTable A)) → TookFrom stops next w rs gs s n → EndsWith stops w rs gs e v)
     → WritesUntil next s n r t v
 until_fails next s t n v (Ok x) e is h = absurd is
 until_fails next s t n v (Err y) e is h = λ stops w rs gs took.
-    subst (λ (f : Error). Failed stops w rs gs f v) (sym is) (h stops w rs gs took)
+    subst (λ (f : TableStreamError). EndsWith stops w rs gs f v) (sym is) (h stops w rs gs took)
 
 -- ---- one call of the stream
 
--- a writer whose source is exhausted has no finished table
-pub until_none : {S : Type 0} (A : Type 0) (next : S → Option (Result Entry Error) → S → Type 0)
-    (can : S → Type 0) (old : TableStream S A) (t : S) (n v : TablesWriting) → old.writer ≡ Some n
-    → CanPoll next can old → WritesUntil {A = A} next old.source n (Ok None) t v → v.tables ≡ []
-until_none A next can old t n v is ready until =
-    let both : CanTake A next can old.source n × (old.error ≡ None) =
-    subst (λ (o : Option TablesWriting). MatchOption o (Unit {0})
-    (λ x. CanTake A next can old.source x × (old.error ≡ None))) is ready in
-    let h = both.0 in
-    (until h.stops h.writer h.list h.tables h.took).took.left
-
-pub no_error : {S : Type 0} (A : Type 0) (next : S → Option (Result Entry Error) → S → Type 0)
+pub no_error : {S A : Type 0} (next : S → Option (Result Entry Error) → S → Type 0)
     (can : S → Type 0) (old : TableStream S A) (n : TablesWriting) → old.writer ≡ Some n
     → CanPoll next can old → old.error ≡ None
-no_error A next can old n is ready =
-    let both : CanTake A next can old.source n × (old.error ≡ None) =
+no_error next can old n is ready =
+    let both : CanTake next can old.source n × (old.error ≡ None) =
     subst (λ (o : Option TablesWriting). MatchOption o (Unit {0})
-    (λ x. CanTake A next can old.source x × (old.error ≡ None))) is ready in
+    (λ x. CanTake next can old.source x × (old.error ≡ None))) is ready in
     both.1
 
 module _ {S A : Type 0} (next : S → Option (Result Entry Error) → S → Type 0)
@@ -260,7 +230,7 @@ module _ {S A : Type 0} (next : S → Option (Result Entry Error) → S → Type
       (MatchOption old.error (AreAll w rs gs old.ids) (EndsInError stops w rs gs old.ids))
       (TookFrom stops next w rs gs old.source)) is at
 
-  not_over : (r : Option (Result (FinishedTable A) Error)) → IsExhausted old
+  not_over : (r : Option (Result (FinishedTable A) TableStreamError)) → IsExhausted old
       → (r ≡ None) × IsExhausted new
   not_over r over = let no : Some n ≡ None = sym is ∙ over.0 in absurd cc
 
@@ -270,7 +240,7 @@ module _ {S A : Type 0} (next : S → Option (Result Entry Error) → S → Type
   -- at the end of the source
   module _ (error : new.error ≡ None) (ids : new.ids ≡ v.ids) where
     end_after : (stops : Error → Bool) (w : TablesWriting) (rs : List (Result Entry Error))
-        (gs : List (FinishedTable A)) (r : Option (Result (FinishedTable A) Error))
+        (gs : List (FinishedTable A)) (r : Option (Result (FinishedTable A) TableStreamError))
         → FinishesLast w rs gs v.ids r → YieldsAfter stops next w rs gs r new
     end_after stops w rs gs None h =
         subst (λ (left : Option ℕ). AreAll w rs gs left) (sym ids) h
@@ -278,12 +248,12 @@ module _ {S A : Type 0} (next : S → Option (Result Entry Error) → S → Type
     end_after stops w rs gs (Some (Err e)) h =
         subst (λ (left : Option ℕ). EndsInError stops w rs gs left e) (sym ids) (h stops)
 
-    end_in : (r : Option (Result (FinishedTable A) Error)) → EndsAfter r new
+    end_in : (r : Option (Result (FinishedTable A) TableStreamError)) → EndsAfter r new
     end_in None = (spent, error)
     end_in (Some (Ok f)) = tt
     end_in (Some (Err e)) = (spent, error)
 
-    pub yields_end : (r : Option (Result (FinishedTable A) Error))
+    pub yields_end : (r : Option (Result (FinishedTable A) TableStreamError))
         → WritesUntil {A = A} next old.source n (Ok None) new.source v → EndsAll (Some v) r
         → YieldsNextTable next old r new
     yields_end r until ends = record {
@@ -295,23 +265,22 @@ module _ {S A : Type 0} (next : S → Option (Result Entry Error) → S → Type
     }
 
   -- after an error
-  module _ (e : Error) (none : old.error ≡ None) (ids : new.ids ≡ v.ids) where
+  module _ (e : TableStreamError) (none : old.error ≡ None) (ids : new.ids ≡ v.ids) where
     stop_after : (stops : Error → Bool) (w : TablesWriting) (rs : List (Result Entry Error))
-        (gs : List (FinishedTable A)) (r : Option (Result (FinishedTable A) Error))
+        (gs : List (FinishedTable A)) (r : Option (Result (FinishedTable A) TableStreamError))
         → Stops stops w rs gs v.ids e r → LeavesError r e old.error new.error
         → YieldsAfter stops next w rs gs r new
     stop_after stops w rs gs None h left = absurd h
     stop_after stops w rs gs (Some (Ok f)) h left = rw (spent, left, ids) h
-    stop_after stops w rs gs (Some (Err x)) h left =
-        subst (λ (o : Option ℕ). EndsInError stops w rs gs o x) (sym ids) h
+    stop_after stops w rs gs (Some (Err x)) h left = rw (ids, left.0) h
 
-    stop_in : (r : Option (Result (FinishedTable A) Error)) → LeavesError r e old.error new.error
+    stop_in : (r : Option (Result (FinishedTable A) TableStreamError)) → LeavesError r e old.error new.error
         → EndsAfter r new
     stop_in None left = (spent, left ∙ none)
     stop_in (Some (Ok f)) left = tt
-    stop_in (Some (Err x)) left = (spent, left ∙ none)
+    stop_in (Some (Err x)) left = (spent, left.1 ∙ none)
 
-    pub yields_stop : (r : Option (Result (FinishedTable A) Error))
+    pub yields_stop : (r : Option (Result (FinishedTable A) TableStreamError))
         → WritesUntil {A = A} next old.source n (Err e) new.source v → StopsAfter (Some v) e r
         → LeavesError r e old.error new.error → YieldsNextTable next old r new
     yields_stop r until stops left = record {

@@ -1,9 +1,10 @@
 -- Tables that are made of what a source yields: what holds from call to call.
 use Rattle.std.proofs.Common.{◌≡◌, refl, sym, ◌∙◌, ap, subst, ℕ, ◌+◌, ◌-◌, ◌≤◌, ◌^◌, Bool}
 use Rattle.std.proofs.Common.{true, false, List, [], ◌∷◌, ◌++◌, length, append_assoc, arith}
-use Rattle.std.proofs.Common.{length-append, IsTrue, inl, inr}
+use Rattle.std.proofs.Common.{length-append, IsTrue, inl, inr, ◌<◌, ltb-true}
 use Rattle.std.specs.Prelude.{Option, Some, None, Result, Ok, Err, drop, take, is_some, nat_lt}
 use Rattle.std.specs.Prelude.{◌⊎◌, ◌&&◌, ◌||◌, if◌then◌else◌}
+use Rattle.std.specs.Option.{option_map}
 use Rattle.std.proofs.lemmas.List.{length-drop, take-append-drop}
 use Rattle.sst_entries.specs.declared.error.Error.{Error}
 use Rattle.sst_entries.specs.declared.error.Error.TheVariants.{OutOfMemory}
@@ -12,16 +13,20 @@ use Rattle.sst_entries.specs.Entry.{Entry, entry}
 use Rattle.sst_entries.specs.Error.{is_memory}
 use Rattle.sst_entries.specs.Lending.{came}
 use Rattle.sst_entries.specs.Stream.{YieldsExactly, answer_stops, nowhere, ok_results}
-use Rattle.sst_entries.specs.Strict.{IsStrict, last_of, may_follow}
+use Rattle.sst_entries.specs.Strict.{IsStrict, IsStrictAfter, last_of, may_follow}
+use Rattle.sst_entries.proofs.Booleans.{and_parts}
+use Rattle.sst_entries.proofs.Lists.{all_append}
 use Rattle.sst_entries.proofs.StreamLemmas.{yields_front}
 use Rattle.sst_blocks.specs.declared.table.label.Label.{Label}
 use Rattle.sst_blocks.specs.declared.table.options.Options.{Options}
 use Rattle.sst_blocks.specs.table.Chunks.{joined}
 use Rattle.lsm_writers.specs.declared.writer.FinishedTable.{FinishedTable}
 use Rattle.lsm_writers.specs.Cut.{rest_chunk}
-use Rattle.lsm_writers.specs.Streamed.{AreAll, AreFirst, EndsInError, Failed}
-use Rattle.lsm_writers.specs.Streamed.{NoneFails, Took}
-use Rattle.lsm_writers.specs.Streamed.{entries_before}
+use Rattle.lsm_writers.specs.declared.table_stream.TableStreamError.{TableStreamError}
+use Rattle.lsm_writers.specs.declared.table_stream.TableStreamError.TheVariants.{Failed, OutOfOrder}
+use Rattle.lsm_writers.specs.Streamed.{AreAll, AreFirst, EndsInError, EndsWith}
+use Rattle.lsm_writers.specs.Streamed.{NoneFails, Took, calls_writer}
+use Rattle.lsm_writers.specs.Streamed.{entries_before, may_come_next, may_replace}
 use Rattle.lsm_writers.specs.Streamed.{next_fault, next_ids, next_left, took_each}
 use Rattle.lsm_writers.specs.Taken.{AreTakenFrom, IsLeft, IsWriting, taken, tables_left}
 use Rattle.lsm_writers.specs.Tables.{AreCuts, AreFinished, AreTables, GoesOn, IsFreshRun}
@@ -29,13 +34,14 @@ use Rattle.lsm_writers.specs.Tables.{TablesWriting, all_written, drawn, first_la
 use Rattle.lsm_writers.specs.Tables.{ids_after, ids_fault, is_due, next_writing, rotated}
 use Rattle.lsm_writers.specs.Tables.{rotation_fault, run_fault, tables_of, took, took_fault}
 use Rattle.lsm_writers.specs.Tables.{turn_fault}
-use Rattle.lsm_writers.specs.Writing.{IsFresh, Writing, gained}
+use Rattle.lsm_writers.specs.Writing.{IsFresh, IsWritable, Writing, gained}
 use Rattle.lsm_writers.specs.Writing.{may_be_written, written}
 use Rattle.lsm_writers.proofs.AllTables.{in_order, joined_all}
 use Rattle.lsm_writers.proofs.CutFronts.{first_tables}
 use Rattle.lsm_writers.proofs.CutTables.{no_end}
 use Rattle.lsm_writers.proofs.ListWriting.{same_label, written_gained}
 use Rattle.lsm_writers.proofs.Rotating.{goes_on_next}
+use Rattle.lsm_writers.proofs.Taking.{strict_gained}
 use Rattle.lsm_writers.proofs.TakenTables.{few_taken, finished_append, finished_law, finished_many}
 use Rattle.lsm_writers.proofs.TakenTables.{label_behind, label_left, taken_law}
 use Rattle.lsm_writers.proofs.TakenTables.{written_law}
@@ -78,14 +84,28 @@ none_snoc : (w : TablesWriting) (es : List Entry) (e : Entry) → NoneFails w es
 none_snoc w [] e h fine = (fine, tt)
 none_snoc w (x ∷ es) e h fine = (h.0, none_snoc (took w x) es e h.1 fine)
 
+-- ---- entries that can be written
+
+none_writable : IsWritable []
+unfolding IsStrictAfter
+none_writable = record { strict = tt; numbered = tt }
+
+writable_snoc : (es : List Entry) (e : Entry) → IsWritable es
+    → IsTrue (may_be_written es e.user_key e.seqno) → IsWritable (es ++ e ∷ [])
+writable_snoc es e h may =
+    let low : nat_lt e.seqno (2 ^ 64 - 1) ≡ true = (and_parts _ _ may).0 in
+    record {
+      strict = strict_gained es e h.strict may;
+      numbered = all_append (λ (x : Entry). x.seqno < 2 ^ 64 - 1) es (e ∷ []) h.numbered
+          (ltb-true _ _ low, tt);
+    }
+
+-- ---- the entries before the first error
+
 pub entries_front : (es : List Entry) (rs : List (Result Entry Error))
     → entries_before (ok_results es ++ rs) ≡ es ++ entries_before rs
 entries_front [] rs = refl
 entries_front (e ∷ es) rs = ap (λ (xs : List Entry). e ∷ xs) (entries_front es rs)
-
-pub entries_all : (es : List Entry) → entries_before (ok_results es) ≡ es
-entries_all [] = refl
-entries_all (e ∷ es) = ap (λ (xs : List Entry). e ∷ xs) (entries_all es)
 
 pub results_nil : (rs : List (Result Entry Error)) → rs ++ [] ≡ rs
 results_nil [] = refl
@@ -201,6 +221,25 @@ left_some n false true us none is some = (
   is ∙ ap (λ (ts : List (List Entry)). ts ++ rest_chunk (written n.present)) none,
 )
 
+if_true : {X : Type 0} (b : Bool) (x y : X) → b ≡ true → (if b then x else y) ≡ x
+if_true b x y is = rw is refl
+
+if_false : {X : Type 0} (b : Bool) (x y : X) → b ≡ false → (if b then x else y) ≡ y
+if_false b x y is = rw is refl
+
+-- an error that may not replace another one does not stop the source
+pub none_stops : (stopped called memory : Bool) → (stopped || (called && memory)) ≡ false
+    → stopped ≡ false
+none_stops false called memory h = refl
+none_stops true called memory h = cc
+
+-- and is not `OutOfMemory` if the writer is called
+none_memory : (stopped called memory : Bool) → called ≡ true
+    → (stopped || (called && memory)) ≡ false → memory ≡ false
+none_memory false true memory is h = h
+none_memory true true memory is h = cc
+none_memory stopped false memory is h = cc
+
 neither : (a b : Bool) → (a || b) ≡ false → b ≡ false
 neither false b h = h
 neither true b h = absurd cc
@@ -235,6 +274,7 @@ written_none v h = rw (h.0, h.1) refl
 pub fresh_took : {A : Type 0} (w : TablesWriting) → IsFreshRun w → IsWriting w
     → Took {A = A} w [] [] w
 fresh_took w fresh writing = record {
+  writable = none_writable;
   none = tt;
   listed = rw (fresh.2, fresh.0, written_none w.present fresh.1) refl;
   writing = writing;
@@ -277,10 +317,10 @@ module _ {A : Type 0} (w : TablesWriting) (es : List Entry) (gs : List (Finished
   listed : joined m.tables ++ last ≡ es
   listed = sym (all_is m h.writing.works) ∙ h.listed
 
-  pub took_follows : (e : Entry) → IsTrue (may_be_written es e.user_key e.seqno)
-      → IsTrue (may_be_written (all_written n) e.user_key e.seqno)
-  took_follows e next = bound_same (all_written n) es e.user_key e.seqno
-      ((written_law A m n gs e h.taken h.writing).0 ∙ ap (last_of None) h.listed) ∙ next
+  -- whether an entry may follow does not depend on what was taken
+  pub follows_is : (e : Entry) → may_be_written (all_written n) e.user_key e.seqno ≡ may_come_next es e
+  follows_is e = bound_same (all_written n) es e.user_key e.seqno
+      ((written_law A m n gs e h.taken h.writing).0 ∙ ap (last_of None) h.listed)
 
   fault_is : (e : Entry) → took_fault n e ≡ took_fault m e
   fault_is e = (written_law A m n gs e h.taken h.writing).1
@@ -294,13 +334,18 @@ module _ {A : Type 0} (w : TablesWriting) (es : List Entry) (gs : List (Finished
       ∙ ap (λ (o : Option ℕ). if m.failed then m.ids else o)
       (same_ids m (taken (length gs) m) (is_due m.target m.present e) refl)
 
-  most_now : (rest : List (Result Entry Error)) → length gs ≤ length (next_left m rest)
-  most_now [] = omega (arith, count_is)
-  most_now (Ok e ∷ rest) = omega (
+  most_by : (e : Entry) (follows : Bool)
+      → length gs ≤ length (if follows then tables_left m e else m.tables)
+  most_by e false = omega (arith, count_is)
+  most_by e true = omega (
     arith,
     left_count m (length gs) e (m.failed || is_some (turn_fault m.target m.ids m.present e))
         (is_due m.target m.present e) count_is (taken (length gs) m) dropped refl,
   )
+
+  most_now : (rest : List (Result Entry Error)) → length gs ≤ length (next_left es m rest)
+  most_now [] = omega (arith, count_is)
+  most_now (Ok e ∷ rest) = most_by e (may_come_next es e)
   most_now (Err f ∷ rest) = omega (arith, count_is)
 
   first_now : (d : List Entry) → AreFirst m (es ++ d) gs
@@ -320,16 +365,18 @@ module _ {A : Type 0} (w : TablesWriting) (es : List Entry) (gs : List (Finished
     entries_are : entries_before rs ≡ es ++ entries_before rest
     entries_are = ap entries_before whole ∙ entries_front es rest
 
-    pub ends_now : (e : Error) (left : Option ℕ)
-        → (is_memory e ≡ false → stops e ≡ false → next_fault m rest ≡ Some e)
-        → (is_memory e ≡ false → stops e ≡ false → length gs ≡ length (next_left m rest))
-        → (left ≡ m.ids) ⊎ (left ≡ next_ids m rest)
-        → (is_memory e ≡ false → stops e ≡ false → left ≡ next_ids m rest)
+    pub ends_now : (e : TableStreamError) (left : Option ℕ)
+        → (may_replace stops (calls_writer es rest) e ≡ false → next_fault es m rest ≡ Some e)
+        → (may_replace stops (calls_writer es rest) e ≡ false
+        → length gs ≡ length (next_left es m rest))
+        → (left ≡ m.ids) ⊎ (left ≡ next_ids es m rest)
+        → (may_replace stops (calls_writer es rest) e ≡ false → left ≡ next_ids es m rest)
         → EndsInError stops w rs gs left e
     ends_now e left fault count ids left_is = record {
       front = es;
       rest = rest;
       whole = whole;
+      writable = h.writable;
       none = h.none;
       first = subst (λ (xs : List Entry). AreFirst m xs gs) (sym entries_are)
           (first_now (entries_before rest));
@@ -340,6 +387,21 @@ module _ {A : Type 0} (w : TablesWriting) (es : List Entry) (gs : List (Finished
       count = count;
       left_is = left_is;
     }
+
+  -- an entry that may not follow
+  pub took_disorder : (stops : Error → Bool) (rs rest : List (Result Entry Error)) (e : Entry)
+      → rs ≡ ok_results es ++ Ok e ∷ rest → may_come_next es e ≡ false
+      → EndsWith stops w rs gs OutOfOrder n
+  took_disorder stops rs rest e whole after = record {
+    none = λ none. ends_now stops rs (Ok e ∷ rest) whole OutOfOrder n.ids
+        (λ fine. if_false (may_come_next es e) (option_map (λ f. Failed f) (took_fault m e))
+        (Some OutOfOrder) after)
+        (λ fine. sym (ap length (if_false (may_come_next es e) (tables_left m e) m.tables after)
+        ∙ count_is))
+        (inl ids_now)
+        (λ fine. ids_now ∙ sym (if_false (may_come_next es e) (ids_after m e) m.ids after));
+    some = λ f one. absurd (finished_some n.present.options (first_label n) n.tables f one h.left);
+  }
 
   -- an entry that is not written
   module _ (stops : Error → Bool) (rs rest : List (Result Entry Error)) (e : Entry)
@@ -357,18 +419,29 @@ module _ {A : Type 0} (w : TablesWriting) (es : List Entry) (gs : List (Finished
     here_left : v.tables ≡ tables_left n e → v.tables ≡ tables_left (taken (length gs) m) e
     here_left is = subst (λ (x : TablesWriting). v.tables ≡ tables_left x e) h.taken.left is
 
-    fault_now : is_memory f ≡ false → stops f ≡ false → took_fault m e ≡ Some f
-    fault_now fine goes = sym (fault_is e) ∙ refused fine
+    fine_is : may_replace stops (may_come_next es e) (Failed f) ≡ false → is_memory f ≡ false
+    fine_is = none_memory (stops f) (may_come_next es e) (is_memory f) next
 
-    ids_failed : v.ids ≡ ids_after m e
+    fault_now : may_replace stops (may_come_next es e) (Failed f) ≡ false
+        → next_fault es m (Ok e ∷ rest) ≡ Some (Failed f)
+    fault_now fine = if_true (may_come_next es e) (option_map (λ f. Failed f) (took_fault m e))
+        (Some OutOfOrder) next
+        ∙ ap (option_map (λ f. Failed f)) (sym (fault_is e) ∙ refused (fine_is fine))
+
+    left_is : next_left es m (Ok e ∷ rest) ≡ tables_left m e
+    left_is = if_true (may_come_next es e) (tables_left m e) m.tables next
+
+    ids_failed : v.ids ≡ next_ids es m (Ok e ∷ rest)
     ids_failed = ids ∙ ids_next e
+        ∙ sym (if_true (may_come_next es e) (ids_after m e) m.ids next)
 
-    none_left : v.tables ≡ [] → EndsInError stops w rs gs v.ids f
-    none_left none = ends_now stops rs (Ok e ∷ rest) whole f v.ids fault_now
-        (λ fine goes. elim left.tables [
-          | inl is ↦ omega (arith, counted, ap length (here_left is.0), ap length none)
-          | inr is ↦ absurd (no_memory f fine is.0)
-        ]) (inr ids_failed) (λ fine goes. ids_failed)
+    none_left : v.tables ≡ [] → EndsInError stops w rs gs v.ids (Failed f)
+    none_left none = ends_now stops rs (Ok e ∷ rest) whole (Failed f) v.ids fault_now
+        (λ fine. elim left.tables [
+          | inl is ↦
+              omega (arith, counted, ap length left_is, ap length (here_left is.0), ap length none)
+          | inr is ↦ absurd (no_memory f (fine_is fine) is.0)
+        ]) (inr ids_failed) (λ fine. ids_failed)
 
     -- the present table was finished
     module _ (g : FinishedTable A)
@@ -452,32 +525,35 @@ module _ {A : Type 0} (w : TablesWriting) (es : List Entry) (gs : List (Finished
           (gs ++ g ∷ [])) (sym (ap (λ (i : ℕ). take i ts) number ∙ front)) held_next
 
       count_next : v.tables ≡ tables_left n e
-          → length (gs ++ g ∷ []) ≡ length (tables_left m e)
+          → length (gs ++ g ∷ []) ≡ length (next_left es m (Ok e ∷ rest))
       count_next tables = omega (
         arith,
         counted,
+        ap length left_is,
         ap length (here_left tables),
         ap length is,
         one_last,
         length-append gs (g ∷ []),
       )
 
-      one_left : v.tables ≡ tables_left n e → EndsInError stops w rs (gs ++ g ∷ []) v.ids f
+      one_left : v.tables ≡ tables_left n e
+          → EndsInError stops w rs (gs ++ g ∷ []) v.ids (Failed f)
       one_left tables = record {
         front = es;
         rest = Ok e ∷ rest;
         whole = whole;
+        writable = h.writable;
         none = h.none;
         first = first_next;
         kept = omega (arith, count_is, length-append gs (g ∷ []));
         most = omega (arith, count_next tables);
         ids = inr ids_failed;
         fault = fault_now;
-        count = λ fine goes. count_next tables;
-        left_is = λ fine goes. ids_failed;
+        count = λ fine. count_next tables;
+        left_is = λ fine. ids_failed;
       }
 
-    pub took_failed : Failed stops w rs gs f v
+    pub took_failed : EndsWith stops w rs gs (Failed f) v
     took_failed = record {
       none = none_left;
       some = λ g one.
@@ -494,35 +570,37 @@ module _ {A : Type 0} (w : TablesWriting) (es : List Entry) (gs : List (Finished
 
   -- the source is exhausted
   module _ (rs : List (Result Entry Error)) (whole : rs ≡ ok_results es) where
-    pub took_all : (fs : List (FinishedTable A)) → IsStrict es
+    pub took_all : (fs : List (FinishedTable A))
         → AreFinished n.present.options (first_label n) (tables_of n) fs
         → AreAll w rs (gs ++ fs) n.ids
-    took_all fs strict rest =
+    took_all fs rest =
         let cut : joined (tables_of m) ≡ es = joined_all m.tables last ∙ listed in
         record {
           list = es;
           whole = whole;
-          strict = strict;
+          writable = h.writable;
           none = h.none;
           cut = record { whole = cut; each = h.writing.goes_on.cuts };
           order = in_order size m.target None (tables_of m) h.writing.goes_on.cuts
-              (subst IsStrict (sym cut) strict);
+              (subst IsStrict (sym cut) h.writable.strict);
           finished = finished_law A m n gs fs h.taken rest;
           left_is = ap (λ (x : TablesWriting). x.ids) h.taken.left;
         }
 
     pub took_ends : (stops : Error → Bool) (e : Error) → (is_memory e ≡ false → run_fault n ≡ Some e)
-        → EndsInError stops w rs gs n.ids e
+        → EndsInError stops w rs gs n.ids (Failed e)
     took_ends stops e refused =
-        ends_now stops rs [] (whole ∙ sym (results_nil (ok_results es))) e n.ids
-        (λ fine goes. sym (ap run_fault h.taken.left) ∙ refused fine) (λ fine goes. sym count_is)
-        (inl ids_now) (λ fine goes. ids_now)
+        ends_now stops rs [] (whole ∙ sym (results_nil (ok_results es))) (Failed e) n.ids
+        (λ fine. ap (option_map (λ f. Failed f)) (sym (ap run_fault h.taken.left)
+        ∙ refused (none_memory (stops e) true (is_memory e) refl fine)))
+        (λ fine. sym count_is) (inl ids_now) (λ fine. ids_now)
 
 -- ---- an entry is written, and the table that it ended is taken
 
 -- a writer of which one table may be left
 pub record Grown {A : Type 0} (w : TablesWriting) (es : List Entry) (gs : List (FinishedTable A))
     (n : TablesWriting) : Type 0 where
+  pub writable : IsWritable es
   pub none : NoneFails w es
   pub listed : all_written (took_each w es) ≡ es
   pub writing : IsWriting (took_each w es)
@@ -539,6 +617,13 @@ few_by n true none = ap (λ (ts : List (List Entry)). drop 1 (ts ++ rest_chunk (
     one [] = refl
     one (x ∷ t) = refl
 
+-- after an entry and a table that was taken, no finished table is left
+pub few_took : (n v u : TablesWriting) (e : Entry) → n.tables ≡ [] → v ≡ took n e → u ≡ taken 1 v
+    → u.tables ≡ []
+few_took n v u e none is rest = ap (λ (x : TablesWriting). x.tables) rest
+    ∙ ap (λ (x : TablesWriting). drop 1 x.tables) is
+    ∙ few_by n (is_due n.target n.present e) none
+
 pub grown : {A : Type 0} (w : TablesWriting) (es : List Entry) (gs : List (FinishedTable A))
     (n v : TablesWriting) (e : Entry) → Took w es gs n
     → IsTrue (may_be_written es e.user_key e.seqno) → took_fault n e ≡ None → v ≡ took n e
@@ -549,10 +634,11 @@ grown {A} w es gs n v e h next fine is =
     let none : took_fault m e ≡ None = sym law.1 ∙ fine in
     let now : took_each w (es ++ e ∷ []) ≡ took m e = each_snoc w es e in
     record {
+      writable = writable_snoc es e h.writable next;
       none = none_snoc w es e h.none none;
       listed = ap all_written now ∙ took_listed m e h.writing.works
           ∙ ap (λ (xs : List Entry). xs ++ e ∷ []) h.listed;
-      writing = subst IsWriting (sym now) (law.3 none (took_follows w es gs n h e next));
+      writing = subst IsWriting (sym now) (law.3 none (follows_is w es gs n h e ∙ next));
       taken = subst (λ (x : TablesWriting). AreTakenFrom x gs v) (sym now)
           (subst (AreTakenFrom (took m e) gs) (sym is) (law.2 none));
       few = ap (λ (x : TablesWriting). drop 1 x.tables) is
@@ -565,6 +651,7 @@ module _ {A : Type 0} (w : TablesWriting) (es : List Entry) (gs : List (Finished
       → AreFinished n.present.options (first_label n) (take 1 n.tables) (f ∷ [])
       → Took w es (gs ++ f ∷ []) v
   grown_some f one = record {
+    writable = h.writable;
     none = h.none;
     listed = h.listed;
     writing = h.writing;
@@ -580,6 +667,7 @@ module _ {A : Type 0} (w : TablesWriting) (es : List Entry) (gs : List (Finished
       let same : v ≡ n = is ∙ ap (λ (ts : List (List Entry)). let x : TablesWriting =
       record n { tables = ts } in x) (h.few ∙ sym empty) in
       record {
+        writable = h.writable;
         none = h.none;
         listed = h.listed;
         writing = h.writing;

@@ -20,6 +20,6 @@ pub use sst_blocks::{
     Timestamp, TreeId,
 };
 pub use table_ids::TableIds;
-pub use table_stream::TableStream;
+pub use table_stream::{TableStream, TableStreamError};
 pub use writer::meta::Metadata;
 pub use writer::{FinishedTable, Writer};

@@ -50,7 +50,7 @@ pub(crate) trait Takes {
 }
 
 // The entry of a row, without a request for memory.
-fn entry<A: Allocator>(row: &Row<'static>) -> InternalValue<A> {
+pub(crate) fn entry<A: Allocator>(row: &Row<'static>) -> InternalValue<A> {
     let (key, value) = (Slice::from_static(row.0), Slice::from_static(row.3));
     InternalValue::from_components(key, value, row.1, row.2)
 }

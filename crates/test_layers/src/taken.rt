@@ -1,10 +1,13 @@
-//! Finished tables that are taken from a writer of several tables before it ends.
-use crate::given::{Given, NO_TABLES, Seen, Tables, Takes, seen_of, tables};
-use lsm_writers::{MultiWriter, TableId};
-use sst_blocks::{Error, ValueType};
+//! Finished tables that are taken from a writer of several tables before it ends, by calls or by a
+//! stream.
+use crate::given::{Given, MAY_NOT_FOLLOW, NO_TABLES, Seen, Tables, Takes, entry, seen_of, tables};
+use lsm_writers::{
+    FinishedTable, MultiWriter, TableId, TableIds, TableStream, TableStreamError, Timestamp,
+};
+use sst_blocks::{Error, IterItem, ValueType};
 use std::alloc::{Allocator, Global};
 use test_support::samples::rows::Row;
-use test_support::{Refusing, each_refused};
+use test_support::{Refusing, each_refused, lent_list};
 
 // The error code of the first call that fails, 0 for none, and the tables, the taken ones first.
 type Outcome = (u8, Tables);
@@ -127,4 +130,63 @@ fn is_front_for_each_request(alloc: Global) -> bool {
 #[test]
 fn tables_may_be_taken_after_an_allocation_failure(rt: HostRuntime) {
     assert!(rt; is_front_for_each_request(rt.alloc()));
+}
+
+// Two keys with a table each, then an entry that sorts before them.
+static UNSORTED: [Row<'static>; 5] = [
+    (b"a", 9, ValueType::Value, b"x"),
+    (b"a", 7, ValueType::Value, b""),
+    (b"b", 1, ValueType::Value, b""),
+    (b"a", 1, ValueType::Value, b""),
+    (b"d", 1, ValueType::Value, b""),
+];
+
+// All that a stream yields: the tables, and the code of the error among them.
+fn yielded<I: Iterator<Item = Result<FinishedTable<A>, TableStreamError>> + Drop, A: Allocator>(
+    stream: I,
+) -> Outcome
+    requires { I.can_next stream }
+{
+    let (mut code, mut seen) = (0, NO_TABLES);
+    for item in stream {
+        match item {
+            Ok(table) => push(&mut seen, seen_of(&table)),
+            Err(TableStreamError::OutOfOrder) => code = MAY_NOT_FOLLOW,
+            Err(TableStreamError::Failed(error)) => code = error.number(),
+        }
+    }
+    (code, seen)
+}
+
+fn listed(alloc: Global, rows: &[Row<'static>]) -> Result<Vec<IterItem>, Error> {
+    let mut list = Vec::new(alloc);
+    for row in rows {
+        list.push(Ok(entry(row)))?;
+    }
+    Ok(list)
+}
+
+fn stream_of(alloc: Global, rows: &[Row<'static>]) -> Result<Outcome, Error> {
+    let list = listed(alloc, rows)?;
+    let writer = MultiWriter::new(alloc, TableIds::new(1), 1, 0, Timestamp::from(0))?;
+    let writer = writer.use_data_block_size(0);
+    Ok(yielded(TableStream::new(lent_list(list), writer)))
+}
+
+// The outcome of a stream of rows, with a table for each key.
+fn streamed(alloc: Global, rows: &[Row<'static>]) -> Outcome {
+    match stream_of(alloc, rows) {
+        Ok(outcome) => outcome,
+        Err(error) => (error.number(), NO_TABLES),
+    }
+}
+
+#[test]
+fn streamed_tables_are_those_of_finish(rt: HostRuntime) {
+    let all = outcome(rt.alloc(), 1, 0);
+    assert!(rt; streamed(rt.alloc(), &ROWS) == all);
+    let unsorted = streamed(rt.alloc(), &UNSORTED);
+    assert!(rt; unsorted.0 == MAY_NOT_FOLLOW);
+    assert!(rt; unsorted.1.0 == 1);
+    assert!(rt; unsorted.1.1[0] == all.1.1[0]);
 }

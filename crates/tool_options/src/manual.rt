@@ -40,8 +40,8 @@ object.";
 const LEFT: &str = "\
 After an error, write and compact remove what has a temporary name, as far as
 the system lets them. A process that is killed leaves it: a file FILE.1.tmp of
-write, or the folder FOLDER.1.tmp of compact. Remove it by hand. Until then
-the next run takes the next number, up to 1000.
+write, or the folder FOLDER.1.tmp of compact. The next run of the same name
+takes the next number, up to 1000, and removes what is left once it succeeds.
 
 Whenever write is stopped, each FILE is as it was or complete. After compact is
 stopped, FOLDER does not exist or has all its tables.";

@@ -16,7 +16,7 @@ pub use Rattle.lsm_readers.specs.point.Parts.{recovered_result}
 pub use Rattle.lsm_readers.specs.Stored.{StoresList}
 pub use Rattle.lsm_readers.specs.point.Table.{OpenTable}
 pub use Rattle.lsm_runs.specs.RunLists.{YieldTogether, YieldsList, HoldLists, RunsHoldLists}
-pub use Rattle.lsm_runs.specs.RunLists.{RunsHold, TableLists, each_run}
+pub use Rattle.lsm_runs.specs.RunLists.{CanLend, OnLists, RunsHold, TableLists, each_run}
 pub use Rattle.lsm_runs.specs.SeveralRuns.{union_in}
 pub use Rattle.lsm_runs.specs.compaction.AnyRuns.{AreTablesBy, BeginsWith, CameInOrder, CameOf}
 pub use Rattle.lsm_runs.specs.compaction.AnyRuns.{YieldsResults, GoesThrough, HasMade, RefusesOf}
@@ -27,7 +27,7 @@ pub use Rattle.lsm_runs.specs.compaction.Chain.{IsOpenedOf, IsRunOfList, chain_f
 pub use Rattle.lsm_runs.specs.compaction.Chain.{run_label, tables_fault, writes_fault}
 pub use Rattle.lsm_runs.specs.compaction.Compacted.{AreCompactable, AreMergeable, AreWrittenBy}
 pub use Rattle.lsm_runs.specs.compaction.Compacted.{YieldsWritable, FitsBy, HaveEntries, RunsOn}
-pub use Rattle.lsm_runs.specs.compaction.Compacted.{kept_in}
+pub use Rattle.lsm_runs.specs.compaction.Compacted.{OnFullLists, kept_in}
 pub use Rattle.lsm_runs.specs.compaction.Compacted.{StreamedLaw, rules_by}
 pub use Rattle.lsm_runs.specs.compaction.Filtered.{CameTo, CameUntil, CameUpTo, CompactsAs}
 pub use Rattle.lsm_runs.specs.compaction.Filtered.{FitsKept}

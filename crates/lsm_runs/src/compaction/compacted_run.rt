@@ -89,8 +89,8 @@ pub fn compact_to_run<A: Allocator + Clone>(
         IfOk result (λ _. spec.IsWritable (spec.kept_in rules lists)) }
     // Except for `OutOfMemory`, the error is the first one: of the counter, of the kept entries in
     // order, of the last table.
-    ensures refused { (lists : spec.TableLists) → spec.RunsHold runs.now lists →
-        spec.Faults result (spec.tables_fault ids target_size created_at (spec.kept_in rules lists)) }
+    ensures refused { (lists : spec.TableLists) → spec.RunsHold runs.now lists → spec.Faults result
+        (spec.tables_fault ids target_size created_at (spec.kept_in rules lists)) }
     // If the tables fit and enough ids remain, the only error is `OutOfMemory`.
     ensures taken { (lists : spec.TableLists) → spec.RunsHold runs.now lists →
         spec.FitsAsTables ids target_size (spec.kept_in rules lists) →

@@ -79,26 +79,23 @@ pub fn compact_to_run_with<A: Allocator + Clone>(
     // The run has exactly these, opened with the options `how`, in their order.
     ensures opened { IfOk result (λ r. spec.HasRunBy how.now r.0 r.1) }
     // Together they hold what is kept, one after another, and are in order.
-    ensures run { spec.AreCompactable (spec.each_run runs.now) → (lists : spec.TableLists) →
-        spec.RunsHold runs.now lists →
-        let left = spec.kept_in rules lists in IfOk result (λ r. MatchOption r.1 (left ≡ [])
-        (λ run. spec.IsRunOfList left how.now.global_seqno run)) }
+    ensures run { spec.AreCompactable (spec.each_run runs.now) → spec.OnLists runs.now (λ lists. let
+        left = spec.kept_in rules lists in IfOk result (λ r. MatchOption r.1 (left ≡ []) (λ run.
+        spec.IsRunOfList left how.now.global_seqno run))) }
     // Without a global seqno, the run may be compacted again, whatever the tables held.
     ensures able { how.now.global_seqno ≡ 0 →
         IfOk result (λ r. IfSome r.1 (λ run. spec.AreCompactable (run ∷ []))) }
     // Except for `OutOfMemory`, the error is the writer's first one. Or else it reports an index
     // restart interval other than 1, or else a seqno that is too large.
-    ensures refused { spec.AreCompactable (spec.each_run runs.now) → (lists : spec.TableLists) →
-        spec.RunsHold runs.now lists → spec.Faults result (spec.run_with_fault writer
-        (spec.kept_in rules lists) how.now.global_seqno) }
+    ensures refused { spec.AreCompactable (spec.each_run runs.now) → spec.OnLists runs.now (λ lists.
+        spec.Faults result (spec.run_with_fault writer (spec.kept_in rules lists)
+        how.now.global_seqno)) }
     // With an interval of 1, the only error is `OutOfMemory` if the tables of what is kept fit,
     // enough ids remain and no seqno is too large.
-    ensures taken { spec.AreCompactable (spec.each_run runs.now) → (lists : spec.TableLists) →
-        spec.RunsHold runs.now lists →
-        let left = spec.kept_in rules lists in
-        writer.present.options.index_block_restart_interval ≡ 1 → spec.FitsBy writer left →
-        spec.highest_seqno left + how.now.global_seqno < 2 ^ 64 →
-        IfErr result (λ e. e ≡ spec.OutOfMemory) }
+    ensures taken { spec.AreCompactable (spec.each_run runs.now) → spec.OnLists runs.now (λ lists.
+        let left = spec.kept_in rules lists in writer.present.options.index_block_restart_interval ≡
+        1 → spec.FitsBy writer left → spec.highest_seqno left + how.now.global_seqno < 2 ^ 64 →
+        IfErr result (λ e. e ≡ spec.OutOfMemory)) }
 {
     let own = alloc.clone()?;
     let mut observer = NoObserver;

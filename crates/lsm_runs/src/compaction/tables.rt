@@ -1,5 +1,5 @@
 //! Compacting several runs into tables that are yielded one by one.
-ghost use Rattle.std.specs.Prelude.{◌≡◌, [], Bool, IfErr, IfOk, true};
+ghost use Rattle.std.specs.Prelude.{◌≡◌, [], Bool, IfErr, IfOk, List, true};
 ghost use Rattle.lsm_runs.specs.compaction.Words as spec;
 
 use crate::RunScanner;
@@ -23,12 +23,11 @@ fn stream_of<L: Lending + Drop, A: Allocator + Clone>(
 ) -> TableStream<Kept<L, A>, A>
     requires { spec.IsFreshRun writer }
     ensures starts { let advances = ⟦<Kept<L, A> as Lending>⟧.advances in
-        (d : spec.YieldsWritable advances source) (stops : spec.Error → Bool) →
-        stops spec.OutOfMemory ≡ true →
-        spec.IsAfter stops advances writer (spec.ok_results d.list) [] result }
+        (results : List spec.R) → spec.YieldsResults advances results source →
+        (stops : spec.Error → Bool) → stops spec.OutOfMemory ≡ true →
+        spec.IsAfter stops advances writer results [] result }
     ensures can { let source_can = ⟦<Kept<L, A> as Lending>⟧.can_advance in
         let advances = ⟦<Kept<L, A> as Lending>⟧.advances in
-        spec.YieldsWritable advances source →
         spec.CanYield advances spec.nowhere source_can source_can source →
         spec.CanPoll advances source_can result }
     ensures ids { result.ids ≡ writer.ids }
@@ -36,40 +35,61 @@ fn stream_of<L: Lending + Drop, A: Allocator + Clone>(
     TableStream::new(source, writer)
 }
 
-/// Compacts several runs as [`compact_runs`](crate::compact_runs) does, and yields each table as
-/// soon as it is finished.
+/// Compacts several runs of any opened tables, and yields each new table as soon as it is finished.
 ///
-/// Nothing is written before the first table is taken. Then the compaction has in memory a block or
-/// two of each run, the current table, and no table that it yielded. The runs are not changed; if
-/// it is dropped early, the current table is lost.
+/// The first data block of each run is loaded by the call, in the order of the runs. Nothing is
+/// written before the first table is taken. Then the compaction has in memory a block or two of each
+/// run, the current table, and no table that it yielded. The runs are not changed; if it is dropped
+/// early, the current table is lost.
 ///
-/// The tables, one after another, are those that `compact_runs` returns
+/// A run without a table is ignored. Nothing is required of the runs, so a store may compact tables
+/// of files that it did not verify. If the runs meet the conditions of
+/// [`compact_runs`](crate::compact_runs), the tables, one after another, are those that it returns
 /// ([`compaction_tables_law`]). [`TableStream::table_ids`] returns the id counter after them.
 ///
-/// Conditions: those of `compact_runs`.
+/// The writer must have written nothing.
 ///
 /// # Errors
 ///
-/// The call fails with [`Error::OutOfMemory`]. The compaction yields an error of
-/// [`MultiWriter::write`] and [`MultiWriter::finish`], or [`Error::OutOfMemory`], once, after every
-/// table that was finished before it. After that it yields only `None`. [`TableStream`] says what
-/// the contract leaves open.
+/// The call fails with the first fault of loading a block, or [`Error::OutOfMemory`].
+///
+/// The compaction yields one error, after every table that was finished before it. After that it
+/// yields only `None`. The error is the first of these:
+///
+/// - [`TableStreamError::OutOfOrder`](lsm_writers::TableStreamError::OutOfOrder) if an entry does not
+///   follow the one before it: a table does not hold what a writer makes, or a run is out of order,
+///   or a key has one seqno twice;
+/// - the first fault of loading a block;
+/// - the errors of [`MultiWriter::write`] and [`MultiWriter::finish`]; [`Error::OutOfMemory`].
+///   [`TableStream`] says what the contract leaves open.
 pub fn compact_each<A: Allocator + Clone>(
     alloc: A,
     runs: &[Arc<Run<Table<A>, A>, A>],
     rules: Rules,
     writer: MultiWriter<A>,
 ) -> Result<Compaction<A>, Error>
-    requires fresh { spec.IsFreshRun writer }
-    requires able { spec.AreCompactable (spec.each_run runs.now) }
-    // It is before the first table of what is kept of all entries.
+    requires { spec.IsFreshRun writer }
+    // For tables of lists that have entries, it is before the first table of what is kept of all
+    // entries.
     ensures starts { let advances = ⟦<Kept<RunScanner<A>, A> as Lending>⟧.advances in
-        (able : spec.AreCompactable (spec.each_run runs.now)) (stops : spec.Error → Bool) →
+        (able : spec.AreMergeable (spec.each_run runs.now)) (stops : spec.Error → Bool) →
         stops spec.OutOfMemory ≡ true → IfOk result (spec.IsAfter stops advances writer
         (spec.ok_results (spec.kept_in rules able.lists)) []) }
+    // For any tables whose scans come in order in each run, it is before the first table of what is
+    // kept of their merge, each error in its position.
+    ensures any { let advances = ⟦<Kept<RunScanner<A>, A> as Lending>⟧.advances in
+        let scans = spec.scans_of (spec.each_run runs.now) in
+        spec.AllByRecursion (λ rs. spec.Ascends (spec.entries_among rs)) scans →
+        (stops : spec.Error → Bool) → stops spec.OutOfMemory ≡ true →
+        IfOk result (spec.IsAfter stops advances writer
+        (spec.lent_outs rules (spec.merge_of scans)) []) }
     ensures can { IfOk result ⟦<Compaction<A> as Iterator>⟧.can_next }
     ensures ids { IfOk result (λ s. s.ids ≡ writer.ids) }
-    ensures err { IfErr result (λ e. e ≡ spec.OutOfMemory) }
+    ensures err { spec.AreMergeable (spec.each_run runs.now) →
+        IfErr result (λ e. e ≡ spec.OutOfMemory) }
+    // Except for `OutOfMemory`, the error is that of the first run whose first data block cannot be
+    // loaded, if there is one.
+    ensures opens { spec.Faults result (spec.first_blocks_fault (spec.each_run runs.now)) }
 {
     let kept = kept_of(alloc, runs, rules)?;
     Ok(stream_of(kept, writer))

@@ -9,7 +9,7 @@ use Rattle.lsm_writers.proofs.table_stream.write_until.Given as goal
 
 abbrev pub invariant-loop-source : goal.invariant-loop-source
 invariant-loop-source g l = record {
-  can : CanTake g.row.A.Denot g.L.Lending.advances g.L.Lending.can_advance l.source l.writer;
+  can : CanTake g.L.Lending.advances g.L.Lending.can_advance l.source l.writer;
   took : (stops : Error → Bool) (w : TablesWriting) (rs : List (Result Entry Error))
       (gs : List (FinishedTable g.row.A.Denot))
       → TookFrom stops g.L.Lending.advances w rs gs l.fn.source l.fn.writer
