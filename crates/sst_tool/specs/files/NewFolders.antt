@@ -72,8 +72,8 @@ Clears Is (Removed path) =
 Clears Is (RemovedFolder path) = Is path
 Clears Is step = ⊥
 
--- The new folder has its name, and its parent folder was synced. After that only tables in
--- temporary folders of this name, and these folders, were removed.
+-- The new folder has its name, and its parent folder was synced. After that only numbered tables in
+-- temporary folders of this name, and these folders, were removed, and nothing else was done.
 pub record IsFolderInPlace (folder : List ℕ) (all : List (List ℕ)) (known new : Option (List Step))
     : Type 0 where
   pub behind : List Step

@@ -52,8 +52,8 @@ pub record AreBeside (files : List NewFile) (all : List Standing) : Type 0 where
 abbrev pub IsBesideOne : List Standing → List ℕ → Type 0
 IsBesideOne all path = Any (λ (s : Standing). IsBeside s.path path) all
 
--- All files were written, then all were renamed, then their folders synced. After that only
--- temporary names of these files were removed.
+-- All files were written, then all were renamed, then their folders synced. After that only files
+-- with temporary names of these were removed, and nothing else was done.
 pub record AreInPlace (known : Option (List Step)) (wanted : List NewFile)
     (new : Option (List Step)) : Type 0 where
   pub all : List Standing

@@ -25,7 +25,7 @@ abbrev pub written_if : Bool → List ℕ → List ℕ → Option ℕ → List S
 written_if true path bytes mode = Wrote path bytes mode ∷ []
 written_if false path bytes mode = []
 
--- Exactly steps of this kind are done.
+-- Only steps of this kind are done, or none.
 pub record OnlyDoes (Is : Step → Type 0) (known new : Option (List Step)) : Type 0 where
   pub steps : List Step
   pub are : AllByRecursion Is steps

@@ -10,7 +10,7 @@ use Rattle.sst_tool.specs.declared.files.error.ToolError.{ToolError}
 use Rattle.sst_tool.specs.declared.files.error.ToolError.TheVariants as error
 
 -- The new folder has exactly the files of these tables, 1.sst, 2.sst and so on, and its name was
--- synced. Only temporary folders of this name were removed.
+-- synced. After that only temporary folders of this name were removed.
 abbrev pub IsFilled : {A : Type 0} → List ℕ → List (FinishedTable A) → Option (List Step)
     → Option (List Step) → Type 0
 IsFilled {A} folder tables known new =

@@ -15,16 +15,20 @@ use std::io::ErrorKind;
 ///
 /// The folder is made under a temporary name next to its own. Each file is written there and
 /// synced, and then the folder is. Then the folder is renamed once, and its parent folder is
-/// synced. At last the numbered files are removed that earlier calls, which were interrupted, left
-/// in folders with temporary names of this one. Then such a folder is removed if it is empty. An
-/// error of this is ignored.
+/// synced.
+///
+/// Last, it removes the folders that interrupted runs have left under temporary names before its
+/// own, with the numbered files in them. A folder that has anything else stays. An error of this is
+/// ignored.
 ///
 /// # Errors
 ///
 /// Fails with an error of the system, with [`FileFault::Taken`] if the folder's name is taken, with
 /// [`FileFault::NamesTaken`] if a thousand temporary names are, and with `OutOfMemory`. All that
 /// was written is then removed, as far as the system does it, and no file is under the folder's
-/// name. After [`FileFault::NotSynced`] alone the folder is complete under its name, but its parent
+/// name. If another run has removed a file from the temporary folder, the error is `NotFound`.
+///
+/// After [`FileFault::NotSynced`] alone the folder is complete under its name, but its parent
 /// folder is not synced.
 pub fn place_folder<'a, P: Place, A: Allocator + Copy>(
     place: &mut P,
@@ -184,7 +188,7 @@ fn fill_and_name<'a, P: Place, A: Allocator + Copy>(
     ensures taken { IfErr result (spec.TellsNameTaken (P.there place.old) folder.now) }
 {
     write_within(place, alloc, folder, beside, tables, written)?;
-    match give_name(place, beside, folder) {
+    match give_name(place, beside, folder, written) {
         Ok(()) => Ok(()),
         Err(fault) => Err(FileError {
             name: FileName::Plain(folder),
@@ -259,8 +263,14 @@ fn add_within<P: Place, A: Allocator + Copy>(
     Ok(())
 }
 
-// Syncs the complete temporary folder and renames it, if the name is still free.
-fn give_name<P: Place>(place: &mut P, beside: &str, folder: &str) -> Result<(), FileFault>
+// Syncs the complete temporary folder and renames it, if the name is still free and no other run
+// has removed a file.
+fn give_name<P: Place, A: Allocator>(
+    place: &mut P,
+    beside: &str,
+    folder: &str,
+    written: &[String<A>],
+) -> Result<(), FileFault>
     ensures named { OnOk result (P.done place.new
         ≡ spec.then_done (P.done place.old) (spec.naming_folder beside.now folder.now)) }
     ensures free { OnOk result (IfSome (P.there place.old folder.now) (λ b. b ≡ false)) }
@@ -271,7 +281,18 @@ fn give_name<P: Place>(place: &mut P, beside: &str, folder: &str) -> Result<(), 
 {
     place.sync_names(beside)?;
     check_free(place, folder, FileFault::Taken)?;
+    check_each(place, written)?;
     place.rename_folder(beside, folder)?;
+    Ok(())
+}
+
+// Tests that all paths are taken.
+fn check_each<P: Place, A: Allocator>(place: &P, paths: &[String<A>]) -> io::Result<()> {
+    for path in paths {
+        if place.look(path.as_str())?.is_none() {
+            return Err(io::Error::from(ErrorKind::NotFound));
+        }
+    }
     Ok(())
 }
 

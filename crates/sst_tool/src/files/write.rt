@@ -97,14 +97,17 @@ fn check_next<P: Place, A: Allocator + Copy>(
 ///
 /// Each file is written and synced under a temporary name next to its own, with the permissions of
 /// the file that it replaces. Once all are complete, each is renamed. Then the folder of each is
-/// synced. At last the regular files are removed that earlier calls, which were interrupted, left
-/// under temporary names of these files. An error of this is ignored.
+/// synced.
+///
+/// Last, it removes the regular files that interrupted runs have left under temporary names before
+/// its own. An error of this is ignored.
 ///
 /// # Errors
 ///
 /// Fails with an error of the system, if a name belongs to a folder, a link or another file that is
 /// not regular, if a thousand temporary names are taken, and with `OutOfMemory`. The files written
-/// are then removed, as far as the system does it, and the files that have the names stay.
+/// are then removed, as far as the system does it, and the files that have the names stay. If
+/// another run has removed a temporary file, the error is `NotFound`.
 ///
 /// Two errors leave more. [`FileFault::AfterOthers`] says how many files were renamed before the
 /// one that failed. After [`FileFault::NotSynced`] all files are renamed.
@@ -364,8 +367,8 @@ fn rename_each<P: Place, A: Allocator>(
     Ok(())
 }
 
-// Renames a temporary file. Fails if the temporary path has another file by now: another run has
-// removed this one, and a third one may be writing there.
+// Renames a temporary file. Fails if the temporary path has another file by now: a run that ended
+// has removed this one, and a later run may still write there.
 fn rename_own<P: Place, A: Allocator>(place: &mut P, beside: &Beside<'_, '_, A>) -> io::Result<()>
     ensures renamed { OnOk result (P.done place.new ≡ spec.then_done (P.done place.old)
         (spec.Renamed (spec.standing_of beside.now).beside (spec.standing_of beside.now).path

@@ -196,7 +196,12 @@ fn left_beside(alloc: Global, held: bool) -> (bool, bool, bool, usize) {
         place.hold();
     }
     let written = write(&mut place, alloc, LINES, "t", None).is_some();
-    (put && written, place.has("t.1.tmp"), place.has("t.3.tmp"), place.count())
+    (
+        put && written,
+        place.has("t.1.tmp"),
+        place.has("t.3.tmp"),
+        place.count(),
+    )
 }
 
 #[test]
@@ -264,7 +269,16 @@ fn compacted_beside(alloc: Global, folder: &str, held: bool) -> (bool, u64, bool
 fn temporary_folders_of_killed_runs_are_removed(rt: HostRuntime) {
     let alloc = rt.alloc();
     // The names that are taken were tried too.
-    assert_eq!(rt; compacted_beside(alloc, "to", false), (true, 7, false, true, 6));
-    assert_eq!(rt; compacted_beside(alloc, "to//", false), (true, 7, false, true, 6));
-    assert_eq!(rt; compacted_beside(alloc, "to", true), (true, 7, true, true, 9));
+    assert_eq!(rt;
+        compacted_beside(alloc, "to", false),
+        (true, 7, false, true, 6)
+    );
+    assert_eq!(rt;
+        compacted_beside(alloc, "to//", false),
+        (true, 7, false, true, 6)
+    );
+    assert_eq!(rt;
+        compacted_beside(alloc, "to", true),
+        (true, 7, true, true, 9)
+    );
 }
