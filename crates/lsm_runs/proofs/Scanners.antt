@@ -21,7 +21,9 @@ use Rattle.lsm_readers.specs.Scan.{up_to_error}
 use Rattle.lsm_readers.specs.point.Table.{OpenTable}
 use Rattle.lsm_sorted.specs.declared.compaction.Rules.{Rules}
 use Rattle.lsm_sorted.specs.Compaction.{kept, unfiltered}
-use Rattle.lsm_sorted.specs.lending.LentCompaction.{YieldsCompactedEntries}
+use Rattle.lsm_sorted.specs.lending.LentCompaction.{YieldsCompactedEntries, YieldsCompactedResults}
+use Rattle.lsm_sorted.specs.lending.LentCompaction.{lent_outs}
+use Rattle.lsm_runs.specs.compaction.AnyRuns.{YieldsResults}
 use Rattle.lsm_runs.specs.compaction.Compacted.{AreMergeable, HaveEntries}
 use Rattle.lsm_runs.specs.RunLists.{YieldTogether, YieldsList, HoldLists}
 use Rattle.lsm_run_parts.specs.RunParts.{ends_given, range_of}
@@ -170,3 +172,12 @@ pub kept_lent : {S T : Type 0} (front : S → Option R → S → Type 0)
 kept_lent front next source rules es (Ok t) law yields =
     λ stops memory. law.yields stops es memory (yields stops memory)
 kept_lent front next source rules es (Err e) law yields = tt
+
+-- the same for any results, each error in its position
+pub results_lent : {S T : Type 0} (front : S → Option R → S → Type 0)
+    (next : T → Option R → T → Type 0) (source : S) (rules : Rules) (xs : List R)
+    (r : Result T Error) → IfOk r (λ t. YieldsCompactedResults front source next t rules)
+    → YieldsResults front xs source → IfOk r (YieldsResults next (lent_outs rules xs))
+results_lent front next source rules xs (Ok t) law yields =
+    λ stops memory. law.yields stops xs memory (yields stops memory)
+results_lent front next source rules xs (Err e) law yields = tt
