@@ -37,9 +37,9 @@ impl Memory {
         }
     }
 
-    /// Lets each removal fail.
-    pub(crate) fn hold(&mut self) {
-        self.held = true;
+    /// Lets each removal fail, or none.
+    pub(crate) fn hold(&mut self, held: bool) {
+        self.held = held;
     }
 
     /// Counts from 0 again, and lets the step of this number fail.

@@ -192,9 +192,7 @@ fn left_beside(alloc: Global, held: bool) -> (bool, bool, bool, usize) {
     let put = place.put("t.1.tmp", Some(b"old")).is_ok()
         && place.put("t.2.tmp", None).is_ok()
         && place.put("t.3.tmp", Some(b"old")).is_ok();
-    if held {
-        place.hold();
-    }
+    place.hold(held);
     let written = write(&mut place, alloc, LINES, "t", None).is_some();
     (
         put && written,
@@ -257,9 +255,7 @@ fn compacted_beside(alloc: Global, folder: &str, held: bool) -> (bool, u64, bool
         && place.put("to.2.tmp", None).is_ok()
         && place.put("to.2.tmp/000001.sst", Some(b"old")).is_ok()
         && place.put("to.2.tmp/1.sst", Some(b"old")).is_ok();
-    if held {
-        place.hold();
-    }
+    place.hold(held);
     let made = compact(&mut place, alloc, folder, None).is_some();
     let (first, second) = (place.has("to.1.tmp"), place.has("to.2.tmp"));
     (put && made, place.steps(), first, second, place.count())
