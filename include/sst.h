@@ -666,6 +666,39 @@ uint32_t sst_compact(sst_handle *runs, const sst_options *options, uint64_t wate
                      bool evict_tombstones, bool zero_seqnos, uint64_t target_size,
                      sst_handle *files, uint64_t *next_id);
 
+/* Opens a compaction that hands out each new table as soon as it is finished, into a handle that
+ * holds nothing. The arguments and the new tables are those of `sst_compact`. The call loads the
+ * first data block of each run, and writes nothing. The compaction has a share of the tables: the
+ * list may then change or be closed, and so may its tables.
+ *
+ * Errors:
+ *
+ * - SST_NO_SUCH if an option is out of range, as for `sst_writer_open`;
+ * - the fault of the first run whose first data block cannot be loaded.
+ */
+uint32_t sst_compaction_open(sst_handle *runs, const sst_options *options, uint64_t watermark,
+                             bool evict_tombstones, bool zero_seqnos, uint64_t target_size,
+                             sst_handle *compaction);
+
+/* Stores the next finished table of a compaction in `files`, a handle that holds nothing. `next_id`
+ * is set to the first unused id, or to 0 if none is left. The table that is being written has used
+ * its id. If the compaction makes no table, the first unused id is the one after `options->id`.
+ *
+ * Between two calls the compaction has a block or two of each run in memory, and the table that is
+ * being written. To stop it, close its handle: the tables that were handed out stay.
+ *
+ * Errors:
+ *
+ * - SST_NOTHING after the last table;
+ * - SST_OUT_OF_ORDER, the first fault of the blocks, the errors of a writer, and
+ *   SST_TABLE_IDS_SPENT, as for `sst_compact`. Each table that was finished before the error is
+ *   handed out first.
+ *
+ * After an error `files` holds nothing, and `next_id` stays. After SST_NOTHING and the errors of
+ * the second row the compaction has ended: each further call returns SST_NOTHING.
+ */
+uint32_t sst_compaction_next(sst_handle *compaction, sst_handle *files, uint64_t *next_id);
+
 /* Finished tables, by index from 0 on. */
 
 typedef struct sst_file {

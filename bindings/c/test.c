@@ -2,6 +2,7 @@
  * under valgrind. It prints what failed, and returns 1 then.
  */
 #include "bulk.h"
+#include "steps.h"
 #include "verify.h"
 
 static void test_gets(sst_handle *table, int n) {
@@ -606,7 +607,7 @@ static void test_out_of_order(const sst_options *options, const uint8_t *file, s
 
 /* Two tables have the same keys: the newer version is found, wherever its table is. */
 static void test_runs(const sst_options *options, const uint8_t *file, size_t len) {
-  sst_handle writer = {0}, older = {0}, newer = {0}, runs = {0};
+  sst_handle writer = {0}, older = {0}, newer = {0}, runs = {0}, packed = {0};
   sst_entry entry;
   CHECK(sst_writer_open(options, &writer) == 0);
   CHECK(sst_writer_add(&writer, bytes("key000001"), 9, 20, SST_VALUE, bytes("new"), 3) == 0);
@@ -638,6 +639,8 @@ static void test_runs(const sst_options *options, const uint8_t *file, size_t le
   CHECK(sst_table_get(&runs, bytes("other"), 5, SST_NEWEST, &entry) == SST_OTHER_KIND);
   CHECK(sst_runs_get(&writer, bytes("other"), 5, SST_NEWEST, &entry) == SST_OTHER_KIND);
   test_merged(&runs, options);
+  CHECK(sst_runs_pack(&runs, &packed) == 0);
+  test_steps(&packed, options);
   test_runs_scan(&runs);
   free(newer_file);
   sst_close(&runs);
@@ -724,6 +727,8 @@ static void fill_from_itself(sst_handle *handle, const sst_options *options, uin
   CHECK(sst_runs_pack(handle, handle) == code);
   CHECK(sst_packing_open(handle, handle) == code);
   CHECK(sst_compact(handle, options, 9, false, false, 1, handle, &next_id) == code);
+  CHECK(sst_compaction_open(handle, options, 9, false, false, 1, handle) == code);
+  CHECK(sst_compaction_next(handle, handle, &next_id) == code);
   CHECK(next_id == 7 && memcmp(&before, handle, sizeof before) == 0);
 }
 
@@ -754,8 +759,10 @@ static void test_no_entry(const sst_options *options) {
 static void test_damage(const uint8_t *file, size_t len, uint64_t items) {
   uint8_t *damaged = malloc(len);
   uint64_t checksum = hash_of(file, len);
+  sst_options defaults;
   sst_verified verified;
   sst_entry entry;
+  sst_options_default(&defaults);
   for (size_t i = 0; i < len; i++) {
     sst_handle table = {0}, range = {0}, runs = {0}, scan = {0};
     memcpy(damaged, file, len);
@@ -780,6 +787,7 @@ static void test_damage(const uint8_t *file, size_t len, uint64_t items) {
     while ((code = sst_scan_next(&scan, &entry)) == 0 && entry.kind != 0) {
     }
     CHECK(code <= 24 && is_scanned(&scan)); /* no entry follows an error */
+    compact_damaged(&runs, &defaults);
     sst_close(&table);
     sst_close(&range);
     sst_close(&runs);
@@ -844,6 +852,7 @@ static void test_table(const sst_options *options, int n, size_t piece, bool pin
     test_packing(options);
     test_runs(options, file, len);
     test_out_of_order(options, file, len);
+    test_steps_out_of_order(options);
     test_damage(file, len, count_of(n));
   }
   free(file); /* the table has a copy of its own */

@@ -206,6 +206,9 @@ writer_add_many = _declare("sst_writer_add_many", _handle, *_array, *_bytes, POI
 writer_finish = _declare("sst_writer_finish", _handle)
 compact = _declare("sst_compact", _handle, POINTER(Options), c_uint64, c_bool, c_bool, c_uint64,
                    _handle, POINTER(c_uint64))
+compaction_open = _declare("sst_compaction_open", _handle, POINTER(Options), c_uint64, c_bool,
+                           c_bool, c_uint64, _handle)
+compaction_next = _declare("sst_compaction_next", _handle, _handle, POINTER(c_uint64))
 files_count = _declare("sst_files_count", _handle, POINTER(c_uint64))
 files_tell = _declare("sst_files_tell", _handle, c_uint64, POINTER(File))
 files_copy = _declare("sst_files_copy", _handle, c_uint64, c_uint64, c_char_p, c_size_t,

@@ -6,18 +6,21 @@ import array
 import ctypes
 import itertools
 from ctypes import byref
-from typing import Iterable, Iterator, List, Optional, Tuple, Union
+from typing import Iterable, Iterator, List, NoReturn, Optional, Tuple, TypeVar, Union
 
 from . import _calls
+from ._errors import Closed, Nothing
 from ._files import Path, save
 from ._records import NEWEST, Kind, WrittenFile
-from ._resources import BytesLike, Resource, number, plain
+from ._resources import BytesLike, Resource, Returned, number, plain
 from ._tables import Runs, Table, listed
 
 # How many entries `Writer.add_many` passes to a call, and how many bytes of a file are copied at a
 # time.
 _MANY = 256
 _PIECE = 1 << 20
+
+_SomeCompaction = TypeVar("_SomeCompaction", bound="Compaction")
 
 # The bits of each option, in the order of its structure.
 _BITS = [8 * ctypes.sizeof(kind) for name, kind in _calls.Options._fields_[:-1]]
@@ -29,7 +32,7 @@ def _options(*values: int) -> _calls.Options:
 
 
 class FinishedTable(bytes):
-    """The bytes of a table, which `Writer.finish` and `compact` return.
+    """The bytes of a table, which `Writer.finish`, `compact` and `compact_each` return.
 
     `id`: the id of the table.
     `checksum`: the FNV-1a hash of all bytes, which is not part of them.
@@ -280,7 +283,8 @@ def compact(tables: Union[Runs, Iterable[Table]], *, watermark: int = 0, evict: 
             filter_partition_size: int = 0, filter_bits_per_key: int = 100) -> Compacted:
     """Merges some tables, the newest first, into new ones. Returns these, in key order.
 
-    The tables stay as they are. Memory holds all new tables at once.
+    The tables stay as they are. Memory holds all new tables at once: `compact_each` yields them one
+    by one.
 
     `watermark`: the least snapshot that is still read. Versions whose sequence numbers are not
     below it are kept, and the newest version of each key below it. Older ones are dropped. By
@@ -317,7 +321,7 @@ def compact(tables: Union[Runs, Iterable[Table]], *, watermark: int = 0, evict: 
     options = _options(id, created_at, level, data_block_size, data_block_restart_interval,
                        data_block_hash_ratio, index_partition_size, filter_partition_size,
                        filter_bits_per_key)
-    runs = tables if isinstance(tables, Runs) else Runs(*listed(tables))
+    runs = _runs_of(tables)
     files, next_id = Resource(), ctypes.c_uint64()
     with files:
         with runs._turn:
@@ -326,3 +330,102 @@ def compact(tables: Union[Runs, Iterable[Table]], *, watermark: int = 0, evict: 
         compacted = Compacted(_files(files))
         compacted.next_id = next_id.value or None
         return compacted
+
+
+def _runs_of(tables: Union[Runs, Iterable[Table]]) -> Runs:
+    return tables if isinstance(tables, Runs) else Runs(*listed(tables))
+
+
+class Compaction(Returned):
+    """An iterator over the tables of a compaction, which `compact_each` returns.
+
+    It has shares of the tables it reads, which may be closed meanwhile. It may be dropped before
+    its end: the table that is being written is dropped then, and the others stay. It is released
+    with the last reference to it, by `close`, or at the end of a `with` statement.
+
+    After an error it is exhausted.
+
+    `next_id`: the first id that no table has so far, the one that is being written included; `None`
+    if no id is left.
+
+    >>> writer = Writer()
+    >>> writer.add_many([(b"a", b""), (b"b", b"")])
+    >>> compaction = compact_each([Table.open(writer.finish())], target=0, id=3)
+    >>> [(file.id, compaction.next_id) for file in compaction]
+    [(4, 6), (5, 6)]
+    """
+
+    _maker = "made by compact_each"
+    next_id: Optional[int]
+    # Whether no table is left.
+    _is_over = False
+
+    def __iter__(self: _SomeCompaction) -> _SomeCompaction:
+        """Returns the iterator itself."""
+        return self
+
+    def __next__(self) -> FinishedTable:
+        """Returns the next table as soon as it is finished. Raises the errors of `compact`.
+
+        >>> next(compact_each([]))
+        Traceback (most recent call last):
+        ..
+        StopIteration
+        """
+        files, next_id = Resource(), ctypes.c_uint64()
+        with files, self._turn:
+            if self._is_over:
+                raise StopIteration
+            code = _calls.compaction_next(self._ref, files._ref, byref(next_id))
+            if code:
+                self._end(code)
+            self.next_id = next_id.value or None
+            try:
+                return _file(files, 0)
+            except BaseException:
+                self._release()  # without this table none may follow
+                raise
+
+    # Releases what a compaction reads, unless it is closed, and raises its error, if it has one.
+    def _end(self, code: int) -> NoReturn:
+        if code != Closed.code:
+            self._is_over = True
+            self._release()
+        if code == Nothing.code:
+            raise StopIteration
+        raise self._error(code)
+
+
+def compact_each(tables: Union[Runs, Iterable[Table]], *, watermark: int = 0, evict: bool = False,
+                 zero: bool = False, target: int = NEWEST, id: int = 0, created_at: int = 0,
+                 level: int = 0, data_block_size: int = 4096, data_block_restart_interval: int = 16,
+                 data_block_hash_ratio: int = 0, index_partition_size: int = 0,
+                 filter_partition_size: int = 0, filter_bits_per_key: int = 100) -> Compaction:
+    """Merges some tables as `compact` does. Returns an iterator over the new tables, in key order.
+
+    Each is returned as soon as it is finished. Memory holds the table that is being written, and a
+    block or two of each run. The options are those of `compact`.
+
+    Raises the error of the first data block of each run, `NoSuch`, `OverflowError` and
+    `OutOfMemory`. The iterator raises the other errors of `compact`. The tables that were finished
+    before an error come before it.
+
+    >>> newer, older = Writer(), Writer()
+    >>> newer.add(b"a", b"new", seqno=9)
+    >>> older.add_many([(b"a", b"old"), (b"b", b"more")], seqno=1)
+    >>> tables = [Table.open(writer.finish()) for writer in (newer, older)]
+    >>> with compact_each(tables, watermark=10, target=0) as files:
+    ...     [list(Table.open(file).items()) for file in files]
+    [[(b'a', b'new')], [(b'b', b'more')]]
+    """
+    watermark, target = number(watermark), number(target)
+    options = _options(id, created_at, level, data_block_size, data_block_restart_interval,
+                       data_block_hash_ratio, index_partition_size, filter_partition_size,
+                       filter_bits_per_key)
+    runs, compaction = _runs_of(tables), Compaction._empty()
+    with runs._turn:
+        compaction._kept = runs._kept
+        compaction._check(_calls.compaction_open(runs._ref, byref(options), watermark, bool(evict),
+                                                 bool(zero), target, compaction._ref))
+    compaction.next_id = options.id + 1 if options.id < NEWEST else None
+    return compaction

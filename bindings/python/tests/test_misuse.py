@@ -19,7 +19,7 @@ from twice import HAS_READER, outcome, read, read_again
 
 import logpurple
 from logpurple import (NEWEST, Fault, Kind, Runs, Section, Table, TableError, Writer, _calls,
-                       compact)
+                       compact, compact_each)
 
 
 @unittest.skipUnless(HAS_READER, "the second reader is not here")
@@ -34,6 +34,7 @@ class Damage(unittest.TestCase):
         (entries, error), _, (_, scan_error), _, _ = wanted
         self.assertEqual(outcome(lambda: list(Runs(table).entries())), error or seen(entries))
         compacted = outcome(lambda: compact([table]))
+        self.assertEqual(outcome(lambda: list(compact_each([table]))), compacted)
         if scan_error:
             self.assertEqual(compacted, scan_error)
         else:
@@ -78,7 +79,8 @@ class Misuse(unittest.TestCase):
     def test_closed(self):
         table, writer, runs = table_of(entries_of(1, 9)), Writer(), Runs()
         entries, scan = table.entries(), table.scan()
-        for held in (table, writer, runs, entries, scan):
+        compaction = compact_each(runs)
+        for held in (table, writer, runs, entries, scan, compaction):
             held.close()
             held.close()
         for call in (lambda: table.get(b"a"), lambda: table.entry(b"a"), lambda: table[b"a"],
@@ -89,6 +91,7 @@ class Misuse(unittest.TestCase):
                      lambda: table.entry_many([b"a"]), lambda: writer.add(b"a", b""),
                      lambda: writer.delete(b"a"), writer.finish, lambda: runs.get(b"a"),
                      runs.entries, runs.range, lambda: compact(runs), lambda: compact([table]),
+                     lambda: compact_each(runs), lambda: next(compaction),
                      lambda: Runs(table), lambda: Runs().add(table),
                      lambda: next(entries), entries.take):
             with self.assertRaises(logpurple.Closed) as raised:
@@ -159,7 +162,7 @@ class Misuse(unittest.TestCase):
         defaults = _calls.Options()
         _calls.options_default(ctypes.byref(defaults))
         wanted = [(name, getattr(defaults, name)) for name, _ in _calls.Options._fields_[:-1]]
-        for call in (Writer, compact):
+        for call in (Writer, compact, compact_each):
             parameters = list(inspect.signature(call).parameters.values())[-len(wanted):]
             self.assertEqual([(each.name, each.default) for each in parameters], wanted)
             self.assertEqual({each.kind for each in parameters}, {inspect.Parameter.KEYWORD_ONLY})

@@ -8,7 +8,7 @@ from common import (entries_of, file_of, kept, keys_of, newest, seen, shown, sma
                     table_of, within)
 
 import logpurple
-from logpurple import NEWEST, Entry, Kind, Runs, Table, Writer, compact
+from logpurple import NEWEST, Entry, Kind, Runs, Table, Writer, compact, compact_each
 
 
 class Several(unittest.TestCase):
@@ -147,6 +147,54 @@ class Several(unittest.TestCase):
             wanted = kept(self.all, NEWEST, False, False)
             self.assertEqual([e for table in tables for e in table.entries()], wanted)
             self.assertEqual(list(Runs(*tables).entries()), seen(wanted))
+
+    def test_compaction_table_by_table(self):
+        for tables in (self.tables, self.runs, []):
+            for target in (0, 1, 100, 500, NEWEST):
+                options = {"watermark": NEWEST, "target": target, "id": 9, "data_block_size": 64}
+                at_once, compaction = compact(tables, **options), compact_each(tables, **options)
+                self.assertEqual(compaction.next_id, 10)
+                files = list(compaction)
+                self.assertEqual((files, compaction.next_id), (at_once, at_once.next_id))
+                self.assertEqual([file.id for file in files], [file.id for file in at_once])
+                self.assertTrue(compaction.closed)
+                self.assertRaises(StopIteration, next, compaction)
+        # It has shares of the tables.
+        count = len(compact(self.tables, target=0))
+        compaction = compact_each(self.tables, target=0)
+        for table in self.tables:
+            table.close()
+        self.assertEqual((next(compaction).id, compaction.next_id), (1, 3))
+        self.assertEqual(len(list(compaction)), count - 1)
+
+    def test_a_compaction_that_is_closed_early(self):
+        with compact_each(self.tables, target=0) as compaction:
+            self.assertIs(iter(compaction), compaction)
+            self.assertEqual(next(compaction).id, 1)
+        self.assertEqual((compaction.closed, compaction.next_id), (True, 3))
+        with self.assertRaises(logpurple.Closed):
+            next(compaction)
+        with self.assertRaises(TypeError):
+            logpurple.Compaction()
+
+    def test_errors_of_compaction_table_by_table(self):
+        # The table of the first key is finished before the second one is found to be there twice.
+        lists = [[Entry(b"a", 1, Kind.VALUE, b"")]] + 2 * [[Entry(b"b", 1, Kind.VALUE, b"")]]
+        compaction = compact_each([table_of(entries) for entries in lists], target=0, id=4)
+        self.assertEqual((next(compaction).id, compaction.next_id), (5, 7))
+        with self.assertRaises(logpurple.OutOfOrder):
+            next(compaction)
+        self.assertEqual((list(compaction), compaction.next_id), ([], 7))
+        file = bytearray(file_of(self.lists[1], data_block_size=64))
+        file[40] ^= 0xff
+        with self.assertRaises(logpurple.ChecksumMismatch):
+            compact_each([Table.open(file), self.tables[0]])
+        with self.assertRaises(logpurple.NoSuch):
+            compact_each(self.tables, data_block_restart_interval=0)
+        with self.assertRaises(OverflowError):
+            compact_each(self.tables, id=2**64)
+        with self.assertRaises(TypeError):
+            compact_each(self.tables[0])
 
     def test_errors_of_compaction(self):
         both = [table_of(self.lists[0]), table_of(self.lists[0])]

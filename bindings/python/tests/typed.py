@@ -6,8 +6,9 @@ import mmap
 import pathlib
 from typing import Dict, Iterator, List, Optional, Tuple, Union
 
-from logpurple import (BytesLike, Compacted, Entries, Entry, Finding, FinishedTable, Keys, Kind,
-                       Runs, Scan, Table, TableError, Verified, Writer, WrittenFile, compact)
+from logpurple import (BytesLike, Compacted, Compaction, Entries, Entry, Finding, FinishedTable,
+                       Keys, Kind, Runs, Scan, Table, TableError, Verified, Writer, WrittenFile,
+                       compact, compact_each)
 
 
 def written() -> FinishedTable:
@@ -55,12 +56,16 @@ def main(path: pathlib.Path, mapped: mmap.mmap) -> None:
             verified: Verified = table.verify(lambda read, size: None)
             files: Compacted = compact(runs, watermark=5, level=1)
             first: FinishedTable = files[0]
+            each: Compaction = compact_each(runs, target=0)
+            second: FinishedTable = next(each)
+            rest: List[FinishedTable] = list(each)
+            left: Optional[int] = each.next_id
             verified = Table.open(first).verify(checksum=first.checksum)
             first.save(path)
             written: Optional[WrittenFile] = Writer().finish_to(path)
             several: Runs = Runs.of_runs([[table], iter([table])])
             print(many, others, next(scan).kind.is_deletion, verified.item_count, first.checksum,
-                  written, several)
+                  written, several, second, rest, left)
     except TableError as error:
         where: Tuple[Optional[str], Optional[int], int] = error.path, error.offset, error.code
         finding: Optional[Finding] = getattr(error, "finding", None)

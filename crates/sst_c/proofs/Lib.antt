@@ -5,6 +5,7 @@ pub mod Verifying
 pub mod Behind
 pub mod RunOrder
 pub mod Asking
+pub mod Polling
 pub mod Lending
 pub mod Scanning
 pub mod Ranging

@@ -3,6 +3,7 @@ pub mod Codes
 pub mod Copies
 pub mod Reported
 pub mod Newest
+pub mod Compacting
 pub mod What
 pub mod Options
 pub mod Writing
@@ -23,5 +24,6 @@ pub mod Verify
 pub mod Stepwise
 pub mod Packed
 pub mod Compact
+pub mod CompactionSteps
 pub mod Sentences
 pub mod Words

@@ -22,6 +22,7 @@ use Rattle.sst_c.specs.declared.held.What.{What}
 use Rattle.sst_c.specs.declared.held.What.TheVariants.{Table, Files as FilesOf, Runs}
 use Rattle.sst_c.specs.declared.held.What.TheVariants.{Range as RangeOf, Merged as MergedOf}
 use Rattle.sst_c.specs.declared.held.What.TheVariants.{Answers as AnswersOf, Scan as ScanOf}
+use Rattle.sst_c.specs.declared.held.What.TheVariants.{Compaction as CompactionOf}
 use Rattle.sst_c.specs.declared.held.What.TheVariants.{RunsScan as RunsScanOf}
 use Rattle.sst_c.specs.declared.held.What.TheVariants.{Packing as PackingOf}
 use Rattle.sst_c.specs.declared.held.What.TheVariants.{Verification as VerificationOf}
@@ -30,6 +31,7 @@ use Rattle.lsm_sorted.specs.version.Packed.{IsPackedOf}
 use Rattle.lsm_sorted.specs.version.Packing.{tables_in}
 use Rattle.lsm_sorted.specs.declared.version.packed.Packed.{Packed}
 use Rattle.lsm_sorted.specs.declared.version.packed.Placed.{Placed}
+use Rattle.sst_c.specs.Compacting.{Compacting}
 use Rattle.sst_c.specs.Newest.{LentNewestAt, NewestAt}
 use Rattle.sst_c.specs.Steps.{StepsAs}
 use Rattle.sst_c.specs.Reported.{found_by}
@@ -135,6 +137,20 @@ IsVerificationWhere holds _ = ⊥
 abbrev pub is_verification : What → Bool
 is_verification (VerificationOf v) = true
 is_verification _ = false
+
+-- the object is a compaction that satisfies this predicate, `None` after its end or an error
+abbrev pub IsCompactionAs : (Option Compacting → Type 0) → What → Type 0
+IsCompactionAs holds (CompactionOf m) = holds m
+IsCompactionAs holds _ = ⊥
+
+-- the object is a compaction that has not ended and satisfies this predicate
+abbrev pub IsCompactionWhere : (Compacting → Type 0) → What → Type 0
+IsCompactionWhere holds = IsCompactionAs (λ m. IsSomeAnd m holds)
+
+-- the object is a compaction
+abbrev pub is_compaction : What → Bool
+is_compaction (CompactionOf m) = true
+is_compaction _ = false
 
 -- the object is a packing that satisfies this predicate
 abbrev pub IsPackingWhere : (Packed OpenTable Global → Type 0) → What → Type 0

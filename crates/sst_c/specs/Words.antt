@@ -43,13 +43,17 @@ pub use Rattle.lsm_runs.specs.RunScan.{early_scan_fault, scan_fault}
 pub use Rattle.lsm_runs.specs.SeveralRuns.{runs_read, runs_result, union_in}
 pub use Rattle.lsm_runs.specs.Words.{range_of}
 pub use Rattle.lsm_runs.specs.compaction.AnyRuns.{GoesThrough}
-pub use Rattle.lsm_runs.specs.compaction.Compacted.{rules_by}
+pub use Rattle.lsm_runs.specs.compaction.AnyRuns.{first_blocks_fault}
+pub use Rattle.lsm_runs.specs.compaction.Compacted.{AreMergeable, rules_by}
 pub use Rattle.lsm_runs.specs.compaction.Unfiltered.{IsUnfiltered}
 pub use Rattle.sst_c.specs.Adds.{AddsOne, AddsMany, WritesEntry, WritesMany, row, row_of}
 pub use Rattle.sst_c.specs.Adds.{rows_of_reports, reported_size}
 pub use Rattle.sst_c.specs.Codes.{ReportsCode, ReportsFirst, result_code}
 pub use Rattle.sst_c.specs.Compact.{CompactsHeld, IsReportedOf, decode_compactor}
 unfoldable pub use Rattle.sst_c.specs.Compact.{ReportsOutcome}
+pub use Rattle.sst_c.specs.Compacting.{Compacting as CompactionState, StartsCompaction, TakesNext}
+pub use Rattle.sst_c.specs.Compacting.{item_taken}
+pub use Rattle.sst_c.specs.CompactionSteps.{HandsOut, OpensCompaction, ReportsTable, StepsCompaction}
 pub use Rattle.sst_c.specs.Copies.{CopiesEntry, LendsEntry, copy_code, laid_over, lend_code}
 pub use Rattle.sst_c.specs.Facts.{table_facts}
 pub use Rattle.sst_c.specs.Files.{CopiesFile, CopiesPart, TellsFile, file_at}

@@ -15,9 +15,9 @@ use lsm_writers::{FinishedTable, MultiWriter, TableIds, Timestamp};
 use sst_blocks::Error;
 use std::alloc::Global;
 
-// A writer of tables of `target_size` bytes of data blocks each. Table ids count up from that of
-// the options.
-fn compactor_of(
+/// A writer of tables of `target_size` bytes of data blocks each. Table ids count up from that of
+/// the options.
+pub(crate) fn compactor_of(
     alloc: Global,
     options: &TableOptions,
     target_size: u64,
@@ -72,8 +72,8 @@ fn compacted(
     compacted_by(alloc, runs, rules, writer)
 }
 
-// Puts finished tables into the handle, and writes the first unused id.
-fn tell_tables(
+/// Puts finished tables into the handle, and writes the first unused id.
+pub(crate) fn tell_tables(
     alloc: Global,
     tables: Vec<FinishedTable>,
     left: TableIds,

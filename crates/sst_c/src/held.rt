@@ -4,6 +4,7 @@ ghost use Rattle.sst_c.specs.Words as spec;
 
 use crate::answer_list::AnswerList;
 use crate::asked::Asked;
+use crate::compaction_steps::OpenCompaction;
 use crate::entries::entry_of;
 use crate::run_list::RunList;
 use crate::runs_scan::{RunsScan, lent_by};
@@ -101,6 +102,8 @@ pub enum What {
     Verification(Verifier),
     /// A packing of tables in runs.
     Packing(Packed<Table>),
+    /// A compaction by steps; `None` after its end or an error.
+    Compaction(Option<OpenCompaction>),
 }
 
 /// The finished tables, and the writer of an unfinished one.

@@ -517,6 +517,22 @@ extern "C" {
         files: *mut sst_handle,
         next_id: *mut u64,
     ) -> u32;
+    /// Opens a compaction of a list of runs that hands out each new table as soon as it is finished.
+    pub fn sst_compaction_open(
+        runs: *mut sst_handle,
+        options: *const sst_options,
+        watermark: u64,
+        evict_tombstones: bool,
+        zero_seqnos: bool,
+        target_size: u64,
+        compaction: *mut sst_handle,
+    ) -> u32;
+    /// Stores the next finished table of a compaction.
+    pub fn sst_compaction_next(
+        compaction: *mut sst_handle,
+        files: *mut sst_handle,
+        next_id: *mut u64,
+    ) -> u32;
 
     /// Returns the number of finished tables.
     pub fn sst_files_count(files: *mut sst_handle, count: *mut u64) -> u32;

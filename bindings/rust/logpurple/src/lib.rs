@@ -54,7 +54,7 @@ mod verify;
 mod writer;
 
 pub use answers::Answers;
-pub use compact::{Compacted, Compaction};
+pub use compact::{CompactEach, Compacted, Compaction};
 pub use entry::{
     InternalKey, InternalValue, LentValue, SeqNo, UserKey, UserValue, ValueType, NEWEST,
 };

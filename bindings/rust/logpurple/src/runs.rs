@@ -4,7 +4,8 @@ use crate::error::test;
 use crate::handle::{after, copy, get, room, Handle};
 use crate::packing::packing_of;
 use crate::{
-    Compacted, Compaction, Error, InternalValue, LentValue, Packing, Range, RangeWith, SeqNo, Table,
+    CompactEach, Compacted, Compaction, Error, InternalValue, LentValue, Packing, Range, RangeWith,
+    SeqNo, Table,
 };
 use logpurple_sys as sys;
 use std::ops::{Bound, RangeBounds};
@@ -314,6 +315,37 @@ impl<'f> Runs<'f> {
     /// ```
     pub fn compact(&self, compaction: &Compaction) -> Result<Compacted, Error> {
         Compacted::of(&self.handle, compaction)
+    }
+
+    /// Writes the entries that are kept into new tables as [`Runs::compact`] does, and yields each as
+    /// soon as it is finished. Memory holds the table that is being written, and a block or two of
+    /// each run.
+    ///
+    /// # Errors
+    ///
+    /// `NoSuch` if an option is out of range; the fault of the first run whose first data block cannot
+    /// be loaded; `OutOfMemory`. The iterator yields the other errors of [`Compaction`].
+    ///
+    /// ```
+    /// use logpurple::{Compaction, Runs, Table, ValueType, Writer};
+    ///
+    /// # fn main() -> Result<(), Box<dyn std::error::Error>> {
+    /// let mut writer = Writer::new(1)?;
+    /// writer.write(b"apple", 3, ValueType::Value, b"green")?;
+    /// writer.write(b"pear", 4, ValueType::Value, b"yellow")?;
+    /// let runs = Runs::from_tables([Table::open(writer.finish()?.unwrap())?])?;
+    /// let by = Compaction { target_size: 0, ..Compaction::default() }; // a table for each key
+    /// let mut count = 0;
+    /// for table in runs.compact_each(&by)? {
+    ///     assert_eq!(Table::open(table?)?.metadata().item_count, 1);
+    ///     count += 1;
+    /// }
+    /// assert_eq!(count, 2);
+    /// # Ok(())
+    /// # }
+    /// ```
+    pub fn compact_each(&self, compaction: &Compaction) -> Result<CompactEach<'f>, Error> {
+        CompactEach::of(&self.handle, compaction)
     }
 }
 

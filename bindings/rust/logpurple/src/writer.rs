@@ -276,7 +276,8 @@ pub(crate) fn finished_tables(files: &Handle<'_>) -> Result<Vec<FinishedTable>, 
     Ok(tables)
 }
 
-fn finished_table(files: &Handle<'_>, place: u64) -> Result<FinishedTable, Error> {
+/// Copies a finished table that a handle holds.
+pub(crate) fn finished_table(files: &Handle<'_>, place: u64) -> Result<FinishedTable, Error> {
     let told = told_of(files, place)?;
     let len = usize::try_from(told.len).map_err(|_| Error::OutOfMemory)?;
     let mut bytes: Vec<u8> = room(len)?;

@@ -201,6 +201,31 @@ fn a_compaction_begins_new_tables() {
 }
 
 #[test]
+fn a_compaction_yields_each_table() {
+    let (runs, _) = several();
+    let none = Runs::new().unwrap();
+    for runs in [&runs, &none] {
+        for target_size in [0, 1, 100, 500, u64::MAX] {
+            let options = Options { id: 9, data_block_size: 64, ..Options::default() };
+            let by =
+                Compaction { watermark: NEWEST, target_size, options, ..Compaction::default() };
+            let compacted = runs.compact(&by).unwrap();
+            let mut each = runs.compact_each(&by).unwrap();
+            let tables: Vec<_> = each.by_ref().map(|table| table.unwrap()).collect();
+            assert_eq!((tables, each.next_id()), (compacted.tables, compacted.next_id));
+            assert!(each.next().is_none());
+        }
+    }
+    // It has shares of the tables.
+    let by = Compaction { target_size: 0, ..Compaction::default() };
+    let count = runs.compact(&by).unwrap().tables.len();
+    let mut each = runs.compact_each(&by).unwrap();
+    drop(runs);
+    assert_eq!((each.next().unwrap().unwrap().id, each.next_id()), (1, Some(3)));
+    assert_eq!(each.count(), count - 1);
+}
+
+#[test]
 fn a_compaction_that_is_refused() {
     let (runs, _) = several();
     let spent = Options { id: u64::MAX, data_block_size: 64, ..Options::default() };
@@ -214,6 +239,9 @@ fn a_compaction_that_is_refused() {
     let table = &runs.tables()[0];
     let twice = Runs::from_tables([table.clone(), table.clone()]).unwrap();
     assert_eq!(twice.compact(&Compaction::default()), Err(Error::OutOfOrder));
+    let mut each = twice.compact_each(&Compaction::default()).unwrap();
+    assert_eq!((each.next(), each.next()), (Some(Err(Error::OutOfOrder)), None));
+    assert_eq!(runs.compact_each(&by).err(), Some(Error::NoSuch));
     let none = Runs::new().unwrap();
     for (id, next_id) in [(0, Some(1)), (7, Some(8)), (u64::MAX, None)] {
         let options = Options { id, ..Options::default() };
@@ -230,6 +258,7 @@ fn a_damaged_table_is_not_compacted() {
     file[50] ^= 0xff;
     let runs = Runs::from_tables([Table::open(&file).unwrap()]).unwrap();
     assert_eq!(runs.compact(&Compaction::default()), Err(Error::ChecksumMismatch));
+    assert_eq!(runs.compact_each(&Compaction::default()).err(), Some(Error::ChecksumMismatch));
     let mut range = runs.iter(NEWEST).unwrap();
     assert!(range.by_ref().any(|item| item.is_err()));
     assert!(range.next().is_none() && range.next_back().is_none());
