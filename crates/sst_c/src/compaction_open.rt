@@ -19,8 +19,12 @@ use sst_blocks::{Error, Lending};
 use std::alloc::Global;
 
 /// The entries that a compaction of runs keeps, borrowed from their blocks.
-type Kept =
-    LendingCompaction<LendingMerger<RunScanner<Global>, Global>, NoFilter, NoCallback, Global>;
+type Kept = LendingCompaction<
+    LendingMerger<RunScanner<Global>, Global>,
+    NoFilter,
+    NoCallback,
+    Global,
+>;
 
 fn opened_by(
     alloc: Global,
@@ -34,12 +38,7 @@ fn opened_by(
     ensures opens { spec.Faults result (spec.first_blocks_fault runs.now) }
     ensures err { spec.AreMergeable runs.now → IfErr result (λ e. e ≡ spec.OutOfMemory) }
 {
-    Ok(OpenCompaction::new(compact_each(
-        alloc,
-        runs.as_slice(),
-        rules,
-        writer,
-    )?))
+    Ok(OpenCompaction::new(compact_each(alloc, runs.as_slice(), rules, writer)?))
 }
 
 fn opened(
