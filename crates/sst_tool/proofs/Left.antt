@@ -1,9 +1,8 @@
 -- What is removed beside files.
 use Rattle.std.proofs.Common.{◌≡◌, refl, sym, ◌∙◌, ap, subst, ℕ, ◌<◌, List, [], ◌∷◌, ◌++◌}
 use Rattle.std.proofs.Common.{◌+◌, drop, get_or, length, take}
-use Rattle.std.specs.Prelude.{Any, Option, map, string_bytes}
+use Rattle.std.specs.Prelude.{Any, Option, string_bytes}
 use Rattle.std.specs.List.{AllByRecursion}
-use Rattle.std.proofs.lemmas.List.{map-append}
 use Rattle.sst_entries.proofs.Lists.{all_append}
 use Rattle.sst_tool.specs.declared.files.write.Beside.{Beside}
 use Rattle.sst_tool.specs.files.Ended.{files_left, path_behind}
