@@ -100,7 +100,8 @@ fn check_next<P: Place, A: Allocator + Copy>(
 /// synced.
 ///
 /// Last, it removes the regular files that interrupted runs have left under temporary names before
-/// its own. An error of this is ignored.
+/// its own. An error of this is ignored. No name may be a temporary name of
+/// another one: the file would be removed too.
 ///
 /// # Errors
 ///
