@@ -65,6 +65,9 @@ uint32_t tool_bench_compact_and_scan(const uint8_t* files, size_t files_len, con
 uint32_t tool_bench_compact_runs(const uint8_t* lists, size_t lists_len, const uint64_t* lens,
                                 size_t lens_len, size_t key_len, size_t value_len, uint64_t target,
                                 uint64_t passes, Written* written);
+uint32_t tool_bench_compact_each(const uint8_t* lists, size_t lists_len, const uint64_t* lens,
+                                size_t lens_len, size_t key_len, size_t value_len, uint64_t target,
+                                uint64_t passes, Written* written);
 uint32_t tool_bench_optimize_runs(const uint8_t* keys, size_t keys_len, size_t key_len,
                                  uint64_t passes, Packed* packed);
 }

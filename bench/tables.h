@@ -175,7 +175,8 @@ class TableBench {
     }
     for (uint64_t passes : {uint64_t{0}, uint64_t{0}, uint64_t{1}}) {
       Compact(passes);
-      CompactRuns(passes);
+      CompactRuns("compact_runs", tool_bench_compact_runs, passes);
+      CompactRuns("compact_each", tool_bench_compact_each, passes);
     }
   }
 
@@ -240,12 +241,12 @@ class TableBench {
     RequireCompacted(passes, written);
   }
 
-  void CompactRuns(uint64_t passes) {
+  void CompactRuns(const std::string& name, decltype(&tool_bench_compact_runs) call,
+                   uint64_t passes) {
     Written written{};
-    times_.Take("compact_runs " + std::to_string(passes), [&] {
-      Answered(tool_bench_compact_runs(Bytes(lists_), lists_.size(), list_lens_.data(),
-                                      list_lens_.size(), kKeyLen, kValueLen, Target(), passes,
-                                      &written));
+    times_.Take(name + " " + std::to_string(passes), [&] {
+      Answered(call(Bytes(lists_), lists_.size(), list_lens_.data(), list_lens_.size(), kKeyLen,
+                    kValueLen, Target(), passes, &written));
     });
     RequireCompacted(passes, written);
   }
@@ -426,6 +427,8 @@ class TableBench {
     rows.push_back(RowOf("compact 8, an entry", "compact", First("compact"), written, merged, 1));
     rows.push_back(
         RowOf("compact_runs of 8, an entry", "compact", First("compact_runs"), written, merged, 1));
+    rows.push_back(
+        RowOf("compact_each of 8, an entry", "compact", First("compact_each"), written, merged, 1));
     return rows;
   }
 

@@ -645,10 +645,10 @@ uint32_t sst_writer_finish(sst_handle *writer);
  * sequence numbers below the watermark become 0.
  *
  * A new table starts at the next key once the data blocks of the current one have `target_size`
- * bytes. With UINT64_MAX there is one table. The tables are written with `options`. The first table
- * has the id `options->id`, or the id after it if `target_size` is 0. Each further table has the
- * next id. `next_id` is set to the first unused id, or to 0 if none is left. `options->id` counts
- * as used even if no table is written.
+ * bytes. With UINT64_MAX there is one table, with 0 each key has a table of its own. The tables are
+ * written with `options`. The first table has the id `options->id`, or the id after it if
+ * `target_size` is 0. Each further table has the next id. `next_id` is set to the first unused id,
+ * or to 0 if none is left. `options->id` counts as used even if no table is written.
  *
  * Errors:
  *

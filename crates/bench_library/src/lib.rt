@@ -37,5 +37,5 @@ pub use lending::{
 pub use merges::tool_bench_merge;
 pub use packings::{Packed, tool_bench_optimize_runs};
 pub use ranges::{tool_bench_range, tool_bench_range_runs};
-pub use runs::tool_bench_compact_runs;
+pub use runs::{tool_bench_compact_each, tool_bench_compact_runs};
 pub use scans::{tool_bench_iter, tool_bench_iter_back, tool_bench_scan};

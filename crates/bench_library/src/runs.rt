@@ -1,4 +1,4 @@
-//! Compaction of several runs by `compact_runs`.
+//! Compaction of several runs by `compact_runs` and by `compact_each`.
 //!
 //! It requires runs of tables that were written from lists, which cannot be shown of bytes from
 //! outside. So the lists are passed in and written here.
@@ -12,10 +12,10 @@ use crate::builds::{Written, first_item};
 use crate::compactions::written_of;
 use crate::digest::code;
 use lsm_sorted::Run;
-use lsm_tables::compaction::compact_runs;
+use lsm_tables::compaction::{Rules, compact_each, compact_runs};
 use lsm_tables::run::write_run;
 use lsm_tables::table::Table;
-use lsm_writers::{FinishedTable, MultiWriter, TableIds, Timestamp, is_writable};
+use lsm_writers::{FinishedTable, MultiWriter, TableIds, TableStreamError, Timestamp, is_writable};
 use sst_blocks::{Error, InternalValue, SeqNo};
 use std::alloc::Global;
 use std::sync::Arc;
@@ -146,6 +146,51 @@ fn compacted(
     Ok(tables)
 }
 
+// What a compaction writes. Each table is dropped before the next one is written.
+fn written_by<I: Iterator<Item = Result<FinishedTable, TableStreamError>> + Drop>(
+    tables: I,
+) -> Result<Written, Error>
+    requires { I.can_next tables }
+{
+    let mut written = Written::none();
+    for table in tables {
+        match table {
+            Ok(table) => written.add(&table),
+            Err(TableStreamError::Failed(error)) => return Err(error),
+            Err(TableStreamError::OutOfOrder) => return Err(Error::Source(3)),
+        }
+    }
+    Ok(written)
+}
+
+// The same tables as those of `compacted`, one by one.
+fn compacted_each(alloc: Global, runs: &[Arc<Run<Table>>], target: u64) -> Result<Written, Error> {
+    let writer = MultiWriter::new(alloc, TableIds::new(1), target, 0, Timestamp::from(0))?;
+    let rules = Rules {
+        watermark: SeqNo::MAX,
+        evict: false,
+        zeroing: false,
+    };
+    written_by(compact_each(alloc, runs, rules, writer)?)
+}
+
+fn compact_each_passes(
+    alloc: Global,
+    lists: &[u8],
+    lens: &[u64],
+    key_len: usize,
+    value_len: usize,
+    target: u64,
+    passes: u64,
+    written: &mut Written,
+) -> Result<(), Error> {
+    let runs = runs_of(alloc, lists, lens, key_len, value_len)?;
+    for _ in 0..passes {
+        *written = compacted_each(alloc, &runs, target)?;
+    }
+    Ok(())
+}
+
 fn compact_passes(
     alloc: Global,
     lists: &[u8],
@@ -183,6 +228,24 @@ pub extern "C" fn tool_bench_compact_runs(
     written: &mut Written,
 ) -> u32 {
     code(compact_passes(
+        alloc, lists, lens, key_len, value_len, target, passes, written,
+    ))
+}
+
+/// Works as [`tool_bench_compact_runs`] does, by [`compact_each`]: each table is dropped before the
+/// next one is written.
+#[unsafe(no_mangle)]
+pub extern "C" fn tool_bench_compact_each(
+    alloc: Global,
+    lists: &[u8],
+    lens: &[u64],
+    key_len: usize,
+    value_len: usize,
+    target: u64,
+    passes: u64,
+    written: &mut Written,
+) -> u32 {
+    code(compact_each_passes(
         alloc, lists, lens, key_len, value_len, target, passes, written,
     ))
 }

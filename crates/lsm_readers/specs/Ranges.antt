@@ -1,6 +1,6 @@
 -- The entries of a table within bounds.
 use Rattle.std.specs.Prelude.{◌≡◌, ℕ, ◌≤◌, Bool, true, false, List, [], length, Option, None}
-use Rattle.std.specs.Prelude.{Result}
+use Rattle.std.specs.Prelude.{IfOk, Result}
 use Rattle.std.specs.declared.ops.Bound.{Bound}
 use Rattle.sst_blocks.specs.Sections.{body_of}
 use Rattle.sst_entries.specs.declared.error.Error.{Error}
@@ -13,6 +13,7 @@ use Rattle.sst_blocks.specs.declared.opened.Opened.{Opened}
 use Rattle.sst_blocks.specs.Handles.{window}
 use Rattle.sst_blocks.specs.Opened.{none_opened}
 use Rattle.lsm_iters.specs.block_index.Left.{IsBetween}
+use Rattle.lsm_iters.specs.block_index.Yielded.{YieldsEnding}
 use Rattle.lsm_iters.specs.Bounds.{lower_edge, upper_edge}
 use Rattle.lsm_iters.specs.Lift.{lift}
 use Rattle.lsm_iters.specs.Range.{Range, left_in, opened_in}
@@ -63,6 +64,28 @@ YieldsAll front back es g s =
     (stops : Error → Bool) → stops OutOfMemory ≡ true →
     YieldsExactly (answer_stops stops) front back s (ok_results (lift es g))
 
+-- A call returned an iterator over a table that yields the entries within the bounds from both ends,
+-- up to the first error.
+abbrev pub RangeYields : {S : Type 0} (front back : S → Option (Result Entry Error) → S → Type 0)
+    → OpenTable → Bound (List ℕ) → Bound (List ℕ) → Result S Error → Type 0
+RangeYields front back t low high r = IfOk r (λ s.
+    YieldsEnding front back (λ _. Unit {0}) (λ _. Unit {0}) s (range_results t low high))
+
+-- If the bytes store a list, it yields the list's entries within the bounds.
+abbrev pub RangeYieldsList : {S : Type 0}
+    (front back : S → Option (Result Entry Error) → S → Type 0)
+    → OpenTable → Bound (List ℕ) → Bound (List ℕ) → Result S Error → Type 0
+RangeYieldsList front back t low high r =
+    (es : List Entry) → StoresList t.bytes es →
+    IfOk r (YieldsWithin front back low high es t.global_seqno)
+
+-- If the bytes store a list, it yields the list.
+abbrev pub RangeYieldsAll : {S : Type 0}
+    (front back : S → Option (Result Entry Error) → S → Type 0) → OpenTable → Result S Error
+    → Type 0
+RangeYieldsAll front back t r =
+    (es : List Entry) → StoresList t.bytes es → IfOk r (YieldsAll front back es t.global_seqno)
+
 -- At most this many data blocks and index blocks were loaded, and no others.
 pub record AreFew (blocks index : ℕ) (o : Opened) : Type 0 where
   pub data_few : o.data_loads ≤ blocks
@@ -88,3 +111,12 @@ blocks_within t low high = length (window t.handles (lower_edge low) (upper_edge
 -- partitions between the edges.
 abbrev pub index_within : OpenTable → Bound (List ℕ) → Bound (List ℕ) → ℕ
 index_within t low high = (table_index t).loads (lower_edge low) (upper_edge high)
+
+-- If the bytes store a list, a call returned an iterator that loads at most the data blocks and index
+-- blocks that the bounds need.
+abbrev pub RangeLoadsFew : {A : Type 0}
+    (front back : Range A → Option (Result Entry Error) → Range A → Type 0)
+    → OpenTable → Bound (List ℕ) → Bound (List ℕ) → Result (Range A) Error → Type 0
+RangeLoadsFew front back t low high r =
+    (es : List Entry) (d : StoresList t.bytes es) →
+    IfOk r (LoadsAtMost front back (blocks_within d low high) (index_within t low high))

@@ -8,6 +8,7 @@ use Rattle.sst_entries.specs.declared.error.Error.{Error}
 use Rattle.sst_entries.specs.declared.error.Error.TheVariants.{OutOfMemory}
 use Rattle.sst_blocks.specs.declared.opened.Opened.{Opened}
 use Rattle.sst_blocks.specs.Block.{Loaded, load_at_result, position_fault, entries_of, header_len}
+use Rattle.sst_blocks.specs.Sections.{body_of}
 use Rattle.sst_entries.specs.Entry.{Entry}
 use Rattle.sst_entries.specs.Error.{is_memory}
 use Rattle.sst_blocks.specs.Opened.{with_load}
@@ -15,6 +16,7 @@ use Rattle.sst_entries.specs.Stream.{Answers, YieldsExactly, ok_results, front_o
 pub use Rattle.sst_entries.specs.Stream.{up_to_error}
 pub use Rattle.lsm_iters.specs.Lift.{lifted_result}
 use Rattle.lsm_iters.specs.Lift.{lift}
+use Rattle.lsm_readers.specs.point.Table.{OpenTable}
 use Rattle.lsm_readers.specs.point.Read.{◌>>=◌}
 
 -- A block followed by the next blocks, or an error that ends the list.
@@ -49,6 +51,22 @@ entries_from body g es position count =
 abbrev pub scan_results : List ℕ → ℕ → ℕ → List (Result Entry Error)
 scan_results body count g = entries_from body g [] 0 (max 1 count)
 
+-- The results of a scan of a table, by the block count of its meta block.
+abbrev pub table_scan : OpenTable → List (Result Entry Error)
+table_scan t = scan_results (body_of t.bytes) t.parts.facts.data_block_count t.global_seqno
+
+-- Except for `OutOfMemory`, a call returned a source that yields these results.
+abbrev pub ScanYields : {S : Type 0} (next : S → Option (Result Entry Error) → S → Type 0)
+    → List (Result Entry Error) → Result S Error → Type 0
+ScanYields next rs r = (stops : Error → Bool) → stops OutOfMemory ≡ true →
+    IfOk r (λ s. YieldsExactly (answer_stops stops) next nowhere s rs)
+
+-- After any error, a source yields nothing more.
+abbrev pub EndsAtErrors : {S : Type 0} (next : S → Option (Result Entry Error) → S → Type 0)
+    → Type 0
+EndsAtErrors {S} next = (stops : Error → Bool) (s t : S) (e : Error) → next s (Some (Err e)) t →
+    YieldsExactly (answer_stops stops) next nowhere t []
+
 -- The error of a result.
 abbrev pub fault_of : {X : Type 0} → Result X Error → Option Error
 fault_of (Ok x) = None
@@ -69,6 +87,17 @@ pub record Scan : Type 0 where
   pub blocks : ℕ
   pub global_seqno : ℕ
   pub opened : Opened
+
+-- The next block was loaded, and its entries come next.
+abbrev pub OpensNextBlock : Scan → Scan → Type 0
+OpensNextBlock s t = (es : List Entry) × (next : ℕ) × (block_result s.body s.position ≡ Ok (es, next))
+    × (t ≡ record s {
+      lent = None;
+      entries = es;
+      position = next;
+      blocks = s.blocks - 1;
+      opened = with_load Data s.opened;
+    })
 
 -- The results left of a scan.
 abbrev pub scan_left : Scan → List (Result Entry Error)

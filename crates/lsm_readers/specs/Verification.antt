@@ -34,6 +34,10 @@ pub data Ahead : Type 0 where
 abbrev pub places_in : Parts → List Place
 places_in parts = filter_places parts.pinned.filter_tops parts.regions.filter
 
+-- The filter blocks from this one on, with all that follows them.
+abbrev pub filters_from : Parts → ℕ → Ahead
+filters_from parts index = before_index (drop index (places_in parts))
+
 abbrev pub ahead_of : {A : Type 0} → Parts → Stage A → Ahead
 ahead_of parts (stage.Filter index) = before_index (drop index (places_in parts))
 ahead_of parts (stage.Index handles tops) = in_index handles tops

@@ -18,7 +18,7 @@ pub use Rattle.lsm_readers.specs.BlockIndexes.{AreCutAlike, NamesBlocksOf, ReadA
 pub use Rattle.lsm_readers.specs.BlockIndexes.{StoresItsBlocks, table_index}
 pub use Rattle.lsm_readers.specs.point.Answer.{LoadsFew, admission, admitted_handle, answer}
 pub use Rattle.lsm_readers.specs.point.Answer.{block_admits, filter_admits, lift, lifted, match_at}
-pub use Rattle.lsm_readers.specs.point.Answer.{table_answer}
+pub use Rattle.lsm_readers.specs.point.Answer.{parts_admit, table_answer}
 pub use Rattle.lsm_readers.specs.point.IndexKinds.{handle_by, handle_in_block, handles_result}
 pub use Rattle.lsm_readers.specs.point.IndexKinds.{index_kind_of, index_len, index_over}
 pub use Rattle.lsm_readers.specs.point.IndexKinds.{index_result, kind_for, kind_kept, on_each_read}
@@ -30,7 +30,8 @@ pub use Rattle.lsm_readers.specs.point.Parts.{parts_result, pinned_filter, pinne
 pub use Rattle.lsm_readers.specs.point.Parts.{place_size, places_result, recovered_result}
 pub use Rattle.lsm_readers.specs.point.Parts.{tops_result}
 pub use Rattle.lsm_readers.specs.point.Read.{DoesRead, Opens}
-pub use Rattle.lsm_readers.specs.Scan.{IsNewScan, LendsList, Scan, ScansLent, ScansList, ScansNext}
+pub use Rattle.lsm_readers.specs.Scan.{EndsAtErrors, IsNewScan, LendsList, OpensNextBlock, Scan, ScanYields}
+pub use Rattle.lsm_readers.specs.Scan.{ScansLent, ScansList, ScansNext, table_scan}
 pub use Rattle.lsm_readers.specs.Scan.{block_result, ended, fault_of, lend_next, lifted_result}
 pub use Rattle.lsm_readers.specs.Scan.{scan_results, scan_size}
 pub use Rattle.lsm_readers.specs.point.Meta.{facts_of, first_byte_result, meta_item_result}
@@ -38,9 +39,11 @@ pub use Rattle.lsm_readers.specs.point.Meta.{meta_result, number16_result, numbe
 pub use Rattle.lsm_readers.specs.point.Meta.{one_byte_result, version_number_result}
 pub use Rattle.lsm_readers.specs.Stored.{Matches, StoresList, fits_result}
 pub use Rattle.lsm_readers.specs.point.Table.{IsOpen, IsRecovered, OpenTable, OpenedWith, parts_of}
+pub use Rattle.lsm_readers.specs.point.Table.{table_of}
 pub use Rattle.lsm_readers.specs.point.Table.{pinned_of}
 pub use Rattle.lsm_iters.specs.block_index.Yielded.{YieldsEnding}
-pub use Rattle.lsm_readers.specs.Ranges.{IsRangeOf, LoadsAtMost, YieldsAll, YieldsWithin}
+pub use Rattle.lsm_readers.specs.Ranges.{IsRangeOf, LoadsAtMost, RangeLoadsFew, RangeYields}
+pub use Rattle.lsm_readers.specs.Ranges.{RangeYieldsAll, RangeYieldsList, YieldsAll, YieldsWithin}
 pub use Rattle.lsm_readers.specs.Ranges.{blocks_within, index_within, range_results}
 pub use Rattle.std.specs.Arc.{arc_value}
 pub use Rattle.std.specs.Iterator.{IsFinite, at_most}
@@ -66,7 +69,7 @@ pub use Rattle.lsm_readers.specs.Findings.{IsFirstFinding}
 pub use Rattle.lsm_readers.specs.Handles.{handles_ahead}
 pub use Rattle.lsm_readers.specs.Verification.{EndsCalmly, GoesOne, IsThrough, ReadsNext}
 pub use Rattle.lsm_readers.specs.Verification.{StepsCalmly, ahead_of, before_index, bytes_read}
-pub use Rattle.lsm_readers.specs.Verification.{chunk_early, end_early, in_index, next_found}
+pub use Rattle.lsm_readers.specs.Verification.{chunk_early, end_early, filters_from, in_index, next_found}
 pub use Rattle.lsm_readers.specs.Verification.{next_size, places_in, step_early, steps_of}
 pub use Rattle.lsm_readers.specs.Verification.{verifying}
 unfoldable pub use Rattle.lsm_readers.specs.Verification.{partition_found, rest_found}
@@ -88,9 +91,9 @@ pub use Rattle.lsm_readers.specs.declared.verify.Finding.{Finding}
 pub use Rattle.lsm_readers.specs.declared.verify.Verified.{Verified as Verification}
 pub use Rattle.lsm_readers.specs.declared.verify.VerifyError.TheVariants.{Found}
 pub use Rattle.lsm_readers.specs.point.Batch.{AreFound, IsLookup, entries_by}
-pub use Rattle.lsm_readers.specs.point.Batch.{entries_placed, query_result}
+pub use Rattle.lsm_readers.specs.point.Batch.{entries_placed, placed_entry, query_in, query_result}
 pub use Rattle.lsm_readers.specs.point.Keeping.{IsLoaded, KeepsOf}
-pub use Rattle.lsm_readers.specs.point.Many.{answers_to, many_results}
+pub use Rattle.lsm_readers.specs.point.Many.{answers_to, many_results, points}
 unfoldable pub use Rattle.lsm_readers.specs.point.Meta.{byte_result, compressions_result}
 unfoldable pub use Rattle.lsm_readers.specs.point.Meta.{created_result, facts_result, first_result}
 unfoldable pub use Rattle.lsm_readers.specs.point.Meta.{item_result, keys_result, kinds_result}

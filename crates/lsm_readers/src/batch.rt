@@ -251,14 +251,10 @@ fn read_lookups<F: Finder<A>, A: Allocator + Clone>(
     requires lookups { let parts = spec.parts_of inner.now in
         spec.All (spec.IsLookup (spec.body_of blocks.now) inner.now.global_seqno parts queries.now)
         lookups.now }
-    requires found { let returned = spec.query_result (spec.body_of blocks.now)
-        inner.now.global_seqno (spec.parts_of inner.now) in
-        spec.AreFound (F.entry blocks.now) (F.is_within blocks.now) returned queries.now
-        batch.old.found.items batch.old.done.items }
-    ensures found { let returned = spec.query_result (spec.body_of blocks.now)
-        inner.now.global_seqno (spec.parts_of inner.now) in
-        spec.AreFound (F.entry blocks.now) (F.is_within blocks.now) returned queries.now
-        batch.new.found.items batch.new.done.items }
+    requires found { spec.AreFound (F.entry blocks.now) (F.is_within blocks.now) (spec.query_in
+        blocks.now inner.now) queries.now batch.old.found.items batch.old.done.items }
+    ensures found { spec.AreFound (F.entry blocks.now) (F.is_within blocks.now) (spec.query_in
+        blocks.now inner.now) queries.now batch.new.found.items batch.new.done.items }
     ensures over { F.is_over finder.new blocks.now }
 {
     for (index, lookup) in lookups.iter().enumerate() {
@@ -287,14 +283,10 @@ fn read_ahead<F: Finder<A>, A: Allocator + Clone>(
     requires lookups { let parts = spec.parts_of inner.now in
         spec.All (spec.IsLookup (spec.body_of blocks.now) inner.now.global_seqno parts queries.now)
         lookups.now }
-    requires found { let returned = spec.query_result (spec.body_of blocks.now)
-        inner.now.global_seqno (spec.parts_of inner.now) in
-        spec.AreFound (F.entry blocks.now) (F.is_within blocks.now) returned queries.now
-        batch.old.found.items batch.old.done.items }
-    ensures found { let returned = spec.query_result (spec.body_of blocks.now)
-        inner.now.global_seqno (spec.parts_of inner.now) in
-        spec.AreFound (F.entry blocks.now) (F.is_within blocks.now) returned queries.now
-        batch.new.found.items batch.new.done.items }
+    requires found { spec.AreFound (F.entry blocks.now) (F.is_within blocks.now) (spec.query_in
+        blocks.now inner.now) queries.now batch.old.found.items batch.old.done.items }
+    ensures found { spec.AreFound (F.entry blocks.now) (F.is_within blocks.now) (spec.query_in
+        blocks.now inner.now) queries.now batch.new.found.items batch.new.done.items }
     ensures over { F.is_over finder.new blocks.now }
 {
     let mut named = Vec::with_capacity(blocks.allocator().clone()?, AHEAD)?;
@@ -320,14 +312,10 @@ fn read_batch<F: Finder<A>, A: Allocator + Clone>(
     batch: &mut Batch<F::Found, A>,
 ) -> Result<(), AllocError>
     requires over { F.is_over finder.old blocks.now }
-    requires found { let returned = spec.query_result (spec.body_of blocks.now)
-        inner.now.global_seqno (spec.parts_of inner.now) in
-        spec.AreFound (F.entry blocks.now) (F.is_within blocks.now) returned queries.now
-        batch.old.found.items batch.old.done.items }
-    ensures found { let returned = spec.query_result (spec.body_of blocks.now)
-        inner.now.global_seqno (spec.parts_of inner.now) in
-        spec.AreFound (F.entry blocks.now) (F.is_within blocks.now) returned queries.now
-        batch.new.found.items batch.new.done.items }
+    requires found { spec.AreFound (F.entry blocks.now) (F.is_within blocks.now) (spec.query_in
+        blocks.now inner.now) queries.now batch.old.found.items batch.old.done.items }
+    ensures found { spec.AreFound (F.entry blocks.now) (F.is_within blocks.now) (spec.query_in
+        blocks.now inner.now) queries.now batch.new.found.items batch.new.done.items }
     ensures over { F.is_over finder.new blocks.now }
 {
     if queries.len() < 2 {
@@ -350,14 +338,10 @@ fn read_rest<F: Finder<A>, A: Allocator + Clone>(
     batch: Batch<F::Found, A>,
 ) -> Result<Vec<Option<F::Found>, A>, Error>
     requires over { F.is_over finder.old blocks.now }
-    requires found { let returned = spec.query_result (spec.body_of blocks.now)
-        inner.now.global_seqno (spec.parts_of inner.now) in
-        spec.AreFound (F.entry blocks.now) (F.is_within blocks.now) returned queries.now
-        batch.found.items batch.done.items }
-    ensures returned { let parts = spec.parts_of inner.now in
-        let returned = spec.query_result (spec.body_of blocks.now) inner.now.global_seqno parts in
-        spec.Gives (λ found. spec.entries_by (F.entry blocks.now) found.items) result
-        (spec.answers_to returned queries.now) }
+    requires found { spec.AreFound (F.entry blocks.now) (F.is_within blocks.now) (spec.query_in
+        blocks.now inner.now) queries.now batch.found.items batch.done.items }
+    ensures returned { spec.Gives (λ found. spec.entries_by (F.entry blocks.now) found.items) result
+        (spec.answers_to (spec.query_in blocks.now inner.now) queries.now) }
     ensures within { IfOk result (λ found.
         spec.All (λ one. IfSome one (F.is_within blocks.now)) found.items) }
 {
@@ -379,10 +363,8 @@ pub(crate) fn read_all<F: Finder<A>, A: Allocator + Clone>(
     queries: &[Query<A>],
 ) -> Result<Vec<Option<F::Found>, A>, Error>
     requires over { F.is_over finder.old blocks.now }
-    ensures returned { let parts = spec.parts_of inner.now in
-        let returned = spec.query_result (spec.body_of blocks.now) inner.now.global_seqno parts in
-        spec.Gives (λ found. spec.entries_by (F.entry blocks.now) found.items) result
-        (spec.answers_to returned queries.now) }
+    ensures returned { spec.Gives (λ found. spec.entries_by (F.entry blocks.now) found.items) result
+        (spec.answers_to (spec.query_in blocks.now inner.now) queries.now) }
     ensures within { IfOk result (λ found.
         spec.All (λ one. IfSome one (F.is_within blocks.now)) found.items) }
     // Without queries it fails only if a clone of the allocator does.

@@ -39,9 +39,8 @@ pub fn many_in<A: Allocator + Clone>(
     inner: &Inner<A>,
     queries: &[Query<A>],
 ) -> Result<Vec<Option<InternalValue<A>>, A>, Error>
-    ensures returned { let parts = spec.parts_of inner.now in
-        let returned = spec.query_result (spec.body_of blocks.now) inner.now.global_seqno parts in
-        spec.Gives (λ found. found.items) result (spec.answers_to returned queries.now) }
+    ensures returned { spec.Gives (λ found. found.items) result (spec.answers_to (spec.query_in
+        blocks.now inner.now) queries.now) }
     // Without queries it fails only if a clone of the allocator does.
     ensures calm { queries.now ≡ [] → ((alloc : A) → A.is_infallible alloc) → IsOk result }
 {
@@ -97,10 +96,8 @@ pub fn many_places_in<A: Allocator + Clone>(
     inner: &Inner<A>,
     queries: &[Query<A>],
 ) -> Result<Vec<Option<EntryPlace>, A>, Error>
-    ensures returned { let parts = spec.parts_of inner.now in
-        let returned = spec.query_result (spec.body_of blocks.now) inner.now.global_seqno parts in
-        spec.Gives (λ found. spec.entries_placed blocks.now found.items) result
-        (spec.answers_to returned queries.now) }
+    ensures returned { spec.Gives (λ found. spec.entries_placed blocks.now found.items) result
+        (spec.answers_to (spec.query_in blocks.now inner.now) queries.now) }
     // The entries are within the bytes.
     ensures placed { IfOk result (λ found.
         spec.All (λ place. IfSome place (spec.IsPlacedIn blocks.now)) found.items) }

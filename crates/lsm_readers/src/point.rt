@@ -39,10 +39,8 @@ fn filter_admits<S: LoadBlocks>(
     key: &[u8],
     key_hash: u64,
 ) -> Result<bool, Error>
-    ensures read { let parts = spec.parts_of inner.now in
-        let read = spec.filter_admits (S.body source.old) parts.pinned.filter_tops
-        parts.pinned.filter parts.regions.filter key.now key_hash in
-        spec.DoesRead result read (S.opened source.old) (S.opened source.new) }
+    ensures read { let read = spec.parts_admit (S.body source.old) (spec.parts_of inner.now) key.now
+        key_hash in spec.DoesRead result read (S.opened source.old) (S.opened source.new) }
     ensures body { S.body source.new ≡ S.body source.old }
 {
     if let Some(tops) = &inner.pinned_filter_index {
@@ -217,10 +215,8 @@ pub(crate) fn place_at<A: Allocator + Clone>(
     opened: &mut Opened,
 ) -> Result<Option<EntryPlace>, Error>
     requires { seqno + global_seqno < 2 ^ 64 }
-    ensures read { let found = spec.result_map (spec.option_map (spec.entry_placed source.now))
-        result in
-        let read = spec.match_at (spec.body_of source.now) global_seqno key.now seqno handle.now in
-        spec.DoesRead found read opened.old opened.new }
+    ensures read { spec.DoesRead (spec.placed_entry source.now result) (spec.match_at (spec.body_of
+        source.now) global_seqno key.now seqno handle.now) opened.old opened.new }
     ensures placed { IfOk result (λ found. IfSome found (spec.IsPlacedIn source.now)) }
 {
     let found = source.point_place(handle, key, seqno, opened)?;
@@ -236,10 +232,8 @@ fn read_place<A: Allocator + Clone>(
     key_hash: u64,
 ) -> (Result<Option<EntryPlace>, Error>, Opened)
     requires { key_hash ≡ spec.hash_of key.now }
-    ensures read { let parts = spec.parts_of inner.now in
-        let found = spec.result_map (spec.option_map (spec.entry_placed source.now)) result.0 in
-        let read = spec.answer (spec.body_of source.now) inner.now.global_seqno parts key.now
-        seqno in spec.DoesRead found read spec.none_opened result.1 }
+    ensures read { spec.DoesRead (spec.placed_entry source.now result.0) (spec.table_answer
+        (spec.table_of source.now inner.now) key.now seqno) spec.none_opened result.1 }
     ensures placed { IfOk result.0 (λ found. IfSome found (spec.IsPlacedIn source.now)) }
 {
     let add = inner.global_seqno;
@@ -276,19 +270,14 @@ pub fn place_in<A: Allocator + Clone>(
     key_hash: u64,
 ) -> (Result<Option<EntryPlace>, Error>, Opened)
     requires { key_hash ≡ spec.hash_of key.now }
-    ensures returned { let parts = spec.parts_of inner.now in
-        let read = spec.answer (spec.body_of source.now) inner.now.global_seqno parts key.now
-        seqno in
-        spec.Gives (spec.option_map (spec.entry_placed source.now)) result.0 read.returned }
-    ensures early { let parts = spec.parts_of inner.now in
-        let read = spec.answer (spec.body_of source.now) inner.now.global_seqno parts key.now
-        seqno in spec.FaultsFirst result.0 read.early }
-    ensures calm { let parts = spec.parts_of inner.now in
-        let read = spec.answer (spec.body_of source.now) inner.now.global_seqno parts key.now
-        seqno in read.loads ≡ [] → IsOk result.0 }
-    ensures opened { let parts = spec.parts_of inner.now in
-        let read = spec.answer (spec.body_of source.now) inner.now.global_seqno parts key.now
-        seqno in spec.Opens result.0 read.loads spec.none_opened result.1 }
+    ensures returned { spec.Gives (spec.option_map (spec.entry_placed source.now)) result.0
+        (spec.table_answer (spec.table_of source.now inner.now) key.now seqno).returned }
+    ensures early { spec.FaultsFirst result.0 (spec.table_answer (spec.table_of source.now
+        inner.now) key.now seqno).early }
+    ensures calm { (spec.table_answer (spec.table_of source.now inner.now) key.now seqno).loads ≡ []
+        → IsOk result.0 }
+    ensures opened { spec.Opens result.0 (spec.table_answer (spec.table_of source.now inner.now)
+        key.now seqno).loads spec.none_opened result.1 }
     ensures few { spec.LoadsFew (spec.parts_of inner.now) spec.none_opened result.1 }
     // The entry is within the bytes.
     ensures placed { IfOk result.0 (λ found. IfSome found (spec.IsPlacedIn source.now)) }

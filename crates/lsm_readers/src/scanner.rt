@@ -105,32 +105,20 @@ impl<A: Allocator + Clone> Scanner<A> {
         ensures left { IfOk result
             (spec.IsNewScan (spec.body_of source.now) block_count global_seqno) }
         // Except for `OutOfMemory`, it yields the entries of the blocks.
-        ensures yields { (stops : spec.Error → Bool) → stops OutOfMemory ≡ true →
-            let gives = ⟦<Scanner<A> as Iterator>⟧.next_gives in
-            let left = spec.scan_results (spec.body_of source.now) block_count global_seqno in
-            IfOk result (λ s. spec.YieldsExactly (spec.answer_stops stops) gives spec.nowhere s
-            left) }
+        ensures yields { spec.ScanYields ⟦<Scanner<A> as Iterator>⟧.next_gives (spec.scan_results
+            (spec.body_of source.now) block_count global_seqno) result }
         ensures can { let gives = ⟦<Scanner<A> as Iterator>⟧.next_gives in
             let may = ⟦<Scanner<A> as Iterator>⟧.can_next in
             IfOk result (λ s. spec.CanYield gives spec.nowhere may may s) }
         // After any error it is exhausted.
-        ensures ends { (stops : spec.Error → Bool) (s t : spec.Scan) (e : spec.Error) →
-            ⟦<Scanner<A> as Iterator>⟧.next_gives s (Some (Err e)) t →
-            spec.YieldsExactly (spec.answer_stops stops) ⟦<Scanner<A> as Iterator>⟧.next_gives
-            spec.nowhere t [] }
+        ensures ends { spec.EndsAtErrors ⟦<Scanner<A> as Iterator>⟧.next_gives }
         // As a lending iterator it yields the same.
-        ensures lends { (stops : spec.Error → Bool) → stops OutOfMemory ≡ true →
-            let advances = ⟦<Scanner<A> as Lending>⟧.advances in
-            let left = spec.scan_results (spec.body_of source.now) block_count global_seqno in
-            IfOk result (λ s. spec.YieldsExactly (spec.answer_stops stops) advances spec.nowhere s
-            left) }
+        ensures lends { spec.ScanYields ⟦<Scanner<A> as Lending>⟧.advances (spec.scan_results
+            (spec.body_of source.now) block_count global_seqno) result }
         ensures can_lend { let advances = ⟦<Scanner<A> as Lending>⟧.advances in
             let may = ⟦<Scanner<A> as Lending>⟧.can_advance in
             IfOk result (λ s. spec.CanYield advances spec.nowhere may may s) }
-        ensures lends_end { (stops : spec.Error → Bool) (s t : spec.Scan) (e : spec.Error) →
-            ⟦<Scanner<A> as Lending>⟧.advances s (Some (Err e)) t →
-            spec.YieldsExactly (spec.answer_stops stops) ⟦<Scanner<A> as Lending>⟧.advances
-            spec.nowhere t [] }
+        ensures lends_end { spec.EndsAtErrors ⟦<Scanner<A> as Lending>⟧.advances }
     {
         match compression {
             CompressionType::None => {}
@@ -192,15 +180,7 @@ impl<A: Allocator + Clone> Scanner<A> {
     /// Loads the next block. An error ends the scan.
     fn next_block(&mut self) -> Result<(), Error>
         requires { 0 < self.old.blocks }
-        ensures ok { IfOk result (λ _. (es : List spec.Entry) × (next : ℕ) ×
-            (spec.block_result self.old.body self.old.position ≡ Ok (es, next)) ×
-            (self.new ≡ record self.old {
-              lent = None;
-              entries = es;
-              position = next;
-              blocks = self.old.blocks - 1;
-              opened = spec.with_load spec.Data self.old.opened;
-            })) }
+        ensures ok { IfOk result (λ _. spec.OpensNextBlock self.old self.new) }
         ensures err { IfErr result (λ e.
             self.new ≡ record (spec.ended self.old)
             { opened = spec.with_load spec.Data self.old.opened }) }

@@ -447,36 +447,20 @@ impl<A: Allocator + Clone> Table<A> {
         ensures early { spec.FaultsFirst result
             (spec.position_fault (spec.body_of self.now.bytes) 0 spec.Data) }
         // Except for `OutOfMemory`, it yields the entries of `data_block_count` blocks.
-        ensures yields { (stops : spec.Error → Bool) → stops OutOfMemory ≡ true →
-            let gives = ⟦<Scanner<A> as Iterator>⟧.next_gives in
-            let count = self.now.parts.facts.data_block_count in
-            let left = spec.scan_results (spec.body_of self.now.bytes) count
-            self.now.global_seqno in
-            IfOk result (λ s. spec.YieldsExactly (spec.answer_stops stops) gives spec.nowhere s
-            left) }
+        ensures yields { spec.ScanYields ⟦<Scanner<A> as Iterator>⟧.next_gives (spec.table_scan
+            self.now) result }
         ensures can { let gives = ⟦<Scanner<A> as Iterator>⟧.next_gives in
             let may = ⟦<Scanner<A> as Iterator>⟧.can_next in
             IfOk result (λ s. spec.CanYield gives spec.nowhere may may s) }
         // After any error it is exhausted.
-        ensures ends { (stops : spec.Error → Bool) (s t : spec.Scan) (e : spec.Error) →
-            ⟦<Scanner<A> as Iterator>⟧.next_gives s (Some (Err e)) t →
-            spec.YieldsExactly (spec.answer_stops stops) ⟦<Scanner<A> as Iterator>⟧.next_gives
-            spec.nowhere t [] }
+        ensures ends { spec.EndsAtErrors ⟦<Scanner<A> as Iterator>⟧.next_gives }
         // As a lending iterator it yields the same.
-        ensures lends { (stops : spec.Error → Bool) → stops OutOfMemory ≡ true →
-            let advances = ⟦<Scanner<A> as Lending>⟧.advances in
-            let count = self.now.parts.facts.data_block_count in
-            let left = spec.scan_results (spec.body_of self.now.bytes) count
-            self.now.global_seqno in
-            IfOk result (λ s. spec.YieldsExactly (spec.answer_stops stops) advances spec.nowhere s
-            left) }
+        ensures lends { spec.ScanYields ⟦<Scanner<A> as Lending>⟧.advances (spec.table_scan
+            self.now) result }
         ensures can_lend { let advances = ⟦<Scanner<A> as Lending>⟧.advances in
             let may = ⟦<Scanner<A> as Lending>⟧.can_advance in
             IfOk result (λ s. spec.CanYield advances spec.nowhere may may s) }
-        ensures lends_end { (stops : spec.Error → Bool) (s t : spec.Scan) (e : spec.Error) →
-            ⟦<Scanner<A> as Lending>⟧.advances s (Some (Err e)) t →
-            spec.YieldsExactly (spec.answer_stops stops) ⟦<Scanner<A> as Lending>⟧.advances
-            spec.nowhere t [] }
+        ensures lends_end { spec.EndsAtErrors ⟦<Scanner<A> as Lending>⟧.advances }
         ensures opened { IfOk result (λ s. s.opened ≡ spec.with_load spec.Data spec.none_opened) }
         ensures left { let count = self.now.parts.facts.data_block_count in
             IfOk result (spec.IsNewScan (spec.body_of self.now.bytes) count self.now.global_seqno) }

@@ -13,7 +13,7 @@ use Rattle.lsm_runs.specs.compaction.AnyRuns.{TookList}
 use Rattle.lsm_runs.specs.compaction.Chain.{writes_fault}
 use Rattle.lsm_runs.specs.compaction.Compacted.{RunsOn}
 use Rattle.lsm_runs.specs.compaction.Filtered.{IsWritten, RefusesWritten, WroteUntil}
-use Rattle.lsm_runs.specs.compaction.Observed.{GoesOnAt, WasNotified, told_of}
+use Rattle.lsm_runs.specs.compaction.Observed.{GoesOnAt, WasNotified, progress_steps}
 use Rattle.lsm_runs.specs.declared.compaction.any_runs.CompactionOutcome.{CompactionOutcome}
 use Rattle.lsm_runs.specs.declared.compaction.any_runs.CompactionOutcome.TheVariants.{OutOfOrder}
 use Rattle.lsm_runs.specs.declared.compaction.any_runs.CompactionOutcome.TheVariants.{Stopped}
@@ -59,7 +59,7 @@ module _ {S O : Type 0} (gives : S → Option R → S → Type 0)
       returned = record {
         tables = made.lists;
         finished = made.finished;
-        returned = subst (λ (ts : List (List Entry)). GoesOnAt says o (told_of (but_last ts)) q)
+        returned = subst (λ (ts : List (List Entry)). GoesOnAt says o (progress_steps (but_last ts)) q)
             (one_cut_law w.present.options.data_block_size w.target (all_written m)
             wrote.returned.tables made.lists wrote.returned.cut made.cut) wrote.returned.returned;
       };

@@ -56,4 +56,5 @@ pub mod CompactedBack
 pub mod ListRuns
 pub mod Intervals
 pub mod OpenedRuns
+pub mod UnfilteredResult
 pub mod StreamedTables

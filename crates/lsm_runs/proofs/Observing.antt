@@ -35,7 +35,7 @@ use Rattle.lsm_runs.specs.compaction.Filtered.{FailsAt, FailsToEnd, RefusesWritt
 use Rattle.lsm_runs.specs.compaction.Observed.{GoesOnAt, IsCounted, StoppedAt, StopsAtLast}
 use Rattle.lsm_runs.specs.compaction.Observed.{NotifiesNext}
 use Rattle.lsm_runs.specs.compaction.Observed.{NotifiedOfPart, progress_at, steps_after}
-use Rattle.lsm_runs.specs.compaction.Observed.{steps_count, told_of}
+use Rattle.lsm_runs.specs.compaction.Observed.{steps_count, progress_steps}
 use Rattle.lsm_runs.specs.declared.compaction.observer.CompactionProgress.{CompactionProgress}
 use Rattle.lsm_runs.proofs.AnyTaken.{Taking, are_taken, taking_more, taking_none}
 use Rattle.lsm_runs.proofs.Opening.{or_first}
@@ -82,32 +82,32 @@ module _ {O : Type 0} (says : O → CompactionProgress → Bool → O → Type 0
       (went.0, went.1, goes_on_more ms went.0 r q m went.2 step)
 
   -- an observer that goes on was told of the finished tables
-  pub reported_on : (m n : TablesWriting) (o r q : O) → GoesOnAt says o (told_of m.tables) r
-      → NotifiesNext says m n r true q → GoesOnAt says o (told_of n.tables) q
+  pub reported_on : (m n : TablesWriting) (o r q : O) → GoesOnAt says o (progress_steps m.tables) r
+      → NotifiesNext says m n r true q → GoesOnAt says o (progress_steps n.tables) q
   reported_on m n o r q went returned = elim returned [
-    | inl same ↦ subst (λ (ts : List (List Entry)). GoesOnAt says o (told_of ts) q) (sym same.0)
-        (subst (λ (x : O). GoesOnAt says o (told_of m.tables) x) same.2 went)
+    | inl same ↦ subst (λ (ts : List (List Entry)). GoesOnAt says o (progress_steps ts) q) (sym same.0)
+        (subst (λ (x : O). GoesOnAt says o (progress_steps m.tables) x) same.2 went)
     | inr more ↦
         let t = more.0 in
-        let is : told_of n.tables ≡ told_of m.tables ++ progress_at n.tables ∷ [] =
-        ap told_of more.1 ∙ reported_more [] m.tables t
-        ∙ ap (λ (ts : List (List Entry)). told_of m.tables ++ progress_at ts ∷ [])
+        let is : progress_steps n.tables ≡ progress_steps m.tables ++ progress_at n.tables ∷ [] =
+        ap progress_steps more.1 ∙ reported_more [] m.tables t
+        ∙ ap (λ (ts : List (List Entry)). progress_steps m.tables ++ progress_at ts ∷ [])
         (sym more.1) in
         subst (λ (ms : List CompactionProgress). GoesOnAt says o ms q) (sym is)
-        (goes_on_more (told_of m.tables) o r q (progress_at n.tables) went more.2)
+        (goes_on_more (progress_steps m.tables) o r q (progress_at n.tables) went more.2)
   ]
 
-  pub reported_stop : (m n : TablesWriting) (o r q : O) → GoesOnAt says o (told_of m.tables) r
-      → NotifiesNext says m n r false q → StopsAtLast says o (told_of n.tables) q
+  pub reported_stop : (m n : TablesWriting) (o r q : O) → GoesOnAt says o (progress_steps m.tables) r
+      → NotifiesNext says m n r false q → StopsAtLast says o (progress_steps n.tables) q
   reported_stop m n o r q went returned = elim returned [
     | inl same ↦ let no : false ≡ true = same.1 in absurd cc
     | inr more ↦
         let t = more.0 in
         record {
-          before = told_of m.tables;
+          before = progress_steps m.tables;
           last = progress_at n.tables;
-          are = ap told_of more.1 ∙ reported_more [] m.tables t
-              ∙ ap (λ (ts : List (List Entry)). told_of m.tables ++ progress_at ts ∷ [])
+          are = ap progress_steps more.1 ∙ reported_more [] m.tables t
+              ∙ ap (λ (ts : List (List Entry)). progress_steps m.tables ++ progress_at ts ∷ [])
               (sym more.1);
           then = r;
           went_on = went;
@@ -443,7 +443,7 @@ module _ {S O : Type 0} (next : S → Option R → S → Type 0)
     pub taking : Taking w m
     pub cut : CutSoFar m
     pub counted : IsCounted progress m
-    pub returned : GoesOnAt says o (told_of m.tables) q
+    pub returned : GoesOnAt says o (progress_steps m.tables) q
     pub gave : Yields next s (ok_results (all_written m)) t
 
   module _ (m : TablesWriting) (t u : S) (progress : CompactionProgress) (q : O)
@@ -497,7 +497,7 @@ module _ {S O : Type 0} (next : S → Option R → S → Type 0)
       reported_of_part = record {
         tables = tables_of m;
         cut = cut_by m h.since h.cut;
-        returned = subst (λ (ts : List (List Entry)). GoesOnAt says o (told_of ts) q)
+        returned = subst (λ (ts : List (List Entry)). GoesOnAt says o (progress_steps ts) q)
             (sym (all_but_present m h.cut.begun)) h.returned;
       }
 
@@ -546,7 +546,7 @@ observing_none next says w s o fresh =
       counted = same_counts 0 0 (steps_count (length w.tables)) (steps_count (length (all_written w)))
           (sym (ap (λ (ts : List (List Entry)). steps_count (length ts)) fresh.0))
           (sym (ap (λ (es : List Entry). steps_count (length es)) none));
-      returned = subst (λ (ts : List (List Entry)). GoesOnAt says o (told_of ts) o) (sym fresh.0) refl;
+      returned = subst (λ (ts : List (List Entry)). GoesOnAt says o (progress_steps ts) o) (sym fresh.0) refl;
       gave = subst (λ (es : List Entry). Yields next s (ok_results es) s) (sym none) refl;
     }
 

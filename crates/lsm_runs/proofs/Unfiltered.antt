@@ -1,4 +1,5 @@
--- A compaction without a filter: what it gave is in front of what the rules keep of all entries.
+-- A compaction whose filter keeps each entry: what it yields is a prefix of what the rules keep of all
+-- entries.
 use Rattle.std.proofs.Common.{◌≡◌, sym, ◌∙◌, ap, refl, subst, ℕ, Bool, true, false, cond, not, List}
 use Rattle.std.proofs.Common.{[], ◌∷◌, ◌++◌, ◌⊎◌, inl, inr, append_assoc}
 use Rattle.std.specs.Prelude.{None, Result, Ok, Err, IsErrAnd, filter}
@@ -13,7 +14,7 @@ use Rattle.sst_entries.proofs.StreamLemmas.{map_append}
 use Rattle.lsm_sorted.specs.merge.Ends.{R}
 use Rattle.lsm_sorted.specs.merge.Union.{entries_among}
 use Rattle.lsm_sorted.specs.declared.compaction.Rules.{Rules}
-use Rattle.lsm_sorted.specs.Compaction.{Judged, Versions, as_is, as_they_are, asked, asked_of, before}
+use Rattle.lsm_sorted.specs.Compaction.{Judged, Verdict, Versions, as_is, as_they_are, asked, asked_of, before}
 use Rattle.lsm_sorted.specs.Compaction.{by_key, concat_by, heads, is_cut, is_version_of, keep, kept}
 use Rattle.lsm_sorted.specs.Compaction.{unfiltered}
 use Rattle.lsm_sorted.specs.Compacting.{SaysOf}
@@ -30,6 +31,7 @@ use Rattle.lsm_runs.specs.compaction.Compacted.{FitsBy}
 use Rattle.lsm_runs.specs.compaction.Filtered.{CameUntil, CameUpTo, FitsThroughout, KeepsSome}
 use Rattle.lsm_runs.specs.compaction.Filtered.{RefusesForMemory}
 use Rattle.lsm_runs.specs.compaction.Observed.{WasNotified}
+use Rattle.lsm_runs.specs.compaction.Unfiltered.{KeepsEach, NeverStops}
 use Rattle.lsm_runs.specs.declared.compaction.any_runs.CompactionOutcome.{CompactionOutcome}
 use Rattle.lsm_runs.specs.declared.compaction.any_runs.CompactionOutcome.TheVariants.{OutOfOrder}
 use Rattle.lsm_runs.specs.declared.compaction.any_runs.CompactionOutcome.TheVariants.{Stopped}
@@ -83,10 +85,12 @@ all_asked rules (v ∷ vs) h = all_append Stays (asked_of rules v) (concat_by (a
     (asked_stay (heads rules.watermark v.versions) (heads_stay rules.watermark v.versions h.0))
     (all_asked rules vs h.1)
 
-stays_said : {F : Type 0} (f g : F) (js : List Judged) → SaysOf {F = F} KeepsAll f js g
+stays_said : {F : Type 0} (gives : F → Entry → Result Verdict Error → F → Type 0)
+    → KeepsEach gives → (f g : F) (js : List Judged) → SaysOf gives f js g
     → AllByRecursion Stays js
-stays_said f g [] h = tt
-stays_said f g (j ∷ js) h = (h.1, stays_said h.0 g js h.2)
+stays_said gives keeps f g [] h = tt
+stays_said gives keeps f g (j ∷ js) h =
+    (keeps f h.0 j.entry j.verdict h.1, stays_said gives keeps h.0 g js h.2)
 
 says_stays : {F : Type 0} (f : F) (js : List Judged) → AllByRecursion Stays js
     → SaysOf {F = F} KeepsAll f js f
@@ -95,35 +99,38 @@ says_stays f (j ∷ js) h = (f, h.0, says_stays f js h.1)
 
 -- ---- an observer that never stops a compaction
 
-abbrev pub GoesOn : {O : Type 0} → O → CompactionProgress → Bool → O → Type 0
-GoesOn o progress goes q = goes ≡ true
+no_stop : false ≡ true → ⊥
+no_stop h = absurd cc
 
-never : false ≡ true → ⊥
-never h = absurd cc
-
-pub through_kept : {A O : Type 0} (w : TablesWriting) (o q : O) (outcome : CompactionOutcome A)
-    → WasNotified (GoesOn {O = O}) w outcome o q → GoesThrough outcome
-through_kept w o q (Tables tables left) h = tt
-through_kept w o q OutOfOrder h = tt
-through_kept w o q Stopped h = never h.1.returned.stopped
+pub through_kept : {A O : Type 0} (says : O → CompactionProgress → Bool → O → Type 0)
+    → NeverStops says → (w : TablesWriting) (o q : O) (outcome : CompactionOutcome A)
+    → WasNotified says w outcome o q → GoesThrough outcome
+through_kept says never w o q (Tables tables left) h = tt
+through_kept says never w o q OutOfOrder h = tt
+through_kept says never w o q Stopped h =
+    let last = h.1.returned in no_stop (never last.then q last.last false last.stopped)
 
 -- ---- so what is given is what the rules keep
 
 -- a filter that keeps all never fails
-pub never_fails : {F : Type 0} → RefusesForMemory {F = F} KeepsAll
-never_fails f g x e says = let no : Err e ≡ Ok keep = says in absurd cc
+pub never_fails : {F : Type 0} (gives : F → Entry → Result Verdict Error → F → Type 0)
+    → KeepsEach gives → RefusesForMemory gives
+never_fails gives keeps f g x e says =
+    let no : Err e ≡ Ok keep = keeps f g x (Err e) says in absurd cc
 
-module _ {F C : Type 0} (gets : C → Entry → C → Type 0) (rules : Rules) (f : F) (c : C) where
+module _ {F C : Type 0} (gives : F → Entry → Result Verdict Error → F → Type 0)
+    (keeps : KeepsEach gives) (gets : C → Entry → C → Type 0) (rules : Rules) (f : F) (c : C) where
   -- what a part gave, and behind it what is kept of the rest
   part_front : (xs gave : List R) (g : F) (d : C)
-      (p : CompactedPart (KeepsAll {F = F}) gets rules f c xs gave g d)
+      (p : CompactedPart gives gets rules f c xs gave g d)
       → gave ++ lent_outs rules (past_hidden p.key p.left) ≡ lent_outs rules xs
   part_front xs gave g d p =
       let h = p.does in
       let rest : List R = past_hidden p.key p.left in
       let stay : AllByRecursion Stays (asked rules h.judged) =
       subst (λ (js : List Judged). AllByRecursion Stays js) h.said_are
-      (all_append Stays h.said (asked rules (as_they_are rest)) (stays_said f g h.said h.says)
+      (all_append Stays h.said (asked rules (as_they_are rest))
+      (stays_said gives keeps f g h.said h.says)
       (all_asked rules (by_key (as_they_are rest)) (keys_stay rest))) in
       keeps_all rules f f xs (gave ++ lent_outs rules rest) (record {
         judged = h.judged;
@@ -134,25 +141,27 @@ module _ {F C : Type 0} (gets : C → Entry → C → Type 0) (rules : Rules) (f
       })
 
   all_given : (xs gave : List R) (g : F) (d : C)
-      → CompactedLent (KeepsAll {F = F}) gets rules f c xs gave g d → gave ≡ lent_outs rules xs
-  all_given xs gave g d h = keeps_all rules f g xs gave (record {
+      → CompactedLent gives gets rules f c xs gave g d → gave ≡ lent_outs rules xs
+  all_given xs gave g d h = keeps_all rules f f xs gave (record {
     judged = h.judged;
     over = h.over;
     tombstones = h.tombstones;
     answers = h.answers;
-    says = h.says;
+    says = says_stays f (asked rules h.judged) (stays_said gives keeps f g (asked rules h.judged)
+        h.says);
   })
 
   -- where what is kept of a list fits as tables, so does what is kept of it behind any part
   pub fits_kept : (es : List Entry) (w : TablesWriting) → FitsBy w (kept rules (unfiltered es))
-      → FitsThroughout (KeepsAll {F = F}) gets rules f c es w
+      → FitsThroughout gives gets rules f c es w
   fits_kept es w fits gave g d p =
       subst (FitsBy w) (sym (ap entries_among (part_front (ok_results es) gave g d p
       ∙ lent_kept rules es) ∙ entries_of (kept rules (unfiltered es)))) fits
 
-  module _ {O : Type 0} (o q : O) (xs : List R) (w : TablesWriting) where
+  module _ {O : Type 0} (says : O → CompactionProgress → Bool → O → Type 0)
+      (never : NeverStops says) (o q : O) (xs : List R) (w : TablesWriting) where
     stands : (gave : List R) (d : C)
-        → KeepsSome (KeepsAll {F = F}) gets rules f c xs w gave d
+        → KeepsSome gives gets rules f c xs w gave d
         → (rest : List R) × (lent_outs rules xs ≡ gave ++ rest)
     stands gave d k = (
       lent_outs rules (past_hidden k.part.key k.part.left),
@@ -160,7 +169,7 @@ module _ {F C : Type 0} (gets : C → Entry → C → Type 0) (rules : Rules) (f
     )
 
     pub came_kept : {A : Type 0} (outcome : CompactionOutcome A) (d : C)
-        → CameUpTo (KeepsAll {F = F}) gets rules f c xs w (GoesOn {O = O}) o outcome d q
+        → CameUpTo gives gets rules f c xs w says o outcome d q
         → CameOf w (lent_outs rules xs) (Ok outcome)
     came_kept (Tables tables left) d h = record {
       list = h.kept;
@@ -180,10 +189,11 @@ module _ {F C : Type 0} (gets : C → Entry → C → Type 0) (rules : Rules) (f
           taken = h.taken;
           follows = h.came.2;
         }
-    came_kept Stopped d h = never h.returned.returned.stopped
+    came_kept Stopped d h =
+        let last = h.returned.returned in no_stop (never last.then q last.last false last.stopped)
 
     pub until_kept : (e : Error)
-        → CameUntil (KeepsAll {F = F}) gets rules f c xs w (GoesOn {O = O}) o e q
+        → CameUntil gives gets rules f c xs w says o e q
         → is_memory e ≡ false → RefusesOf w (lent_outs rules xs) e
     until_kept e h fine = elim (h.fails fine) [
       | inl at ↦
@@ -208,7 +218,7 @@ module _ {F C : Type 0} (gets : C → Entry → C → Type 0) (rules : Rules) (f
     -- an error that is passed on, maybe that of a first data block
     pub begun_kept : {A : Type 0} (runs : List (List OpenTable))
         (r : Result (CompactionOutcome A) Error) (e : Error) → IsErrAnd r (λ y. y ≡ e)
-        → CameUntil (KeepsAll {F = F}) gets rules f c xs w (GoesOn {O = O}) o e q
+        → CameUntil gives gets rules f c xs w says o e q
         ⊎ BeginsWith runs e → CameOf w (lent_outs rules xs) r ⊎ IsErrAnd r (BeginsWith runs)
     begun_kept runs (Ok x) e is h = absurd is
     begun_kept {A} runs (Err y) e is h = elim h [
@@ -218,20 +228,22 @@ module _ {F C : Type 0} (gets : C → Entry → C → Type 0) (rules : Rules) (f
     ]
 
   -- of a list without errors
-  module _ {O A : Type 0} (o q : O) (es : List Entry) (w : TablesWriting) where
+  module _ {O A : Type 0} (says : O → CompactionProgress → Bool → O → Type 0)
+      (never : NeverStops says) (o q : O) (es : List Entry) (w : TablesWriting) where
     as_listed : (r : Result (CompactionOutcome A) Error)
         → CameOf w (lent_outs rules (ok_results es)) r
         → CameOf w (ok_results (kept rules (unfiltered es))) r
     as_listed r came = subst (λ (rs : List R). CameOf w rs r) (lent_kept rules es) came
 
     pub list_came : (outcome : CompactionOutcome A) (d : C)
-        → CameUpTo (KeepsAll {F = F}) gets rules f c (ok_results es) w (GoesOn {O = O}) o outcome
+        → CameUpTo gives gets rules f c (ok_results es) w says o outcome
         d q → CameOf w (ok_results (kept rules (unfiltered es))) (Ok outcome)
-    list_came outcome d h = as_listed (Ok outcome) (came_kept o q (ok_results es) w outcome d h)
+    list_came outcome d h = as_listed (Ok outcome) (came_kept says never o q (ok_results es)
+        w outcome d h)
 
     pub list_refused : (r : Result (CompactionOutcome A) Error) (e : Error)
         → IsErrAnd r (λ y. y ≡ e)
-        → CameUntil (KeepsAll {F = F}) gets rules f c (ok_results es) w (GoesOn {O = O}) o e q
+        → CameUntil gives gets rules f c (ok_results es) w says o e q
         → CameOf w (ok_results (kept rules (unfiltered es))) r
     list_refused r e is h = as_listed r (came_refused w (lent_outs rules (ok_results es)) r e is
-        (until_kept o q (ok_results es) w e h))
+        (until_kept says never o q (ok_results es) w e h))

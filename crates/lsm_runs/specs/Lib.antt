@@ -1,6 +1,7 @@
 pub mod RunRange
 pub mod RunLists
 pub mod RunScan
+pub mod RunYields
 pub mod SeveralRuns
 pub mod SpansRead
 pub mod LentRun

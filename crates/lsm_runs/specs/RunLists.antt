@@ -9,7 +9,7 @@ use Rattle.sst_entries.specs.declared.error.Error.{Error}
 use Rattle.sst_entries.specs.declared.error.Error.TheVariants.{OutOfMemory}
 use Rattle.sst_entries.specs.Entry.{Entry}
 use Rattle.sst_entries.specs.Point.{within}
-use Rattle.sst_entries.specs.Stream.{YieldsExactly, answer_stops, ok_results}
+use Rattle.sst_entries.specs.Stream.{CanYield, YieldsExactly, answer_stops, nowhere, ok_results}
 use Rattle.sst_blocks.specs.table.Chunks.{joined}
 use Rattle.lsm_iters.specs.Lift.{lift}
 use Rattle.lsm_sorted.specs.merge.Union.{Ascends}
@@ -42,7 +42,7 @@ lists_at s place (es ∷ ls) = list_at s place es ∷ lists_at s (suc place) ls
 abbrev pub span_list : RunSpan → List (List Entry) → List Entry
 span_list s lists = joined (take (suc s.last - s.first) (drop s.first (lists_at s 0 lists)))
 
--- the same of each of several runs, which are in order
+-- each of several runs is in order, and their tables yield these lists, global seqnos applied
 abbrev pub RunsHoldLists : List (List OpenTable) → List (List (List Entry)) → Type 0
 RunsHoldLists runs lists =
     AllZip (λ tables ls. IsInOrder range_of tables × HoldLists tables ls) runs lists
@@ -55,9 +55,13 @@ TableLists = List (List (List Entry))
 abbrev pub each_run : {Z : Type 0} → List (Arc (List OpenTable) Z) → List (List OpenTable)
 each_run runs = map arc_value runs
 
--- these runs are in order, and their tables' bytes store these lists
+-- these runs are in order, and their tables yield these lists, global seqnos applied
 abbrev pub RunsHold : {Z : Type 0} → List (Arc (List OpenTable) Z) → TableLists → Type 0
 RunsHold runs lists = RunsHoldLists (each_run runs) lists
+
+-- this holds of any lists that the runs hold
+abbrev pub OnLists : {Z : Type 0} → List (Arc (List OpenTable) Z) → (TableLists → Type 0) → Type 0
+OnLists runs P = (lists : TableLists) → RunsHold runs lists → P lists
 
 -- each of these runs is in order
 abbrev pub AreRunsInOrder : {Z : Type 0} → List (Arc (List OpenTable) Z) → Type 0
@@ -69,6 +73,11 @@ abbrev pub YieldsList : {S : Type 0} (front back : S → Option (Result Entry Er
 YieldsList front back es s =
     (stops : Error → Bool) → stops OutOfMemory ≡ true →
     YieldsExactly (answer_stops stops) front back s (ok_results es)
+
+-- the source may be polled from the front
+abbrev pub CanLend : {S : Type 0} (next : S → Option (Result Entry Error) → S → Type 0)
+    → (S → Type 0) → S → Type 0
+CanLend next can s = CanYield next nowhere can can s
 
 -- sources yield sorted lists, one each, which have together exactly the entries of these lists
 pub record YieldTogether {S : Type 0} (front back : S → Option (Result Entry Error) → S → Type 0)

@@ -10,14 +10,11 @@ use Rattle.sst_entries.specs.declared.error.Error.{Error}
 use Rattle.sst_entries.specs.Entry.{Entry}
 use Rattle.sst_entries.specs.Error.{is_memory}
 use Rattle.sst_entries.specs.Stream.{Lowers, first}
-use Rattle.lsm_readers.specs.Scan.{IsNewScan, Scan, fault_of, scan_left, scan_size, scan_results}
-use Rattle.lsm_readers.specs.Scan.{up_to_error}
+use Rattle.lsm_readers.specs.Scan.{IsNewScan, Scan, fault_of, scan_left, scan_size, up_to_error}
+pub use Rattle.lsm_readers.specs.Scan.{table_scan}
 use Rattle.lsm_readers.specs.point.Table.{OpenTable}
 
--- the results of a scan of a table, and a bound on the calls that yield something
-abbrev pub table_scan : OpenTable → List (Result Entry Error)
-table_scan t = scan_results (body_of t.bytes) t.parts.facts.data_block_count t.global_seqno
-
+-- a bound on the calls of a table's scan that yield something
 abbrev pub table_size : OpenTable → ℕ
 table_size t = length (table_scan t) + max 1 t.parts.facts.data_block_count
 

@@ -25,11 +25,14 @@ pub use Rattle.lsm_run_parts.specs.RunParts.{ends_given, range_of, span_of}
 pub use Rattle.lsm_runs.specs.RunRange.{IsRunOf, OpensAtMost, RunGives, back_tables, front_tables}
 pub use Rattle.lsm_runs.specs.RunRange.{run_left, run_of, run_size, tables_at}
 pub use Rattle.lsm_runs.specs.RunLists.{YieldTogether, YieldWithin, YieldsList, HoldLists}
-pub use Rattle.lsm_runs.specs.RunLists.{AreRunsInOrder, RunsHold, RunsHoldLists, TableLists}
-pub use Rattle.lsm_runs.specs.RunLists.{each_run, single, span_list}
+pub use Rattle.lsm_runs.specs.RunLists.{AreRunsInOrder, CanLend, OnLists, RunsHold, RunsHoldLists}
+pub use Rattle.lsm_runs.specs.RunLists.{TableLists, each_run, single, span_list}
 pub use Rattle.lsm_runs.specs.RunScan.{BeginsNext, BeginsScan, IsScanOf, RunScansNext, ScansItem}
 pub use Rattle.lsm_runs.specs.RunScan.{early_scan_fault, lent_of_run, lent_of_scan, over_scan}
 pub use Rattle.lsm_runs.specs.RunScan.{run_scan_size, scan_fault, tables_between, tables_scan}
+pub use Rattle.lsm_runs.specs.RunYields.{IsReaderWithin, ReaderOpensFew, ReaderYieldsList}
+pub use Rattle.lsm_runs.specs.RunYields.{SpanOpensFew, SpanScans, SpanScansList, SpanYieldsList}
+pub use Rattle.lsm_runs.specs.RunYields.{ReaderYieldsLeft, span_scan}
 pub use Rattle.lsm_runs.specs.SpansRead.{IsOverSourcesBelow, IsOverSpans, IsOverSpansBelow}
 pub use Rattle.lsm_runs.specs.SpansRead.{spans_within, with_readers}
 pub use Rattle.lsm_runs.specs.SeveralRuns.{LoadsEach, is_older, loads_together, run_read}

@@ -5,6 +5,7 @@ pub mod Compacted
 pub mod AnyRuns
 pub mod Observed
 pub mod Filtered
+pub mod Unfiltered
 pub mod OpenedBy
 pub mod ReadsCompacted
 pub mod ListRuns

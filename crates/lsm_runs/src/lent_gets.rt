@@ -193,9 +193,9 @@ pub fn place_in_runs_counted<A: Allocator + Clone>(
         None (spec.each_run runs.now)) }
     // For tables of lists, it is the first match in the sorted entries of all lists, global seqnos
     // applied.
-    ensures list { (lists : spec.TableLists) → spec.RunsHold runs.now lists →
-        spec.Gives (spec.option_and_then (spec.placed_in_runs (spec.each_run runs.now))) result.0
-        (Ok (spec.point (spec.union_in lists) key.now seqno)) }
+    ensures list { spec.OnLists runs.now (λ lists. spec.Gives (spec.option_and_then
+        (spec.placed_in_runs (spec.each_run runs.now))) result.0 (Ok (spec.point (spec.union_in
+        lists) key.now seqno))) }
     // The blocks loaded are those of reading the runs' tables, up to the first error.
     ensures opened { spec.AreRunsInOrder runs.now →
         let read = spec.runs_read key.now seqno None (spec.each_run runs.now) in
@@ -246,9 +246,9 @@ pub fn place_in_runs<A: Allocator + Clone>(
         (spec.each_run runs.now)) }
     // For tables of lists, it is the first match in the sorted entries of all lists, global seqnos
     // applied.
-    ensures list { (lists : spec.TableLists) → spec.RunsHold runs.now lists →
-        spec.Gives (spec.option_and_then (spec.placed_in_runs (spec.each_run runs.now))) result
-        (Ok (spec.point (spec.union_in lists) key.now seqno)) }
+    ensures list { spec.OnLists runs.now (λ lists. spec.Gives (spec.option_and_then
+        (spec.placed_in_runs (spec.each_run runs.now))) result (Ok (spec.point (spec.union_in lists)
+        key.now seqno))) }
     // An error of the first block loaded that is found before any allocation takes precedence over
     // `OutOfMemory`.
     ensures early { spec.AreRunsInOrder runs.now →
@@ -360,15 +360,14 @@ pub fn place_in_runs_by_age_counted<A: Allocator + Clone>(
 ) -> (Result<Option<RunPlace>, Error>, Opened)
     // For runs in order, it is the result of reading the tables that are not skipped, whatever
     // their bytes, except for `OutOfMemory`.
-    ensures returned { spec.AreRunsInOrder runs.now →
-        let read = spec.runs_read_by_age key.now seqno None (spec.each_run runs.now) in
-        spec.Gives (spec.option_and_then (spec.placed_in_runs (spec.each_run runs.now))) result.0
-        read.returned }
+    ensures returned { spec.AreRunsInOrder runs.now → spec.Gives (spec.option_and_then
+        (spec.placed_in_runs (spec.each_run runs.now))) result.0 (spec.runs_read_by_age key.now
+        seqno None (spec.each_run runs.now)).returned }
     // For tables of lists, it is the first match in the sorted entries of all lists, global seqnos
     // applied.
-    ensures list { (lists : spec.TableLists) → spec.RunsHold runs.now lists →
-        spec.Gives (spec.option_and_then (spec.placed_in_runs (spec.each_run runs.now))) result.0
-        (Ok (spec.point (spec.union_in lists) key.now seqno)) }
+    ensures list { spec.OnLists runs.now (λ lists. spec.Gives (spec.option_and_then
+        (spec.placed_in_runs (spec.each_run runs.now))) result.0 (Ok (spec.point (spec.union_in
+        lists) key.now seqno))) }
     // The blocks loaded are those of reading the tables that are not skipped, up to the first
     // error.
     ensures opened { spec.AreRunsInOrder runs.now →
@@ -429,9 +428,9 @@ pub fn get_runs_ref_by_age<'a, A: Allocator + Clone>(
 ) -> Result<Option<EntryRef<'a>>, Error>
     // For runs in order, it is the result of reading the tables that are not skipped, whatever
     // their bytes, except for `OutOfMemory`.
-    ensures returned { spec.AreRunsInOrder runs.now →
-        let read = spec.runs_read_by_age key.now seqno None (spec.each_run runs.now) in
-        spec.Gives (spec.option_map spec.entry_of_ref) result read.returned }
+    ensures returned { spec.AreRunsInOrder runs.now → let read = spec.runs_read_by_age key.now seqno
+        None (spec.each_run runs.now) in spec.Gives (spec.option_map spec.entry_of_ref) result
+        read.returned }
     // For tables of lists, it is the first match in the sorted entries of all lists, global seqnos
     // applied.
     ensures list { (lists : spec.TableLists) → spec.RunsHold runs.now lists →

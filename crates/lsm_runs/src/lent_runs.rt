@@ -27,10 +27,8 @@ fn lent_stream<L: Lending + Drop, A: Allocator + Clone>(
     ensures none { IfOk result (λ s. ⟦<LentNewestOf<L, A> as Lending>⟧.lent s ≡ None) }
     ensures yields { IfOk result (spec.LendsNewest L.advances sources.items
         ⟦<LentNewestOf<L, A> as Lending>⟧.advances) }
-    ensures can { All (spec.CanYield L.advances spec.nowhere L.can_advance L.can_advance)
-        sources.items →
-        IfOk result (spec.CanYield ⟦<LentNewestOf<L, A> as Lending>⟧.advances spec.nowhere
-        ⟦<LentNewestOf<L, A> as Lending>⟧.can_advance
+    ensures can { All (spec.CanLend L.advances L.can_advance) sources.items → IfOk result
+        (spec.CanLend ⟦<LentNewestOf<L, A> as Lending>⟧.advances
         ⟦<LentNewestOf<L, A> as Lending>⟧.can_advance) }
     ensures err { IfErr result (λ e. e ≡ spec.OutOfMemory) }
 {
@@ -79,8 +77,7 @@ pub fn lend_runs_at<A: Allocator + Clone>(
         let found = spec.newest_results (spec.merge_of (map (spec.below_results seqno) returned)) in
         IfOk result (spec.LendsResults advances found) }
     // It may be called any number of times, whatever the tables' bytes.
-    ensures can { IfOk result (spec.CanYield ⟦<LentNewestOfRunsAt<A> as Lending>⟧.advances
-        spec.nowhere ⟦<LentNewestOfRunsAt<A> as Lending>⟧.can_advance
+    ensures can { IfOk result (spec.CanLend ⟦<LentNewestOfRunsAt<A> as Lending>⟧.advances
         ⟦<LentNewestOfRunsAt<A> as Lending>⟧.can_advance) }
     ensures advance { IfOk result ⟦<LentNewestOfRunsAt<A> as Lending>⟧.can_advance }
     ensures err { IfErr result (λ e. e ≡ spec.OutOfMemory) }

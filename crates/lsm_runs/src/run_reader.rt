@@ -47,68 +47,45 @@ impl<A: Allocator + Clone> RunReader<A> {
         range: (Bound<UserKey<A>>, Bound<UserKey<A>>),
     ) -> Result<Option<RunReader<A>>, Error>
         // For a run in order, the span is that of the tables whose ranges reach past both bounds.
-        ensures span { let range_of = ⟦<Table<A> as Ranged>⟧.range in
-            let tables = spec.arc_value run in spec.IsInOrder range_of tables →
-            let found = spec.overlap_indexes range.0 range.1 (map range_of tables) in
-            IfOk result (λ r. MatchOption r (found ≡ None) (λ reader. (ends : ℕ × ℕ) ×
-            (found ≡ Some ends) × spec.IsRunOf tables (spec.span_of ends range.0 range.1) reader)) }
+        ensures span { spec.IsReaderWithin (spec.arc_value run) range.0 range.1 result }
         // For any other run, it is some span within it.
         ensures is { let tables = spec.arc_value run in IfOk result (λ r. IfSome r (λ reader.
             (ends : ℕ × ℕ) × spec.ArePlacesOf tables ends ×
             spec.IsRunOf tables (spec.span_of ends range.0 range.1) reader)) }
-        ensures yields { let gives = ⟦<RunReader<A> as Iterator>⟧.next_gives in
-            let back_gives = ⟦<RunReader<A> as DoubleEndedIterator>⟧.next_back_gives in
-            IfOk result (λ r. IfSome r (λ reader. spec.YieldsEnding gives back_gives
-            (λ _. Unit {0}) (λ _. Unit {0}) reader (spec.run_left reader))) }
+        ensures yields { IfOk result (λ r. IfSome r (spec.ReaderYieldsLeft
+            ⟦<RunReader<A> as Iterator>⟧.next_gives
+            ⟦<RunReader<A> as DoubleEndedIterator>⟧.next_back_gives (λ _. Unit {0}))) }
         // For tables of lists in a run in order, it yields the part of all lists within the bounds,
         // global seqnos applied. Without a reader no entry is within the bounds.
-        ensures list { let gives = ⟦<RunReader<A> as Iterator>⟧.next_gives in
-            let back_gives = ⟦<RunReader<A> as DoubleEndedIterator>⟧.next_back_gives in
-            let tables = spec.arc_value run in spec.IsInOrder ⟦<Table<A> as Ranged>⟧.range tables →
-            (lists : List (List spec.Entry)) → spec.HoldLists tables lists →
-            let found = spec.within range.0 range.1 (spec.joined lists) in
-            IfOk result (λ r. MatchOption r (found ≡ [])
-            (λ reader. spec.YieldsList gives back_gives found reader)) }
+        ensures list { spec.ReaderYieldsList ⟦<RunReader<A> as Iterator>⟧.next_gives
+            ⟦<RunReader<A> as DoubleEndedIterator>⟧.next_back_gives (spec.arc_value run) range.0
+            range.1 result }
         // For a run in order, it opens at most as many tables as have a range that reaches past
         // both bounds.
-        ensures few { let gives = ⟦<RunReader<A> as Iterator>⟧.next_gives in
-            let back_gives = ⟦<RunReader<A> as DoubleEndedIterator>⟧.next_back_gives in
-            let range_of = ⟦<Table<A> as Ranged>⟧.range in
-            let tables = spec.arc_value run in spec.IsInOrder range_of tables → (ends : ℕ × ℕ) →
-            spec.overlap_indexes range.0 range.1 (map range_of tables) ≡ Some ends →
-            IfOk result (λ r. IfSome r (spec.OpensAtMost gives back_gives (ends.1 + 1 - ends.0))) }
+        ensures few { spec.ReaderOpensFew ⟦<RunReader<A> as Iterator>⟧.next_gives
+            ⟦<RunReader<A> as DoubleEndedIterator>⟧.next_back_gives (spec.arc_value run) range.0
+            range.1 result }
         // For any other run, at most as many as it has.
-        ensures most { let gives = ⟦<RunReader<A> as Iterator>⟧.next_gives in
-            let back_gives = ⟦<RunReader<A> as DoubleEndedIterator>⟧.next_back_gives in
-            let tables = spec.arc_value run in
-            IfOk result (λ r. IfSome r (spec.OpensAtMost gives back_gives (length tables))) }
+        ensures most { IfOk result (λ r. IfSome r (spec.OpensAtMost
+            ⟦<RunReader<A> as Iterator>⟧.next_gives
+            ⟦<RunReader<A> as DoubleEndedIterator>⟧.next_back_gives (length (spec.arc_value run)))) }
         // Except for `OutOfMemory`, it lends what it yields at the front, up to the first error,
         // also with calls at the back in between.
-        ensures lends { let advances = ⟦<RunReader<A> as Lending>⟧.advances in
-            let may = ⟦<RunReader<A> as Lending>⟧.can_advance in
-            let back_gives = ⟦<RunReader<A> as DoubleEndedIterator>⟧.next_back_gives in
-            IfOk result (λ r. IfSome r (λ reader.
-            spec.YieldsEnding advances back_gives may may reader (spec.run_left reader))) }
+        ensures lends { IfOk result (λ r. IfSome r (spec.ReaderYieldsLeft
+            ⟦<RunReader<A> as Lending>⟧.advances
+            ⟦<RunReader<A> as DoubleEndedIterator>⟧.next_back_gives
+            ⟦<RunReader<A> as Lending>⟧.can_advance)) }
         // For tables of lists in a run in order, it lends exactly the entries within the bounds.
-        ensures lends_list { let advances = ⟦<RunReader<A> as Lending>⟧.advances in
-            let back_gives = ⟦<RunReader<A> as DoubleEndedIterator>⟧.next_back_gives in
-            let tables = spec.arc_value run in spec.IsInOrder ⟦<Table<A> as Ranged>⟧.range tables →
-            (lists : List (List spec.Entry)) → spec.HoldLists tables lists →
-            let found = spec.within range.0 range.1 (spec.joined lists) in
-            IfOk result (λ r. MatchOption r (found ≡ [])
-            (λ reader. spec.YieldsList advances back_gives found reader)) }
+        ensures lends_list { spec.ReaderYieldsList ⟦<RunReader<A> as Lending>⟧.advances
+            ⟦<RunReader<A> as DoubleEndedIterator>⟧.next_back_gives (spec.arc_value run) range.0
+            range.1 result }
         // It opens no more tables for lending.
-        ensures lends_few { let advances = ⟦<RunReader<A> as Lending>⟧.advances in
-            let back_gives = ⟦<RunReader<A> as DoubleEndedIterator>⟧.next_back_gives in
-            let range_of = ⟦<Table<A> as Ranged>⟧.range in
-            let tables = spec.arc_value run in spec.IsInOrder range_of tables → (ends : ℕ × ℕ) →
-            spec.overlap_indexes range.0 range.1 (map range_of tables) ≡ Some ends →
-            IfOk result (λ r.
-            IfSome r (spec.OpensAtMost advances back_gives (ends.1 + 1 - ends.0))) }
-        ensures lends_most { let advances = ⟦<RunReader<A> as Lending>⟧.advances in
-            let back_gives = ⟦<RunReader<A> as DoubleEndedIterator>⟧.next_back_gives in
-            let tables = spec.arc_value run in
-            IfOk result (λ r. IfSome r (spec.OpensAtMost advances back_gives (length tables))) }
+        ensures lends_few { spec.ReaderOpensFew ⟦<RunReader<A> as Lending>⟧.advances
+            ⟦<RunReader<A> as DoubleEndedIterator>⟧.next_back_gives (spec.arc_value run) range.0
+            range.1 result }
+        ensures lends_most { IfOk result (λ r. IfSome r (spec.OpensAtMost
+            ⟦<RunReader<A> as Lending>⟧.advances
+            ⟦<RunReader<A> as DoubleEndedIterator>⟧.next_back_gives (length (spec.arc_value run)))) }
         ensures ok { IsOk result }
     {
         match places_within(&run, &range) {
@@ -134,39 +111,25 @@ impl<A: Allocator + Clone> RunReader<A> {
             let ends = spec.ends_given tables span in
             IfOk result (λ reader. spec.IsRunOf tables (spec.span_of ends range.0 range.1) reader) }
         // For every list of ends, it yields the results of its tables, up to the first error.
-        ensures yields { let gives = ⟦<RunReader<A> as Iterator>⟧.next_gives in
-            let back_gives = ⟦<RunReader<A> as DoubleEndedIterator>⟧.next_back_gives in IfOk result
-            (λ reader. spec.YieldsEnding gives back_gives (λ _. Unit {0}) (λ _. Unit {0}) reader
-            (spec.run_left reader)) }
+        ensures yields { IfOk result (spec.ReaderYieldsLeft ⟦<RunReader<A> as Iterator>⟧.next_gives
+            ⟦<RunReader<A> as DoubleEndedIterator>⟧.next_back_gives (λ _. Unit {0})) }
         // For tables of lists, it yields the span's entries, global seqnos applied. The first and
         // the last list are cut at the bounds, those between are whole.
-        ensures list { let gives = ⟦<RunReader<A> as Iterator>⟧.next_gives in
-            let back_gives = ⟦<RunReader<A> as DoubleEndedIterator>⟧.next_back_gives in
-            let tables = spec.arc_value run in let ends = spec.ends_given tables span in
-            (lists : List (List spec.Entry)) → spec.HoldLists tables lists → IfOk result
-            (spec.YieldsList gives back_gives
-            (spec.span_list (spec.span_of ends range.0 range.1) lists)) }
+        ensures list { spec.SpanYieldsList ⟦<RunReader<A> as Iterator>⟧.next_gives
+            ⟦<RunReader<A> as DoubleEndedIterator>⟧.next_back_gives (spec.arc_value run) span
+            range.0 range.1 result }
         // It lends the same from the front, also with calls at the back in between.
-        ensures lends { let advances = ⟦<RunReader<A> as Lending>⟧.advances in
-            let back_gives = ⟦<RunReader<A> as DoubleEndedIterator>⟧.next_back_gives in
-            let may = ⟦<RunReader<A> as Lending>⟧.can_advance in
-            IfOk result (λ reader.
-            spec.YieldsEnding advances back_gives may may reader (spec.run_left reader)) }
-        ensures lends_list { let advances = ⟦<RunReader<A> as Lending>⟧.advances in
-            let back_gives = ⟦<RunReader<A> as DoubleEndedIterator>⟧.next_back_gives in
-            let tables = spec.arc_value run in let ends = spec.ends_given tables span in
-            (lists : List (List spec.Entry)) → spec.HoldLists tables lists → IfOk result
-            (spec.YieldsList advances back_gives
-            (spec.span_list (spec.span_of ends range.0 range.1) lists)) }
+        ensures lends { IfOk result (spec.ReaderYieldsLeft ⟦<RunReader<A> as Lending>⟧.advances
+            ⟦<RunReader<A> as DoubleEndedIterator>⟧.next_back_gives
+            ⟦<RunReader<A> as Lending>⟧.can_advance) }
+        ensures lends_list { spec.SpanYieldsList ⟦<RunReader<A> as Lending>⟧.advances
+            ⟦<RunReader<A> as DoubleEndedIterator>⟧.next_back_gives (spec.arc_value run) span
+            range.0 range.1 result }
         // It opens at most as many tables as the span has.
-        ensures few { let gives = ⟦<RunReader<A> as Iterator>⟧.next_gives in
-            let back_gives = ⟦<RunReader<A> as DoubleEndedIterator>⟧.next_back_gives in
-            let ends = spec.ends_given (spec.arc_value run) span in
-            IfOk result (λ reader. spec.OpensAtMost gives back_gives (ends.1 + 1 - ends.0) reader) }
-        ensures lends_few { let advances = ⟦<RunReader<A> as Lending>⟧.advances in
-            let back_gives = ⟦<RunReader<A> as DoubleEndedIterator>⟧.next_back_gives in
-            let ends = spec.ends_given (spec.arc_value run) span in
-            IfOk result (spec.OpensAtMost advances back_gives (ends.1 + 1 - ends.0)) }
+        ensures few { spec.SpanOpensFew ⟦<RunReader<A> as Iterator>⟧.next_gives
+            ⟦<RunReader<A> as DoubleEndedIterator>⟧.next_back_gives (spec.arc_value run) span result }
+        ensures lends_few { spec.SpanOpensFew ⟦<RunReader<A> as Lending>⟧.advances
+            ⟦<RunReader<A> as DoubleEndedIterator>⟧.next_back_gives (spec.arc_value run) span result }
         ensures ok { IsOk result }
     {
         let ends = ends_in(run.as_slice(), span);

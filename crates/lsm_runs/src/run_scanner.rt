@@ -101,31 +101,17 @@ impl<A: Allocator + Clone> RunScanner<A> {
             IfOk result (λ s. spec.IsScanOf tables (spec.ends_given tables span) s) }
         // Except for `OutOfMemory`, it yields the results of the tables' scans, up to the first
         // error, and then nothing.
-        ensures yields { let gives = ⟦<RunScanner<A> as Iterator>⟧.next_gives in
-            let tables = spec.arc_value run in
-            let left = spec.tables_scan (spec.tables_between tables (spec.ends_given tables span))
-            in IfOk result
-            (λ s. spec.YieldsEnding gives spec.nowhere (λ _. Unit {0}) (λ _. Unit {0}) s left) }
+        ensures yields { spec.SpanScans ⟦<RunScanner<A> as Iterator>⟧.next_gives (spec.arc_value
+            run) span result }
         // For tables of lists that each have an entry, it yields these lists one after another,
         // global seqnos applied.
-        ensures list { let gives = ⟦<RunScanner<A> as Iterator>⟧.next_gives in
-            let tables = spec.tables_between (spec.arc_value run)
-            (spec.ends_given (spec.arc_value run) span) in
-            (lists : List (List spec.Entry)) → spec.AllByRecursion (λ es. 0 < length es) lists →
-            spec.HoldLists tables lists →
-            IfOk result (spec.YieldsList gives spec.nowhere (spec.joined lists)) }
+        ensures list { spec.SpanScansList ⟦<RunScanner<A> as Iterator>⟧.next_gives (spec.arc_value
+            run) span result }
         // It lends what it yields.
-        ensures lends { let advances = ⟦<RunScanner<A> as Lending>⟧.advances in
-            let tables = spec.arc_value run in
-            let left = spec.tables_scan (spec.tables_between tables (spec.ends_given tables span))
-            in IfOk result
-            (λ s. spec.YieldsEnding advances spec.nowhere (λ _. Unit {0}) (λ _. Unit {0}) s left) }
-        ensures lends_list { let advances = ⟦<RunScanner<A> as Lending>⟧.advances in
-            let tables = spec.tables_between (spec.arc_value run)
-            (spec.ends_given (spec.arc_value run) span) in
-            (lists : List (List spec.Entry)) → spec.AllByRecursion (λ es. 0 < length es) lists →
-            spec.HoldLists tables lists →
-            IfOk result (spec.YieldsList advances spec.nowhere (spec.joined lists)) }
+        ensures lends { spec.SpanScans ⟦<RunScanner<A> as Lending>⟧.advances (spec.arc_value run)
+            span result }
+        ensures lends_list { spec.SpanScansList ⟦<RunScanner<A> as Lending>⟧.advances
+            (spec.arc_value run) span result }
         // Except for `OutOfMemory`, it fails exactly with the error of beginning the first table's
         // scan.
         ensures refused { let tables = spec.arc_value run in (t : spec.OpenTable) →
@@ -136,10 +122,8 @@ impl<A: Allocator + Clone> RunScanner<A> {
             slice_get tables (spec.ends_given tables span).0 ≡ Some t →
             spec.FaultsFirst result (spec.early_scan_fault t) }
         // Except for `OutOfMemory`, the error is the first result of the scans.
-        ensures returned { let tables = spec.arc_value run in
-            let left = spec.tables_scan
-            (spec.tables_between tables (spec.ends_given tables span)) in
-            IfErr result (λ e. spec.is_memory e ≡ false → spec.first left ≡ Some (Err e)) }
+        ensures returned { IfErr result (λ e. spec.is_memory e ≡ false → spec.first (spec.span_scan
+            (spec.arc_value run) span) ≡ Some (Err e)) }
     {
         let (lo, hi) = ends_in(run.as_slice(), span);
         let reader = scan_at(run.as_slice(), lo)?;

@@ -45,11 +45,7 @@ fn reader_of<A: Allocator + Clone>(
         MatchOption r (found ≡ []) (λ reader. spec.YieldsList advances back_gives found reader)) }
     // For any tables in a run in order, it is the reader of the span of those whose ranges reach
     // past both bounds.
-    ensures span { let tables = spec.arc_value run.now in spec.IsInOrder spec.range_of tables →
-        let found = spec.overlap_indexes range.now.0 range.now.1 (map spec.range_of tables) in
-        IfOk result (λ r. MatchOption r (found ≡ None) (λ reader. (ends : ℕ × ℕ) ×
-        (found ≡ Some ends) × spec.IsRunOf tables (spec.span_of ends range.now.0 range.now.1)
-        reader)) }
+    ensures span { spec.IsReaderWithin (spec.arc_value run.now) range.now.0 range.now.1 result }
     ensures err { IfErr result (λ e. e ≡ spec.OutOfMemory) }
 {
     let bounds = (share(&range.0)?, share(&range.1)?);
@@ -89,8 +85,8 @@ fn readers_of<A: Allocator + Clone>(
     Ok(readers)
 }
 
-// The readers of several runs within bounds, which it takes and drops. They yield and lend the
-// same.
+// The readers of several runs within bounds, which the call takes and drops. Each yields the same
+// entries by value and borrowed.
 pub(crate) fn readers_within<A: Allocator + Clone>(
     alloc: A,
     runs: &[Arc<Run<Table<A>, A>, A>],

@@ -1,25 +1,12 @@
 -- Compactions as reported to C.
-use Rattle.std.specs.Prelude.{◌≡◌, ◌⊎◌, ℕ, false, true, List, IfErr, IfOk, IsSomeAnd, None, Option, Some}
+use Rattle.std.specs.Prelude.{◌≡◌, ◌⊎◌, ℕ, false, true, IsSomeAnd, None, Option, Some}
 use Rattle.std.specs.Prelude.{Result, Ok, Err, unwrap_or}
-use Rattle.std.specs.Result.{IsErrAnd}
 use Rattle.std.specs.Global.{Global}
-use Rattle.std.specs.List.{AllByRecursion}
-use Rattle.sst_entries.specs.Entry.{Entry}
-use Rattle.sst_entries.specs.Error.{Faults, is_memory, number_of}
-use Rattle.sst_entries.specs.Stream.{ok_results}
+use Rattle.sst_entries.specs.Error.{number_of}
 use Rattle.sst_entries.specs.declared.error.Error.{Error}
-use Rattle.sst_entries.specs.declared.error.Error.TheVariants.{OutOfMemory}
-use Rattle.lsm_sorted.specs.merge.Ends.{R}
-use Rattle.lsm_sorted.specs.merge.InPlace.{merge_of}
-use Rattle.lsm_sorted.specs.merge.Union.{Ascends, entries_among}
-use Rattle.lsm_sorted.specs.lending.LentCompaction.{lent_outs}
 use Rattle.lsm_sorted.specs.declared.compaction.Rules.{Rules}
 use Rattle.lsm_writers.specs.Tables.{TablesWriting, new_tables, with_options}
-use Rattle.lsm_readers.specs.point.Table.{OpenTable}
-use Rattle.lsm_runs.specs.compaction.Words.{AreCompactable, AreTablesBy, BeginsWith, CameInOrder}
-use Rattle.lsm_runs.specs.compaction.Words.{CameOf, FitsBy, GoesThrough, HasMade, HaveEntries}
-use Rattle.lsm_runs.specs.compaction.Words.{RefusesOf, RunsHoldLists, kept_in, scans_of}
-use Rattle.lsm_runs.specs.compaction.Words.{writes_fault}
+use Rattle.lsm_runs.specs.compaction.Unfiltered.{IsUnfiltered}
 use Rattle.lsm_runs.specs.declared.compaction.any_runs.CompactionOutcome.{CompactionOutcome}
 use Rattle.lsm_runs.specs.declared.compaction.any_runs.CompactionOutcome.TheVariants.{Tables}
 use Rattle.lsm_runs.specs.declared.compaction.any_runs.CompactionOutcome.TheVariants.{OutOfOrder}
@@ -35,33 +22,6 @@ use Rattle.sst_c.specs.declared.options.TableOptions.{TableOptions}
 abbrev pub decode_compactor : TableOptions → ℕ → TablesWriting
 decode_compactor o target =
     with_options (new_tables (Some o.id) target o.level o.created_at) (decode_options o)
-
--- the result of compacting these runs with a writer
-pub record IsCompactionOf (runs : List (List OpenTable)) (rules : Rules) (w : TablesWriting)
-    (came : Result (CompactionOutcome Global) Error) : Type 0 where
-  -- compactable runs yield the tables of the entries kept. Except for `OutOfMemory`, an error is the
-  -- writer's first one, and there is none if the tables fit
-  pub tables : AreCompactable runs → (lists : List (List (List Entry))) → RunsHoldLists runs lists →
-      IfOk came (AreTablesBy w (kept_in rules lists))
-  pub refused : AreCompactable runs → (lists : List (List (List Entry))) →
-      RunsHoldLists runs lists → Faults came (writes_fault w (kept_in rules lists))
-  pub taken : AreCompactable runs → (lists : List (List (List Entry))) → RunsHoldLists runs lists →
-      FitsBy w (kept_in rules lists) → IfErr came (λ e. e ≡ OutOfMemory)
-  -- for tables of lists with entries, it ends out of order at the first kept entry that may not
-  -- follow. Else it fails with the first fault of writing these entries
-  pub merged : (lists : List (List (List Entry))) → RunsHoldLists runs lists →
-      AllByRecursion HaveEntries lists → IfOk came (CameInOrder w (kept_in rules lists))
-  pub faulted : (lists : List (List (List Entry))) → RunsHoldLists runs lists →
-      AllByRecursion HaveEntries lists → IfErr came (λ e. is_memory e ≡ false →
-      RefusesOf w (ok_results (kept_in rules lists)) e)
-  -- if the tables' scans are in order, it writes the entries kept of their merge, up to the first
-  -- fault. Or it fails with the first run's first data block that cannot be loaded
-  pub any : AllByRecursion (λ (rs : List R). Ascends (entries_among rs)) (scans_of runs) →
-      CameOf w (lent_outs rules (merge_of (scans_of runs))) came
-      ⊎ IsErrAnd came (BeginsWith runs)
-  -- for any tables, the new tables are those of a list that can be written
-  pub made : IfOk came (HasMade w)
-  pub through : IfOk came GoesThrough
 
 -- the call reports the tables, which the handle then holds, and the first unused id, or 0 if none
 -- is left. It reports 104 for entries out of order, else the error code
@@ -86,4 +46,4 @@ pub record CompactsHeld (options : TableOptions) (rules : Rules) (target : ℕ) 
   pub unusable : are_runs w ≡ true → are_usable options ≡ false → code ≡ 105
   -- else it is the result of the library's compaction of any tables
   pub returned : are_runs w ≡ true → are_usable options ≡ true → IsReportedOf
-      (IsCompactionOf (runs_held w) rules (decode_compactor options target)) code after next
+      (IsUnfiltered (runs_held w) rules (decode_compactor options target)) code after next

@@ -37,7 +37,7 @@ pub use Rattle.lsm_readers.specs.Stored.{StoresList, fits_result}
 pub use Rattle.lsm_readers.specs.Verification.{Verifying, verifying}
 pub use Rattle.lsm_readers.specs.Verify.{table_early}
 unfoldable pub use Rattle.lsm_readers.specs.Verify.{table_found}
-pub use Rattle.lsm_runs.specs.RunLists.{RunsHoldLists, each_run}
+pub use Rattle.lsm_runs.specs.RunLists.{RunsHoldLists}
 pub use Rattle.lsm_runs.specs.RunPlaces.{placed_in_runs}
 pub use Rattle.lsm_runs.specs.RunScan.{early_scan_fault, scan_fault}
 pub use Rattle.lsm_runs.specs.SeveralRuns.{runs_read, runs_result, union_in}
@@ -45,10 +45,11 @@ pub use Rattle.lsm_runs.specs.Words.{range_of}
 pub use Rattle.lsm_runs.specs.compaction.AnyRuns.{GoesThrough}
 pub use Rattle.lsm_runs.specs.compaction.AnyRuns.{first_blocks_fault}
 pub use Rattle.lsm_runs.specs.compaction.Compacted.{AreMergeable, rules_by}
+pub use Rattle.lsm_runs.specs.compaction.Unfiltered.{IsUnfiltered}
 pub use Rattle.sst_c.specs.Adds.{AddsOne, AddsMany, WritesEntry, WritesMany, row, row_of}
 pub use Rattle.sst_c.specs.Adds.{rows_of_reports, reported_size}
 pub use Rattle.sst_c.specs.Codes.{ReportsCode, ReportsFirst, result_code}
-pub use Rattle.sst_c.specs.Compact.{CompactsHeld, IsCompactionOf, IsReportedOf, decode_compactor}
+pub use Rattle.sst_c.specs.Compact.{CompactsHeld, IsReportedOf, decode_compactor}
 unfoldable pub use Rattle.sst_c.specs.Compact.{ReportsOutcome}
 pub use Rattle.sst_c.specs.Compacting.{Compacting as CompactionState, StartsCompaction, TakesNext}
 pub use Rattle.sst_c.specs.Compacting.{item_taken}

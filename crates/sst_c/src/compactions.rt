@@ -8,15 +8,12 @@ use crate::handle::Handle;
 use crate::held::{Files, Held, What};
 use crate::options::{TableOptions, are_usable, writer_options};
 use crate::run_list::RunList;
-use lsm_readers::Table;
 use lsm_runs::{CompactionOutcome, NoObserver, compact_any_runs};
-use lsm_sorted::Run;
 use lsm_sorted::compaction::Rules;
 use lsm_sorted::compaction::stream::{NoCallback, NoFilter};
 use lsm_writers::{FinishedTable, MultiWriter, TableIds, Timestamp};
 use sst_blocks::Error;
 use std::alloc::Global;
-use std::sync::Arc;
 
 /// A writer of tables of `target_size` bytes of data blocks each. Table ids count up from that of
 /// the options.
@@ -36,20 +33,20 @@ pub(crate) fn compactor_of(
     Ok(writer.use_options(writer_options(options)))
 }
 
-// Compacts runs without a filter, a callback and an observer.
-fn compact_unfiltered(
+// Compacts a list of runs with this writer, without a filter, a callback and an observer.
+fn compacted_by(
     alloc: Global,
-    runs: &[Arc<Run<Table>>],
+    runs: &RunList,
     rules: Rules,
     writer: MultiWriter,
 ) -> Result<CompactionOutcome, Error>
     requires { spec.IsFreshRun writer }
-    ensures { spec.IsCompactionOf (spec.each_run runs.now) rules writer result }
+    ensures { spec.IsUnfiltered runs.now rules writer result }
 {
     let mut observer = NoObserver;
     let (outcome, _) = compact_any_runs(
         alloc,
-        runs,
+        runs.as_slice(),
         rules,
         writer,
         NoFilter,
@@ -59,18 +56,7 @@ fn compact_unfiltered(
     Ok(outcome)
 }
 
-fn compacted_by(
-    alloc: Global,
-    runs: &RunList,
-    rules: Rules,
-    writer: MultiWriter,
-) -> Result<CompactionOutcome, Error>
-    requires { spec.IsFreshRun writer }
-    ensures { spec.IsCompactionOf runs.now rules writer result }
-{
-    compact_unfiltered(alloc, runs.as_slice(), rules, writer)
-}
-
+// Compacts a list of runs with a writer that has these options.
 fn compacted(
     alloc: Global,
     runs: &RunList,
@@ -79,7 +65,7 @@ fn compacted(
     target_size: u64,
 ) -> Result<CompactionOutcome, Error>
     requires { spec.are_usable options.now ≡ true }
-    ensures { spec.IsCompactionOf runs.now rules (spec.decode_compactor options.now target_size)
+    ensures { spec.IsUnfiltered runs.now rules (spec.decode_compactor options.now target_size)
         result }
 {
     let writer = compactor_of(alloc, options, target_size)?;
@@ -153,7 +139,7 @@ fn compact_into(
     requires empty { files.old.boxed.value ≡ None }
     requires usable { spec.are_usable options.now ≡ true }
     ensures returned { spec.IsReportedOf
-        (spec.IsCompactionOf runs.now rules (spec.decode_compactor options.now target_size))
+        (spec.IsUnfiltered runs.now rules (spec.decode_compactor options.now target_size))
         result files.new.boxed.value next_id.new }
     ensures left { result ≢ 0 →
         (next_id.new ≡ next_id.old) × (files.new.boxed.value ≡ None) }
@@ -190,8 +176,10 @@ fn compact_held(
 /// Compacts the tables of a list of runs into new finished tables.
 ///
 /// `files` must be closed; it then holds the new tables, written with `options`. A new table starts
-/// at the next key once the current one has `target_size` bytes of data blocks. Table ids count up
-/// from that of the options. `next_id` gets the first unused id, or 0 if none is left.
+/// at the next key once the current one has `target_size` bytes of data blocks; with 0 each key has
+/// a table of its own. The first table has the id of the options, or the id after it if
+/// `target_size` is 0. Each further table has the next id. `next_id` gets the first unused id, or 0
+/// if none is left.
 ///
 /// No reader may read at a sequence number below `watermark`. With `evict_tombstones`, a tombstone
 /// is dropped if no older version of its key is kept. With `zero_seqnos`, sequence numbers below

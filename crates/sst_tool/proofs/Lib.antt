@@ -4,6 +4,7 @@ pub mod ObjectLemmas
 pub mod WordLemmas
 pub mod FileNumbers
 pub mod FilesMore
+pub mod Left
 pub mod Modes
 pub mod NewFolders
 pub mod Opened

@@ -8,10 +8,11 @@ use Rattle.std.specs.declared.fs.attrs.Metadata.{Metadata}
 use Rattle.std.specs.declared.fs.permissions.Permissions.{Permissions}
 use Rattle.sst_tool.specs.declared.files.write.NewFile.{NewFile}
 use Rattle.sst_tool.specs.files.Modes.{AreModesKept, IsPlainMode, KeepsMode, KeepsModeOf, WritesElsewhere}
-use Rattle.sst_tool.specs.files.Placed.{AreBeside, Standing, StandsBeside, StandsNowhere, renaming}
-use Rattle.sst_tool.specs.files.Placed.{syncing, writing}
+use Rattle.sst_tool.specs.files.Placed.{AreBeside, IsBesideOne, Standing, StandsBeside, StandsNowhere}
+use Rattle.sst_tool.specs.files.Placed.{renaming, syncing, writing}
 use Rattle.sst_tool.specs.files.Standing.{HaveModesKept}
-use Rattle.sst_tool.specs.files.Steps.{Step, then_done}
+use Rattle.sst_tool.specs.files.Steps.{OnlyDoes, Removes, Step, then_done}
+use Rattle.sst_tool.specs.files.Steps.Step.{Removed}
 use Rattle.sst_tool.proofs.Steps.{then_more}
 
 plain_mode : (there : Option Metadata) → IfSome there (λ m. IsFile (file_type m))
@@ -43,9 +44,21 @@ module _ (modes : List ℕ → Option (Option ℕ)) (steps : List Step) where
   none_renaming [] rest h = h
   none_renaming (s ∷ all) rest h = (tt, none_renaming all rest h)
 
-  none_syncing : (all : List Standing) → AllByRecursion (KeepsModeOf modes steps) (syncing all)
-  none_syncing [] = tt
-  none_syncing (s ∷ all) = (tt, none_syncing all)
+  none_syncing : (all : List Standing) (rest : List Step)
+      → AllByRecursion (KeepsModeOf modes steps) rest
+      → AllByRecursion (KeepsModeOf modes steps) (syncing all ++ rest)
+  none_syncing [] rest h = h
+  none_syncing (s ∷ all) rest h = (tt, none_syncing all rest h)
+
+  keeps_removing : (Is : List ℕ → Type 0) (step : Step) → Removes Is step
+      → KeepsModeOf modes steps step
+  keeps_removing Is (Removed path) h = tt
+  keeps_removing Is step h = absurd h
+
+  none_removing : (Is : List ℕ → Type 0) (some : List Step) → AllByRecursion (Removes Is) some
+      → AllByRecursion (KeepsModeOf modes steps) some
+  none_removing Is [] h = tt
+  none_removing Is (s ∷ some) h = (keeps_removing Is s h.0, none_removing Is some h.1)
 
   some_writing : (all some : List Standing) (rest behind : List Step)
       → steps ≡ writing all ++ behind → AllByRecursion StandsBeside some
@@ -62,20 +75,26 @@ module _ (modes : List ℕ → Option (Option ℕ)) (steps : List Step) where
     some_writing all some rest behind is beside.1 kept.1 h,
   )
 
--- all were written, renamed and synced, each with the mode of what had its name
+-- all were written, renamed and synced, each with the mode of what had its name, and then names
+-- beside them removed
 pub modes_kept : {R E : Type 0} (returned : Result R E) (modes : List ℕ → Option (Option ℕ))
     (known one new : Option (List Step)) (all : List Standing) (files : List NewFile)
     → AreBeside files all → HaveModesKept modes all all → one ≡ then_done known (writing all)
-    → OnOk returned (new ≡ then_done (then_done one (renaming all)) (syncing all))
+    → OnOk returned
+    (OnlyDoes (Removes (IsBesideOne all)) (then_done (then_done one (renaming all)) (syncing all)) new)
     → OnOk returned (AreModesKept modes known new)
 modes_kept (Err e) modes known one new all files are kept written done = tt
 modes_kept (Ok r) modes known one new all files are kept written done =
-    let behind : List Step = renaming all ++ syncing all in
+    let removed : List Step = done.steps in
+    let synced : List Step = syncing all ++ removed in
+    let behind : List Step = renaming all ++ synced in
     let steps : List Step = writing all ++ behind in (
       steps,
-      done ∙ then_more one (renaming all) (syncing all)
+      done.done ∙ then_more (then_done one (renaming all)) (syncing all) removed
+          ∙ then_more one (renaming all) synced
           ∙ ap (λ (k : Option (List Step)). then_done k behind) written
           ∙ then_more known (writing all) behind,
       some_writing modes steps all all behind behind refl are.beside kept
-          (none_renaming modes steps all (syncing all) (none_syncing modes steps all)),
+          (none_renaming modes steps all synced
+          (none_syncing modes steps all removed (none_removing modes steps (IsBesideOne all) removed done.are))),
     )

@@ -19,7 +19,8 @@ use Rattle.sst_tool.specs.declared.files.file_error.FileFault.TheVariants.{Io, L
 use Rattle.sst_tool.specs.declared.files.file_error.FileFault.TheVariants.{NotSynced, Refused, Taken}
 use Rattle.sst_tool.specs.files.Ended.{behind_front, files_left, moved_by, path_behind, path_moved}
 use Rattle.sst_tool.specs.files.Files.{file_number, path_text}
-use Rattle.sst_tool.specs.files.NewFolders.{IsBesideFolder, IsEmptied, IsFolderGivenUp, IsFolderNotPlaced}
+use Rattle.sst_tool.specs.files.NewFolders.{Clears, IsBesideFolder, IsEmptied, IsFolderGivenUp}
+use Rattle.sst_tool.specs.files.NewFolders.{IsFolderInPlace, IsFolderNotPlaced}
 use Rattle.sst_tool.specs.files.NewFolders.{IsFolderPlaced, IsNamingFault, IsNotFilled, IsStemOf}
 use Rattle.sst_tool.specs.files.NewFolders.{IsMakingFault, IsWritingFault, LiesWithin, MaySyncNames}
 use Rattle.sst_tool.specs.files.NewFolders.{TellsNameTaken, TellsStemTaken, TellsTaken}
@@ -28,11 +29,12 @@ use Rattle.sst_tool.specs.files.NewFolders.{numbered_within, path_within}
 use Rattle.sst_tool.specs.files.NewFolders.{removing_folder, writing_files}
 use Rattle.sst_tool.specs.files.Numbered.{numbered_files}
 use Rattle.sst_tool.specs.files.Placed.{IsNotSynced, TellsFound}
-use Rattle.sst_tool.specs.files.Steps.{Step, then_done}
+use Rattle.sst_tool.specs.files.Steps.{OnlyDoes, Step, then_done}
 use Rattle.sst_tool.specs.files.Steps.Step.{MadeFolder, Removed, RemovedFolder, Synced}
 use Rattle.sst_tool.specs.files.Steps.Step.{Wrote}
 use Rattle.sst_tool.specs.files.There.{LiesElsewhere, SameButBehind, SameElsewhere}
 use Rattle.sst_tool.proofs.FilesMore.{files_behind}
+use Rattle.sst_tool.proofs.Left.{clears_left, clears_still}
 use Rattle.sst_tool.proofs.Steps.{then_more}
 
 -- ---- the name beside a folder's
@@ -292,16 +294,28 @@ is_placed folder beside all behind known one new named made done still none =
 pub placed_folder : {R : Type 0} (returned : Result R FileError) (folder text beside : List ℕ)
     (all : List (List ℕ)) (known one new : Option (List Step)) → text ≡ beside
     → IsBesideFolder folder beside → one ≡ then_done known (MadeFolder beside ∷ [])
-    → OnOk returned (new ≡ then_done one
+    → OnOk returned (OnlyDoes (Clears (IsBesideFolder folder)) (then_done one
     ((writing_files (numbered_within text all) ++ naming_folder text folder)
-    ++ Synced folder ∷ []))
-    → OnOk returned (IsFolderPlaced folder all (Synced folder ∷ []) known new)
+    ++ Synced folder ∷ [])) new)
+    → OnOk returned (IsFolderInPlace folder all known new)
 placed_folder (Err e) folder text beside all known one new same named made done = tt
 placed_folder (Ok r) folder text beside all known one new same named made done =
-    is_placed folder beside all (Synced folder ∷ []) known one new named made
-    (subst (λ (t : List ℕ). new ≡ then_done one
-    ((writing_files (numbered_within t all) ++ naming_folder t folder) ++ Synced folder ∷ []))
-    same done) (λ path. refl) refl
+    let Is : Step → Type 0 = Clears (IsBesideFolder folder) in
+    let steps : List Step =
+    writing_files (numbered_within beside all) ++ naming_folder beside folder in
+    let does : OnlyDoes Is (then_done one (steps ++ Synced folder ∷ [])) new =
+    subst (λ (t : List ℕ). OnlyDoes Is (then_done one
+    ((writing_files (numbered_within t all) ++ naming_folder t folder) ++ Synced folder ∷ [])) new)
+    same done in
+    record {
+      behind = does.steps;
+      cleared = does.are;
+      placed = is_placed folder beside all (Synced folder ∷ does.steps) known one new named made
+          (does.done ∙ then_more one (steps ++ Synced folder ∷ []) does.steps
+          ∙ ap (then_done one) (append_assoc steps (Synced folder ∷ []) does.steps))
+          (clears_still (IsBesideFolder folder) does.steps does.are)
+          (clears_left (IsBesideFolder folder) does.steps does.are);
+    }
 
 -- ---- a folder that is given up
 

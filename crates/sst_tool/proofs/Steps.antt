@@ -2,7 +2,7 @@
 use Rattle.std.proofs.Common.{◌≡◌, refl, sym, ◌∙◌, ap, subst, ℕ, ◌+◌, ◌<◌, List, [], ◌∷◌, ◌++◌}
 use Rattle.std.proofs.Common.{append-nil, append_assoc, arith, drop, get_or, inl, inr, length}
 use Rattle.std.proofs.Common.{length-append, take}
-use Rattle.std.specs.Prelude.{Any, IfErr, IfSome, OnOk, Option, Some, None, Result, Ok, Err, map, string_bytes}
+use Rattle.std.specs.Prelude.{Any, IfErr, IfSome, OnOk, Option, Some, None, Result, Ok, Err, map}
 use Rattle.std.specs.List.{AllByRecursion}
 use Rattle.std.proofs.lemmas.List.{drop_more, get_or_at, get_or_default, length-map, length-take-le, map-append}
 use Rattle.std.proofs.lemmas.List.{take-append-drop, take_more}
@@ -14,7 +14,7 @@ use Rattle.sst_tool.specs.declared.files.file_error.FileFault.TheVariants.{NotSy
 use Rattle.sst_tool.specs.declared.files.write.Beside.{Beside}
 use Rattle.sst_tool.specs.declared.files.write.NewFile.{NewFile}
 use Rattle.sst_tool.specs.files.Placed.{AreBeside, AreNotPlaced, AreNotPut, AreInPlace, IsEarly}
-use Rattle.sst_tool.specs.files.Placed.{IsNotSynced, Standing, StandsBeside, StopSyncing}
+use Rattle.sst_tool.specs.files.Placed.{IsBesideOne, IsNotSynced, Standing, StandsBeside, StopSyncing}
 use Rattle.sst_tool.specs.files.Placed.{SameButBeside, StopsRenamingAt, StopsBefore, TellsAllTaken}
 use Rattle.sst_tool.specs.files.Placed.{TellsRenamed}
 use Rattle.sst_tool.specs.files.Files.{path_text}
@@ -23,8 +23,8 @@ use Rattle.sst_tool.specs.files.Modes.{KeepsMode}
 use Rattle.sst_tool.specs.files.Placed.{StandsNowhere}
 use Rattle.sst_tool.specs.files.Standing.{HaveModesKept, IsAdded, standing_in, standing_of}
 use Rattle.std.proofs.Common.{Bool, true, false}
-use Rattle.sst_tool.specs.files.Steps.{Step, then_done, written_if}
-use Rattle.sst_tool.specs.files.Steps.Step.{Renamed, Wrote}
+use Rattle.sst_tool.specs.files.Steps.{OnlyDoes, Removes, Step, then_done, written_if}
+use Rattle.sst_tool.specs.files.Steps.Step.{Wrote}
 use Rattle.sst_tool.specs.files.There.{LiesElsewhere}
 
 -- no step
@@ -202,22 +202,6 @@ passed_over known now after free path bytes mode same was done =
     done ∙ ap (λ (b : Bool). then_done now (written_if b path bytes mode)) was
     ∙ then_none now ∙ same
 
--- one more file was renamed
-pub renamed_more : {A : Type 0} (known now after : Option (List Step)) (bs : List (Beside A))
-    (i : ℕ) (b c : Beside A) (from to : List ℕ) → i < length bs
-    → now ≡ then_done known (renaming (standing_in (take i bs)))
-    → from ≡ string_bytes (get_or bs i b).temporary → to ≡ string_bytes (get_or bs i c).path
-    → after ≡ then_done now (Renamed from to ∷ [])
-    → after ≡ then_done known (renaming (standing_in (take (i + 1) bs)))
-renamed_more {A} known now after bs i b c from to less so_far from_is to_is done =
-    let one : Beside A = get_or bs i b in
-    let same : get_or bs i c ≡ one = get_or_default bs i c b less in
-    one_more (λ (s : Standing). Renamed s.beside s.path) known now after bs i one less
-    (get_or_default bs i b one less) so_far
-    (done ∙ ap (λ (p : List ℕ). then_done now (Renamed p to ∷ [])) from_is
-    ∙ ap (λ (p : List ℕ). then_done now (Renamed (string_bytes one.temporary) p ∷ []))
-    (to_is ∙ ap (λ (x : Beside A). string_bytes x.path) same))
-
 -- ---- one file among others
 
 -- a list around one of its places
@@ -288,21 +272,23 @@ stops_syncing {A} known now bs i b e less here named returned so_far = record {
 
 -- ---- the whole
 
--- all were written, renamed and synced
+-- all were written, renamed and synced, and then names beside them removed
 pub placed : (known one new : Option (List Step)) (wanted : List NewFile) (all : List Standing)
     → AreBeside wanted all → one ≡ then_done known (writing all)
-    → new ≡ then_done (then_done one (renaming all)) (syncing all)
+    → OnlyDoes (Removes (IsBesideOne all)) (then_done (then_done one (renaming all)) (syncing all)) new
     → AreInPlace known wanted new
 placed known one new wanted all are written done =
-    let rest : new ≡ then_done known (writing all ++ (renaming all ++ syncing all)) =
-    done ∙ then_more one (renaming all) (syncing all)
+    let rest : then_done (then_done one (renaming all)) (syncing all)
+    ≡ then_done known (writing all ++ (renaming all ++ syncing all)) =
+    then_more one (renaming all) (syncing all)
     ∙ ap (λ (k : Option (List Step)). then_done k (renaming all ++ syncing all)) written
     ∙ then_more known (writing all) (renaming all ++ syncing all) in
     record {
       all = all;
       are = are;
-      done = rest ∙ ap (then_done known)
-          (sym (append_assoc (writing all) (renaming all) (syncing all)));
+      done = subst (λ (k : Option (List Step)). OnlyDoes (Removes (IsBesideOne all)) k new)
+          (rest ∙ ap (then_done known)
+          (sym (append_assoc (writing all) (renaming all) (syncing all)))) done;
     }
 
 -- some were written, and these removed
@@ -353,7 +339,7 @@ stop_syncing known one new all e renamed stops =
 -- ---- the file that is named
 
 -- the one at its place
-any_at : {X : Type 0} (P : X → Type 0) (before : List X) (x : X) (behind : List X) → P x
+pub any_at : {X : Type 0} (P : X → Type 0) (before : List X) (x : X) (behind : List X) → P x
     → Any P (before ++ x ∷ behind)
 any_at {X} P before x behind holds =
     let long : length before < length (before ++ x ∷ behind) =
@@ -420,13 +406,14 @@ stopped_at {A} bs i d e less named counted =
 pub put_placed : {A R : Type 0} (returned : Result R FileError) (known one new : Option (List Step))
     (wanted : List NewFile) (bs named : List (Beside A)) → AreBeside wanted (standing_in bs)
     → named ≡ bs → one ≡ then_done known (writing (standing_in bs))
-    → OnOk returned (new ≡ then_done (then_done one (renaming (standing_in named)))
-    (syncing (standing_in named))) → OnOk returned (AreInPlace known wanted new)
+    → OnOk returned (OnlyDoes (Removes (IsBesideOne (standing_in named)))
+    (then_done (then_done one (renaming (standing_in named))) (syncing (standing_in named))) new)
+    → OnOk returned (AreInPlace known wanted new)
 put_placed (Err e) known one new wanted bs named are same written h = tt
 put_placed {A} (Ok r) known one new wanted bs named are same written h =
     placed known one new wanted (standing_in bs) are written
-    (subst (λ (l : List (Beside A)). new ≡ then_done (then_done one (renaming (standing_in l)))
-    (syncing (standing_in l))) same h)
+    (subst (λ (l : List (Beside A)). OnlyDoes (Removes (IsBesideOne (standing_in l)))
+    (then_done (then_done one (renaming (standing_in l))) (syncing (standing_in l))) new) same h)
 
 -- putting files in their places is refused
 pub put_refused : {A R : Type 0} (returned : Result R FileError) (there : List ℕ → Option Bool)

@@ -5,6 +5,7 @@ mod escaped;
 mod file_error;
 mod file_name;
 mod free;
+mod left;
 mod made;
 mod new_folder;
 mod numbered;

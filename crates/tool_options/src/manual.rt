@@ -40,8 +40,13 @@ object.";
 const LEFT: &str = "\
 After an error, write and compact remove what has a temporary name, as far as
 the system lets them. A process that is killed leaves it: a file FILE.1.tmp of
-write, or the folder FOLDER.1.tmp of compact. Remove it by hand. Until then
-the next run takes the next number, up to 1000.
+write, or the folder FOLDER.1.tmp of compact. The next run with the same name
+takes the next number, up to 1000. Once its files are in place, it removes the
+regular files FILE.1.tmp and so on, up to its own number. From FOLDER.1.tmp it
+removes the numbered tables, and then the folder if it is empty. An error of
+this is ignored. Give no file of your own such a name. If two runs write the
+same name at once, one may remove the temporary file of the other, which then
+fails.
 
 Whenever write is stopped, each FILE is as it was or complete. After compact is
 stopped, FOLDER does not exist or has all its tables.";

@@ -377,7 +377,8 @@ has a file.
 
 Files are written under temporary names, such as FILE.1.tmp. Once all are
 complete and synced, they are renamed. After an error before that, the old
-files stay. With --target, files that were renamed before the error stay too.",
+files stay. With --target, files that were renamed before the error stay too.
+At the end, temporary files that a killed run left are removed.",
     },
     CommandText {
         name: "dump",
@@ -443,7 +444,8 @@ below the watermark is dropped too.
 The new tables are 000001.sst, 000002.sst and so on in FOLDER. Their options
 are those of write. The folder has a temporary name first, such as
 FOLDER.1.tmp. Once all files are complete and synced, it is renamed. It is an
-error if FOLDER exists already.",
+error if FOLDER exists already. At the end, temporary folders that a killed
+run left are removed.",
     },
     CommandText {
         name: "pack",

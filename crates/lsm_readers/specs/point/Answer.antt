@@ -40,6 +40,11 @@ filter_admits body None (Some filter) place key hash = known (admits filter hash
 filter_admits body None None (Some place) key hash = block_admits body hash place
 filter_admits body None None None key hash = known true
 
+-- The same, with the filter of a table's parts.
+abbrev pub parts_admit : List ℕ → Parts → List ℕ → ℕ → Read Bool
+parts_admit body parts key hash = filter_admits body parts.pinned.filter_tops
+    parts.pinned.filter parts.regions.filter key hash
+
 -- Whether a key may have an entry visible at a snapshot: some stored seqno is below it, and the
 -- filter admits the key.
 abbrev pub admission : List ℕ → Parts → List ℕ → ℕ → Read Bool

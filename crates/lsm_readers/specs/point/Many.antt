@@ -1,7 +1,9 @@
 -- Many point reads of one table, over any bytes.
-use Rattle.std.specs.Prelude.{List, [], ◌∷◌, Option, Result, Ok}
+use Rattle.std.specs.Prelude.{ℕ, List, [], ◌∷◌, map, Option, Result, Ok}
 use Rattle.sst_entries.specs.declared.error.Error.{Error}
 use Rattle.sst_entries.specs.Entry.{Entry}
+use Rattle.sst_entries.specs.Point.{point}
+use Rattle.lsm_iters.specs.Lift.{lift}
 use Rattle.lsm_readers.specs.declared.many.Query.{Query}
 use Rattle.lsm_readers.specs.point.Answer.{table_answer}
 use Rattle.lsm_readers.specs.point.Read.{◌>>=◌}
@@ -20,3 +22,7 @@ found_result t q = (table_answer t q.key q.seqno).returned
 abbrev pub many_results : {A : Type 0} → OpenTable → List (Query A)
     → Result (List (Option Entry)) Error
 many_results t queries = answers_to (found_result t) queries
+
+-- The newest visible version of each query's key in a list, global seqno applied.
+abbrev pub points : {A : Type 0} → List Entry → ℕ → List (Query A) → List (Option Entry)
+points es g queries = map (λ q. point (lift es g) q.key q.seqno) queries

@@ -53,10 +53,8 @@ pub fn get_many<A: Allocator + Clone>(
         (spec.many_results table.now queries.now) }
     // On bytes that store a list it is each query's newest visible version in the list, global
     // seqno applied. It fails with `OutOfMemory` only.
-    ensures list { (es : List spec.Entry) → spec.StoresList table.now.bytes es →
-        let all = spec.lift es table.now.global_seqno in
-        spec.Gives (λ found. found.items) result
-        (Ok (map (λ q. spec.point all q.key q.seqno) queries.now)) }
+    ensures list { (es : List spec.Entry) → spec.StoresList table.now.bytes es → spec.Gives (λ
+        found. found.items) result (Ok (spec.points es table.now.global_seqno queries.now)) }
     // Without queries it fails only if a clone of the allocator does.
     ensures calm { queries.now ≡ [] → ((alloc : A) → A.is_infallible alloc) → IsOk result }
 {
@@ -100,10 +98,9 @@ pub fn get_many_places<A: Allocator + Clone>(
         spec.All (λ place. IfSome place (spec.IsPlacedIn table.now.bytes)) found.items) }
     // On bytes that store a list they are each query's newest visible version in the list, global
     // seqno applied. It fails with `OutOfMemory` only.
-    ensures list { (es : List spec.Entry) → spec.StoresList table.now.bytes es →
-        let all = spec.lift es table.now.global_seqno in
-        spec.Gives (λ found. spec.entries_placed table.now.bytes found.items) result
-        (Ok (map (λ q. spec.point all q.key q.seqno) queries.now)) }
+    ensures list { (es : List spec.Entry) → spec.StoresList table.now.bytes es → spec.Gives (λ
+        found. spec.entries_placed table.now.bytes found.items) result (Ok (spec.points es
+        table.now.global_seqno queries.now)) }
     // Without queries it fails only if a clone of the allocator does.
     ensures calm { queries.now ≡ [] → ((alloc : A) → A.is_infallible alloc) → IsOk result }
 {

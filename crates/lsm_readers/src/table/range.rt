@@ -26,41 +26,27 @@ impl<A: Allocator + Clone> Table<A> {
     /// ```
     pub fn iter(&self) -> Result<Iter<A>, Error>
         ensures is { IfOk result (spec.IsRangeOf self.now spec.Unbounded spec.Unbounded) }
-        ensures yields { let gives = ⟦<Iter<A> as Iterator>⟧.next_gives in
-            let back_gives = ⟦<Iter<A> as DoubleEndedIterator>⟧.next_back_gives in
-            let returned = spec.range_results self.now spec.Unbounded spec.Unbounded in
-            IfOk result (λ i. spec.YieldsEnding gives back_gives (λ _. Unit {0}) (λ _. Unit {0}) i
-            returned) }
+        ensures yields { spec.RangeYields ⟦<Iter<A> as Iterator>⟧.next_gives
+            ⟦<Iter<A> as DoubleEndedIterator>⟧.next_back_gives self.now spec.Unbounded
+            spec.Unbounded result }
         // On bytes that store a list it yields the list, global seqno applied.
-        ensures list { let gives = ⟦<Iter<A> as Iterator>⟧.next_gives in
-            let back_gives = ⟦<Iter<A> as DoubleEndedIterator>⟧.next_back_gives in
-            (es : List spec.Entry) → spec.StoresList self.now.bytes es →
-            let g = self.now.global_seqno in IfOk result (spec.YieldsAll gives back_gives es g) }
+        ensures list { spec.RangeYieldsAll ⟦<Iter<A> as Iterator>⟧.next_gives
+            ⟦<Iter<A> as DoubleEndedIterator>⟧.next_back_gives self.now result }
         // As a lending iterator it yields the same at the front, also with calls at the back in
         // between.
-        ensures lends { let advances = ⟦<Iter<A> as Lending>⟧.advances in
-            let back_gives = ⟦<Iter<A> as DoubleEndedIterator>⟧.next_back_gives in
-            let returned = spec.range_results self.now spec.Unbounded spec.Unbounded in
-            IfOk result (λ i.
-            spec.YieldsEnding advances back_gives (λ _. Unit {0}) (λ _. Unit {0}) i returned) }
-        ensures lends_list { let advances = ⟦<Iter<A> as Lending>⟧.advances in
-            let back_gives = ⟦<Iter<A> as DoubleEndedIterator>⟧.next_back_gives in
-            (es : List spec.Entry) → spec.StoresList self.now.bytes es →
-            let g = self.now.global_seqno in IfOk result (spec.YieldsAll advances back_gives es g) }
+        ensures lends { spec.RangeYields ⟦<Iter<A> as Lending>⟧.advances
+            ⟦<Iter<A> as DoubleEndedIterator>⟧.next_back_gives self.now spec.Unbounded
+            spec.Unbounded result }
+        ensures lends_list { spec.RangeYieldsAll ⟦<Iter<A> as Lending>⟧.advances
+            ⟦<Iter<A> as DoubleEndedIterator>⟧.next_back_gives self.now result }
         // It loads at most all data blocks, and the index blocks that lead to them. As a lending
         // iterator it loads no more.
-        ensures few { let gives = ⟦<Iter<A> as Iterator>⟧.next_gives in
-            let back_gives = ⟦<Iter<A> as DoubleEndedIterator>⟧.next_back_gives in
-            (es : List spec.Entry) (t : spec.StoresList self.now.bytes es) →
-            let blocks = spec.blocks_within t spec.Unbounded spec.Unbounded in
-            let index = spec.index_within self.now spec.Unbounded spec.Unbounded in
-            IfOk result (spec.LoadsAtMost gives back_gives blocks index) }
-        ensures lends_few { let advances = ⟦<Iter<A> as Lending>⟧.advances in
-            let back_gives = ⟦<Iter<A> as DoubleEndedIterator>⟧.next_back_gives in
-            (es : List spec.Entry) (t : spec.StoresList self.now.bytes es) →
-            let blocks = spec.blocks_within t spec.Unbounded spec.Unbounded in
-            let index = spec.index_within self.now spec.Unbounded spec.Unbounded in
-            IfOk result (spec.LoadsAtMost advances back_gives blocks index) }
+        ensures few { spec.RangeLoadsFew ⟦<Iter<A> as Iterator>⟧.next_gives
+            ⟦<Iter<A> as DoubleEndedIterator>⟧.next_back_gives self.now spec.Unbounded
+            spec.Unbounded result }
+        ensures lends_few { spec.RangeLoadsFew ⟦<Iter<A> as Lending>⟧.advances
+            ⟦<Iter<A> as DoubleEndedIterator>⟧.next_back_gives self.now spec.Unbounded
+            spec.Unbounded result }
         ensures err { IfErr result (λ e. e ≡ OutOfMemory) }
     {
         self.range(Bound::Unbounded, Bound::Unbounded)
@@ -97,43 +83,24 @@ impl<A: Allocator + Clone> Table<A> {
         ensures is { IfOk result (spec.IsRangeOf self.now lower upper) }
         // For any sequence of calls at the two ends, it yields the entries of the blocks between
         // the bounds, up to the first error.
-        ensures yields { let gives = ⟦<Iter<A> as Iterator>⟧.next_gives in
-            let back_gives = ⟦<Iter<A> as DoubleEndedIterator>⟧.next_back_gives in
-            let returned = spec.range_results self.now lower upper in
-            IfOk result (λ i. spec.YieldsEnding gives back_gives (λ _. Unit {0}) (λ _. Unit {0}) i
-            returned) }
+        ensures yields { spec.RangeYields ⟦<Iter<A> as Iterator>⟧.next_gives
+            ⟦<Iter<A> as DoubleEndedIterator>⟧.next_back_gives self.now lower upper result }
         // On bytes that store a list it yields the list's entries within the bounds, global seqno
         // applied.
-        ensures list { let gives = ⟦<Iter<A> as Iterator>⟧.next_gives in
-            let back_gives = ⟦<Iter<A> as DoubleEndedIterator>⟧.next_back_gives in
-            (es : List spec.Entry) → spec.StoresList self.now.bytes es →
-            let g = self.now.global_seqno in
-            IfOk result (spec.YieldsWithin gives back_gives lower upper es g) }
+        ensures list { spec.RangeYieldsList ⟦<Iter<A> as Iterator>⟧.next_gives
+            ⟦<Iter<A> as DoubleEndedIterator>⟧.next_back_gives self.now lower upper result }
         // As a lending iterator it yields the same at the front, also with calls at the back in
         // between.
-        ensures lends { let advances = ⟦<Iter<A> as Lending>⟧.advances in
-            let back_gives = ⟦<Iter<A> as DoubleEndedIterator>⟧.next_back_gives in
-            let returned = spec.range_results self.now lower upper in IfOk result (λ i.
-            spec.YieldsEnding advances back_gives (λ _. Unit {0}) (λ _. Unit {0}) i returned) }
-        ensures lends_list { let advances = ⟦<Iter<A> as Lending>⟧.advances in
-            let back_gives = ⟦<Iter<A> as DoubleEndedIterator>⟧.next_back_gives in
-            (es : List spec.Entry) → spec.StoresList self.now.bytes es →
-            let g = self.now.global_seqno in
-            IfOk result (spec.YieldsWithin advances back_gives lower upper es g) }
+        ensures lends { spec.RangeYields ⟦<Iter<A> as Lending>⟧.advances
+            ⟦<Iter<A> as DoubleEndedIterator>⟧.next_back_gives self.now lower upper result }
+        ensures lends_list { spec.RangeYieldsList ⟦<Iter<A> as Lending>⟧.advances
+            ⟦<Iter<A> as DoubleEndedIterator>⟧.next_back_gives self.now lower upper result }
         // It loads at most the data blocks between the bounds, and the index blocks that lead to
         // them. As a lending iterator it loads no more.
-        ensures few { let gives = ⟦<Iter<A> as Iterator>⟧.next_gives in
-            let back_gives = ⟦<Iter<A> as DoubleEndedIterator>⟧.next_back_gives in
-            (es : List spec.Entry) (t : spec.StoresList self.now.bytes es) →
-            let blocks = spec.blocks_within t lower upper in
-            let index = spec.index_within self.now lower upper in
-            IfOk result (spec.LoadsAtMost gives back_gives blocks index) }
-        ensures lends_few { let advances = ⟦<Iter<A> as Lending>⟧.advances in
-            let back_gives = ⟦<Iter<A> as DoubleEndedIterator>⟧.next_back_gives in
-            (es : List spec.Entry) (t : spec.StoresList self.now.bytes es) →
-            let blocks = spec.blocks_within t lower upper in
-            let index = spec.index_within self.now lower upper in
-            IfOk result (spec.LoadsAtMost advances back_gives blocks index) }
+        ensures few { spec.RangeLoadsFew ⟦<Iter<A> as Iterator>⟧.next_gives
+            ⟦<Iter<A> as DoubleEndedIterator>⟧.next_back_gives self.now lower upper result }
+        ensures lends_few { spec.RangeLoadsFew ⟦<Iter<A> as Lending>⟧.advances
+            ⟦<Iter<A> as DoubleEndedIterator>⟧.next_back_gives self.now lower upper result }
         ensures err { IfErr result (λ e. e ≡ OutOfMemory) }
     {
         let ((lower, upper), mut iter) = beside((lower, upper), self.unbounded())?;

@@ -147,10 +147,8 @@ fn read_at<A: Allocator + Clone>(
     ensures returned { (h : spec.Handle) → spec.slice_get handles.now index ≡ Some h →
         spec.Finds (λ (read : spec.UnreadLeft). read) result
         (spec.block_found (spec.body_of source.now) (spec.parts_of inner.now) left.now h) }
-    ensures early { (h : spec.Handle) → spec.slice_get handles.now index ≡ Some h →
-        let counts = left.now.counts in
-        spec.FindsFirst result
-        (spec.chunk_early (spec.body_of source.now) (spec.parts_of inner.now) counts
+    ensures early { (h : spec.Handle) → spec.slice_get handles.now index ≡ Some h → spec.FindsFirst
+        result (spec.chunk_early (spec.body_of source.now) (spec.parts_of inner.now) left.now.counts
         (spec.place_of h)) }
 {
     let place = handles.place_at(index);
@@ -183,10 +181,8 @@ fn step_block<A: Allocator + Clone>(
         IfErr result (λ e. spec.Misses e
         (spec.block_found (spec.body_of source.now) (spec.parts_of inner.now) left.old h)) }
     ensures early { (h : spec.Handle) (rest : List spec.Handle) → handles.old ≡ h ∷ rest →
-        let counts = left.old.counts in
-        spec.FindsFirst result
-        (spec.chunk_early (spec.body_of source.now) (spec.parts_of inner.now) counts
-        (spec.place_of h)) }
+        spec.FindsFirst result (spec.chunk_early (spec.body_of source.now) (spec.parts_of inner.now)
+        left.old.counts (spec.place_of h)) }
     ensures calm { handles.old ≡ [] → IsOk result }
     ensures unchanged { IfErr result (λ _.
         (handles.new ≡ handles.old) × (left.new ≡ left.old)) }
@@ -358,21 +354,18 @@ fn step_filter<A: Allocator + Clone>(
     inner: &Inner<A>,
     index: usize,
 ) -> Result<Stage<A>, VerifyError>
-    ensures goes { (left : spec.UnreadLeft) → let parts = spec.parts_of inner.now in
-        let ahead = spec.before_index (drop index (spec.places_in parts)) in
-        IfOk result (λ stage. spec.GoesOne (spec.body_of source.now) parts ahead left
-        (spec.ahead_of parts stage) left) }
-    ensures refused { (left : spec.UnreadLeft) → let parts = spec.parts_of inner.now in
-        let ahead = spec.before_index (drop index (spec.places_in parts)) in
-        IfErr result (λ e. spec.Misses e
-        (spec.rest_found (spec.body_of source.now) parts ahead left)) }
-    ensures next { (left : spec.UnreadLeft) → let parts = spec.parts_of inner.now in
-        let ahead = spec.before_index (drop index (spec.places_in parts)) in
-        IfErr result (λ e. spec.Misses e
-        (spec.next_found (spec.body_of source.now) parts ahead left)) }
-    ensures early { (left : spec.UnreadLeft) → let parts = spec.parts_of inner.now in
-        let ahead = spec.before_index (drop index (spec.places_in parts)) in
-        spec.FindsFirst result (spec.step_early (spec.body_of source.now) parts ahead left) }
+    ensures goes { (left : spec.UnreadLeft) → let parts = spec.parts_of inner.now in let ahead =
+        spec.filters_from parts index in IfOk result (λ stage. spec.GoesOne (spec.body_of
+        source.now) parts ahead left (spec.ahead_of parts stage) left) }
+    ensures refused { (left : spec.UnreadLeft) → let parts = spec.parts_of inner.now in let ahead =
+        spec.filters_from parts index in IfErr result (λ e. spec.Misses e (spec.rest_found
+        (spec.body_of source.now) parts ahead left)) }
+    ensures next { (left : spec.UnreadLeft) → let parts = spec.parts_of inner.now in let ahead =
+        spec.filters_from parts index in IfErr result (λ e. spec.Misses e (spec.next_found
+        (spec.body_of source.now) parts ahead left)) }
+    ensures early { (left : spec.UnreadLeft) → let parts = spec.parts_of inner.now in let ahead =
+        spec.filters_from parts index in spec.FindsFirst result (spec.step_early (spec.body_of
+        source.now) parts ahead left) }
 {
     match filter_at(inner, index) {
         Some(place) => {

@@ -3,6 +3,7 @@
 use Rattle.std.specs.Prelude.{◌≡◌, ℕ, Bool, zero, suc, ◌+◌, ◌-◌, ◌^◌, ◌<◌, ◌≤◌, ◌==◌, List}
 use Rattle.std.specs.Prelude.{length, Option, Result, if◌then◌else◌}
 use Rattle.std.specs.List.{AllByRecursion}
+use Rattle.std.specs.declared.sync.Arc.{Arc}
 use Rattle.sst_entries.specs.declared.error.Error.{Error}
 use Rattle.sst_entries.specs.Entry.{Entry}
 use Rattle.sst_entries.specs.Stream.{nowhere, ok_results}
@@ -16,7 +17,7 @@ use Rattle.lsm_writers.specs.Tables.{AreFinished, AreInKeyOrder, AreTables, IsFr
 use Rattle.lsm_writers.specs.Tables.{TablesWriting, drawn, first_id, next_id}
 use Rattle.lsm_writers.specs.Writing.{IsWritable}
 use Rattle.lsm_readers.specs.point.Table.{OpenTable}
-use Rattle.lsm_runs.specs.RunLists.{YieldsList, RunsHoldLists}
+use Rattle.lsm_runs.specs.RunLists.{RunsHold, RunsHoldLists, TableLists, YieldsList}
 use Rattle.lsm_runs.specs.SeveralRuns.{union_in}
 
 -- ---- what is compacted
@@ -24,6 +25,12 @@ use Rattle.lsm_runs.specs.SeveralRuns.{union_in}
 -- a run's lists: at least one, and each has an entry
 abbrev pub HaveEntries : List (List Entry) → Type 0
 HaveEntries ls = (0 < length ls) × AllByRecursion (λ (es : List Entry). 0 < length es) ls
+
+-- this holds of any lists with entries that the runs hold
+abbrev pub OnFullLists : {Z : Type 0} → List (Arc (List OpenTable) Z) → (TableLists → Type 0)
+    → Type 0
+OnFullLists runs P =
+    (lists : TableLists) → RunsHold runs lists → AllByRecursion HaveEntries lists → P lists
 
 -- runs in order of tables of lists that have entries
 pub record AreMergeable (runs : List (List OpenTable)) : Type 0 where

@@ -43,8 +43,9 @@ steps_after before [] = []
 steps_after before (t ∷ ts) =
     progress_at (before ++ t ∷ []) ∷ steps_after (before ++ t ∷ []) ts
 
-abbrev pub told_of : List (List Entry) → List CompactionProgress
-told_of ts = steps_after [] ts
+-- the progress reported as these tables are finished one after another, from the first on
+abbrev pub progress_steps : List (List Entry) → List CompactionProgress
+progress_steps ts = steps_after [] ts
 
 module _ {O : Type 0} (says : O → CompactionProgress → Bool → O → Type 0) where
   -- an observer was called with these in order, and returned each time to go on
@@ -72,7 +73,7 @@ module _ {O : Type 0} (says : O → CompactionProgress → Bool → O → Type 0
   pub record NotifiedOfPart (w : TablesWriting) (list : List Entry) (o q : O) : Type 0 where
     pub tables : List (List Entry)
     pub cut : AreTables w.present.options.data_block_size w.target list tables
-    pub returned : GoesOnAt o (told_of (but_last tables)) q
+    pub returned : GoesOnAt o (progress_steps (but_last tables)) q
 
   -- it was called for all but the last, and stopped at the last of these: nothing was written after
   -- the entry that began the next table
@@ -81,14 +82,14 @@ module _ {O : Type 0} (says : O → CompactionProgress → Bool → O → Type 0
     pub next : Entry
     pub cut : AreTables w.present.options.data_block_size w.target list
         (tables ++ (next ∷ []) ∷ [])
-    pub returned : StopsAtLast o (told_of tables) q
+    pub returned : StopsAtLast o (progress_steps tables) q
 
   -- it was called for all but the last of these finished tables, and went on each time
   pub record NotifiedOfAll {A : Type 0} (w : TablesWriting) (fs : List (FinishedTable A)) (o q : O)
       : Type 0 where
     pub tables : List (List Entry)
     pub finished : AreFinished w.present.options (first_written w) tables fs
-    pub returned : GoesOnAt o (told_of (but_last tables)) q
+    pub returned : GoesOnAt o (progress_steps (but_last tables)) q
 
   -- the calls of an observer for a list that was written, by the outcome: a compaction stops
   -- exactly when the observer returns so, and at once

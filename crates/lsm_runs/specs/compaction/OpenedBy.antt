@@ -1,9 +1,11 @@
 -- Finished tables that are opened with given options; the finished tables are not changed.
-use Rattle.std.specs.Prelude.{◌≡◌, ◌≢◌, ℕ, true, List, [], Option, None, Ok, MatchOption}
+use Rattle.std.specs.Prelude.{◌≡◌, ◌≢◌, ℕ, true, List, [], Option, None, Some, Ok, MatchOption}
 use Rattle.std.specs.List.{AllZip}
 use Rattle.std.specs.Option.{option_or}
 use Rattle.sst_entries.specs.declared.error.Error.{Error}
 use Rattle.sst_entries.specs.Entry.{Entry}
+use Rattle.sst_entries.specs.Stream.{ok_results}
+use Rattle.lsm_sorted.specs.merge.Ends.{R}
 use Rattle.lsm_writers.specs.declared.writer.FinishedTable.{FinishedTable}
 use Rattle.lsm_writers.specs.Tables.{TablesWriting}
 use Rattle.lsm_readers.specs.point.Parts.{recovered_result}
@@ -52,3 +54,10 @@ HasRunBy how Stopped r = r ≡ None
 -- 1, or a seqno too large with the global one applied
 abbrev pub run_with_fault : TablesWriting → List Entry → ℕ → Option Error
 run_with_fault w es g = option_or (writes_fault w es) (opens_fault w.present.options es g)
+
+-- the results are those of a list whose tables are written, and opening these fails with this error
+pub record FailsToOpen (w : TablesWriting) (rs : List R) (g : ℕ) (e : Error) : Type 0 where
+  pub list : List Entry
+  pub whole : rs ≡ ok_results list
+  pub none : writes_fault w list ≡ None
+  pub fault : opens_fault w.present.options list g ≡ Some e

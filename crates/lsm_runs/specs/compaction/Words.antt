@@ -3,6 +3,7 @@
 pub use Rattle.sst_entries.specs.Entry.{Entry}
 pub use Rattle.sst_entries.specs.Error.{Faults, Gives, is_memory}
 pub use Rattle.sst_entries.specs.Stream.{CanYield, first, nowhere, ok_results}
+pub use Rattle.sst_blocks.specs.Asked.{result_map}
 pub use Rattle.sst_blocks.specs.table.Chunks.{joined}
 pub use Rattle.sst_blocks.specs.table.Facts.{highest_seqno}
 pub use Rattle.sst_blocks.specs.table.Options.{default_options}
@@ -15,7 +16,7 @@ pub use Rattle.lsm_readers.specs.point.Parts.{recovered_result}
 pub use Rattle.lsm_readers.specs.Stored.{StoresList}
 pub use Rattle.lsm_readers.specs.point.Table.{OpenTable}
 pub use Rattle.lsm_runs.specs.RunLists.{YieldTogether, YieldsList, HoldLists, RunsHoldLists}
-pub use Rattle.lsm_runs.specs.RunLists.{RunsHold, TableLists, each_run}
+pub use Rattle.lsm_runs.specs.RunLists.{CanLend, OnLists, RunsHold, TableLists, each_run}
 pub use Rattle.lsm_runs.specs.SeveralRuns.{union_in}
 pub use Rattle.lsm_runs.specs.compaction.AnyRuns.{AreTablesBy, BeginsWith, CameInOrder, CameOf}
 pub use Rattle.lsm_runs.specs.compaction.AnyRuns.{YieldsResults, GoesThrough, HasMade, RefusesOf}
@@ -26,7 +27,7 @@ pub use Rattle.lsm_runs.specs.compaction.Chain.{IsOpenedOf, IsRunOfList, chain_f
 pub use Rattle.lsm_runs.specs.compaction.Chain.{run_label, tables_fault, writes_fault}
 pub use Rattle.lsm_runs.specs.compaction.Compacted.{AreCompactable, AreMergeable, AreWrittenBy}
 pub use Rattle.lsm_runs.specs.compaction.Compacted.{YieldsWritable, FitsBy, HaveEntries, RunsOn}
-pub use Rattle.lsm_runs.specs.compaction.Compacted.{kept_in}
+pub use Rattle.lsm_runs.specs.compaction.Compacted.{OnFullLists, kept_in}
 pub use Rattle.lsm_runs.specs.compaction.Compacted.{StreamedLaw, rules_by}
 pub use Rattle.lsm_runs.specs.compaction.Filtered.{CameTo, CameUntil, CameUpTo, CompactsAs}
 pub use Rattle.lsm_runs.specs.compaction.Filtered.{FitsKept}
@@ -35,7 +36,8 @@ pub use Rattle.lsm_runs.specs.compaction.Filtered.{RefusesForMemory, RefusesWrit
 pub use Rattle.lsm_runs.specs.compaction.Observed.{HasBegun, IsCounted, NotifiesNext, WasNotified}
 pub use Rattle.lsm_runs.specs.compaction.Observed.{WasNotifiedUntil}
 pub use Rattle.lsm_runs.specs.compaction.OpenedBy.{AreOpenedBy, HasRunBy, IsOpenedBy, IsRunBy}
-pub use Rattle.lsm_runs.specs.compaction.OpenedBy.{run_with_fault}
+pub use Rattle.lsm_runs.specs.compaction.OpenedBy.{FailsToOpen, run_with_fault}
+pub use Rattle.lsm_runs.specs.compaction.Unfiltered.{IsUnfiltered, KeepsEach, NeverStops}
 pub use Rattle.lsm_runs.specs.compaction.Written.{number_fault, opens_fault}
 pub use Rattle.std.specs.Arc.{arc_value}
 pub use Rattle.std.specs.List.{AllByRecursion, AllZip}

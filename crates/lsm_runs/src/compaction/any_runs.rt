@@ -91,7 +91,7 @@ fn write_while_observed<L: Lending, O: CompactionObserver, A: Allocator + Clone>
     observer: &mut O,
 ) -> Result<Ending, Error>
     requires fresh { spec.IsFreshRun writer.old }
-    requires can { spec.CanYield L.advances spec.nowhere L.can_advance L.can_advance source.old }
+    requires can { spec.CanLend L.advances L.can_advance source.old }
     ensures took { OnOk result (spec.TookList writer.old (spec.all_written writer.new) writer.new) }
     ensures wrote { IfOk result (λ ending. spec.WroteUntil L.advances writer.old source.old O.says
         observer.old (spec.all_written writer.new) ending source.new observer.new) }
@@ -166,8 +166,7 @@ fn write_observed<
 ) -> Result<CompactionOutcome<A>, Error>
     requires fresh { spec.IsFreshRun writer }
     requires next { spec.RunsOn writer }
-    requires can { spec.CanYield ⟦<Compacted<L, F, C, A> as Lending>⟧.advances spec.nowhere
-        ⟦<Compacted<L, F, C, A> as Lending>⟧.can_advance
+    requires can { spec.CanLend ⟦<Compacted<L, F, C, A> as Lending>⟧.advances
         ⟦<Compacted<L, F, C, A> as Lending>⟧.can_advance source.old }
     ensures written { let next = ⟦<Compacted<L, F, C, A> as Lending>⟧.advances in
         IfOk result (λ r.
@@ -196,10 +195,8 @@ fn compacted_from<
     filter: F,
     callback: C,
 ) -> Result<Compacted<L, F, C, A>, Error>
-    ensures can { All (spec.CanYield L.advances spec.nowhere L.can_advance L.can_advance)
-        sources.items →
-        IfOk result (spec.CanYield ⟦<Compacted<L, F, C, A> as Lending>⟧.advances spec.nowhere
-        ⟦<Compacted<L, F, C, A> as Lending>⟧.can_advance
+    ensures can { All (spec.CanLend L.advances L.can_advance) sources.items → IfOk result
+        (spec.CanLend ⟦<Compacted<L, F, C, A> as Lending>⟧.advances
         ⟦<Compacted<L, F, C, A> as Lending>⟧.can_advance) }
     ensures list { let next = ⟦<Compacted<L, F, C, A> as Lending>⟧.advances in
         (lists : spec.TableLists) →
@@ -228,9 +225,8 @@ fn compacted_of<F: LentFilter<A> + Drop, C: LentCallback + Drop, A: Allocator + 
     filter: F,
     callback: C,
 ) -> Result<Compacted<RunScanner<A>, F, C, A>, Error>
-    ensures can { IfOk result (spec.CanYield
-        ⟦<Compacted<RunScanner<A>, F, C, A> as Lending>⟧.advances spec.nowhere
-        ⟦<Compacted<RunScanner<A>, F, C, A> as Lending>⟧.can_advance
+    ensures can { IfOk result (spec.CanLend
+        ⟦<Compacted<RunScanner<A>, F, C, A> as Lending>⟧.advances
         ⟦<Compacted<RunScanner<A>, F, C, A> as Lending>⟧.can_advance) }
     ensures list { let next = ⟦<Compacted<RunScanner<A>, F, C, A> as Lending>⟧.advances in
         (able : spec.AreMergeable (spec.each_run runs.now)) → IfOk result
@@ -296,17 +292,16 @@ pub fn compact_any_runs<
     // For compactable runs, the tables are those of what the filter and the rules keep of all
     // entries, as the writer cuts them. The callback got what is then reported; if it was stopped,
     // what was reported until then.
-    ensures kept { spec.AreCompactable (spec.each_run runs.now) → (lists : spec.TableLists) →
-        spec.RunsHold runs.now lists → IfOk result (λ r. spec.CameTo F.gives C.gets rules filter
-        callback (spec.union_in lists) writer r.0 r.1) }
+    ensures kept { spec.AreCompactable (spec.each_run runs.now) → spec.OnLists runs.now (λ lists.
+        IfOk result (λ r. spec.CameTo F.gives C.gets rules filter callback (spec.union_in lists)
+        writer r.0 r.1)) }
     // For tables of lists that have entries, the outcome is the tables of all that is kept. This
     // holds also if a key has one seqno twice. Or it ends at the first kept entry that may not
     // follow, or as soon as the observer returns so. The callback got what is reported until then,
     // and the observer was called for what was written.
-    ensures merged { (lists : spec.TableLists) → spec.RunsHold runs.now lists →
-        spec.AllByRecursion spec.HaveEntries lists → IfOk result (λ r. spec.CameUpTo F.gives C.gets
-        rules filter callback (spec.ok_results (spec.union_in lists)) writer O.says observer.old r.0
-        r.1 observer.new) }
+    ensures merged { spec.OnFullLists runs.now (λ lists. IfOk result (λ r. spec.CameUpTo F.gives
+        C.gets rules filter callback (spec.ok_results (spec.union_in lists)) writer O.says
+        observer.old r.0 r.1 observer.new)) }
     // For any tables whose scans come in order in each run, it is the outcome of their merge, each
     // error in its position. Or it is the error of the first run whose first data block cannot be
     // loaded.
@@ -331,26 +326,27 @@ pub fn compact_any_runs<
         observer.new) }
     // These are the tables of what was kept until then; after it comes the error, except for
     // `OutOfMemory`.
-    ensures until { (lists : spec.TableLists) → spec.RunsHold runs.now lists →
-        spec.AllByRecursion spec.HaveEntries lists → IfErr result
-        (λ e. spec.CameUntil F.gives C.gets rules filter callback
-        (spec.ok_results (spec.union_in lists)) writer O.says observer.old e observer.new) }
+    ensures until { spec.OnFullLists runs.now (λ lists. IfErr result (λ e. spec.CameUntil F.gives
+        C.gets rules filter callback (spec.ok_results (spec.union_in lists)) writer O.says
+        observer.old e observer.new)) }
     // Except for `OutOfMemory`, the error is the first one, of the filter or of the writer.
-    ensures refused { (lists : spec.TableLists) → spec.RunsHold runs.now lists →
-        spec.AllByRecursion spec.HaveEntries lists → IfErr result (λ e. spec.is_memory e ≡ false
-        → spec.RefusesBy F.gives C.gets rules filter callback
-        (spec.ok_results (spec.union_in lists)) writer e) }
+    ensures refused { spec.OnFullLists runs.now (λ lists. IfErr result (λ e. spec.is_memory e ≡
+        false → spec.RefusesBy F.gives C.gets rules filter callback (spec.ok_results (spec.union_in
+        lists)) writer e)) }
     // The compaction fails with `OutOfMemory` only, if the filter does and whatever may be kept
     // fits as tables with enough ids left.
-    ensures taken { spec.AreCompactable (spec.each_run runs.now) → (lists : spec.TableLists) →
-        spec.RunsHold runs.now lists → spec.RefusesForMemory F.gives →
-        spec.FitsKept writer rules (spec.union_in lists) →
-        IfErr result (λ e. e ≡ spec.OutOfMemory) }
+    ensures taken { spec.AreCompactable (spec.each_run runs.now) → spec.OnLists runs.now (λ lists.
+        spec.RefusesForMemory F.gives → spec.FitsKept writer rules (spec.union_in lists) → IfErr
+        result (λ e. e ≡ spec.OutOfMemory)) }
     // It is enough that what this filter keeps fits, whatever another filter might keep.
-    ensures fits { spec.AreCompactable (spec.each_run runs.now) → (lists : spec.TableLists) →
-        spec.RunsHold runs.now lists → spec.RefusesForMemory F.gives →
-        spec.FitsThroughout F.gives C.gets rules filter callback (spec.union_in lists) writer →
-        IfErr result (λ e. e ≡ spec.OutOfMemory) }
+    ensures fits { spec.AreCompactable (spec.each_run runs.now) → spec.OnLists runs.now (λ lists.
+        spec.RefusesForMemory F.gives → spec.FitsThroughout F.gives C.gets rules filter callback
+        (spec.union_in lists) writer → IfErr result (λ e. e ≡ spec.OutOfMemory)) }
+    // If the filter keeps each entry and the observer never stops it, the outcome is the tables of
+    // what the rules keep, or the first error.
+    ensures plain { spec.KeepsEach F.gives → spec.NeverStops O.says →
+        spec.IsUnfiltered (spec.each_run runs.now) rules writer
+        (spec.result_map (λ r. r.0) result) }
 {
     // A list whose tables fit is written whole.
     tables_law();

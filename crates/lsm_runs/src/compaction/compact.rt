@@ -43,9 +43,9 @@ pub(crate) fn scanners_of<A: Allocator + Clone>(
     runs: &[Arc<Run<Table<A>, A>, A>],
 ) -> Result<Vec<RunScanner<A>, A>, Error>
     // They yield together the entries of each run.
-    ensures list { let gives = ⟦<RunScanner<A> as Iterator>⟧.next_gives in
-        (able : spec.AreMergeable (spec.each_run runs.now)) → IfOk result
-        (λ v. spec.YieldTogether gives spec.nowhere v.items (map spec.joined able.lists)) }
+    ensures list { (able : spec.AreMergeable (spec.each_run runs.now)) → IfOk result (λ v.
+        spec.YieldTogether ⟦<RunScanner<A> as Iterator>⟧.next_gives spec.nowhere v.items (map
+        spec.joined able.lists)) }
     ensures err { spec.AreMergeable (spec.each_run runs.now) →
         IfErr result (λ e. e ≡ spec.OutOfMemory) }
     // For any tables, each yields the results of its scan. Else, except for `OutOfMemory`, the
@@ -81,10 +81,8 @@ fn kept_from<L: Lending + Drop, A: Allocator + Clone>(
     sources: Vec<L, A>,
     rules: Rules,
 ) -> Result<Kept<L, A>, Error>
-    ensures can { All (spec.CanYield L.advances spec.nowhere L.can_advance L.can_advance)
-        sources.items → IfOk result (spec.CanYield ⟦<Kept<L, A> as Lending>⟧.advances
-        spec.nowhere ⟦<Kept<L, A> as Lending>⟧.can_advance
-        ⟦<Kept<L, A> as Lending>⟧.can_advance) }
+    ensures can { All (spec.CanLend L.advances L.can_advance) sources.items → IfOk result
+        (spec.CanLend ⟦<Kept<L, A> as Lending>⟧.advances ⟦<Kept<L, A> as Lending>⟧.can_advance) }
     ensures list { let advances = ⟦<Kept<L, A> as Lending>⟧.advances in (lists : spec.TableLists) →
         spec.YieldTogether L.advances spec.nowhere sources.items (map spec.joined lists) →
         IfOk result (spec.YieldsList advances spec.nowhere (spec.kept_in rules lists)) }
@@ -108,13 +106,11 @@ pub(crate) fn kept_of<A: Allocator + Clone>(
     runs: &[Arc<Run<Table<A>, A>, A>],
     rules: Rules,
 ) -> Result<Kept<RunScanner<A>, A>, Error>
-    ensures can { IfOk result (spec.CanYield
-        ⟦<Kept<RunScanner<A>, A> as Lending>⟧.advances spec.nowhere
-        ⟦<Kept<RunScanner<A>, A> as Lending>⟧.can_advance
+    ensures can { IfOk result (spec.CanLend ⟦<Kept<RunScanner<A>, A> as Lending>⟧.advances
         ⟦<Kept<RunScanner<A>, A> as Lending>⟧.can_advance) }
-    ensures list { let advances = ⟦<Kept<RunScanner<A>, A> as Lending>⟧.advances in
-        (able : spec.AreMergeable (spec.each_run runs.now)) →
-        IfOk result (spec.YieldsList advances spec.nowhere (spec.kept_in rules able.lists)) }
+    ensures list { (able : spec.AreMergeable (spec.each_run runs.now)) → IfOk result
+        (spec.YieldsList ⟦<Kept<RunScanner<A>, A> as Lending>⟧.advances spec.nowhere (spec.kept_in
+        rules able.lists)) }
     ensures err { spec.AreMergeable (spec.each_run runs.now) →
         IfErr result (λ e. e ≡ spec.OutOfMemory) }
     // For any tables whose scans come in order in each run, it yields what is kept of their merge.
@@ -135,7 +131,7 @@ fn write_each<L: Lending, A: Allocator + Clone>(
     writer: &mut MultiWriter<A>,
 ) -> Result<(), Error>
     requires fresh { spec.IsFreshRun writer.old }
-    requires can { spec.CanYield L.advances spec.nowhere L.can_advance L.can_advance source.old }
+    requires can { spec.CanLend L.advances L.can_advance source.old }
     requires yields { spec.YieldsWritable L.advances source.old }
     ensures took { (d : spec.YieldsWritable L.advances source.old) →
         OnOk result (spec.TookList writer.old d.list writer.new) }
@@ -175,8 +171,8 @@ fn write_all<L: Lending + Drop, A: Allocator + Clone>(
 ) -> Result<(Vec<FinishedTable<A>, A>, TableIds), Error>
     requires fresh { spec.IsFreshRun writer }
     requires next { spec.RunsOn writer }
-    requires can { spec.CanYield ⟦<Kept<L, A> as Lending>⟧.advances spec.nowhere
-        ⟦<Kept<L, A> as Lending>⟧.can_advance ⟦<Kept<L, A> as Lending>⟧.can_advance source }
+    requires can { spec.CanLend ⟦<Kept<L, A> as Lending>⟧.advances
+        ⟦<Kept<L, A> as Lending>⟧.can_advance source }
     requires yields { spec.YieldsWritable ⟦<Kept<L, A> as Lending>⟧.advances source }
     ensures written { (d : spec.YieldsWritable ⟦<Kept<L, A> as Lending>⟧.advances source) →
         IfOk result (λ r. spec.AreWrittenBy writer d.list r.0.items r.1) }
@@ -211,6 +207,8 @@ fn write_all<L: Lending + Drop, A: Allocator + Clone>(
 /// - in all lists together, global seqnos applied, no key has one seqno twice, and each seqno is
 ///   below `u64::MAX`.
 ///
+/// [`compact_any_runs`](crate::compact_any_runs) has only the first condition.
+///
 /// # Errors
 ///
 /// The errors of [`MultiWriter::write`] and [`MultiWriter::finish`]; [`Error::OutOfMemory`].
@@ -235,16 +233,16 @@ pub fn compact_runs<A: Allocator + Clone>(
     requires able { spec.AreCompactable (spec.each_run runs.now) }
     // The tables are those of what is kept of all entries, as the writer cuts them.
     ensures tables { let rules = spec.rules_by gc_seqno_threshold evict_tombstones zero_seqnos in
-        (lists : spec.TableLists) → spec.RunsHold runs.now lists →
-        IfOk result (λ r. spec.AreWrittenBy writer (spec.kept_in rules lists) r.0.items r.1) }
+        spec.OnLists runs.now (λ lists. IfOk result (λ r. spec.AreWrittenBy writer (spec.kept_in
+        rules lists) r.0.items r.1)) }
     // The error is the writer's first one: reading fails with `OutOfMemory` only.
     ensures refused { let rules = spec.rules_by gc_seqno_threshold evict_tombstones zero_seqnos in
-        (lists : spec.TableLists) → spec.RunsHold runs.now lists →
-        spec.Faults result (spec.writes_fault writer (spec.kept_in rules lists)) }
+        spec.OnLists runs.now (λ lists. spec.Faults result (spec.writes_fault writer (spec.kept_in
+        rules lists))) }
     // If the tables fit and enough ids remain, the only error is `OutOfMemory`.
     ensures taken { let rules = spec.rules_by gc_seqno_threshold evict_tombstones zero_seqnos in
-        (lists : spec.TableLists) → spec.RunsHold runs.now lists →
-        spec.FitsBy writer (spec.kept_in rules lists) → IfErr result (λ e. e ≡ spec.OutOfMemory) }
+        spec.OnLists runs.now (λ lists. spec.FitsBy writer (spec.kept_in rules lists) → IfErr result
+        (λ e. e ≡ spec.OutOfMemory)) }
 {
     // A list whose tables fit is written whole.
     tables_law();

@@ -43,7 +43,9 @@ fn run_of_tables<A: Allocator + Clone>(
 /// opens each table without a global seqno. There is no run if nothing is kept. It also returns the
 /// id counter after the last table.
 ///
-/// The conditions on the runs are those of [`compact_runs`]. The given runs are not changed.
+/// The conditions on the runs are those of [`compact_runs`].
+/// [`compact_to_run_with`](crate::compact_to_run_with) has none on them: use it for tables from
+/// elsewhere. The given runs are not changed.
 ///
 /// # Errors
 ///
@@ -87,8 +89,8 @@ pub fn compact_to_run<A: Allocator + Clone>(
         IfOk result (λ _. spec.IsWritable (spec.kept_in rules lists)) }
     // Except for `OutOfMemory`, the error is the first one: of the counter, of the kept entries in
     // order, of the last table.
-    ensures refused { (lists : spec.TableLists) → spec.RunsHold runs.now lists →
-        spec.Faults result (spec.tables_fault ids target_size created_at (spec.kept_in rules lists)) }
+    ensures refused { (lists : spec.TableLists) → spec.RunsHold runs.now lists → spec.Faults result
+        (spec.tables_fault ids target_size created_at (spec.kept_in rules lists)) }
     // If the tables fit and enough ids remain, the only error is `OutOfMemory`.
     ensures taken { (lists : spec.TableLists) → spec.RunsHold runs.now lists →
         spec.FitsAsTables ids target_size (spec.kept_in rules lists) →

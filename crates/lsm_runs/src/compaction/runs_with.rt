@@ -1,6 +1,6 @@
 //! A run of the tables of a compaction, opened with options.
-ghost use Rattle.std.specs.Prelude.{◌≡◌, ◌∷◌, ◌+◌, ◌^◌, ◌<◌, [], IfErr, IfOk, IfSome, List};
-ghost use Rattle.std.specs.Prelude.{MatchOption};
+ghost use Rattle.std.specs.Prelude.{◌≡◌, ◌≢◌, ◌⊎◌, ◌∷◌, ◌+◌, ◌^◌, ◌<◌, [], IfErr, IfOk, IfSome};
+ghost use Rattle.std.specs.Prelude.{IsOk, List, MatchOption, MatchResult, None, Ok, false};
 ghost use Rattle.lsm_runs.specs.compaction.Words as spec;
 
 use crate::compaction::open_options::open_all;
@@ -24,47 +24,12 @@ fn open_outcome<A: Allocator + Clone>(
     ensures refused { (w : spec.TablesWriting) (es : List spec.Entry) →
         spec.AreTablesBy w es outcome.now →
         spec.Faults result (spec.opens_fault w.present.options es how.now.global_seqno) }
+    ensures disorder { outcome.now ≡ spec.OutOfOrder → IsOk result }
 {
     match outcome {
         CompactionOutcome::Tables(tables, _) => Ok(Run::new(open_all(alloc, tables, how)?)),
         CompactionOutcome::OutOfOrder | CompactionOutcome::Stopped => Ok(None),
     }
-}
-
-// Compacts several runs of any opened tables, without a filter, a callback and an observer.
-fn compact_unfiltered<A: Allocator + Clone>(
-    alloc: A,
-    runs: &[Arc<Run<Table<A>, A>, A>],
-    rules: Rules,
-    writer: MultiWriter<A>,
-) -> Result<CompactionOutcome<A>, Error>
-    requires fresh { spec.IsFreshRun writer }
-    ensures tables { spec.AreCompactable (spec.each_run runs.now) → (lists : spec.TableLists) →
-        spec.RunsHold runs.now lists →
-        IfOk result (spec.AreTablesBy writer (spec.kept_in rules lists)) }
-    ensures refused { spec.AreCompactable (spec.each_run runs.now) → (lists : spec.TableLists) →
-        spec.RunsHold runs.now lists →
-        spec.Faults result (spec.writes_fault writer (spec.kept_in rules lists)) }
-    ensures taken { spec.AreCompactable (spec.each_run runs.now) → (lists : spec.TableLists) →
-        spec.RunsHold runs.now lists → spec.FitsBy writer (spec.kept_in rules lists) →
-        IfErr result (λ e. e ≡ spec.OutOfMemory) }
-    ensures merged { (lists : spec.TableLists) → spec.RunsHold runs.now lists →
-        spec.AllByRecursion spec.HaveEntries lists →
-        IfOk result (spec.CameInOrder writer (spec.kept_in rules lists)) }
-    ensures made { IfOk result (spec.HasMade writer) }
-    ensures through { IfOk result spec.GoesThrough }
-{
-    let mut observer = NoObserver;
-    let (outcome, _) = compact_any_runs(
-        alloc,
-        runs,
-        rules,
-        writer,
-        NoFilter,
-        NoCallback,
-        &mut observer,
-    )?;
-    Ok(outcome)
 }
 
 /// Compacts several runs of any opened tables, and opens each new table with the options `how`.
@@ -95,34 +60,54 @@ pub fn compact_to_run_with<A: Allocator + Clone>(
     ensures merged { (lists : spec.TableLists) → spec.RunsHold runs.now lists →
         spec.AllByRecursion spec.HaveEntries lists →
         IfOk result (λ r. spec.CameInOrder writer (spec.kept_in rules lists) r.0) }
+    // For any tables whose scans come in order in each run, it is the outcome of writing what is kept
+    // of their merge, or the first fault of that. Or it is the error of the first run whose first
+    // data block cannot be loaded, or of opening the new tables.
+    ensures any { let scans = spec.scans_of (spec.each_run runs.now) in
+        spec.AllByRecursion (λ rs. spec.Ascends (spec.entries_among rs)) scans →
+        let left = spec.lent_outs rules (spec.merge_of scans) in
+        MatchResult result (λ r. spec.CameOf writer left (Ok r.0))
+        (λ e. spec.is_memory e ≡ false → spec.RefusesOf writer left e
+        ⊎ (spec.BeginsWith (spec.each_run runs.now) e
+        ⊎ spec.FailsToOpen writer left how.now.global_seqno e)) }
+    // For any tables, except for `OutOfMemory`, the error is that of the first run whose first data
+    // block cannot be loaded, if there is one.
+    ensures opens { let first = spec.first_blocks_fault (spec.each_run runs.now) in
+        first ≢ None → spec.Faults result first }
     // No observer stops it.
     ensures through { IfOk result (λ r. spec.GoesThrough r.0) }
     // The run has exactly these, opened with the options `how`, in their order.
     ensures opened { IfOk result (λ r. spec.HasRunBy how.now r.0 r.1) }
     // Together they hold what is kept, one after another, and are in order.
-    ensures run { spec.AreCompactable (spec.each_run runs.now) → (lists : spec.TableLists) →
-        spec.RunsHold runs.now lists →
-        let left = spec.kept_in rules lists in IfOk result (λ r. MatchOption r.1 (left ≡ [])
-        (λ run. spec.IsRunOfList left how.now.global_seqno run)) }
+    ensures run { spec.AreCompactable (spec.each_run runs.now) → spec.OnLists runs.now (λ lists. let
+        left = spec.kept_in rules lists in IfOk result (λ r. MatchOption r.1 (left ≡ []) (λ run.
+        spec.IsRunOfList left how.now.global_seqno run))) }
     // Without a global seqno, the run may be compacted again, whatever the tables held.
     ensures able { how.now.global_seqno ≡ 0 →
         IfOk result (λ r. IfSome r.1 (λ run. spec.AreCompactable (run ∷ []))) }
     // Except for `OutOfMemory`, the error is the writer's first one. Or else it reports an index
     // restart interval other than 1, or else a seqno that is too large.
-    ensures refused { spec.AreCompactable (spec.each_run runs.now) → (lists : spec.TableLists) →
-        spec.RunsHold runs.now lists → spec.Faults result (spec.run_with_fault writer
-        (spec.kept_in rules lists) how.now.global_seqno) }
+    ensures refused { spec.AreCompactable (spec.each_run runs.now) → spec.OnLists runs.now (λ lists.
+        spec.Faults result (spec.run_with_fault writer (spec.kept_in rules lists)
+        how.now.global_seqno)) }
     // With an interval of 1, the only error is `OutOfMemory` if the tables of what is kept fit,
     // enough ids remain and no seqno is too large.
-    ensures taken { spec.AreCompactable (spec.each_run runs.now) → (lists : spec.TableLists) →
-        spec.RunsHold runs.now lists →
-        let left = spec.kept_in rules lists in
-        writer.present.options.index_block_restart_interval ≡ 1 → spec.FitsBy writer left →
-        spec.highest_seqno left + how.now.global_seqno < 2 ^ 64 →
-        IfErr result (λ e. e ≡ spec.OutOfMemory) }
+    ensures taken { spec.AreCompactable (spec.each_run runs.now) → spec.OnLists runs.now (λ lists.
+        let left = spec.kept_in rules lists in writer.present.options.index_block_restart_interval ≡
+        1 → spec.FitsBy writer left → spec.highest_seqno left + how.now.global_seqno < 2 ^ 64 →
+        IfErr result (λ e. e ≡ spec.OutOfMemory)) }
 {
     let own = alloc.clone()?;
-    let outcome = compact_unfiltered(own, runs, rules, writer)?;
+    let mut observer = NoObserver;
+    let (outcome, _) = compact_any_runs(
+        own,
+        runs,
+        rules,
+        writer,
+        NoFilter,
+        NoCallback,
+        &mut observer,
+    )?;
     let opened = open_outcome(alloc, &outcome, how)?;
     Ok((outcome, opened))
 }

@@ -15,7 +15,7 @@ use Rattle.sst_tool.specs.files.Placed.{IsNotSynced}
 use Rattle.sst_tool.specs.files.There.{AreAllTaken, LiesElsewhere}
 use Rattle.sst_tool.specs.files.Steps.{Step, then_done}
 use Rattle.sst_tool.specs.files.Steps.Step.{MadeFolder, Removed, RemovedFolder, RenamedFolder}
-use Rattle.sst_tool.specs.files.Steps.Step.{SyncedNames, Wrote}
+use Rattle.sst_tool.specs.files.Steps.Step.{Synced, SyncedNames, Wrote}
 
 -- The path of a numbered table in a folder.
 abbrev pub path_within : List ℕ → ℕ → List ℕ
@@ -64,6 +64,21 @@ pub record IsFolderPlaced (folder : List ℕ) (all : List (List ℕ)) (behind : 
   pub named : IsBesideFolder folder beside
   pub done : new ≡ then_done known (placing_folder beside folder all ++ behind)
   pub left : files_left (placing_folder beside folder all ++ behind) ≡ numbered_within folder all
+
+-- The step is to remove a folder with such a path, or a numbered table in one.
+abbrev pub Clears : (List ℕ → Type 0) → Step → Type 0
+Clears Is (Removed path) =
+    (folder : List ℕ) × (number : ℕ) × Is folder × (path ≡ path_within folder number)
+Clears Is (RemovedFolder path) = Is path
+Clears Is step = ⊥
+
+-- The new folder has its name, and its parent folder was synced. After that only numbered tables in
+-- temporary folders of this name, and these folders, were removed, and nothing else was done.
+pub record IsFolderInPlace (folder : List ℕ) (all : List (List ℕ)) (known new : Option (List Step))
+    : Type 0 where
+  pub behind : List Step
+  pub cleared : AllByRecursion (Clears (IsBesideFolder folder)) behind
+  pub placed : IsFolderPlaced folder all (Synced folder ∷ behind) known new
 
 -- The faults of making the folder. Its only error of the library is OutOfMemory.
 abbrev pub IsMakingFault : FileFault → Type 0

@@ -1,5 +1,5 @@
 -- Files written under temporary names and then renamed.
-use Rattle.std.specs.Prelude.{Bool, IfSome, None, true}
+use Rattle.std.specs.Prelude.{Any, Bool, IfSome, None, true}
 use Rattle.std.specs.Prelude.{◌≡◌, ◌<◌, ◌⊎◌, ℕ, List, ◌∷◌, ◌++◌, Option, drop, length, map, take}
 use Rattle.std.specs.Fs.{IsDir, IsFile, file_type}
 use Rattle.std.specs.List.{AllByRecursion}
@@ -12,7 +12,7 @@ use Rattle.sst_tool.specs.declared.files.file_error.FileFault.TheVariants.{Left,
 use Rattle.sst_tool.specs.declared.files.file_error.FileFault.TheVariants.{NotSynced, Refused}
 use Rattle.sst_tool.specs.declared.files.write.NewFile.{NewFile}
 use Rattle.sst_tool.specs.files.Files.{IsBeside, path_text}
-use Rattle.sst_tool.specs.files.Steps.{Step, then_done}
+use Rattle.sst_tool.specs.files.Steps.{OnlyDoes, Removes, Step, then_done}
 use Rattle.sst_tool.specs.files.Steps.Step.{Removed, Renamed, Synced, Wrote}
 use Rattle.sst_tool.specs.files.There.{AreAllTaken, LiesElsewhere}
 
@@ -48,13 +48,18 @@ pub record AreBeside (files : List NewFile) (all : List Standing) : Type 0 where
   pub files_are : map (λ s. s.file) all ≡ files
   pub beside : AllByRecursion StandsBeside all
 
--- All files were written, then all were renamed, then their folders synced, and nothing else was
--- done.
+-- The path is a temporary name of one of the files.
+abbrev pub IsBesideOne : List Standing → List ℕ → Type 0
+IsBesideOne all path = Any (λ (s : Standing). IsBeside s.path path) all
+
+-- All files were written, then all were renamed, then their folders synced. After that only files
+-- with temporary names of these were removed, and nothing else was done.
 pub record AreInPlace (known : Option (List Step)) (wanted : List NewFile)
     (new : Option (List Step)) : Type 0 where
   pub all : List Standing
   pub are : AreBeside wanted all
-  pub done : new ≡ then_done known (writing all ++ renaming all ++ syncing all)
+  pub done : OnlyDoes (Removes (IsBesideOne all))
+      (then_done known (writing all ++ renaming all ++ syncing all)) new
 
 -- The faults of a file before any was renamed. The only error of the library is OutOfMemory.
 abbrev pub IsEarly : FileFault → Type 0

@@ -1,5 +1,6 @@
 -- The steps that are done to files.
-use Rattle.std.specs.Prelude.{ℕ, Bool, true, false, List, [], ◌∷◌, ◌++◌, Option}
+use Rattle.std.specs.Prelude.{◌≡◌, ℕ, Bool, true, false, List, [], ◌∷◌, ◌++◌, Option}
+use Rattle.std.specs.List.{AllByRecursion}
 use Rattle.std.specs.Option.{option_map}
 
 -- A new file was written and synced, with a mode if one is requested; a file was renamed; one is to
@@ -23,3 +24,14 @@ then_done known steps = option_map (λ done. done ++ steps) known
 abbrev pub written_if : Bool → List ℕ → List ℕ → Option ℕ → List Step
 written_if true path bytes mode = Wrote path bytes mode ∷ []
 written_if false path bytes mode = []
+
+-- Only steps of this kind are done, or none.
+pub record OnlyDoes (Is : Step → Type 0) (known new : Option (List Step)) : Type 0 where
+  pub steps : List Step
+  pub are : AllByRecursion Is steps
+  pub done : new ≡ then_done known steps
+
+-- A file with such a path is to be removed.
+abbrev pub Removes : (List ℕ → Type 0) → Step → Type 0
+Removes Is (Removed path) = Is path
+Removes Is step = ⊥

@@ -12,7 +12,8 @@ pub use Rattle.sst_tool.specs.files.Files.{IsBeside, IsCutBehind, IsCutShort, Is
 pub use Rattle.sst_tool.specs.files.Files.{is_memory_fault, path_text}
 pub use Rattle.sst_tool.specs.files.Folders.{folder_of, or_here}
 pub use Rattle.sst_tool.specs.files.Modes.{AreModesKept}
-pub use Rattle.sst_tool.specs.files.NewFolders.{IsBesideFolder, IsFolderNotPlaced, IsFolderPlaced}
+pub use Rattle.sst_tool.specs.files.NewFolders.{Clears, IsBesideFolder, IsFolderInPlace}
+pub use Rattle.sst_tool.specs.files.NewFolders.{IsFolderNotPlaced}
 pub use Rattle.sst_tool.specs.files.NewFolders.{IsMakingFault, IsNamingFault, IsNotFilled, IsStemOf}
 pub use Rattle.sst_tool.specs.files.NewFolders.{IsWritingFault, LiesWithin, MaySyncNames, StopsWithin}
 pub use Rattle.sst_tool.specs.files.NewFolders.{TellsNameTaken, TellsStemTaken, TellsTaken}
@@ -22,13 +23,14 @@ pub use Rattle.sst_tool.specs.files.Numbered.{named_bytes, numbered_files, numbe
 pub use Rattle.sst_tool.specs.files.Opened.{AreOpenedFrom, HasContent, IsToldByBytes, StopsOpening}
 pub use Rattle.sst_tool.specs.files.Opened.{TellsRefused}
 pub use Rattle.sst_tool.specs.files.Placed.{AreBeside, AreNotPlaced, AreNotPut, AreInPlace, IfLeft}
+pub use Rattle.sst_tool.specs.files.Placed.{IsBesideOne}
 pub use Rattle.sst_tool.specs.files.Placed.{IsEarly, IsLookFault, IsNotSynced, StopLooking, StopSyncing}
 pub use Rattle.sst_tool.specs.files.Placed.{StopsBefore, StopsRenamingAt, TellsAllTaken, TellsFound}
 pub use Rattle.sst_tool.specs.files.Placed.{TellsKind, TellsLeft, TellsRenamed, removing, renaming}
 pub use Rattle.sst_tool.specs.files.Placed.{syncing, writing}
 pub use Rattle.sst_tool.specs.files.Standing.{HaveModesKept, IsAdded, IsWritten, standing_in}
 pub use Rattle.sst_tool.specs.files.Standing.{standing_of}
-pub use Rattle.sst_tool.specs.files.Steps.{Step, then_done, written_if}
+pub use Rattle.sst_tool.specs.files.Steps.{OnlyDoes, Removes, Step, then_done, written_if}
 pub use Rattle.sst_tool.specs.files.Steps.Step.{MadeFolder, Removed, RemovedFolder, Renamed}
 pub use Rattle.sst_tool.specs.files.Steps.Step.{RenamedFolder, Synced, SyncedNames, Wrote}
 pub use Rattle.sst_tool.specs.files.Targets.{largest_table}

@@ -1,22 +1,20 @@
 -- New folders of tables.
-use Rattle.std.specs.Prelude.{◌≡◌, ℕ, List, [], ◌∷◌, Option, map}
+use Rattle.std.specs.Prelude.{◌≡◌, ℕ, List, Option, map}
 use Rattle.lsm_writers.specs.declared.writer.FinishedTable.{FinishedTable}
 use Rattle.sst_tool.specs.declared.files.file_error.FileError.{FileError}
 use Rattle.sst_tool.specs.declared.files.file_error.FileFault.{FileFault}
 use Rattle.sst_tool.specs.files.Files.{error_of_file, path_text}
-use Rattle.sst_tool.specs.files.NewFolders.{IsFolderNotPlaced, IsFolderPlaced}
+use Rattle.sst_tool.specs.files.NewFolders.{IsFolderInPlace, IsFolderNotPlaced}
 use Rattle.sst_tool.specs.files.Steps.{Step}
-use Rattle.sst_tool.specs.files.Steps.Step.{Synced}
 use Rattle.sst_tool.specs.declared.files.error.ToolError.{ToolError}
 use Rattle.sst_tool.specs.declared.files.error.ToolError.TheVariants as error
 
 -- The new folder has exactly the files of these tables, 1.sst, 2.sst and so on, and its name was
--- synced.
+-- synced. After that only temporary folders of this name were removed.
 abbrev pub IsFilled : {A : Type 0} → List ℕ → List (FinishedTable A) → Option (List Step)
     → Option (List Step) → Type 0
 IsFilled {A} folder tables known new =
-    IsFolderPlaced folder (map (λ (t : FinishedTable A). t.bytes) tables) (Synced folder ∷ [])
-    known new
+    IsFolderInPlace folder (map (λ (t : FinishedTable A). t.bytes) tables) known new
 
 -- The new folder is not made, or is not durable. The error says so, and names no file if it is
 -- OutOfMemory.

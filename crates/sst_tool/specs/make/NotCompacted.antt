@@ -73,8 +73,8 @@ RefusesToCompact A o content paths folder there known e new =
     ⊎ (TellsTooLarge o e ⊎ RefusesFiles o content paths e)) × (new ≡ known))
     ⊎ StopsFilling A o content paths folder known e new
 
--- So many tables, with so many entries, are made of the files and in the new folder, and nothing
--- else was done.
+-- So many tables, with so many entries, are made of the files and in the new folder. After that only
+-- temporary folders of its name were removed, and nothing else was done.
 pub record CompactsFiles (A : Type 0) (o : CompactOptions) (content : List ℕ → Option (List ℕ))
     (paths : List (Bor (List ℕ))) (folder : List ℕ) (made : Made) (known new : Option (List Step))
     : Type 0 where

@@ -3,6 +3,7 @@ ghost use Rattle.std.specs.Prelude.{◌≡◌, ◌∷◌, ◌++◌, ◌↔◌, [
 ghost use Rattle.std.specs.Prelude.{None, OnErr, OnOk, false, map, string_bytes};
 ghost use Rattle.sst_tool.specs.files.Words as spec;
 
+use crate::files::left::remove_folders;
 use crate::files::write::{NAMES, path_of};
 use crate::files::{FileError, FileFault, FileName, Place, check_free};
 use lsm_writers::FinishedTable;
@@ -16,12 +17,18 @@ use std::io::ErrorKind;
 /// synced, and then the folder is. Then the folder is renamed once, and its parent folder is
 /// synced.
 ///
+/// Last, it removes the folders that interrupted runs have left under temporary names before its
+/// own, with the numbered files in them. A folder that has anything else stays. An error of this is
+/// ignored.
+///
 /// # Errors
 ///
 /// Fails with an error of the system, with [`FileFault::Taken`] if the folder's name is taken, with
 /// [`FileFault::NamesTaken`] if a thousand temporary names are, and with `OutOfMemory`. All that
 /// was written is then removed, as far as the system does it, and no file is under the folder's
-/// name. After [`FileFault::NotSynced`] alone the folder is complete under its name, but its parent
+/// name. If another run has removed a file from the temporary folder, the error is `NotFound`.
+///
+/// After [`FileFault::NotSynced`] alone the folder is complete under its name, but its parent
 /// folder is not synced.
 pub fn place_folder<'a, P: Place, A: Allocator + Copy>(
     place: &mut P,
@@ -30,9 +37,10 @@ pub fn place_folder<'a, P: Place, A: Allocator + Copy>(
     tables: &[FinishedTable<A>],
 ) -> Result<(), FileError<'a>>
     // On success all was written and synced under the temporary name, renamed once, and synced. The
-    // folder has exactly the files of the tables, with their bytes.
-    ensures placed { OnOk result (spec.IsFolderPlaced folder.now (map (λ t. t.bytes) tables.now)
-        (spec.Synced folder.now ∷ []) (P.done place.old) (P.done place.new)) }
+    // folder has exactly the files of the tables, with their bytes. Then only numbered files in
+    // folders with temporary names of this one were removed, and these folders.
+    ensures placed { OnOk result (spec.IsFolderInPlace folder.now (map (λ t. t.bytes) tables.now)
+        (P.done place.old) (P.done place.new)) }
     // The folder's name was free before.
     ensures free { OnOk result (IfSome (P.there place.old folder.now) (λ b. b ≡ false)) }
     // After an error exactly this was done. Either no file is under the folder's name, or all are.
@@ -44,7 +52,7 @@ pub fn place_folder<'a, P: Place, A: Allocator + Copy>(
         spec.TellsStemTaken (P.there place.old) folder.now e.fault) }
 {
     match make_beside(place, alloc, folder) {
-        Ok(beside) => fill_beside(place, alloc, folder, beside.as_str(), tables),
+        Ok(beside) => fill_all(place, alloc, folder, beside.as_str(), tables),
         Err(fault) => Err(FileError {
             name: FileName::Plain(folder),
             fault,
@@ -91,6 +99,40 @@ fn without_slashes(path: &str) -> &str
     ensures { spec.IsStemOf result.now path.now }
 {
     path.trim_end_matches('/')
+}
+
+// Writes tables into the temporary folder and renames it, and then removes what earlier calls left
+// beside it.
+fn fill_all<'a, P: Place, A: Allocator + Copy>(
+    place: &mut P,
+    alloc: A,
+    folder: &'a str,
+    beside: &str,
+    tables: &[FinishedTable<A>],
+) -> Result<(), FileError<'a>>
+    requires { spec.IsBesideFolder folder.now beside.now }
+    ensures filled { OnOk result (let all = map (λ t. t.bytes) tables.now in
+        spec.OnlyDoes (spec.Clears (spec.IsBesideFolder folder.now)) (spec.then_done (P.done place.old)
+        ((spec.writing_files (spec.numbered_within beside.now all)
+        ++ spec.naming_folder beside.now folder.now) ++ spec.Synced folder.now ∷ []))
+        (P.done place.new)) }
+    ensures refused { IfErr result (λ e. spec.IsNotFilled folder.now beside.now
+        (map (λ t. t.bytes) tables.now) (P.done place.old) e (P.done place.new)) }
+    ensures free { OnOk result (IfSome (P.there place.old folder.now) (λ b. b ≡ false)) }
+    ensures taken { IfErr result (spec.TellsNameTaken (P.there place.old) folder.now) }
+{
+    fill_beside(place, alloc, folder, beside, tables)?;
+    remove_left(place, alloc, folder, beside);
+    Ok(())
+}
+
+// Removes what earlier calls left under temporary names of the folder.
+fn remove_left<P: Place, A: Allocator + Copy>(place: &mut P, alloc: A, folder: &str, own: &str)
+    ensures { spec.OnlyDoes (spec.Clears (spec.IsBesideFolder folder.now))
+        (P.done place.old) (P.done place.new) }
+{
+    let stem = without_slashes(folder);
+    remove_folders(place, alloc, stem, own);
 }
 
 // Writes tables into the temporary folder and renames it. After an error the folder is removed with
@@ -146,7 +188,7 @@ fn fill_and_name<'a, P: Place, A: Allocator + Copy>(
     ensures taken { IfErr result (spec.TellsNameTaken (P.there place.old) folder.now) }
 {
     write_within(place, alloc, folder, beside, tables, written)?;
-    match give_name(place, beside, folder) {
+    match give_name(place, beside, folder, written) {
         Ok(()) => Ok(()),
         Err(fault) => Err(FileError {
             name: FileName::Plain(folder),
@@ -221,8 +263,14 @@ fn add_within<P: Place, A: Allocator + Copy>(
     Ok(())
 }
 
-// Syncs the complete temporary folder and renames it, if the name is still free.
-fn give_name<P: Place>(place: &mut P, beside: &str, folder: &str) -> Result<(), FileFault>
+// Syncs the complete temporary folder and renames it, if the name is still free and no other run
+// has removed a file.
+fn give_name<P: Place, A: Allocator>(
+    place: &mut P,
+    beside: &str,
+    folder: &str,
+    written: &[String<A>],
+) -> Result<(), FileFault>
     ensures named { OnOk result (P.done place.new
         ≡ spec.then_done (P.done place.old) (spec.naming_folder beside.now folder.now)) }
     ensures free { OnOk result (IfSome (P.there place.old folder.now) (λ b. b ≡ false)) }
@@ -233,7 +281,18 @@ fn give_name<P: Place>(place: &mut P, beside: &str, folder: &str) -> Result<(), 
 {
     place.sync_names(beside)?;
     check_free(place, folder, FileFault::Taken)?;
+    check_each(place, written)?;
     place.rename_folder(beside, folder)?;
+    Ok(())
+}
+
+// Tests that all paths are taken.
+fn check_each<P: Place, A: Allocator>(place: &P, paths: &[String<A>]) -> io::Result<()> {
+    for path in paths {
+        if place.look(path.as_str())?.is_none() {
+            return Err(io::Error::from(ErrorKind::NotFound));
+        }
+    }
     Ok(())
 }
 

@@ -3,10 +3,13 @@ ghost use Rattle.std.specs.Prelude.{◌≡◌, ◌<◌, ◌∷◌, [], Any, IfEr
 ghost use Rattle.std.specs.Prelude.{◌⊎◌, IsSomeAnd, false, length, string_bytes, take};
 ghost use Rattle.sst_tool.specs.files.Words as spec;
 
+use crate::files::left::remove_files;
 use crate::files::{FileError, FileFault, FileName, Place, check_free};
 use std::alloc::{AllocError, Allocator};
 use std::fs::{Metadata, Permissions};
 use std::io;
+use std::io::ErrorKind;
+use std::os::unix::fs::MetadataExt;
 
 /// How many temporary names are tried for a file or a folder.
 pub(crate) const NAMES: u64 = 1_000;
@@ -31,7 +34,12 @@ struct Beside<'a, 'b, A: Allocator> {
     temporary: String<A>,
     // its permissions, if it replaces a file
     permissions: Option<Permissions>,
+    // what tells it from a file that another run writes under its temporary path, if it is known
+    identity: Option<Identity>,
 }
+
+// The number of a file in its file system, and when it was written.
+type Identity = (u64, i64, i64);
 
 /// Writes numbered files, as [`place_files`] does. `next` is the name that follows the last.
 ///
@@ -91,11 +99,16 @@ fn check_next<P: Place, A: Allocator + Copy>(
 /// the file that it replaces. Once all are complete, each is renamed. Then the folder of each is
 /// synced.
 ///
+/// Last, it removes the regular files that interrupted runs have left under temporary names before
+/// its own. An error of this is ignored. No name may be a temporary name of
+/// another one: the file would be removed too.
+///
 /// # Errors
 ///
 /// Fails with an error of the system, if a name belongs to a folder, a link or another file that is
 /// not regular, if a thousand temporary names are taken, and with `OutOfMemory`. The files written
-/// are then removed, as far as the system does it, and the files that have the names stay.
+/// are then removed, as far as the system does it, and the files that have the names stay. If
+/// another run has removed a temporary file, the error is `NotFound`.
 ///
 /// Two errors leave more. [`FileFault::AfterOthers`] says how many files were renamed before the
 /// one that failed. After [`FileFault::NotSynced`] all files are renamed.
@@ -104,7 +117,8 @@ pub fn place_files<'a, P: Place, A: Allocator + Copy>(
     alloc: A,
     wanted: &[NewFile<'a, '_>],
 ) -> Result<(), FileError<'a>>
-    // On success all were written, then renamed, then synced.
+    // On success all were written, then renamed, then synced. Then only temporary names of these
+    // files were removed.
     ensures placed { OnOk result (spec.AreInPlace (P.done place.old) wanted.now (P.done place.new)) }
     // Each has the permissions of the regular file that it replaces, and replaces nothing else.
     ensures kept { OnOk result
@@ -118,7 +132,7 @@ pub fn place_files<'a, P: Place, A: Allocator + Copy>(
 {
     let mut written = Vec::new(alloc);
     match write_each(place, alloc, wanted, &mut written) {
-        Ok(()) => put_each(place, &written),
+        Ok(()) => put_all(place, alloc, &written),
         Err(error) => {
             remove_all(place, &written);
             Err(error)
@@ -195,12 +209,22 @@ fn write_beside<'a, 'b, P: Place, A: Allocator + Copy>(
     let permissions = kept(place.look(path.as_str())?)?;
     let bytes = file.bytes;
     let temporary = write_under(place, alloc, path.as_str(), bytes, permissions.as_ref())?;
+    let identity = identity_of(place, temporary.as_str()).ok();
     Ok(Beside {
         file: *file,
         path,
         temporary,
         permissions,
+        identity,
     })
+}
+
+// Returns what tells a file from a later one of the same path. All is 0 if the path is free.
+fn identity_of<P: Place>(place: &P, path: &str) -> io::Result<Identity> {
+    match place.look(path)? {
+        Some(file) => Ok((file.ino(), file.mtime(), file.mtime_nsec())),
+        None => Ok((0, 0, 0)),
+    }
 }
 
 /// Returns the path of a file.
@@ -269,6 +293,43 @@ fn remove_all<P: Place, A: Allocator>(place: &mut P, written: &[Beside<'_, '_, A
     }
 }
 
+// Puts the temporary files in their places, and then removes what earlier writes left beside them.
+fn put_all<'a, P: Place, A: Allocator + Copy>(
+    place: &mut P,
+    alloc: A,
+    written: &[Beside<'a, '_, A>],
+) -> Result<(), FileError<'a>>
+    ensures all { OnOk result (spec.OnlyDoes (spec.Removes (spec.IsBesideOne (spec.standing_in written.now)))
+        (spec.then_done (spec.then_done (P.done place.old)
+        (spec.renaming (spec.standing_in written.now)))
+        (spec.syncing (spec.standing_in written.now))) (P.done place.new)) }
+    ensures refused { IfErr result (λ e.
+        spec.AreNotPut (P.done place.old) (spec.standing_in written.now) e (P.done place.new)) }
+{
+    put_each(place, written)?;
+    remove_left(place, alloc, written);
+    Ok(())
+}
+
+// Removes what earlier writes left under temporary names of these files.
+fn remove_left<P: Place, A: Allocator + Copy>(
+    place: &mut P,
+    alloc: A,
+    written: &[Beside<'_, '_, A>],
+)
+    ensures { spec.OnlyDoes (spec.Removes (spec.IsBesideOne (spec.standing_in written.now)))
+        (P.done place.old) (P.done place.new) }
+{
+    for beside in written {
+        remove_files(
+            place,
+            alloc,
+            beside.path.as_str(),
+            beside.temporary.as_str(),
+        );
+    }
+}
+
 // Renames the temporary files and syncs their folders. After a failed rename it and those after it
 // are removed.
 fn put_each<'a, P: Place, A: Allocator>(
@@ -300,12 +361,34 @@ fn rename_each<P: Place, A: Allocator>(
         (spec.renaming (take r.0 (spec.standing_in written.now)))) }
 {
     for at in 0..written.len() {
-        let (from, to) = (&written[at].temporary, &written[at].path);
-        if let Err(error) = place.rename(from.as_str(), to.as_str()) {
+        if let Err(error) = rename_own(place, &written[at]) {
             return Err((at, error));
         }
     }
     Ok(())
+}
+
+// Renames a temporary file. Fails if the temporary path has another file by now: a run that ended
+// has removed this one, and a later run may still write there.
+fn rename_own<P: Place, A: Allocator>(place: &mut P, beside: &Beside<'_, '_, A>) -> io::Result<()>
+    ensures renamed { OnOk result (P.done place.new ≡ spec.then_done (P.done place.old)
+        (spec.Renamed (spec.standing_of beside.now).beside (spec.standing_of beside.now).path
+        ∷ [])) }
+    ensures refused { OnErr result (P.done place.new ≡ P.done place.old) }
+{
+    let (from, to) = (beside.temporary.as_str(), beside.path.as_str());
+    if !is_same(place, from, beside.identity)? {
+        return Err(io::Error::from(ErrorKind::NotFound));
+    }
+    place.rename(from, to)
+}
+
+// Whether a path still has the file of this identity, if that is known.
+fn is_same<P: Place>(place: &P, path: &str, known: Option<Identity>) -> io::Result<bool> {
+    match known {
+        Some(identity) => Ok(identity_of(place, path)? == identity),
+        None => Ok(true),
+    }
 }
 
 // Removes the file that was not renamed and those after it, and returns its error.

@@ -292,8 +292,8 @@ pub fn compact_files<'a, P: Place, A: Allocator + Copy>(
     // On success the new tables are those of a list that can be written, made of these files,
     // opened in their order. If these store lists, it is the list of the kept entries of all
     // together. The result has the number of new tables and of their entries. A folder was made
-    // under a temporary name, filled with exactly these tables, synced, renamed and synced again,
-    // and nothing else was done.
+    // under a temporary name, filled with exactly these tables, synced, renamed and synced again.
+    // After that only temporary folders of its name were removed, and nothing else was done.
     ensures made { IfOk result (λ made. spec.CompactsFiles A options.now (P.content place.old)
         paths.now folder.now made (P.done place.old) (P.done place.new)) }
     // If the folder's name is taken the error names the folder, whatever the files are.

@@ -21,6 +21,8 @@ pub(crate) struct Memory {
     files: Vec<File>,
     steps: u64,
     refused: u64,
+    // whether nothing can be removed
+    held: bool,
 }
 
 impl Memory {
@@ -31,7 +33,13 @@ impl Memory {
             files: Vec::new(alloc),
             steps: 0,
             refused,
+            held: false,
         }
+    }
+
+    /// Lets each removal fail, or none.
+    pub(crate) fn hold(&mut self, held: bool) {
+        self.held = held;
     }
 
     /// Counts from 0 again, and lets the step of this number fail.
@@ -183,7 +191,9 @@ impl Place for Memory {
     }
 
     fn remove(&mut self, path: &str) {
-        self.forget(path);
+        if !self.held {
+            self.forget(path);
+        }
     }
 
     fn make_folder(&mut self, path: &str) -> io::Result<()> {
@@ -196,7 +206,7 @@ impl Place for Memory {
     }
 
     fn remove_folder(&mut self, path: &str) {
-        if !self.has_within(path) {
+        if !self.held && !self.has_within(path) {
             self.forget(path);
         }
     }

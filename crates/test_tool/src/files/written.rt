@@ -185,6 +185,31 @@ fn several_tables_are_numbered(rt: HostRuntime) {
     assert_eq!(rt; place.count(), 2);
 }
 
+// Writes a file beside two temporary names that a killed run left, and a folder of such a name.
+// Returns whether it was written, which of the two are there, and the number of files and folders.
+fn left_beside(alloc: Global, held: bool) -> (bool, bool, bool, usize) {
+    let mut place = Memory::new(alloc, NEVER);
+    let put = place.put("t.1.tmp", Some(b"old")).is_ok()
+        && place.put("t.2.tmp", None).is_ok()
+        && place.put("t.3.tmp", Some(b"old")).is_ok();
+    place.hold(held);
+    let written = write(&mut place, alloc, LINES, "t", None).is_some();
+    (
+        put && written,
+        place.has("t.1.tmp"),
+        place.has("t.3.tmp"),
+        place.count(),
+    )
+}
+
+#[test]
+fn temporary_files_of_killed_runs_are_removed(rt: HostRuntime) {
+    let alloc = rt.alloc();
+    // The folder stays. If no file can be removed, all is written too.
+    assert_eq!(rt; left_beside(alloc, false), (true, false, false, 2));
+    assert_eq!(rt; left_beside(alloc, true), (true, true, true, 4));
+}
+
 #[test]
 fn file_behind_the_last_is_left_of_an_earlier_write(rt: HostRuntime) {
     let alloc = rt.alloc();
@@ -220,23 +245,36 @@ fn several_tables_get_their_folder_at_once(rt: HostRuntime) {
     assert_eq!(rt; place.count(), 6);
 }
 
-#[test]
-fn folder_is_made_under_a_free_name_beside(rt: HostRuntime) {
-    let alloc = rt.alloc();
+// Compacts beside two folders that killed runs left, the second with a file that no run writes.
+// Returns whether it succeeded, the steps, which of the two are there, and the number of files and
+// folders.
+fn compacted_beside(alloc: Global, folder: &str, held: bool) -> (bool, u64, bool, bool, usize) {
     let mut place = sources(alloc, NEVER);
-    assert_eq!(rt; place.put("to.1.tmp", None).is_ok(), true);
-    assert_eq!(rt; compact(&mut place, alloc, "to", None), Some((1, 5)));
-    // The name that is taken was tried too.
-    assert_eq!(rt; place.steps(), 6);
-    assert_eq!(rt; place.has("to.1.tmp"), true);
-    assert_eq!(rt; place.count(), 5);
+    let put = place.put("to.1.tmp", None).is_ok()
+        && place.put("to.1.tmp/000002.sst", Some(b"old")).is_ok()
+        && place.put("to.2.tmp", None).is_ok()
+        && place.put("to.2.tmp/000001.sst", Some(b"old")).is_ok()
+        && place.put("to.2.tmp/1.sst", Some(b"old")).is_ok();
+    place.hold(held);
+    let made = compact(&mut place, alloc, folder, None).is_some();
+    let (first, second) = (place.has("to.1.tmp"), place.has("to.2.tmp"));
+    (put && made, place.steps(), first, second, place.count())
 }
 
 #[test]
-fn slashes_at_the_end_of_a_folder_are_left_out_beside_it(rt: HostRuntime) {
+fn temporary_folders_of_killed_runs_are_removed(rt: HostRuntime) {
     let alloc = rt.alloc();
-    let mut place = sources(alloc, NEVER);
-    assert_eq!(rt; place.put("to.1.tmp", None).is_ok(), true);
-    assert_eq!(rt; compact(&mut place, alloc, "to//", None), Some((1, 5)));
-    assert_eq!(rt; place.steps(), 6);
+    // The names that are taken were tried too.
+    assert_eq!(rt;
+        compacted_beside(alloc, "to", false),
+        (true, 7, false, true, 6)
+    );
+    assert_eq!(rt;
+        compacted_beside(alloc, "to//", false),
+        (true, 7, false, true, 6)
+    );
+    assert_eq!(rt;
+        compacted_beside(alloc, "to", true),
+        (true, 7, true, true, 9)
+    );
 }

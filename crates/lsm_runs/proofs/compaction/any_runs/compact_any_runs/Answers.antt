@@ -19,6 +19,7 @@ use Rattle.lsm_runs.proofs.FilteredFits.{fits_all, fits_any}
 use Rattle.lsm_runs.proofs.Observing.{reported_nothing}
 use Rattle.lsm_runs.proofs.RunWriting.{wants}
 use Rattle.lsm_runs.proofs.TookList.{err_at, ok_at}
+use Rattle.lsm_runs.proofs.UnfilteredResult.{plain_err, plain_ok}
 use Rattle.lsm_runs.proofs.compaction.any_runs.compact_any_runs.Goals as goal
 
 pub write_observed-written-requires : goal.write_observed-written-requires
@@ -131,3 +132,19 @@ returns-clause-made g c = ok_at _ c.write_observed-written.result _ c.in_ok-outc
 
 pub returns-clause-returned : goal.returns-clause-returned
 returns-clause-returned g c = ok_at _ c.write_observed-written.result _ c.in_ok-outcome.was c.write_observed-written.ensures.returned
+
+pub returns-in_err-source-clause-plain : goal.returns-in_err-source-clause-plain
+returns-in_err-source-clause-plain g c keeps never =
+    let a = c.args in
+    plain_err g.F.LentFilter.gives g.C.LentCallback.gets g.O.CompactionObserver.says keeps never a.rules a.filter a.callback a.writer (map arc_value a.runs.now) a.observer.now a.observer.now c.from_residual.result c.in_err-source.field-0.0 c.from_residual.ensures.1 (returns-in_err-source-clause-until g c) (returns-in_err-source-clause-fits g c) (returns-in_err-source-clause-any g c) (returns-in_err-source-clause-opens g c)
+
+pub returns-in_err-outcome-clause-plain : goal.returns-in_err-outcome-clause-plain
+returns-in_err-outcome-clause-plain g c keeps never =
+    let a = c.args in
+    let r = c.from_residual-in_err-outcome in
+    plain_err g.F.LentFilter.gives g.C.LentCallback.gets g.O.CompactionObserver.says keeps never a.rules a.filter a.callback a.writer (map arc_value a.runs.now) a.observer.now c.write_observed-written.new.observer r.result c.in_err-outcome.field-0.0 r.ensures.1 (returns-in_err-outcome-clause-until g c) (returns-in_err-outcome-clause-fits g c) (returns-in_err-outcome-clause-any g c) (returns-in_err-outcome-clause-opens g c)
+
+pub returns-clause-plain : goal.returns-clause-plain
+returns-clause-plain g c keeps never =
+    let a = c.args in
+    plain_ok g.F.LentFilter.gives g.C.LentCallback.gets g.O.CompactionObserver.says keeps never a.rules a.filter a.callback a.writer (map arc_value a.runs.now) a.observer.now c.write_observed-written.new.observer c.in_ok-outcome.outcome c.into_callback-callback.result (returns-clause-merged g c) (returns-clause-any g c) c.in_ok-source.ensures.opens (returns-clause-made g c) (returns-clause-returned g c)

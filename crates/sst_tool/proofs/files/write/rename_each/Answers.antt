@@ -1,9 +1,10 @@
 use Rattle.std.proofs.Common.{sym, ◌∙◌, ap}
 use Rattle.std.proofs.lemmas.List.{take-map, take_all}
-use Rattle.sst_tool.proofs.Steps.{renamed_more, then_none}
+use Rattle.sst_tool.proofs.Steps.{one_more, then_none}
 use Rattle.sst_tool.specs.files.Placed.{renaming}
 use Rattle.sst_tool.specs.files.Standing.{standing_in, standing_of}
 use Rattle.sst_tool.specs.files.Steps.{then_done}
+use Rattle.sst_tool.specs.files.Steps.Step.{Renamed}
 use Rattle.sst_tool.proofs.files.write.rename_each.Goals as goal
 
 pub loop-at-init : goal.loop-at-init
@@ -11,7 +12,7 @@ loop-at-init g c = sym (then_none (g.P.Place.done c.args.place.now))
 
 pub loop-at-preserved : goal.loop-at-preserved
 loop-at-preserved g c =
-    renamed_more (g.P.Place.done c.args.place.now) (g.P.Place.done c.loop-at.place) (g.P.Place.done c.rename.new.self) c.args.written.now c.loop-at.at c.index-written-at.result c.index-written-at-in-loop-at.result c.as_str.result.now c.as_str-in-loop-at.result.now c.loop-at-test.true c.loop-at.invariant c.as_str.ensures.value c.as_str-in-loop-at.ensures.value c.in_default.ensures.renamed
+    one_more (λ s. Renamed s.beside s.path) (g.P.Place.done c.args.place.now) (g.P.Place.done c.loop-at.place) (g.P.Place.done c.rename_own.new.place) c.args.written.now c.loop-at.at c.index-written-at.result c.loop-at-test.true c.index-written-at.is c.loop-at.invariant c.in_default.ensures.renamed
 
 pub returns-in-Err-clause-some : goal.returns-in-Err-clause-some
 returns-in-Err-clause-some g c =

@@ -1,0 +1,8 @@
+use Rattle.std.proofs.Common.{◌≡◌}
+use Rattle.sst_tool.specs.files.NewFolders.{Clears}
+use Rattle.sst_tool.specs.files.Steps.{OnlyDoes}
+use Rattle.sst_tool.proofs.files.left.remove_tables.Given as goal
+
+abbrev pub invariant-loop-number : goal.invariant-loop-number
+invariant-loop-number g l =
+    OnlyDoes (Clears (λ p. p ≡ l.folder)) (g.P.Place.done l.fn.place) (g.P.Place.done l.place)
