@@ -6,6 +6,7 @@ pub mod Behind
 pub mod RunOrder
 pub mod Asking
 pub mod Polling
+pub mod Opening
 pub mod Lending
 pub mod Scanning
 pub mod Ranging

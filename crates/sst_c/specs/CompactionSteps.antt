@@ -8,13 +8,13 @@ use Rattle.lsm_sorted.specs.declared.compaction.Rules.{Rules}
 use Rattle.lsm_writers.specs.declared.table_stream.TableStreamError.{TableStreamError}
 use Rattle.lsm_writers.specs.declared.writer.FinishedTable.{FinishedTable}
 use Rattle.lsm_runs.specs.compaction.Words.{AreMergeable, first_blocks_fault}
-use Rattle.sst_c.specs.Codes.{fault_code}
 use Rattle.sst_c.specs.Compact.{decode_compactor}
 use Rattle.sst_c.specs.Compacting.{Compacting, KeptEntries, StartsCompaction, Taken, TakesNext}
 use Rattle.sst_c.specs.Options.{are_usable}
 use Rattle.sst_c.specs.Reported.{found_by}
 use Rattle.sst_c.specs.What.{HoldsFiles, IsCompactionAs, IsCompactionWhere, are_runs, is_compaction}
 use Rattle.sst_c.specs.What.{runs_held}
+use Rattle.sst_c.specs.Writing.{FaultReported}
 use Rattle.sst_c.specs.declared.held.Held.{Held}
 use Rattle.sst_c.specs.declared.held.What.{What}
 use Rattle.sst_c.specs.declared.held.What.TheVariants.{Compaction}
@@ -27,10 +27,9 @@ pub record OpensCompaction
     : Type 0 where
   -- the code is 105 if the options are out of range
   pub unusable : are_runs w ≡ true → are_usable options ≡ false → code ≡ 105
-  -- else it is that of the first run whose first data block cannot be loaded, 0 if there is none, or
-  -- 1 if out of memory
+  -- else it is the fault of the first run whose first data block cannot be loaded
   pub codes : are_runs w ≡ true → are_usable options ≡ true →
-      (code ≡ 1) ⊎ (code ≡ fault_code (first_blocks_fault (runs_held w)))
+      FaultReported code (first_blocks_fault (runs_held w))
   -- there is none if the tables store lists with entries
   pub memory : are_runs w ≡ true → are_usable options ≡ true → AreMergeable (runs_held w) →
       (code ≡ 0) ⊎ (code ≡ 1)
