@@ -4,6 +4,7 @@
 //! outside. So the lists are passed in and written here.
 ghost use Rattle.std.specs.Prelude.{◌≡◌, ◌++◌, IfOk, IsPermutation, OnOk, map};
 ghost use Rattle.std.specs.Arc.{arc_value};
+ghost use Rattle.std.specs.Iterator.{IsFinite};
 ghost use Rattle.lsm_writers.specs.Writing.{IsWritable};
 ghost use Rattle.lsm_runs.specs.compaction.Compacted.{AreCompactable};
 ghost use Rattle.lsm_runs.specs.compaction.ListRuns.{HasList, HaveAll};
@@ -150,7 +151,7 @@ fn compacted(
 fn written_by<I: Iterator<Item = Result<FinishedTable, TableStreamError>> + Drop>(
     tables: I,
 ) -> Result<Written, Error>
-    requires { I.can_next tables }
+    requires { I.can_next tables × IsFinite (I.remaining tables) }
 {
     let mut written = Written::none();
     for table in tables {

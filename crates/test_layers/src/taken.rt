@@ -1,5 +1,7 @@
 //! Finished tables that are taken from a writer of several tables before it ends, by calls or by a
 //! stream.
+ghost use Rattle.std.specs.Iterator.{IsFinite};
+
 use crate::given::{Given, MAY_NOT_FOLLOW, NO_TABLES, Seen, Tables, Takes, entry, seen_of, tables};
 use lsm_writers::{
     FinishedTable, MultiWriter, TableId, TableIds, TableStream, TableStreamError, Timestamp,
@@ -145,7 +147,7 @@ static UNSORTED: [Row<'static>; 5] = [
 fn yielded<I: Iterator<Item = Result<FinishedTable<A>, TableStreamError>> + Drop, A: Allocator>(
     stream: I,
 ) -> Outcome
-    requires { I.can_next stream }
+    requires { I.can_next stream × IsFinite (I.remaining stream) }
 {
     let (mut code, mut seen) = (0, NO_TABLES);
     for item in stream {
