@@ -164,7 +164,7 @@ fn written_by<I: Iterator<Item = Result<FinishedTable, TableStreamError>> + Drop
     Ok(written)
 }
 
-// The same tables as those of `compacted`, one by one.
+// Compacts runs into the tables that `compacted` returns, and drops each one before the next.
 fn compacted_each(alloc: Global, runs: &[Arc<Run<Table>>], target: u64) -> Result<Written, Error> {
     let writer = MultiWriter::new(alloc, TableIds::new(1), target, 0, Timestamp::from(0))?;
     let rules = Rules {
