@@ -694,8 +694,9 @@ uint32_t sst_compaction_open(sst_handle *runs, const sst_options *options, uint6
  *   SST_TABLE_IDS_SPENT, as for `sst_compact`. Each table that was finished before the error is
  *   handed out first.
  *
- * After an error `files` holds nothing, and `next_id` stays. After SST_NOTHING and the errors of
- * the second row the compaction has ended: each further call returns SST_NOTHING.
+ * After an error `files` holds nothing, and `next_id` stays. After SST_NOTHING, the errors of the
+ * second row and SST_OUT_OF_MEMORY, the compaction has ended: each further call returns
+ * SST_NOTHING.
  */
 uint32_t sst_compaction_next(sst_handle *compaction, sst_handle *files, uint64_t *next_id);
 

@@ -406,9 +406,9 @@ def compact_each(tables: Union[Runs, Iterable[Table]], *, watermark: int = 0, ev
     Each is returned as soon as it is finished. Memory holds the table that is being written, and a
     block or two of each run. The options are those of `compact`.
 
-    Raises the error of the first data block of each run, `NoSuch`, `OverflowError` and
-    `OutOfMemory`. The iterator raises the other errors of `compact`. The tables that were finished
-    before an error come before it.
+    Loads the first data block of each run, and raises the first error of that. Raises `NoSuch` and
+    `OverflowError` as `compact` does. The iterator raises its other errors, after the tables that
+    were finished before.
 
     >>> newer, older = Writer(), Writer()
     >>> newer.add(b"a", b"new", seqno=9)
