@@ -377,8 +377,7 @@ has a file.
 
 Files are written under temporary names, such as FILE.1.tmp. Once all are
 complete and synced, they are renamed. After an error before that, the old
-files stay. With --target, files that were renamed before the error stay too.
-At the end, temporary files that a killed run left are removed.",
+files stay. With --target, files that were renamed before the error stay too.",
     },
     CommandText {
         name: "dump",
@@ -444,8 +443,7 @@ below the watermark is dropped too.
 The new tables are 000001.sst, 000002.sst and so on in FOLDER. Their options
 are those of write. The folder has a temporary name first, such as
 FOLDER.1.tmp. Once all files are complete and synced, it is renamed. It is an
-error if FOLDER exists already. At the end, temporary folders that a killed
-run left are removed.",
+error if FOLDER exists already.",
     },
     CommandText {
         name: "pack",
