@@ -696,7 +696,7 @@ uint32_t sst_compaction_open(sst_handle *runs, const sst_options *options, uint6
  *
  * After an error `files` holds nothing, and `next_id` stays. After SST_NOTHING, the errors of the
  * second row and SST_OUT_OF_MEMORY, the compaction has ended: each further call returns
- * SST_NOTHING.
+ * SST_NOTHING. Out of memory can also lose the table that was just finished.
  */
 uint32_t sst_compaction_next(sst_handle *compaction, sst_handle *files, uint64_t *next_id);
 

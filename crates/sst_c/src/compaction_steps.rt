@@ -179,8 +179,8 @@ fn hand_out_held(alloc: Global, held: &mut Held, files: &mut Handle, next_id: &m
 ///   `u64::MAX`.
 /// - The error code of a block that cannot be loaded, of the writer, or 1: out of memory.
 ///
-/// The last three end the compaction, and its unfinished table is dropped. On error, `files` and
-/// `next_id` are unchanged.
+/// The last three end the compaction and drop its unfinished table. Out of memory can drop the
+/// table that was just finished, too. On error, `files` and `next_id` are unchanged.
 #[unsafe(no_mangle)]
 pub extern "C" fn sst_compaction_next(
     alloc: Global,

@@ -46,8 +46,8 @@ pub record IsUnfiltered {A : Type 0} (runs : List (List OpenTable)) (rules : Rul
       RunsHoldLists runs lists → Faults came (writes_fault w (kept_in rules lists))
   pub taken : AreCompactable runs → (lists : List (List (List Entry))) → RunsHoldLists runs lists →
       FitsBy w (kept_in rules lists) → IfErr came (λ e. e ≡ OutOfMemory)
-  -- for tables of lists with entries, it ends out of order at the first kept entry that may not
-  -- follow. Else it fails with the first fault of writing these entries
+  -- for tables of lists with entries, it yields the tables of the entries kept, or ends out of order
+  -- at the first that may not follow. Else it fails with the first fault of writing these entries
   pub merged : (lists : List (List (List Entry))) → RunsHoldLists runs lists →
       AllByRecursion HaveEntries lists → IfOk came (CameInOrder w (kept_in rules lists))
   pub faulted : (lists : List (List (List Entry))) → RunsHoldLists runs lists →

@@ -342,8 +342,8 @@ pub fn compact_any_runs<
     ensures fits { spec.AreCompactable (spec.each_run runs.now) → spec.OnLists runs.now (λ lists.
         spec.RefusesForMemory F.gives → spec.FitsThroughout F.gives C.gets rules filter callback
         (spec.union_in lists) writer → IfErr result (λ e. e ≡ spec.OutOfMemory)) }
-    // If the filter keeps each entry and the observer never stops it, the outcome is the tables of
-    // what the rules keep, or the first error.
+    // If the filter keeps each entry and the observer never stops it, the result is the tables of
+    // what the rules keep, or out of order, or the first error.
     ensures plain { spec.KeepsEach F.gives → spec.NeverStops O.says →
         spec.IsUnfiltered (spec.each_run runs.now) rules writer
         (spec.result_map (λ r. r.0) result) }

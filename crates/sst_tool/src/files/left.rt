@@ -7,7 +7,7 @@ use crate::files::{FileName, Place};
 use std::alloc::Allocator;
 
 /// Removes the regular files that have the temporary names of a path before `own`. The caller has
-/// found these names taken: runs before it have made these files. An error is ignored.
+/// found these names taken, as killed runs leave them. An error is ignored.
 pub(crate) fn remove_files<P: Place, A: Allocator + Copy>(
     place: &mut P,
     alloc: A,
@@ -28,8 +28,8 @@ pub(crate) fn remove_files<P: Place, A: Allocator + Copy>(
 }
 
 /// Removes the folders that have the temporary names of a path before `own`, with the numbered
-/// tables in them. The caller has found these names taken: runs before it have made these folders.
-/// A folder with other files stays, and an error is ignored.
+/// tables in them. The caller has found these names taken, as killed runs leave them. Of a folder
+/// with other files only the numbered tables are removed. An error is ignored.
 pub(crate) fn remove_folders<P: Place, A: Allocator + Copy>(
     place: &mut P,
     alloc: A,
@@ -50,7 +50,7 @@ pub(crate) fn remove_folders<P: Place, A: Allocator + Copy>(
     }
 }
 
-// Removes a folder with the numbered tables in it. A folder with other files stays.
+// Removes a folder with the numbered tables in it. A folder with other files stays, without these.
 fn remove_folder<P: Place, A: Allocator + Copy>(place: &mut P, alloc: A, folder: &str)
     ensures { spec.OnlyDoes (spec.Clears (λ p. p ≡ folder.now)) (P.done place.old) (P.done place.new) }
 {
@@ -61,8 +61,8 @@ fn remove_folder<P: Place, A: Allocator + Copy>(place: &mut P, alloc: A, folder:
     place.remove_folder(folder);
 }
 
-// Removes the numbered tables in a folder. Numbers may be missing: a run that was killed while it
-// removed them has left the last ones.
+// Removes the numbered tables in a folder. The first thousand numbers may be missing: a run that was
+// killed while it removed them has left the last ones.
 fn remove_tables<P: Place, A: Allocator + Copy>(place: &mut P, alloc: A, folder: &str)
     ensures { spec.OnlyDoes (spec.Clears (λ p. p ≡ folder.now)) (P.done place.old) (P.done place.new) }
 {

@@ -18,15 +18,16 @@ use std::io::ErrorKind;
 /// synced.
 ///
 /// Last, it removes the folders that interrupted runs have left under temporary names before its
-/// own, with the numbered files in them. A folder that has anything else stays. An error of this is
-/// ignored.
+/// own, with the numbered files in them. A folder that has anything else stays, without these files.
+/// An error of this is ignored.
 ///
 /// # Errors
 ///
 /// Fails with an error of the system, with [`FileFault::Taken`] if the folder's name is taken, with
 /// [`FileFault::NamesTaken`] if a thousand temporary names are, and with `OutOfMemory`. All that
 /// was written is then removed, as far as the system does it, and no file is under the folder's
-/// name. If another run has removed a file from the temporary folder, the error is `NotFound`.
+/// name. If another run has removed a file from the temporary folder, the error is `NotFound`, or
+/// `Taken` if that run has made the folder.
 ///
 /// After [`FileFault::NotSynced`] alone the folder is complete under its name, but its parent
 /// folder is not synced.

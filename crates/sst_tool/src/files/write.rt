@@ -100,15 +100,16 @@ fn check_next<P: Place, A: Allocator + Copy>(
 /// synced.
 ///
 /// Last, it removes the regular files that interrupted runs have left under temporary names before
-/// its own. An error of this is ignored. No name may be a temporary name of
-/// another one: the file would be removed too.
+/// its own. An error of this is ignored. No name may be a temporary name of another one: that file
+/// would be removed too.
 ///
 /// # Errors
 ///
 /// Fails with an error of the system, if a name belongs to a folder, a link or another file that is
 /// not regular, if a thousand temporary names are taken, and with `OutOfMemory`. The files written
 /// are then removed, as far as the system does it, and the files that have the names stay. If
-/// another run has removed a temporary file, the error is `NotFound`.
+/// another run has removed a temporary file, the error is `NotFound`; this is tested right before
+/// each renaming.
 ///
 /// Two errors leave more. [`FileFault::AfterOthers`] says how many files were renamed before the
 /// one that failed. After [`FileFault::NotSynced`] all files are renamed.
