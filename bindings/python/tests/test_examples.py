@@ -43,7 +43,7 @@ def public():
 
 # The classes with an example, and those of them whose members need none.
 WITH_EXAMPLE = ("Table", "Runs", "Writer", "Entries", "Scan", "Keys", "Values", "Items", "Kind",
-                "TableError", "FinishedTable")
+                "TableError", "FinishedTable", "Compaction")
 SHOWN_BY_CLASS = ("Keys", "Values", "Items", "Kind")
 
 
@@ -52,7 +52,7 @@ def wants_example(name, value):
     if inspect.isclass(value):
         return name in WITH_EXAMPLE
     return name.split(".")[0] not in SHOWN_BY_CLASS and name not in (
-        "Entries.__iter__", "Scan.__iter__")
+        "Entries.__iter__", "Scan.__iter__", "Compaction.__iter__")
 
 
 class Examples(unittest.TestCase):
