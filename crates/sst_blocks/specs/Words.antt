@@ -53,7 +53,7 @@ pub use Rattle.sst_blocks.specs.Marks.{Holds, Says}
 unfoldable pub use Rattle.sst_blocks.specs.Number.{le4, le8, num2, num4, num8}
 pub use Rattle.sst_blocks.specs.Opened.{none_opened, with_load}
 pub use Rattle.sst_blocks.specs.Placed.{IsHeaded, IsPlaced, IsValid, checked_in, fault_in}
-pub use Rattle.sst_blocks.specs.Placed.{payload_in}
+pub use Rattle.sst_blocks.specs.Placed.{IsRangeAt, payload_in}
 unfoldable pub use Rattle.sst_blocks.specs.Reading.{entry_at, parts_at}
 pub use Rattle.sst_blocks.specs.Sections.{AreAscending, ReadsBack, Written, body_of, finished}
 pub use Rattle.sst_blocks.specs.Sections.{is_past, section_at, section_names, section_of, slot}
