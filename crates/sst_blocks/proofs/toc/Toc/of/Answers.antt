@@ -1,4 +1,4 @@
-use Rattle.std.proofs.Common.{sym, ◌∙◌, arith}
+use Rattle.std.proofs.Common.{sym}
 use Rattle.sst_blocks.proofs.TrailerLemmas.{body_length}
 use Rattle.sst_blocks.proofs.toc.Toc.of.Goals as goal
 

@@ -1,6 +1,6 @@
-use Rattle.std.proofs.Common.{ℕ, List, ap, ◌∙◌, arith}
+use Rattle.std.proofs.Common.{ℕ, List, ◌∙◌, arith}
 use Rattle.std.proofs.lemmas.List.{take_rest}
-use Rattle.sst_blocks.proofs.TrailerLemmas.{fine_trailer, past_trailer, short_trailer, trailer_sections, unmarked_trailer}
+use Rattle.sst_blocks.proofs.TrailerLemmas.{fine_trailer, past_trailer, trailer_sections}
 use Rattle.sst_blocks.proofs.toc.Toc.of_trailer.Goals as goal
 
 pub returns-then-passes-clause-fault : goal.returns-then-passes-clause-fault
