@@ -1,3 +1,4 @@
+pub mod Known
 pub mod Parts
 pub mod Loads
 pub mod Gets
