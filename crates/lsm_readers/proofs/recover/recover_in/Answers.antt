@@ -23,7 +23,7 @@ reported_parts facts regions pinned = Ok (record { facts = facts; regions = regi
 pub returns-in_err-regions-clause-returned : goal.returns-in_err-regions-clause-returned
 unfolding parts_result
 returns-in_err-regions-clause-returned g c known bytes toc body_is =
-    passes_fault (parts_of {A = g.row.S.Alloc.Denot}) c.from_residual.result _ c.in_err-regions.field-0.0 c.from_residual.ensures.1
+    passes_fault (parts_of {A = g.row.S-Alloc.Denot}) c.from_residual.result _ c.in_err-regions.field-0.0 c.from_residual.ensures.1
     (fails_here _ _ _ (λ memory. ap regions_result (sym toc) ∙ sym c.in_err-regions.ensures))
 
 pub returns-in_err-regions-clause-number : goal.returns-in_err-regions-clause-number
@@ -38,7 +38,7 @@ returns-in_err-regions-clause-checksum g c = IfOk-from_err _ _ c.from_residual.e
 pub returns-in_err-metadata-clause-returned : goal.returns-in_err-metadata-clause-returned
 unfolding parts_result
 returns-in_err-metadata-clause-returned g c known bytes toc body_is =
-    passes_fault (parts_of {A = g.row.S.Alloc.Denot}) c.from_residual-in_err-metadata.result _ c.in_err-metadata.field-0.0 c.from_residual-in_err-metadata.ensures.1
+    passes_fault (parts_of {A = g.row.S-Alloc.Denot}) c.from_residual-in_err-metadata.result _ c.in_err-metadata.field-0.0 c.from_residual-in_err-metadata.ensures.1
     (fails_later _ _ _ _ (ap regions_result (sym toc) ∙ sym c.in_ok-regions.ensures) (both_fail (meta_result (body_of bytes) (c.in_ok-regions.regions).metadata) (λ (facts : Facts). facts_fitting facts c.args.global_seqno) _ _ (rw body_is at (c.in_err-metadata.ensures.returned known))))
 
 pub returns-in_err-metadata-clause-number : goal.returns-in_err-metadata-clause-number
@@ -56,8 +56,8 @@ returns-in_err-metadata-2-clause-returned g c known bytes toc body_is =
     let regions = c.in_ok-regions.regions in
     let body = body_of bytes in
     let e = c.in_err-metadata-2.field-0.0 in
-    let fails = beside_fails (pinned_of {A = g.row.S.Alloc.Denot}) c.in_ok-metadata.metadata c.load_pinned-pinned.result (pinned_result body regions c.args.pin_filter c.args.pin_index) e (rw (c.in_ok-metadata.ensures.body, body_is) at (c.load_pinned-pinned.ensures.returned known)) c.in_err-metadata-2.ensures.both in
-    passes_fault (parts_of {A = g.row.S.Alloc.Denot}) c.from_residual-in_err-metadata-2.result _ e c.from_residual-in_err-metadata-2.ensures.1
+    let fails = beside_fails (pinned_of {A = g.row.S-Alloc.Denot}) c.in_ok-metadata.metadata c.load_pinned-pinned.result (pinned_result body regions c.args.pin_filter c.args.pin_index) e (rw (c.in_ok-metadata.ensures.body, body_is) at (c.load_pinned-pinned.ensures.returned known)) c.in_err-metadata-2.ensures.both in
+    passes_fault (parts_of {A = g.row.S-Alloc.Denot}) c.from_residual-in_err-metadata-2.result _ e c.from_residual-in_err-metadata-2.ensures.1
     (fails_later _ _ _ _ (ap regions_result (sym toc) ∙ sym c.in_ok-regions.ensures) (both_later (meta_result body regions.metadata) (λ (facts : Facts). facts_fitting facts c.args.global_seqno) _ _ _ (rw body_is at (c.in_ok-metadata.ensures.returned known)) (fails_here _ _ _ fails)))
 
 pub returns-in_err-metadata-2-clause-number : goal.returns-in_err-metadata-2-clause-number
@@ -77,10 +77,10 @@ returns-clause-returned g c known bytes toc body_is =
     let kept = c.in_ok-metadata-2.metadata in
     let pinned = c.in_ok-metadata-2.pinned in
     let call = c.load_pinned-pinned in
-    let gives = beside_gives (pinned_of {A = g.row.S.Alloc.Denot}) c.in_ok-metadata.metadata call.result (pinned_result body regions c.args.pin_filter c.args.pin_index) kept pinned (rw (c.in_ok-metadata.ensures.body, body_is) at (call.ensures.returned known)) c.in_ok-metadata-2.ensures.both in
+    let gives = beside_gives (pinned_of {A = g.row.S-Alloc.Denot}) c.in_ok-metadata.metadata call.result (pinned_result body regions c.args.pin_filter c.args.pin_index) kept pinned (rw (c.in_ok-metadata.ensures.body, body_is) at (call.ensures.returned known)) c.in_ok-metadata-2.ensures.both in
     let same = beside_first c.in_ok-metadata.metadata call.result kept pinned c.in_ok-metadata-2.ensures.both in
     goes_on _ _ _ _ (ap regions_result (sym toc) ∙ sym c.in_ok-regions.ensures)
-    (both_on (meta_result body regions.metadata) (λ (facts : Facts). facts_fitting facts c.args.global_seqno) _ _ _ (rw body_is at (c.in_ok-metadata.ensures.returned known)) (goes_on _ _ _ _ gives (ap (λ (m : ParsedMeta g.row.S.Alloc.Denot). reported_parts (facts_of m) regions (pinned_of pinned)) (sym same))))
+    (both_on (meta_result body regions.metadata) (λ (facts : Facts). facts_fitting facts c.args.global_seqno) _ _ _ (rw body_is at (c.in_ok-metadata.ensures.returned known)) (goes_on _ _ _ _ gives (ap (λ (m : ParsedMeta g.row.S-Alloc.Denot). reported_parts (facts_of m) regions (pinned_of pinned)) (sym same))))
 
 pub returns-in_err-regions-clause-early : goal.returns-in_err-regions-clause-early
 returns-in_err-regions-clause-early g c at bytes toc body_is =
