@@ -1,7 +1,7 @@
 -- Parts of some bytes.
-use Rattle.std.proofs.Common.{◌≡◌, ℕ, ◌+◌, ◌≤◌, List, length, take, drop, slice_range, ap, sym, ◌∙◌, arith}
-use Rattle.std.proofs.lemmas.List.{length-drop, length-take}
-use Rattle.sst_blocks.specs.Sections.{body_of}
+use Rattle.std.proofs.Common.{◌≡◌, ℕ, ◌+◌, ◌-◌, ◌≤◌, List, length, take, drop, slice_range, ap, sym, ◌∙◌, arith}
+use Rattle.std.proofs.lemmas.List.{length-drop, length-take, take_all}
+use Rattle.sst_blocks.specs.Sections.{body_of, trailer_of}
 use Rattle.sst_blocks.proofs.MarkLemmas.{body_part}
 use Rattle.lsm_files.specs.Reads.{IsPartAt}
 
@@ -27,3 +27,12 @@ part_of_body bytes from part at within = record {
   within = within;
   is = at.is ∙ sym (body_part bytes from (from + length part) within);
 }
+
+-- the last bytes of a file, from where its trailer starts, are its trailer
+pub tail_trailer : (bytes part : List ℕ) (start : ℕ) → start + length part ≡ length bytes
+    → start ≡ length bytes - 120 → IsPartAt bytes start part → trailer_of bytes ≡ part
+tail_trailer bytes part start whole from at =
+    let rest : slice_range bytes start (start + length part) ≡ drop start bytes =
+    take_all (start + length part - start) (drop start bytes)
+    (omega (arith, whole, length-drop start bytes)) in
+    ap (λ (n : ℕ). drop n bytes) (sym from) ∙ sym rest ∙ sym at.is
