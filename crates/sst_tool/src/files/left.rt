@@ -14,7 +14,8 @@ pub(crate) fn remove_files<P: Place, A: Allocator + Copy>(
     path: &str,
     own: &str,
 )
-    ensures { spec.OnlyDoes (spec.Removes (spec.IsBeside path.now)) (P.done place.old) (P.done place.new) }
+    ensures { spec.OnlyDoes (spec.Removes (spec.IsBeside path.now))
+        (P.done place.old) (P.done place.new) }
 {
     for number in 1..=NAMES {
         let Ok(name) = format!(in alloc; "{path}.{number}.tmp") else {
@@ -52,7 +53,8 @@ pub(crate) fn remove_folders<P: Place, A: Allocator + Copy>(
 
 // Removes a folder with the numbered tables in it. A folder with other files stays, without these.
 fn remove_folder<P: Place, A: Allocator + Copy>(place: &mut P, alloc: A, folder: &str)
-    ensures { spec.OnlyDoes (spec.Clears (λ p. p ≡ folder.now)) (P.done place.old) (P.done place.new) }
+    ensures { spec.OnlyDoes (spec.Clears (λ p. p ≡ folder.now))
+        (P.done place.old) (P.done place.new) }
 {
     if !is_folder(place, folder) {
         return;
@@ -61,10 +63,11 @@ fn remove_folder<P: Place, A: Allocator + Copy>(place: &mut P, alloc: A, folder:
     place.remove_folder(folder);
 }
 
-// Removes the numbered tables in a folder. The first thousand numbers may be missing: a run that was
-// killed while it removed them has left the last ones.
+// Removes the numbered tables in a folder. The first thousand numbers may be missing: a run that
+// was killed while it removed them has left the last ones.
 fn remove_tables<P: Place, A: Allocator + Copy>(place: &mut P, alloc: A, folder: &str)
-    ensures { spec.OnlyDoes (spec.Clears (λ p. p ≡ folder.now)) (P.done place.old) (P.done place.new) }
+    ensures { spec.OnlyDoes (spec.Clears (λ p. p ≡ folder.now))
+        (P.done place.old) (P.done place.new) }
 {
     for number in 1..=u64::MAX {
         let Ok(path) = path_of(alloc, &FileName::Within(folder, number)) else {
@@ -78,7 +81,8 @@ fn remove_tables<P: Place, A: Allocator + Copy>(place: &mut P, alloc: A, folder:
 
 // Removes a regular file, and returns whether the path was one.
 fn remove_file<P: Place>(place: &mut P, path: &str) -> bool
-    ensures { spec.OnlyDoes (spec.Removes (λ p. p ≡ path.now)) (P.done place.old) (P.done place.new) }
+    ensures { spec.OnlyDoes (spec.Removes (λ p. p ≡ path.now))
+        (P.done place.old) (P.done place.new) }
 {
     if !is_file(place, path) {
         return false;

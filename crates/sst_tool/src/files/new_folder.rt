@@ -18,8 +18,8 @@ use std::io::ErrorKind;
 /// synced.
 ///
 /// Last, it removes the folders that interrupted runs have left under temporary names before its
-/// own, with the numbered files in them. A folder that has anything else stays, without these files.
-/// An error of this is ignored.
+/// own, with the numbered files in them. A folder that has anything else stays, without these
+/// files. An error of this is ignored.
 ///
 /// # Errors
 ///
@@ -113,7 +113,8 @@ fn fill_all<'a, P: Place, A: Allocator + Copy>(
 ) -> Result<(), FileError<'a>>
     requires { spec.IsBesideFolder folder.now beside.now }
     ensures filled { OnOk result (let all = map (λ t. t.bytes) tables.now in
-        spec.OnlyDoes (spec.Clears (spec.IsBesideFolder folder.now)) (spec.then_done (P.done place.old)
+        spec.OnlyDoes (spec.Clears (spec.IsBesideFolder folder.now))
+        (spec.then_done (P.done place.old)
         ((spec.writing_files (spec.numbered_within beside.now all)
         ++ spec.naming_folder beside.now folder.now) ++ spec.Synced folder.now ∷ []))
         (P.done place.new)) }

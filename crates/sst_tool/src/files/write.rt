@@ -300,7 +300,8 @@ fn put_all<'a, P: Place, A: Allocator + Copy>(
     alloc: A,
     written: &[Beside<'a, '_, A>],
 ) -> Result<(), FileError<'a>>
-    ensures all { OnOk result (spec.OnlyDoes (spec.Removes (spec.IsBesideOne (spec.standing_in written.now)))
+    ensures all { OnOk result
+        (spec.OnlyDoes (spec.Removes (spec.IsBesideOne (spec.standing_in written.now)))
         (spec.then_done (spec.then_done (P.done place.old)
         (spec.renaming (spec.standing_in written.now)))
         (spec.syncing (spec.standing_in written.now))) (P.done place.new)) }
