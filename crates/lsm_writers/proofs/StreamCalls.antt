@@ -16,7 +16,7 @@ use Rattle.lsm_writers.specs.declared.table_stream.TableStream.{TableStream}
 use Rattle.lsm_writers.specs.declared.table_stream.TableStreamError.{TableStreamError}
 use Rattle.lsm_writers.specs.declared.table_stream.TableStreamError.TheVariants.{Failed, OutOfOrder}
 use Rattle.lsm_writers.specs.Streamed.{AreAll, CanPoll, CanTake, EndsAll, EndsAfter, EndsInError}
-use Rattle.lsm_writers.specs.Streamed.{EndsWith, FinishesLast, IsAfter, IsExhausted, LeavesError}
+use Rattle.lsm_writers.specs.Streamed.{EndsWithError, FinishesLast, IsAfter, IsExhausted, LeavesError}
 use Rattle.lsm_writers.specs.Streamed.{Stops, StopsAfter, Took, TookSource, TookFrom}
 use Rattle.lsm_writers.specs.Streamed.{WritesUntil, YieldsAfter, YieldsNextTable, calls_writer}
 use Rattle.lsm_writers.specs.Streamed.{may_replace, next_fault, next_ids, next_left, took_each}
@@ -53,7 +53,7 @@ module _ {S A : Type 0} (stops : Error → Bool) (next : S → Option (Result En
 
     -- it may not follow
     pub from_disorder : may_be_written (all_written n) e.user_key e.seqno ≡ false
-        → EndsWith stops w rs gs OutOfOrder n
+        → EndsWithError stops w rs gs OutOfOrder n
     from_disorder after = took_disorder w h.front gs n h.took stops rs one.0 e whole_one
         (sym (follows_is w h.front gs n h.took e) ∙ after)
 
@@ -63,7 +63,7 @@ module _ {S A : Type 0} (stops : Error → Bool) (next : S → Option (Result En
 
     pub from_failed : IsTrue (may_be_written (all_written n) e.user_key e.seqno)
         → (f : Error) (v : TablesWriting) → (is_memory f ≡ false → took_fault n e ≡ Some f)
-        → IsLeft n e f v → v.ids ≡ ids_after n e → EndsWith stops w rs gs (Failed f) v
+        → IsLeft n e f v → v.ids ≡ ids_after n e → EndsWithError stops w rs gs (Failed f) v
     from_failed follows f v refused left ids =
         took_failed w h.front gs n h.took stops rs one.0 e whole_one (front_follows follows) f v refused
         left ids
@@ -115,7 +115,7 @@ module _ {S A : Type 0} (stops : Error → Bool) (next : S → Option (Result En
     rest_is fine = yields_fault stops next h.rest s t e h.yields step
         (none_stops (stops e) (calls_writer h.front h.rest) (is_memory e) fine)
 
-    pub from_fails : EndsWith stops w rs gs (Failed e) n
+    pub from_fails : EndsWithError stops w rs gs (Failed e) n
     from_fails = record {
       none = λ none. ends_now w h.front gs n h.took stops rs h.rest h.whole (Failed e) n.ids
           (λ fine. ap (next_fault h.front (took_each w h.front)) (rest_is fine).1)
@@ -203,11 +203,11 @@ pub until_fails : {S A : Type 0} (next : S → Option (Result Entry Error) → S
     (n v : TablesWriting) (r : Result (Option (FinishedTable A)) TableStreamError)
     (e : TableStreamError) → IsErrAnd r (λ y. y ≡ e)
     → ((stops : Error → Bool) (w : TablesWriting) (rs : List (Result Entry Error))
-    (gs : List (FinishedTable A)) → TookFrom stops next w rs gs s n → EndsWith stops w rs gs e v)
+    (gs : List (FinishedTable A)) → TookFrom stops next w rs gs s n → EndsWithError stops w rs gs e v)
     → WritesUntil next s n r t v
 until_fails next s t n v (Ok x) e is h = absurd is
 until_fails next s t n v (Err y) e is h = λ stops w rs gs took.
-    subst (λ (f : TableStreamError). EndsWith stops w rs gs f v) (sym is) (h stops w rs gs took)
+    subst (λ (f : TableStreamError). EndsWithError stops w rs gs f v) (sym is) (h stops w rs gs took)
 
 -- ---- one call of the stream
 

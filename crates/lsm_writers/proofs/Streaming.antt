@@ -24,9 +24,9 @@ use Rattle.lsm_writers.specs.declared.writer.FinishedTable.{FinishedTable}
 use Rattle.lsm_writers.specs.Cut.{rest_chunk}
 use Rattle.lsm_writers.specs.declared.table_stream.TableStreamError.{TableStreamError}
 use Rattle.lsm_writers.specs.declared.table_stream.TableStreamError.TheVariants.{Failed, OutOfOrder}
-use Rattle.lsm_writers.specs.Streamed.{AreAll, AreFirst, EndsInError, EndsWith}
+use Rattle.lsm_writers.specs.Streamed.{AreAll, AreFirst, EndsInError, EndsWithError}
 use Rattle.lsm_writers.specs.Streamed.{NoneFails, Took, calls_writer}
-use Rattle.lsm_writers.specs.Streamed.{entries_before, may_come_next, may_replace}
+use Rattle.lsm_writers.specs.Streamed.{entries_before, may_append, may_replace}
 use Rattle.lsm_writers.specs.Streamed.{next_fault, next_ids, next_left, took_each}
 use Rattle.lsm_writers.specs.Taken.{AreTakenFrom, IsLeft, IsWriting, taken, tables_left}
 use Rattle.lsm_writers.specs.Tables.{AreCuts, AreFinished, AreTables, GoesOn, IsFreshRun}
@@ -318,7 +318,7 @@ module _ {A : Type 0} (w : TablesWriting) (es : List Entry) (gs : List (Finished
   listed = sym (all_is m h.writing.works) ∙ h.listed
 
   -- whether an entry may follow does not depend on what was taken
-  pub follows_is : (e : Entry) → may_be_written (all_written n) e.user_key e.seqno ≡ may_come_next es e
+  pub follows_is : (e : Entry) → may_be_written (all_written n) e.user_key e.seqno ≡ may_append es e
   follows_is e = bound_same (all_written n) es e.user_key e.seqno
       ((written_law A m n gs e h.taken h.writing).0 ∙ ap (last_of None) h.listed)
 
@@ -345,7 +345,7 @@ module _ {A : Type 0} (w : TablesWriting) (es : List Entry) (gs : List (Finished
 
   most_now : (rest : List (Result Entry Error)) → length gs ≤ length (next_left es m rest)
   most_now [] = omega (arith, count_is)
-  most_now (Ok e ∷ rest) = most_by e (may_come_next es e)
+  most_now (Ok e ∷ rest) = most_by e (may_append es e)
   most_now (Err f ∷ rest) = omega (arith, count_is)
 
   first_now : (d : List Entry) → AreFirst m (es ++ d) gs
@@ -390,16 +390,16 @@ module _ {A : Type 0} (w : TablesWriting) (es : List Entry) (gs : List (Finished
 
   -- an entry that may not follow
   pub took_disorder : (stops : Error → Bool) (rs rest : List (Result Entry Error)) (e : Entry)
-      → rs ≡ ok_results es ++ Ok e ∷ rest → may_come_next es e ≡ false
-      → EndsWith stops w rs gs OutOfOrder n
+      → rs ≡ ok_results es ++ Ok e ∷ rest → may_append es e ≡ false
+      → EndsWithError stops w rs gs OutOfOrder n
   took_disorder stops rs rest e whole after = record {
     none = λ none. ends_now stops rs (Ok e ∷ rest) whole OutOfOrder n.ids
-        (λ fine. if_false (may_come_next es e) (option_map (λ f. Failed f) (took_fault m e))
+        (λ fine. if_false (may_append es e) (option_map (λ f. Failed f) (took_fault m e))
         (Some OutOfOrder) after)
-        (λ fine. sym (ap length (if_false (may_come_next es e) (tables_left m e) m.tables after)
+        (λ fine. sym (ap length (if_false (may_append es e) (tables_left m e) m.tables after)
         ∙ count_is))
         (inl ids_now)
-        (λ fine. ids_now ∙ sym (if_false (may_come_next es e) (ids_after m e) m.ids after));
+        (λ fine. ids_now ∙ sym (if_false (may_append es e) (ids_after m e) m.ids after));
     some = λ f one. absurd (finished_some n.present.options (first_label n) n.tables f one h.left);
   }
 
@@ -419,21 +419,21 @@ module _ {A : Type 0} (w : TablesWriting) (es : List Entry) (gs : List (Finished
     here_left : v.tables ≡ tables_left n e → v.tables ≡ tables_left (taken (length gs) m) e
     here_left is = subst (λ (x : TablesWriting). v.tables ≡ tables_left x e) h.taken.left is
 
-    fine_is : may_replace stops (may_come_next es e) (Failed f) ≡ false → is_memory f ≡ false
-    fine_is = none_memory (stops f) (may_come_next es e) (is_memory f) next
+    fine_is : may_replace stops (may_append es e) (Failed f) ≡ false → is_memory f ≡ false
+    fine_is = none_memory (stops f) (may_append es e) (is_memory f) next
 
-    fault_now : may_replace stops (may_come_next es e) (Failed f) ≡ false
+    fault_now : may_replace stops (may_append es e) (Failed f) ≡ false
         → next_fault es m (Ok e ∷ rest) ≡ Some (Failed f)
-    fault_now fine = if_true (may_come_next es e) (option_map (λ f. Failed f) (took_fault m e))
+    fault_now fine = if_true (may_append es e) (option_map (λ f. Failed f) (took_fault m e))
         (Some OutOfOrder) next
         ∙ ap (option_map (λ f. Failed f)) (sym (fault_is e) ∙ refused (fine_is fine))
 
     left_is : next_left es m (Ok e ∷ rest) ≡ tables_left m e
-    left_is = if_true (may_come_next es e) (tables_left m e) m.tables next
+    left_is = if_true (may_append es e) (tables_left m e) m.tables next
 
     ids_failed : v.ids ≡ next_ids es m (Ok e ∷ rest)
     ids_failed = ids ∙ ids_next e
-        ∙ sym (if_true (may_come_next es e) (ids_after m e) m.ids next)
+        ∙ sym (if_true (may_append es e) (ids_after m e) m.ids next)
 
     none_left : v.tables ≡ [] → EndsInError stops w rs gs v.ids (Failed f)
     none_left none = ends_now stops rs (Ok e ∷ rest) whole (Failed f) v.ids fault_now
@@ -553,7 +553,7 @@ module _ {A : Type 0} (w : TablesWriting) (es : List Entry) (gs : List (Finished
         left_is = λ fine. ids_failed;
       }
 
-    pub took_failed : EndsWith stops w rs gs (Failed f) v
+    pub took_failed : EndsWithError stops w rs gs (Failed f) v
     took_failed = record {
       none = none_left;
       some = λ g one.

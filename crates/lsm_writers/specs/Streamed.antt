@@ -33,16 +33,16 @@ abbrev pub NoneFails : TablesWriting → List Entry → Type 0
 NoneFails w [] = Unit {0}
 NoneFails w (e ∷ es) = (took_fault w e ≡ None) × NoneFails (took w e) es
 
--- an entry may be written after these
-abbrev pub may_come_next : List Entry → Entry → Bool
-may_come_next es e = may_be_written es e.user_key e.seqno
+-- this entry may be written after those
+abbrev pub may_append : List Entry → Entry → Bool
+may_append es e = may_be_written es e.user_key e.seqno
 
 -- Below, a writer m took the entries es, and the source yields these results next.
 
 -- the writer is called next: to write an entry that may follow, or at the end to finish
 abbrev pub calls_writer : List Entry → List (Result Entry Error) → Bool
 calls_writer es [] = true
-calls_writer es (Ok e ∷ rs) = may_come_next es e
+calls_writer es (Ok e ∷ rs) = may_append es e
 calls_writer es (Err f ∷ rs) = false
 
 -- the error of the next result: the entry may not follow, or the error of writing it; or that of the
@@ -51,19 +51,19 @@ abbrev pub next_fault : List Entry → TablesWriting → List (Result Entry Erro
     → Option TableStreamError
 next_fault es m [] = option_map (λ f. Failed f) (run_fault m)
 next_fault es m (Ok e ∷ rs) =
-    if may_come_next es e then option_map (λ f. Failed f) (took_fault m e) else Some OutOfOrder
+    if may_append es e then option_map (λ f. Failed f) (took_fault m e) else Some OutOfOrder
 next_fault es m (Err f ∷ rs) = Some (Failed f)
 
 -- the finished tables after that error
 abbrev pub next_left : List Entry → TablesWriting → List (Result Entry Error) → List (List Entry)
 next_left es m [] = m.tables
-next_left es m (Ok e ∷ rs) = if may_come_next es e then tables_left m e else m.tables
+next_left es m (Ok e ∷ rs) = if may_append es e then tables_left m e else m.tables
 next_left es m (Err f ∷ rs) = m.tables
 
 -- the id counter after that error
 abbrev pub next_ids : List Entry → TablesWriting → List (Result Entry Error) → Option ℕ
 next_ids es m [] = m.ids
-next_ids es m (Ok e ∷ rs) = if may_come_next es e then ids_after m e else m.ids
+next_ids es m (Ok e ∷ rs) = if may_append es e then ids_after m e else m.ids
 next_ids es m (Err f ∷ rs) = m.ids
 
 -- an error may come in place of the one of the next result: an error that stops the source, and
@@ -228,7 +228,7 @@ pub record TookSource {A : Type 0} (w : TablesWriting) (rs : List (Result Entry 
   pub took : Took w list gs n
 
 -- after an error: the stream ends with it, after these tables and the one that is finished, if any
-pub record EndsWith {A : Type 0} (stops : Error → Bool) (w : TablesWriting)
+pub record EndsWithError {A : Type 0} (stops : Error → Bool) (w : TablesWriting)
     (rs : List (Result Entry Error)) (gs : List (FinishedTable A)) (e : TableStreamError)
     (n : TablesWriting) : Type 0 where
   pub none : n.tables ≡ [] → EndsInError stops w rs gs n.ids e
@@ -243,7 +243,7 @@ abbrev pub WritesNextTable : {S A : Type 0} → (Error → Bool)
     → TablesWriting → Type 0
 WritesNextTable stops next w rs gs (Ok (Some f)) t v = TookFrom stops next w rs (gs ++ f ∷ []) t v
 WritesNextTable stops next w rs gs (Ok None) t v = TookSource w rs gs v
-WritesNextTable stops next w rs gs (Err e) t v = EndsWith stops w rs gs e v
+WritesNextTable stops next w rs gs (Err e) t v = EndsWithError stops w rs gs e v
 
 abbrev pub WritesUntil : {S A : Type 0} → (S → Option (Result Entry Error) → S → Type 0) → S
     → TablesWriting → Result (Option (FinishedTable A)) TableStreamError → S → TablesWriting
@@ -280,7 +280,7 @@ abbrev pub StopsAfter : {A : Type 0} → Option TablesWriting → TableStreamErr
     → Option (Result (FinishedTable A) TableStreamError) → Type 0
 StopsAfter {A = A} writer error r =
     (stops : Error → Bool) (w n : TablesWriting) (rs : List (Result Entry Error))
-    (gs : List (FinishedTable A)) → writer ≡ Some n → EndsWith stops w rs gs error n →
+    (gs : List (FinishedTable A)) → writer ≡ Some n → EndsWithError stops w rs gs error n →
     Stops stops w rs gs n.ids error r
 
 -- the error is left for the next call exactly if a table comes first, and else it is the item
