@@ -1,6 +1,6 @@
 -- The output for the lines of a script.
 use Rattle.std.specs.Prelude.{◌≡◌, ◌<◌, ℕ, ◌+◌, List, [], ◌∷◌, ◌++◌, length, Option, Some, None}
-use Rattle.std.specs.Prelude.{Result, Ok, Err, MatchResult, ◌⊎◌}
+use Rattle.std.specs.Prelude.{Result, Ok, Err, MatchResult, ◌⊎◌, ⊤}
 use Rattle.std.specs.Io.KnownBytes.{Appends, Keeps}
 use Rattle.sst_entries.specs.Error.{number_of}
 use Rattle.sst_script.specs.declared.command.Command.{Command}
@@ -118,3 +118,10 @@ status_of (Err stop) = 2
 abbrev pub Reports : {X : Type 0} → Option (List ℕ) → Option (List ℕ) → Result X Stop → Type 0
 Reports before after (Ok x) = Keeps before after
 Reports before after (Err stop) = AppendsFront before after (stop_line stop)
+
+-- a script ended in some way, which its status, its output and its report tell
+abbrev pub ScriptReturns : (A : Type 0) → Option (List ℕ) → Option (List ℕ) → Option (List ℕ)
+    → Option (List ℕ) → Option (List ℕ) → ℕ → Type 0
+ScriptReturns A input before after unreported reported status = (ended : Result ⊤ Stop)
+    × (status ≡ status_of ended) × ScriptEnds A input before after ended
+    × Reports unreported reported ended

@@ -1,13 +1,12 @@
 -- The effects of a script's commands on its runs.
 use Rattle.std.specs.Prelude.{◌≡◌, ℕ, Bool, IsTrue, List, [], ◌∷◌, ◌++◌, length, Option, Some, None}
-use Rattle.std.specs.Prelude.{Result, MatchResult, ◌⊎◌, if◌then◌else◌}
+use Rattle.std.specs.Prelude.{Result, MatchResult, ◌⊎◌, if◌then◌else◌, map}
+use Rattle.std.specs.Arc.{arc_value}
 use Rattle.std.specs.Option.{option_map}
 use Rattle.sst_entries.specs.declared.error.Error.{Error}
 use Rattle.sst_entries.specs.declared.error.Error.TheVariants.{OutOfMemory}
 use Rattle.sst_entries.specs.Entry.{Entry, entry}
-use Rattle.sst_entries.specs.Point.{point, within}
-use Rattle.lsm_sorted.specs.merge.Union.{newest}
-use Rattle.lsm_sorted.specs.version.KeyRange.{key_bound}
+use Rattle.sst_entries.specs.Point.{point}
 use Rattle.lsm_sorted.specs.version.Packing.{ArePacked, IsLeastSize, SameHolders, SameTables}
 use Rattle.lsm_sorted.specs.Compaction.{kept, unfiltered}
 use Rattle.lsm_runs.specs.compaction.Chain.{AreCutOf, ids_behind, run_label, tables_fault}
@@ -20,10 +19,11 @@ use Rattle.sst_script.specs.declared.command.Command.TheVariants.{Compact, Pack}
 use Rattle.sst_script.specs.declared.print.Answer.{Answer}
 use Rattle.sst_script.specs.declared.print.Answer.TheVariants.{Silent, Tables, Runs as PackedInto}
 use Rattle.sst_script.specs.declared.print.Answer.TheVariants.{Lines}
+use Rattle.sst_script.specs.declared.script.Script.{Script}
 use Rattle.sst_script.specs.declared.stop.Failure.{Failure}
 use Rattle.sst_script.specs.declared.stop.Failure.TheVariants.{BadLine, Refused}
 use Rattle.sst_script.specs.Answer.{entry_lines, found_line}
-use Rattle.sst_script.specs.Runs.{Run, repeats, run_tables, union}
+use Rattle.sst_script.specs.Runs.{ForRuns, HasRuns, Run, newest_between, repeats, run_tables, union}
 
 -- the state of a script: the entries of the next run, the runs, newest first, and the next id
 pub record Store : Type 0 where
@@ -33,6 +33,13 @@ pub record Store : Type 0 where
 
 abbrev pub store : List Entry → List Run → Option ℕ → Store
 store pending runs id = record { pending = pending; runs = runs; next_id = id }
+
+-- a script goes from one state to another so: for all runs of its tables before, its tables after
+-- are those of some runs
+abbrev pub ChangesStore : {A : Type 0} → (old new : Script A) → (Store → Store → Type 0) → Type 0
+ChangesStore old new P = ForRuns (map arc_value old.runs.items) (λ before.
+    HasRuns (map arc_value new.runs.items) (λ after.
+    P (store old.pending before old.ids) (store new.pending after new.ids)))
 
 -- the target size of a table in bytes of data blocks
 abbrev pub target_size : ℕ
@@ -150,7 +157,7 @@ Executes (Get key bound) old r new = (new ≡ old) × MatchResult r
     (λ a. IsText (found_line (point (union old.runs) key.now bound)) a)
     (λ e. e ≡ Refused OutOfMemory)
 Executes (Range low high) old r new =
-    let found = newest (within (key_bound low) (key_bound high) (union old.runs)) in
+    let found = newest_between low high old.runs in
     (new ≡ old) × MatchResult r (λ a. IsText (entry_lines found) a) (λ e. e ≡ Refused OutOfMemory)
 Executes (Compact watermark evict zero) old r new =
     let left = kept_by watermark evict zero old.runs in MatchResult r

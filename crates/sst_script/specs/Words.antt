@@ -24,14 +24,14 @@ pub use Rattle.lsm_runs.specs.compaction.Chain.{tables_fault}
 pub use Rattle.lsm_runs.specs.compaction.Compacted.{AreCompactable}
 pub use Rattle.sst_script.specs.Answer.{answer_lines, entry_line, entry_lines, found_line}
 pub use Rattle.sst_script.specs.Answer.{refusal_line}
-pub use Rattle.sst_script.specs.Answering.{LineEnds, PrintEnds, Reports, ScriptEnds, outcome_text}
-pub use Rattle.sst_script.specs.Answering.{status_of}
+pub use Rattle.sst_script.specs.Answering.{LineEnds, PrintEnds, Reports, ScriptEnds, ScriptReturns}
+pub use Rattle.sst_script.specs.Answering.{outcome_text, status_of}
 pub use Rattle.sst_script.specs.Command.{AddsEntry, AskFor, CompactsBy, Limits, ReadsKey}
 pub use Rattle.sst_script.specs.Command.{ReadsRange, StandsFor, setting_words, words_behind}
 pub use Rattle.sst_script.specs.Command.{words_of}
 pub use Rattle.sst_script.specs.Lines.{ReadsLine}
-pub use Rattle.sst_script.specs.Runs.{ForRuns, HasRuns, has_entry, repeats, union}
-pub use Rattle.sst_script.specs.Script.{CompactsRuns, Executes, PacksRuns, WritesPending}
+pub use Rattle.sst_script.specs.Runs.{ForRuns, HasRuns, OnLent, has_entry, newest_between, repeats, union}
+pub use Rattle.sst_script.specs.Script.{ChangesStore, CompactsRuns, Executes, PacksRuns, WritesPending}
 pub use Rattle.sst_script.specs.Script.{entry_failure, kept_by, store, target_size}
 pub use Rattle.sst_script.specs.Shown.{ShowsText}
 pub use Rattle.sst_script.specs.Stop.{stop_line}

@@ -1,5 +1,5 @@
 //! The lines of entries that a command reads.
-ghost use Rattle.std.specs.Prelude.{◌≡◌, ◌++◌, IfErr, List, Ok, OnOk};
+ghost use Rattle.std.specs.Prelude.{◌≡◌, ◌++◌, IfErr, Ok, OnOk};
 ghost use Rattle.sst_script.specs.Words as spec;
 
 use itoa::Buffer;
@@ -39,9 +39,8 @@ pub(crate) fn lines_of_newest<L: Lending + Drop, A: Allocator>(
     requires { spec.CanYield ⟦<LentNewestOf<L, A> as Lending>⟧.advances spec.nowhere
         ⟦<LentNewestOf<L, A> as Lending>⟧.can_advance
         ⟦<LentNewestOf<L, A> as Lending>⟧.can_advance stream }
-    ensures { let advances = ⟦<LentNewestOf<L, A> as Lending>⟧.advances in
-        (es : List spec.Entry) → spec.YieldsList advances spec.nowhere es stream →
-        spec.Gives spec.vec_items result (Ok (spec.entry_lines es)) }
+    ensures { spec.OnLent ⟦<LentNewestOf<L, A> as Lending>⟧.advances stream (λ es.
+        spec.Gives spec.vec_items result (Ok (spec.entry_lines es))) }
 {
     lines_of(alloc, &mut stream)
 }
@@ -50,8 +49,8 @@ pub(crate) fn lines_of_newest<L: Lending + Drop, A: Allocator>(
 // fails with `OutOfMemory` only.
 fn lines_of<L: Lending, A: Allocator>(alloc: A, source: &mut L) -> Result<Vec<u8, A>, Error>
     requires { spec.CanYield L.advances spec.nowhere L.can_advance L.can_advance source.old }
-    ensures { (es : List spec.Entry) → spec.YieldsList L.advances spec.nowhere es source.old →
-        spec.Gives spec.vec_items result (Ok (spec.entry_lines es)) }
+    ensures { spec.OnLent L.advances source.old (λ es.
+        spec.Gives spec.vec_items result (Ok (spec.entry_lines es))) }
 {
     let mut text = Vec::new(alloc);
     add_lines(&mut text, source)?;
@@ -66,10 +65,10 @@ fn lines_of<L: Lending, A: Allocator>(alloc: A, source: &mut L) -> Result<Vec<u8
 // only.
 fn add_lines<L: Lending, A: Allocator>(text: &mut Vec<u8, A>, source: &mut L) -> Result<(), Error>
     requires { spec.CanYield L.advances spec.nowhere L.can_advance L.can_advance source.old }
-    ensures lines { (es : List spec.Entry) → spec.YieldsList L.advances spec.nowhere es source.old →
-        OnOk result (text.new.items ≡ text.old.items ++ spec.flat_map spec.entry_line es) }
-    ensures err { (es : List spec.Entry) → spec.YieldsList L.advances spec.nowhere es source.old →
-        IfErr result (λ e. e ≡ spec.OutOfMemory) }
+    ensures lines { spec.OnLent L.advances source.old (λ es.
+        OnOk result (text.new.items ≡ text.old.items ++ spec.flat_map spec.entry_line es)) }
+    ensures err { spec.OnLent L.advances source.old (λ es. IfErr result (λ e.
+        e ≡ spec.OutOfMemory)) }
 {
     while source.advance()? {
         if let Some(entry) = source.entry() {

@@ -38,9 +38,8 @@ pub(crate) fn newest_lines<A: Allocator + Clone>(
     high: Bound<&[u8]>,
 ) -> Result<Vec<u8, A>, Error>
     requires { spec.AreCompactable (map spec.arc_value runs.now) }
-    ensures { let from = spec.key_bound low.entry in let to = spec.key_bound high.entry in
-        spec.ForRuns (map spec.arc_value runs.now) (λ rs. spec.Gives spec.vec_items result
-        (Ok (spec.entry_lines (spec.newest (spec.within from to (spec.union rs)))))) }
+    ensures { spec.ForRuns (map spec.arc_value runs.now) (λ rs. spec.Gives spec.vec_items result
+        (Ok (spec.entry_lines (spec.newest_between low.entry high.entry rs)))) }
 {
     let bounds = (owned(alloc, low)?, owned(alloc, high)?);
     let beside = alloc.clone()?;

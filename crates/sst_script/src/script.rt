@@ -1,5 +1,5 @@
 //! Running a script.
-ghost use Rattle.std.specs.Prelude.{◌≡◌, ◌⊎◌, [], ⊤, ℕ, List, Option, Some, Result, IfOk, IfErr};
+ghost use Rattle.std.specs.Prelude.{◌≡◌, ◌⊎◌, [], ℕ, List, Option, Some, IfOk, IfErr};
 ghost use Rattle.std.specs.Prelude.{map};
 ghost use Rattle.sst_script.specs.Words as spec;
 
@@ -40,10 +40,9 @@ pub fn run_script<A: Allocator + Clone, R: Read + Drop, W: Write, E: Write>(
     errors: &mut E,
 ) -> u8
     ensures status { (result ≡ 0) ⊎ (result ≡ 2) }
-    ensures ended { (ended : Result ⊤ spec.Stop) × (result ≡ spec.status_of ended)
-        × spec.ScriptEnds A (R.remaining input) (W.contents output.old) (W.contents output.new)
-        ended
-        × spec.Reports (E.contents errors.old) (E.contents errors.new) ended }
+    ensures ended { spec.ScriptReturns A (R.remaining input)
+        (W.contents output.old) (W.contents output.new)
+        (E.contents errors.old) (E.contents errors.new) result }
     ensures silent { result ≡ 0 → errors.new ≡ errors.old }
 {
     match answer_script(alloc, input, output) {
@@ -159,12 +158,9 @@ impl<A: Allocator + Clone> Script<A> {
         requires { spec.AreCompactable (map spec.arc_value self.old.runs.items) }
         ensures able { spec.AreCompactable (map spec.arc_value self.new.runs.items) }
         ensures stops { IfErr result (λ stop. (stop ≡ spec.Line number) ⊎ (stop ≡ spec.Output)) }
-        ensures ended { spec.ForRuns (map spec.arc_value self.old.runs.items) (λ before.
-            spec.HasRuns (map spec.arc_value self.new.runs.items) (λ after.
-            spec.LineEnds A number line.now
-            (spec.store self.old.pending before self.old.ids)
-            (spec.store self.new.pending after self.new.ids)
-            (W.contents output.old) (W.contents output.new) result)) }
+        ensures ended { spec.ChangesStore self.old self.new (λ before after.
+            spec.LineEnds A number line.now before after
+            (W.contents output.old) (W.contents output.new) result) }
     {
         if line.is_empty() {
             return Ok(());
@@ -178,11 +174,8 @@ impl<A: Allocator + Clone> Script<A> {
     fn execute(&mut self, command: Command<'_>) -> Result<Answer<A>, Failure>
         requires { spec.AreCompactable (map spec.arc_value self.old.runs.items) }
         ensures able { spec.AreCompactable (map spec.arc_value self.new.runs.items) }
-        ensures done { spec.ForRuns (map spec.arc_value self.old.runs.items) (λ before.
-            spec.HasRuns (map spec.arc_value self.new.runs.items) (λ after.
-            spec.Executes command.entry
-            (spec.store self.old.pending before self.old.ids) result
-            (spec.store self.new.pending after self.new.ids))) }
+        ensures done { spec.ChangesStore self.old self.new (λ before after.
+            spec.Executes command.entry before result after) }
     {
         match command {
             Command::Entry {
@@ -221,11 +214,8 @@ impl<A: Allocator + Clone> Script<A> {
     fn write_table(&mut self) -> Result<u64, Failure>
         requires { spec.AreCompactable (map spec.arc_value self.old.runs.items) }
         ensures able { spec.AreCompactable (map spec.arc_value self.new.runs.items) }
-        ensures done { spec.ForRuns (map spec.arc_value self.old.runs.items) (λ before.
-            spec.HasRuns (map spec.arc_value self.new.runs.items) (λ after.
-            spec.WritesPending
-            (spec.store self.old.pending before self.old.ids) result
-            (spec.store [] after self.new.ids))) }
+        ensures done { spec.ChangesStore self.old self.new (λ before after.
+            spec.WritesPending before result (spec.store [] after.runs after.next_id)) }
     {
         if is_repeated(&self.runs, self.pending.items())? {
             return Err(Failure::BadLine);
@@ -250,12 +240,8 @@ impl<A: Allocator + Clone> Script<A> {
     fn compact(&mut self, watermark: SeqNo, evict: bool, zero: bool) -> Result<u64, Failure>
         requires { spec.AreCompactable (map spec.arc_value self.old.runs.items) }
         ensures able { spec.AreCompactable (map spec.arc_value self.new.runs.items) }
-        ensures done { spec.ForRuns (map spec.arc_value self.old.runs.items) (λ before.
-            spec.HasRuns (map spec.arc_value self.new.runs.items) (λ after.
-            spec.CompactsRuns
-            (spec.store self.old.pending before self.old.ids)
-            (spec.kept_by watermark evict zero before) result
-            (spec.store self.new.pending after self.new.ids))) }
+        ensures done { spec.ChangesStore self.old self.new (λ before after.
+            spec.CompactsRuns before (spec.kept_by watermark evict zero before.runs) result after) }
     {
         let rules = Rules {
             watermark,
@@ -286,11 +272,8 @@ impl<A: Allocator + Clone> Script<A> {
     fn pack(&mut self) -> Result<u64, Failure>
         requires { spec.AreCompactable (map spec.arc_value self.old.runs.items) }
         ensures able { spec.AreCompactable (map spec.arc_value self.new.runs.items) }
-        ensures done { spec.ForRuns (map spec.arc_value self.old.runs.items) (λ before.
-            spec.HasRuns (map spec.arc_value self.new.runs.items) (λ after.
-            spec.PacksRuns
-            (spec.store self.old.pending before self.old.ids) result
-            (spec.store self.new.pending after self.new.ids))) }
+        ensures done { spec.ChangesStore self.old self.new (λ before after.
+            spec.PacksRuns before result after) }
     {
         let packed = pack_runs(self.alloc.clone()?, &self.runs)?;
         self.runs = share_all(self.alloc.clone()?, packed)?;

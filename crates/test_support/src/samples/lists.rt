@@ -39,10 +39,8 @@ fn answers_in<S: DoubleEndedIterator<Item = IterItem<A>>, A: Allocator + Copy>(
     stream: &mut NewestOf<S, A>,
     ends: &[Direction],
 ) -> Result<Vec<Option<IterItem<A>>, A>, Error>
-    requires { CanYield ⟦<NewestOf<S, A> as Iterator>⟧.next_gives
-        ⟦<NewestOf<S, A> as DoubleEndedIterator>⟧.next_back_gives
-        ⟦<NewestOf<S, A> as Iterator>⟧.can_next
-        ⟦<NewestOf<S, A> as DoubleEndedIterator>⟧.can_next_back stream.old }
+    requires { let iter = ⟦<NewestOf<S, A> as DoubleEndedIterator>⟧ in
+        CanYield iter.next_gives iter.next_back_gives iter.can_next iter.can_next_back stream.old }
 {
     Ok(answers_at(alloc, stream, ends)?)
 }
@@ -54,10 +52,8 @@ fn answers_of<A: Allocator + Copy>(
     stream: &mut Stream<A>,
     ends: &[Direction],
 ) -> Result<Vec<Option<IterItem<A>>, A>, Error>
-    requires { CanYield ⟦<Stream<A> as Iterator>⟧.next_gives
-        ⟦<Stream<A> as DoubleEndedIterator>⟧.next_back_gives
-        ⟦<Stream<A> as Iterator>⟧.can_next
-        ⟦<Stream<A> as DoubleEndedIterator>⟧.can_next_back stream.old }
+    requires { let iter = ⟦<Stream<A> as DoubleEndedIterator>⟧ in
+        CanYield iter.next_gives iter.next_back_gives iter.can_next iter.can_next_back stream.old }
 {
     answers_in(alloc, stream, ends)
 }
@@ -67,10 +63,8 @@ fn answers_last<A: Allocator + Copy>(
     mut stream: Stream<A>,
     ends: &[Direction],
 ) -> Result<Vec<Option<IterItem<A>>, A>, Error>
-    requires { CanYield ⟦<Stream<A> as Iterator>⟧.next_gives
-        ⟦<Stream<A> as DoubleEndedIterator>⟧.next_back_gives
-        ⟦<Stream<A> as Iterator>⟧.can_next
-        ⟦<Stream<A> as DoubleEndedIterator>⟧.can_next_back stream }
+    requires { let iter = ⟦<Stream<A> as DoubleEndedIterator>⟧ in
+        CanYield iter.next_gives iter.next_back_gives iter.can_next iter.can_next_back stream }
 {
     let answers = answers_of(alloc, &mut stream, ends);
     drop(stream);
@@ -95,10 +89,8 @@ pub fn ends_of<A: Allocator + Copy>(
     alloc: A,
     stream: &mut Stream<A>,
 ) -> Result<Vec<Option<IterItem<A>>, A>, Error>
-    requires { CanYield ⟦<Stream<A> as Iterator>⟧.next_gives
-        ⟦<Stream<A> as DoubleEndedIterator>⟧.next_back_gives
-        ⟦<Stream<A> as Iterator>⟧.can_next
-        ⟦<Stream<A> as DoubleEndedIterator>⟧.can_next_back stream.old }
+    requires { let iter = ⟦<Stream<A> as DoubleEndedIterator>⟧ in
+        CanYield iter.next_gives iter.next_back_gives iter.can_next iter.can_next_back stream.old }
 {
     answers_of(alloc, stream, &BACK_AND_FRONT)
 }
@@ -108,10 +100,8 @@ pub fn read_names<A: Allocator + Copy>(
     alloc: A,
     read: (Option<InternalValue<A>>, Stream<A>),
 ) -> Result<[Option<Name>; 3], Error>
-    requires { CanYield ⟦<Stream<A> as Iterator>⟧.next_gives
-        ⟦<Stream<A> as DoubleEndedIterator>⟧.next_back_gives
-        ⟦<Stream<A> as Iterator>⟧.can_next
-        ⟦<Stream<A> as DoubleEndedIterator>⟧.can_next_back read.1 }
+    requires { let iter = ⟦<Stream<A> as DoubleEndedIterator>⟧ in
+        CanYield iter.next_gives iter.next_back_gives iter.can_next iter.can_next_back read.1 }
 {
     let (found, stream) = read;
     let ends = answers_last(alloc, stream, &BACK_AND_FRONT);
