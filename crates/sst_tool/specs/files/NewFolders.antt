@@ -3,6 +3,7 @@ use Rattle.std.specs.Prelude.{◌≡◌, ◌≢◌, ◌<◌, ◌⊎◌, ℕ, ◌
 use Rattle.std.specs.Prelude.{IfSome, None, Option, codes, length, map, take, true}
 use Rattle.std.specs.List.{AllByRecursion}
 use Rattle.std.specs.Path.{slash}
+use Rattle.lsm_writers.specs.declared.writer.FinishedTable.{FinishedTable}
 use Rattle.sst_entries.specs.declared.error.Error.TheVariants.{OutOfMemory}
 use Rattle.sst_tool.specs.declared.files.file_error.FileError.{FileError}
 use Rattle.sst_tool.specs.declared.files.file_error.FileFault.{FileFault}
@@ -13,9 +14,13 @@ use Rattle.sst_tool.specs.files.Files.{IsBeside, file_number, path_text}
 use Rattle.sst_tool.specs.files.Numbered.{numbered_files}
 use Rattle.sst_tool.specs.files.Placed.{IsNotSynced}
 use Rattle.sst_tool.specs.files.There.{AreAllTaken, LiesElsewhere}
-use Rattle.sst_tool.specs.files.Steps.{Step, then_done}
+use Rattle.sst_tool.specs.files.Steps.{OnlyDoes, Step, then_done}
 use Rattle.sst_tool.specs.files.Steps.Step.{MadeFolder, Removed, RemovedFolder, RenamedFolder}
 use Rattle.sst_tool.specs.files.Steps.Step.{Synced, SyncedNames, Wrote}
+
+-- The bytes of each table.
+abbrev pub table_bytes : {A : Type 0} → List (FinishedTable A) → List (List ℕ)
+table_bytes {A} tables = map (λ (t : FinishedTable A). t.bytes) tables
 
 -- The path of a numbered table in a folder.
 abbrev pub path_within : List ℕ → ℕ → List ℕ
@@ -46,10 +51,14 @@ removing_folder folder files = map (λ f. Removed f.0) files ++ RemovedFolder fo
 abbrev pub naming_folder : List ℕ → List ℕ → List Step
 naming_folder from to = SyncedNames from ∷ RenamedFolder from to ∷ []
 
+-- The files are written under the folder's temporary name, and the folder is synced and renamed.
+abbrev pub filling : List ℕ → List ℕ → List (List ℕ) → List Step
+filling beside folder all =
+    writing_files (numbered_within beside all) ++ naming_folder beside folder
+
 -- The folder is made under its temporary name, filled, synced and renamed.
 abbrev pub placing_folder : List ℕ → List ℕ → List (List ℕ) → List Step
-placing_folder beside folder all = MadeFolder beside
-    ∷ (writing_files (numbered_within beside all) ++ naming_folder beside folder)
+placing_folder beside folder all = MadeFolder beside ∷ filling beside folder all
 
 -- The folder is made under its temporary name, filled in part, perhaps synced, and removed again.
 abbrev pub giving_up : List ℕ → List (List ℕ) → List Step → List Step
@@ -71,6 +80,12 @@ Clears Is (Removed path) =
     (folder : List ℕ) × (number : ℕ) × Is folder × (path ≡ path_within folder number)
 Clears Is (RemovedFolder path) = Is path
 Clears Is step = ⊥
+
+-- These steps are done. After that only numbered tables in temporary folders of this one are
+-- removed, and these folders.
+abbrev pub ThenClears : List ℕ → Option (List Step) → List Step → Option (List Step) → Type 0
+ThenClears folder known steps new =
+    OnlyDoes (Clears (IsBesideFolder folder)) (then_done known steps) new
 
 -- The new folder has its name, and its parent folder was synced. After that only numbered tables in
 -- temporary folders of this name, and these folders, were removed, and nothing else was done.
@@ -182,5 +197,4 @@ abbrev pub IsNotFilled : List ℕ → List ℕ → List (List ℕ) → Option (L
 IsNotFilled folder beside all known e new =
     IsEmptied folder beside all known e new
     ⊎ ((path_text e.name ≡ folder) × IsNotSynced e.fault
-    × (new ≡ then_done known
-    (writing_files (numbered_within beside all) ++ naming_folder beside folder)))
+    × (new ≡ then_done known (filling beside folder all)))

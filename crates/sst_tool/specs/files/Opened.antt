@@ -1,6 +1,7 @@
 -- Opened tables.
 use denote.Ref.{Bor}
 use Rattle.std.specs.Prelude.{◌≡◌, ℕ, Bool, List, [], ◌∷◌, ◌++◌, Option, None, IfSome, Ok, Err}
+use Rattle.std.specs.Prelude.{length, true}
 use Rattle.lsm_readers.specs.point.Parts.{recovered_result}
 use Rattle.lsm_readers.specs.point.Table.{OpenTable}
 use Rattle.sst_entries.specs.Error.{Gives}
@@ -29,6 +30,12 @@ AreOpenedFrom pinned content (path ∷ paths) [] = ⊥
 AreOpenedFrom pinned content (path ∷ paths) (t ∷ ts) =
     (IsToldByBytes pinned t × HasContent (content path.now) t)
     × AreOpenedFrom pinned content paths ts
+
+-- The files open, in their order, as tables of which this holds.
+abbrev pub OpenAs : (List ℕ → Option (List ℕ)) → List (Bor (List ℕ)) → (List OpenTable → Type 0)
+    → Type 0
+OpenAs content paths P = (opened : List OpenTable) × (length opened ≡ length paths)
+    × AreOpenedFrom true content paths opened × P opened
 
 -- The error is the one that the bytes decode to, if these are known, or OutOfMemory. A file whose
 -- bytes are known has no error of reading.

@@ -149,6 +149,12 @@ pub record StopSyncing (known : Option (List Step)) (all : List Standing) (e : F
   pub returned : IsNotSynced e.fault
   pub done : new ≡ then_done known (syncing before)
 
+-- All temporary files are renamed and their folders synced. After that only files with temporary
+-- names of these are removed.
+abbrev pub ArePut : Option (List Step) → List Standing → Option (List Step) → Type 0
+ArePut known all new = OnlyDoes (Removes (IsBesideOne all))
+    (then_done (then_done known (renaming all)) (syncing all)) new
+
 -- The temporary files are not all renamed, or all are and not all folders synced.
 abbrev pub AreNotPut : Option (List Step) → List Standing → FileError → Option (List Step)
     → Type 0
@@ -205,3 +211,10 @@ pub record StopLooking (known : Option (List Step)) (next : List ℕ) (there : O
   pub named : path_text e.name ≡ next
   pub fault : IsLookFault e.fault there
   pub done : new ≡ known
+
+-- The name that is to be free is not, or was not looked up; or the files are not all written and
+-- renamed, or not durable.
+abbrev pub AreNotPlacedBefore : (List ℕ → Option Bool) → Option (List Step) → List ℕ
+    → List NewFile → FileError → Option (List Step) → Type 0
+AreNotPlacedBefore there known next wanted e new =
+    StopLooking known next (there next) e new ⊎ AreNotPlaced there known wanted e new

@@ -23,6 +23,14 @@ standing_of b = record {
 abbrev pub standing_in : {A : Type 0} → List (Beside A) → List Standing
 standing_in bs = map standing_of bs
 
+-- This holds of the paths, the modes and the steps of a place before and after a call.
+abbrev pub BeforeAndAfter : {S : Type 0} (there : S → List ℕ → Option Bool)
+    (modes : S → List ℕ → Option (Option ℕ)) (done : S → Option (List Step)) (old new : S)
+    → ((there by_then : List ℕ → Option Bool) → (modes last : List ℕ → Option (Option ℕ))
+    → (known after : Option (List Step)) → Type 0) → Type 0
+BeforeAndAfter there modes done old new P =
+    P (there old) (there new) (modes old) (modes new) (done old) (done new)
+
 -- The file was written under a temporary name.
 pub record IsWritten (file : NewFile) (one : Standing) (there by_then : List ℕ → Option Bool)
     (modes last : List ℕ → Option (Option ℕ)) (known new : Option (List Step)) : Type 0 where

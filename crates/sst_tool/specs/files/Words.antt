@@ -16,21 +16,22 @@ pub use Rattle.sst_tool.specs.files.NewFolders.{Clears, IsBesideFolder, IsFolder
 pub use Rattle.sst_tool.specs.files.NewFolders.{IsFolderNotPlaced}
 pub use Rattle.sst_tool.specs.files.NewFolders.{IsMakingFault, IsNamingFault, IsNotFilled, IsStemOf}
 pub use Rattle.sst_tool.specs.files.NewFolders.{IsWritingFault, LiesWithin, MaySyncNames, StopsWithin}
-pub use Rattle.sst_tool.specs.files.NewFolders.{TellsNameTaken, TellsStemTaken, TellsTaken}
-pub use Rattle.sst_tool.specs.files.NewFolders.{naming_folder, numbered_within, path_within}
-pub use Rattle.sst_tool.specs.files.NewFolders.{writing_files}
+pub use Rattle.sst_tool.specs.files.NewFolders.{TellsNameTaken, TellsStemTaken, TellsTaken, ThenClears}
+pub use Rattle.sst_tool.specs.files.NewFolders.{filling, naming_folder, numbered_within, path_within}
+pub use Rattle.sst_tool.specs.files.NewFolders.{table_bytes}
 pub use Rattle.sst_tool.specs.files.Numbered.{named_bytes, numbered_files, numbered_path, with_number}
 pub use Rattle.sst_tool.specs.files.Opened.{AreOpenedFrom, HasContent, IsToldByBytes, StopsOpening}
 pub use Rattle.sst_tool.specs.files.Opened.{TellsRefused}
-pub use Rattle.sst_tool.specs.files.Placed.{AreBeside, AreNotPlaced, AreNotPut, AreInPlace, IfLeft}
-pub use Rattle.sst_tool.specs.files.Placed.{IsBesideOne}
-pub use Rattle.sst_tool.specs.files.Placed.{IsEarly, IsLookFault, IsNotSynced, StopLooking, StopSyncing}
+pub use Rattle.sst_tool.specs.files.Placed.{AreBeside, AreInPlace, AreNotPlaced, AreNotPlacedBefore}
+pub use Rattle.sst_tool.specs.files.Placed.{AreNotPut, ArePut, IfLeft, IsBesideOne, IsEarly}
+pub use Rattle.sst_tool.specs.files.Placed.{IsLookFault, IsNotSynced, StopSyncing}
 pub use Rattle.sst_tool.specs.files.Placed.{StopsBefore, StopsRenamingAt, TellsAllTaken, TellsFound}
 pub use Rattle.sst_tool.specs.files.Placed.{TellsKind, TellsLeft, TellsRenamed, removing, renaming}
 pub use Rattle.sst_tool.specs.files.Placed.{syncing, writing}
-pub use Rattle.sst_tool.specs.files.Standing.{HaveModesKept, IsAdded, IsWritten, standing_in}
-pub use Rattle.sst_tool.specs.files.Standing.{standing_of}
-pub use Rattle.sst_tool.specs.files.Steps.{OnlyDoes, Removes, Step, then_done, written_if}
+pub use Rattle.sst_tool.specs.files.Standing.{BeforeAndAfter, HaveModesKept, IsAdded, IsWritten}
+pub use Rattle.sst_tool.specs.files.Standing.{standing_in, standing_of}
+pub use Rattle.sst_tool.specs.files.Steps.{OnlyDoes, Removes, Step, requested_mode, then_done}
+pub use Rattle.sst_tool.specs.files.Steps.{written_if}
 pub use Rattle.sst_tool.specs.files.Steps.Step.{MadeFolder, Removed, RemovedFolder, Renamed}
 pub use Rattle.sst_tool.specs.files.Steps.Step.{RenamedFolder, Synced, SyncedNames, Wrote}
 pub use Rattle.sst_tool.specs.files.Targets.{largest_table}

@@ -59,6 +59,11 @@ abbrev pub IsEntryObject : Json → Json → Json → Json → Json → Type 0
 IsEntryObject json key seqno kind value =
     (members : Members) × (json ≡ object members) × AreMembers members key seqno kind value
 
+-- If the value is an object of four members, these are they.
+abbrev pub AreMembersOf : Json → Json → Json → Json → Json → Type 0
+AreMembersOf json key seqno kind value = (members : Members) → json ≡ object members
+    → length (keys members) ≡ 4 → AreMembers members key seqno kind value
+
 -- The four members of the line's object.
 pub record FourMembers (line : List ℕ) : Type 0 where
   pub members : Members

@@ -10,7 +10,7 @@ pub use Rattle.sst_entries.specs.Entry.{Entry}
 pub use Rattle.sst_entries.specs.declared.value_type.ValueType.{ValueType}
 pub use Rattle.sst_tool.specs.lines.Escapes.{AreCodes, Begins, WordMeans, escaped, is_plain}
 pub use Rattle.sst_tool.specs.lines.Faults.{IsSameFault, lacks_memory}
-pub use Rattle.sst_tool.specs.lines.ObjectLine.{AreMembers, IsEntryObject, IsStrictLine, MeansBytes}
+pub use Rattle.sst_tool.specs.lines.ObjectLine.{AreMembersOf, IsEntryObject, IsStrictLine, MeansBytes}
 pub use Rattle.sst_tool.specs.lines.ObjectLine.{MeansNumber, SpellsObject, StandsInDigits, kind_name}
 pub use Rattle.sst_tool.specs.lines.WordLine.{IsNumberWord, SpellsEntry, kind_letter, line_words}
 pub use Rattle.sst_tool.specs.lines.WordLine.{line_words_behind}

@@ -12,7 +12,7 @@ use Rattle.lsm_runs.specs.compaction.OpenedBy.{AreOpenedBy, default_opening, run
 use Rattle.lsm_runs.specs.declared.compaction.any_runs.CompactionOutcome.{CompactionOutcome}
 use Rattle.lsm_runs.specs.declared.compaction.any_runs.CompactionOutcome.TheVariants.{Tables}
 use Rattle.lsm_readers.specs.point.Table.{OpenTable}
-use Rattle.lsm_runs.specs.RunLists.{RunsHoldLists}
+use Rattle.lsm_runs.specs.RunLists.{RunsHoldLists, TableLists}
 use Rattle.lsm_runs.specs.compaction.Compacted.{HaveEntries}
 use Rattle.sst_entries.specs.Entry.{Entry}
 use Rattle.sst_entries.specs.declared.error.Error.{Error}
@@ -27,15 +27,23 @@ use Rattle.sst_tool.specs.make.Written.{writer_by}
 abbrev pub each_alone : List OpenTable → List (List OpenTable)
 each_alone tables = map (λ t. t ∷ []) tables
 
+-- This holds of what the rules keep of any lists with entries that the tables store.
+abbrev pub OnKept : CompactOptions → List OpenTable → (List Entry → Type 0) → Type 0
+OnKept o tables P = (lists : TableLists) → RunsHoldLists (each_alone tables) lists
+    → AllByRecursion HaveEntries lists → P (kept_in o.rules lists)
+
+-- If the tables may be compacted, this holds of what the rules keep of any lists that they store.
+abbrev pub IfCompactable : CompactOptions → List OpenTable → (List Entry → Type 0) → Type 0
+IfCompactable o tables P = AreCompactable (each_alone tables) → (lists : TableLists)
+    → RunsHoldLists (each_alone tables) lists → P (kept_in o.rules lists)
+
 -- New tables of these: they are those of a list that can be written. If the old ones store lists,
 -- it is the list of the kept entries of all together.
 pub record AreCompactedOf {A : Type 0} (o : CompactOptions) (opened : List OpenTable)
     (tables : List (FinishedTable A)) : Type 0 where
   pub left : Option ℕ
   pub some : WritesSome (writer_by o.tables) tables left
-  pub kept : (lists : List (List (List Entry))) → RunsHoldLists (each_alone opened) lists
-      → AllByRecursion HaveEntries lists
-      → AreWrittenBy (writer_by o.tables) (kept_in o.rules lists) tables left
+  pub kept : OnKept o opened (λ es. AreWrittenBy (writer_by o.tables) es tables left)
 
 -- The number of entries in the tables' metadata, at most 2^64 - 1.
 abbrev pub counted : List OpenTable → ℕ
@@ -66,9 +74,8 @@ IfOutOfOrder _ P = Unit {0}
 -- If the error says that entries are out of order and the tables store lists, one of the kept
 -- entries of all together may not follow.
 abbrev pub TellsOrder : CompactOptions → List OpenTable → ToolError → Type 0
-TellsOrder o opened e = (lists : List (List (List Entry))) → RunsHoldLists (each_alone opened) lists
-    → AllByRecursion HaveEntries lists
-    → IfOutOfOrder e (LeavesOrder (writer_by o.tables) (ok_results (kept_in o.rules lists)))
+TellsOrder o opened e =
+    OnKept o opened (λ es. IfOutOfOrder e (LeavesOrder (writer_by o.tables) (ok_results es)))
 
 -- Except for OutOfMemory the error is this one of the library, and names no file.
 abbrev pub IsRefusalWith : Option Error → ToolError → Type 0
@@ -85,5 +92,4 @@ pub record IsRefusedFor (o : CompactOptions) (es : List Entry) (e : ToolError) :
 
 -- If the tables may be compacted, the error is that of writing the kept entries.
 abbrev pub TellsLibrary : CompactOptions → List OpenTable → ToolError → Type 0
-TellsLibrary o opened e = AreCompactable (each_alone opened) → (lists : List (List (List Entry)))
-    → RunsHoldLists (each_alone opened) lists → IsRefusedFor o (kept_in o.rules lists) e
+TellsLibrary o opened e = IfCompactable o opened (λ es. IsRefusedFor o es e)

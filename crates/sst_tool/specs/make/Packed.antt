@@ -1,16 +1,15 @@
 -- Packing of files.
 use denote.Ref.{Bor}
-use Rattle.std.specs.Prelude.{◌≡◌, ℕ, List, length, false, take, true, Option, Some}
+use Rattle.std.specs.Prelude.{◌≡◌, ℕ, List, false, take, true, Option, Some}
 use Rattle.std.specs.List.{slice_get}
 use Rattle.lsm_sorted.specs.version.KeyRange.{Interval, is_well_formed}
 use Rattle.lsm_sorted.specs.version.Packing.{AreTablesWellFormed}
-use Rattle.lsm_readers.specs.point.Table.{OpenTable}
 use Rattle.lsm_run_parts.specs.RunParts.{range_of}
 use Rattle.sst_entries.specs.declared.error.Error.TheVariants.{OutOfMemory}
 use Rattle.sst_tool.specs.declared.files.error.ToolError.{ToolError}
 use Rattle.sst_tool.specs.declared.files.error.ToolError.TheVariants as error
 use Rattle.sst_tool.specs.files.Files.{is_memory_fault}
-use Rattle.sst_tool.specs.files.Opened.{AreOpenedFrom, StopsOpening}
+use Rattle.sst_tool.specs.files.Opened.{OpenAs, StopsOpening}
 use Rattle.sst_tool.specs.make.Scanned.{path_or_mark}
 
 -- The error says that the first key of this path's file is above the last.
@@ -31,7 +30,6 @@ abbrev pub RefusesToPack : (List ℕ → Option (List ℕ)) → List (Bor (List 
 RefusesToPack content paths (error.File e) =
     (is_memory_fault e.fault ≡ false) × StopsOpening true content paths e
 RefusesToPack content paths (error.Refused e) = e ≡ OutOfMemory
-RefusesToPack content paths (error.Range name) = (tables : List OpenTable)
-    × (length tables ≡ length paths) × AreOpenedFrom true content paths tables
-    × NamesTurned range_of paths tables (error.Range name)
+RefusesToPack content paths (error.Range name) = OpenAs content paths (λ tables.
+    NamesTurned range_of paths tables (error.Range name))
 RefusesToPack content paths _ = ⊥

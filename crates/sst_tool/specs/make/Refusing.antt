@@ -1,5 +1,5 @@
 -- The errors of writing lines.
-use Rattle.std.specs.Prelude.{◌≡◌, ◌⊎◌, ℕ, Bool, false, List, [], Option, Some}
+use Rattle.std.specs.Prelude.{◌≡◌, ◌⊎◌, ℕ, Bool, false, List, [], Option, Some, length}
 use Rattle.sst_entries.specs.Error.{is_memory}
 use Rattle.sst_entries.specs.declared.error.Error.{Error}
 use Rattle.sst_entries.specs.declared.error.Error.TheVariants.{OutOfMemory}
@@ -8,6 +8,7 @@ use Rattle.lsm_writers.specs.Tables.{TablesWriting, run_fault}
 use Rattle.sst_tool.specs.declared.files.file_error.FileError.{FileError}
 use Rattle.sst_tool.specs.files.Files.{error_of_file}
 use Rattle.sst_tool.specs.files.Steps.{Step}
+use Rattle.sst_tool.specs.declared.files.made.Made.{Made}
 use Rattle.sst_tool.specs.declared.files.error.ToolError.{ToolError}
 use Rattle.sst_tool.specs.declared.files.error.ToolError.TheVariants.{File, NoEntries, Refused}
 use Rattle.sst_tool.specs.declared.files.error.ToolError.TheVariants.{SizeTooLarge}
@@ -15,7 +16,7 @@ use Rattle.sst_tool.specs.declared.make.options.TableOptions.{TableOptions}
 use Rattle.sst_tool.specs.declared.make.options.WriteOptions.{WriteOptions}
 use Rattle.sst_tool.specs.make.Entries.{HasEntries}
 use Rattle.sst_tool.specs.make.Faults.{StopsLines}
-use Rattle.sst_tool.specs.make.TableFiles.{AreTablesNotPlaced}
+use Rattle.sst_tool.specs.make.TableFiles.{AreTablesNotPlaced, AreTablesPlaced}
 use Rattle.sst_tool.specs.make.Written.{AreOfLines, HasSmallSizes, TookLines, writer_by}
 
 -- A block or partition would be too large, or the error is OutOfMemory.
@@ -44,6 +45,14 @@ RefusesLines o input NoEntries = HasEntries o.format input []
 RefusesLines o input (Refused e) = is_memory e ≡ false → RefusesEnd o input e
 RefusesLines o input (File e) = ⊥
 RefusesLines o input error = StopsLines o.sort o.format input (writer_by o.tables) error
+
+-- So many tables, of so many entries, are made of the lines of the input, and exactly their files
+-- are written.
+abbrev pub WritesLines : Type 0 → WriteOptions → Option (List ℕ) → List ℕ
+    → (List ℕ → Option Bool) → Made → (known new : Option (List Step)) → Type 0
+WritesLines A o input path there made known new = (fs : List (FinishedTable A))
+    × (made.tables ≡ length fs) × AreOfLines o input fs made.entries
+    × AreTablesPlaced path o.tables.target fs there known new
 
 -- The tables are made, and their files are not all written, or not durable.
 pub record RefusesToPlace (A : Type 0) (o : WriteOptions) (input : Option (List ℕ))

@@ -4,7 +4,7 @@ use Rattle.std.specs.Prelude.{IfSome, Option, Some, None, codes, map}
 use Rattle.lsm_writers.specs.declared.writer.FinishedTable.{FinishedTable}
 use Rattle.sst_tool.specs.files.Files.{error_of_file, file_number, path_text}
 use Rattle.sst_tool.specs.files.Numbered.{named_bytes, numbered_files}
-use Rattle.sst_tool.specs.files.Placed.{AreNotPlaced, AreInPlace, IfLeft, StopLooking}
+use Rattle.sst_tool.specs.files.Placed.{AreInPlace, AreNotPlaced, AreNotPlacedBefore, IfLeft}
 use Rattle.sst_tool.specs.files.Steps.{Step}
 use Rattle.sst_tool.specs.declared.files.file_error.FileError.{FileError}
 use Rattle.sst_tool.specs.declared.files.write.NewFile.{NewFile}
@@ -55,7 +55,7 @@ abbrev pub StopsPlacing : Option ℕ → List ℕ → (List ℕ → Option Bool)
     → List NewFile → FileError → Option (List Step) → Type 0
 StopsPlacing None next there known wanted e new = AreNotPlaced there known wanted e new
 StopsPlacing (Some target) next there known wanted e new =
-    StopLooking known next (there next) e new ⊎ AreNotPlaced there known wanted e new
+    AreNotPlacedBefore there known next wanted e new
 
 -- The files of the tables, with these names and bytes, are not written, or not durable.
 pub record AreTablesNotPlaced {A : Type 0} (path : List ℕ) (target : Option ℕ)

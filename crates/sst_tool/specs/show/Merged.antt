@@ -12,8 +12,10 @@ use Rattle.sst_entries.specs.declared.error.Error.{Error}
 use Rattle.lsm_sorted.specs.Below.{below_results, numbered_below}
 use Rattle.lsm_sorted.specs.lending.LentNewest.{newest_results}
 use Rattle.lsm_sorted.specs.merge.InPlace.{merge_of}
-use Rattle.lsm_sorted.specs.merge.Union.{newest}
+use Rattle.lsm_sorted.specs.merge.Union.{Ascends, entries_among, newest}
+use Rattle.lsm_sorted.specs.version.Run.{IsInOrder}
 use Rattle.lsm_readers.specs.point.Table.{OpenTable}
+use Rattle.lsm_run_parts.specs.RunParts.{range_of}
 use Rattle.lsm_runs.specs.LentNewestRuns.{runs_results_within}
 use Rattle.lsm_runs.specs.SeveralRuns.{union_in}
 use Rattle.sst_tool.specs.declared.files.error.ToolError.{ToolError}
@@ -45,6 +47,12 @@ newest_in o seqno lists =
 -- The results of reading the range from each run's bytes, up to its first error.
 abbrev pub ranges_in : DumpOptions → List (List OpenTable) → List (List Outcome)
 ranges_in o runs = runs_results_within (from_key o.from) (up_to_key o.to) runs
+
+-- This holds if the range is read from the front, the tables of each run are in order, and so are
+-- the entries that it reads of each run.
+abbrev pub IfReadInOrder : DumpOptions → List (List OpenTable) → Type 0 → Type 0
+IfReadInOrder o runs holds = o.reverse ≡ false → AllByRecursion (IsInOrder range_of) runs
+    → AllByRecursion (λ rs. Ascends (entries_among rs)) (ranges_in o runs) → holds
 
 -- The newest versions below a seqno of these results, merged up to the first error.
 abbrev pub newest_found : DumpOptions → ℕ → List (List OpenTable) → List Outcome

@@ -1,16 +1,18 @@
 -- The entries that are printed.
 use denote.Ref.{Bor}
 use Rattle.std.specs.Prelude.{◌≡◌, List, [], ◌∷◌, ℕ, Bool, false, true, reverse, take}
-use Rattle.std.specs.Prelude.{MatchResult, Option, None, Result, Ok, Err, Some, ◌-◌, ◌^◌}
+use Rattle.std.specs.Prelude.{MatchResult, Option, None, Result, Ok, Err, Some, ◌-◌, ◌^◌, is_some}
 use Rattle.std.specs.Option.{option_map_or}
 use Rattle.std.specs.declared.ops.Bound.{Bound}
 use Rattle.std.specs.declared.ops.Bound.TheVariants.{Excluded, Included, Unbounded}
 use Rattle.sst_entries.specs.Entry.{Entry}
 use Rattle.sst_entries.specs.Point.{within}
-use Rattle.sst_entries.specs.Stream.{YieldsExactly, answer_stops}
+use Rattle.sst_entries.specs.Stream.{YieldsExactly, answer_stops, ok_results}
 use Rattle.sst_entries.specs.declared.error.Error.{Error}
+use Rattle.lsm_iters.specs.block_index.Yielded.{YieldsEnding}
 use Rattle.lsm_readers.specs.point.Table.{OpenTable}
 use Rattle.lsm_readers.specs.Words.{lift, range_results}
+use Rattle.lsm_runs.specs.SeveralRuns.{runs_result}
 use Rattle.sst_tool.specs.declared.files.error.ToolError.{ToolError}
 use Rattle.sst_tool.specs.declared.files.error.ToolError.TheVariants.{Refused}
 use Rattle.sst_tool.specs.show.Failures.{NamesNone}
@@ -20,6 +22,11 @@ use Rattle.sst_tool.specs.declared.show.gets.GetOptions.{GetOptions}
 -- The snapshot of the read.
 abbrev pub seen_below : GetOptions → ℕ
 seen_below o = option_map_or (λ n. n) o.at (2 ^ 64 - 1)
+
+-- The read of the key in these runs finds an entry, or none, as returned.
+abbrev pub FindsIn : GetOptions → List (List OpenTable) → Bool → Type 0
+FindsIn o runs there = (found : Option Entry)
+    × (runs_result o.key.now (seen_below o) None runs ≡ Ok found) × (there ≡ is_some found)
 
 -- The list, or its reverse.
 abbrev pub in_turn : {X : Type 0} → Bool → List X → List X
@@ -33,6 +40,10 @@ dumped back n xs = take n (in_turn back xs)
 -- An entry, or the error of reading it.
 abbrev pub Outcome : Type 0
 Outcome = Result Entry Error
+
+-- All of these results are entries.
+abbrev pub AreAllEntries : List Outcome → Type 0
+AreAllEntries rs = (es : List Entry) × (rs ≡ ok_results es)
 
 -- The first error among results.
 abbrev pub first_error : {X : Type 0} → List (Result X Error) → Option Error
@@ -51,6 +62,18 @@ ShowsItem (Some (Err e)) r = r ≡ Err (Refused e)
 abbrev pub DealsTo : {S : Type 0} (front back : S → Option Outcome → S → Type 0) → List Outcome → S
     → Type 0
 DealsTo front back rs s = YieldsExactly (answer_stops (λ _. true)) front back s rs
+
+-- This holds of any results that the source yields, up to its first error, after which it ends.
+abbrev pub OnEnding : {S : Type 0} (front back : S → Option Outcome → S → Type 0) → S
+    → (List Outcome → Type 0) → Type 0
+OnEnding front back s P = (rs : List Outcome)
+    → YieldsEnding front back (λ _. Unit {0}) (λ _. Unit {0}) s rs → P rs
+
+-- The next item is shown, from the back if this is set, else from the front.
+abbrev pub ShowsInTurn : {S : Type 0} (front back : S → Option Outcome → S → Type 0) → Bool → S
+    → Result Bool ToolError → S → Type 0
+ShowsInTurn front back at_back s r t = (item : Option Outcome)
+    × (at_back ≡ false → front s item t) × (at_back ≡ true → back s item t) × ShowsItem item r
 
 -- The lower bound, included, and the upper bound, excluded.
 abbrev pub from_key : Option (Bor (List ℕ)) → Bound (List ℕ)

@@ -40,13 +40,13 @@ pub fn place_folder<'a, P: Place, A: Allocator + Copy>(
     // On success all was written and synced under the temporary name, renamed once, and synced. The
     // folder has exactly the files of the tables, with their bytes. Then only numbered files in
     // folders with temporary names of this one were removed, and these folders.
-    ensures placed { OnOk result (spec.IsFolderInPlace folder.now (map (λ t. t.bytes) tables.now)
+    ensures placed { OnOk result (spec.IsFolderInPlace folder.now (spec.table_bytes tables.now)
         (P.done place.old) (P.done place.new)) }
     // The folder's name was free before.
     ensures free { OnOk result (IfSome (P.there place.old folder.now) (λ b. b ≡ false)) }
     // After an error exactly this was done. Either no file is under the folder's name, or all are.
     ensures refused { IfErr result (λ e. spec.IsFolderNotPlaced folder.now
-        (map (λ t. t.bytes) tables.now) (P.done place.old) e (P.done place.new)) }
+        (spec.table_bytes tables.now) (P.done place.old) e (P.done place.new)) }
     // A name that is reported as taken was taken before.
     ensures taken { IfErr result (spec.TellsNameTaken (P.there place.old) folder.now) }
     ensures beside { IfErr result (λ e.
@@ -112,14 +112,11 @@ fn fill_all<'a, P: Place, A: Allocator + Copy>(
     tables: &[FinishedTable<A>],
 ) -> Result<(), FileError<'a>>
     requires { spec.IsBesideFolder folder.now beside.now }
-    ensures filled { OnOk result (let all = map (λ t. t.bytes) tables.now in
-        spec.OnlyDoes (spec.Clears (spec.IsBesideFolder folder.now))
-        (spec.then_done (P.done place.old)
-        ((spec.writing_files (spec.numbered_within beside.now all)
-        ++ spec.naming_folder beside.now folder.now) ++ spec.Synced folder.now ∷ []))
-        (P.done place.new)) }
+    ensures filled { OnOk result (spec.ThenClears folder.now (P.done place.old)
+        (spec.filling beside.now folder.now (spec.table_bytes tables.now)
+        ++ spec.Synced folder.now ∷ []) (P.done place.new)) }
     ensures refused { IfErr result (λ e. spec.IsNotFilled folder.now beside.now
-        (map (λ t. t.bytes) tables.now) (P.done place.old) e (P.done place.new)) }
+        (spec.table_bytes tables.now) (P.done place.old) e (P.done place.new)) }
     ensures free { OnOk result (IfSome (P.there place.old folder.now) (λ b. b ≡ false)) }
     ensures taken { IfErr result (spec.TellsNameTaken (P.there place.old) folder.now) }
 {
@@ -147,12 +144,11 @@ fn fill_beside<'a, P: Place, A: Allocator + Copy>(
     tables: &[FinishedTable<A>],
 ) -> Result<(), FileError<'a>>
     requires { spec.IsBesideFolder folder.now beside.now }
-    ensures filled { OnOk result (let all = map (λ t. t.bytes) tables.now in P.done place.new
-        ≡ spec.then_done (P.done place.old)
-        ((spec.writing_files (spec.numbered_within beside.now all)
-        ++ spec.naming_folder beside.now folder.now) ++ spec.Synced folder.now ∷ [])) }
+    ensures filled { OnOk result (P.done place.new ≡ spec.then_done (P.done place.old)
+        (spec.filling beside.now folder.now (spec.table_bytes tables.now)
+        ++ spec.Synced folder.now ∷ [])) }
     ensures refused { IfErr result (λ e. spec.IsNotFilled folder.now beside.now
-        (map (λ t. t.bytes) tables.now) (P.done place.old) e (P.done place.new)) }
+        (spec.table_bytes tables.now) (P.done place.old) e (P.done place.new)) }
     ensures free { OnOk result (IfSome (P.there place.old folder.now) (λ b. b ≡ false)) }
     ensures taken { IfErr result (spec.TellsNameTaken (P.there place.old) folder.now) }
 {
@@ -179,12 +175,10 @@ fn fill_and_name<'a, P: Place, A: Allocator + Copy>(
 ) -> Result<(), FileError<'a>>
     requires empty { written.old.items ≡ [] }
     requires beside { spec.IsBesideFolder folder.now beside.now }
-    ensures named { OnOk result (let all = map (λ t. t.bytes) tables.now in P.done place.new
-        ≡ spec.then_done (P.done place.old)
-        (spec.writing_files (spec.numbered_within beside.now all)
-        ++ spec.naming_folder beside.now folder.now)) }
+    ensures named { OnOk result (P.done place.new ≡ spec.then_done (P.done place.old)
+        (spec.filling beside.now folder.now (spec.table_bytes tables.now))) }
     ensures refused { IfErr result (λ e. spec.StopsWithin folder.now beside.now
-        (map (λ t. t.bytes) tables.now) (map string_bytes written.new.items)
+        (spec.table_bytes tables.now) (map string_bytes written.new.items)
         (P.done place.old) e (P.done place.new)) }
     ensures free { OnOk result (IfSome (P.there place.old folder.now) (λ b. b ≡ false)) }
     ensures taken { IfErr result (spec.TellsNameTaken (P.there place.old) folder.now) }
@@ -210,12 +204,11 @@ fn write_within<'a, P: Place, A: Allocator + Copy>(
     written: &mut Vec<String<A>, A>,
 ) -> Result<(), FileError<'a>>
     requires { written.old.items ≡ [] }
-    ensures all { OnOk result (let files = spec.numbered_within beside.now
-        (map (λ t. t.bytes) tables.now) in
-        spec.LiesWithin files (map string_bytes written.new.items)
-        (P.done place.old) (P.done place.new)) }
+    ensures all { OnOk result
+        (spec.LiesWithin (spec.numbered_within beside.now (spec.table_bytes tables.now))
+        (map string_bytes written.new.items) (P.done place.old) (P.done place.new)) }
     ensures refused { IfErr result (λ e. spec.StopsWithin folder.now beside.now
-        (map (λ t. t.bytes) tables.now) (map string_bytes written.new.items)
+        (spec.table_bytes tables.now) (map string_bytes written.new.items)
         (P.done place.old) e (P.done place.new)) }
     ensures elsewhere { OnOk result
         (spec.SameButBehind beside.now (P.there place.old) (P.there place.new)) }

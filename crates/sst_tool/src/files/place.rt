@@ -68,7 +68,7 @@ pub trait Place {
     ) -> io::Result<bool>
         ensures written { IfOk result (λ free. done self.new
             ≡ spec.then_done (done self.old) (spec.written_if free path.now bytes.now
-            (spec.option_map spec.permissions_mode (spec.option_copied permissions.entry)))) }
+            (spec.requested_mode permissions.entry))) }
         ensures refused { OnErr result (done self.new ≡ done self.old) }
         ensures free { IfOk result (λ free.
             IfSome (there self.old path.now) (λ known. free ≡ not known)) }

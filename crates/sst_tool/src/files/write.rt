@@ -67,10 +67,8 @@ pub fn place_series<'a, P: Place, A: Allocator + Copy>(
         (e.name ≡ next.entry) ⊎ Any (λ file. file.name ≡ e.name) wanted.now) }
     // After an error exactly this was done.
     ensures refused { IfErr result (λ e.
-        spec.StopLooking (P.done place.old) (spec.path_text next.entry)
-        (P.there place.old (spec.path_text next.entry)) e (P.done place.new)
-        ⊎ spec.AreNotPlaced (P.there place.old) (P.done place.old) wanted.now e
-        (P.done place.new)) }
+        spec.AreNotPlacedBefore (P.there place.old) (P.done place.old) (spec.path_text next.entry)
+        wanted.now e (P.done place.new)) }
 {
     match check_next(place, alloc, &next) {
         Ok(()) => place_files(place, alloc, wanted),
@@ -176,9 +174,9 @@ fn add_beside<'a, 'b, P: Place, A: Allocator + Copy>(
     file: &NewFile<'a, 'b>,
     written: &mut Vec<Beside<'a, 'b, A>, A>,
 ) -> Result<(), FileFault>
-    ensures added { OnOk result (spec.IsAdded file.now (spec.standing_in written.old.items)
-        (spec.standing_in written.new.items) (P.there place.old) (P.there place.new)
-        (P.modes place.old) (P.modes place.new) (P.done place.old) (P.done place.new)) }
+    ensures added { OnOk result
+        (spec.BeforeAndAfter P.there P.modes P.done place.old place.new (spec.IsAdded file.now
+        (spec.standing_in written.old.items) (spec.standing_in written.new.items))) }
     ensures early { IfErr result spec.IsEarly }
     ensures taken { IfErr result
         (spec.TellsAllTaken (P.there place.old) (spec.path_text file.now.name)) }
@@ -198,9 +196,9 @@ fn write_beside<'a, 'b, P: Place, A: Allocator + Copy>(
     alloc: A,
     file: &NewFile<'a, 'b>,
 ) -> Result<Beside<'a, 'b, A>, FileFault>
-    ensures written { IfOk result (λ b. spec.IsWritten file.now (spec.standing_of b)
-        (P.there place.old) (P.there place.new) (P.modes place.old) (P.modes place.new)
-        (P.done place.old) (P.done place.new)) }
+    ensures written { IfOk result (λ b.
+        spec.BeforeAndAfter P.there P.modes P.done place.old place.new
+        (spec.IsWritten file.now (spec.standing_of b))) }
     ensures early { IfErr result spec.IsEarly }
     ensures taken { IfErr result
         (spec.TellsAllTaken (P.there place.old) (spec.path_text file.now.name)) }
@@ -266,7 +264,7 @@ fn write_under<P: Place, A: Allocator + Copy>(
     ensures beside { IfOk result (λ t. spec.IsBeside path.now (string_bytes t)) }
     ensures written { IfOk result (λ t. P.done place.new
         ≡ spec.then_done (P.done place.old) (spec.Wrote (string_bytes t) bytes.now
-        (spec.option_map spec.permissions_mode (spec.option_copied permissions.entry)) ∷ [])) }
+        (spec.requested_mode permissions.entry) ∷ [])) }
     ensures elsewhere { IfOk result (λ t.
         spec.SameElsewhere (string_bytes t) (P.there place.old) (P.there place.new)) }
     ensures same { IfOk result (λ t.
@@ -300,11 +298,8 @@ fn put_all<'a, P: Place, A: Allocator + Copy>(
     alloc: A,
     written: &[Beside<'a, '_, A>],
 ) -> Result<(), FileError<'a>>
-    ensures all { OnOk result
-        (spec.OnlyDoes (spec.Removes (spec.IsBesideOne (spec.standing_in written.now)))
-        (spec.then_done (spec.then_done (P.done place.old)
-        (spec.renaming (spec.standing_in written.now)))
-        (spec.syncing (spec.standing_in written.now))) (P.done place.new)) }
+    ensures all { OnOk result (spec.ArePut (P.done place.old) (spec.standing_in written.now)
+        (P.done place.new)) }
     ensures refused { IfErr result (λ e.
         spec.AreNotPut (P.done place.old) (spec.standing_in written.now) e (P.done place.new)) }
 {

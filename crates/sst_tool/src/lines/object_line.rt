@@ -150,10 +150,9 @@ fn test_members<A: Allocator>(value: &Value<'_, A>) -> Result<(), LineError>
 
 // Returns the members of an entry, if the value has each.
 fn find_members<'v, 'a, A: Allocator>(value: &'v Value<'a, A>) -> Option<EntryMembers<'v, 'a, A>>
-    ensures some { IfSome result (λ m. (members : spec.Members)
-        → spec.value_view value.now ≡ spec.object members → length (spec.keys members) ≡ 4
-        → spec.AreMembers members (spec.value_view m.key.now) (spec.value_view m.seqno.now)
-        (spec.value_view m.kind.now) (spec.value_view m.value.now)) }
+    ensures some { IfSome result
+        (λ m. spec.AreMembersOf (spec.value_view value.now) (spec.value_view m.key.now)
+        (spec.value_view m.seqno.now) (spec.value_view m.kind.now) (spec.value_view m.value.now)) }
     ensures none { IfNone result ((key seqno kind other : Json)
         → ¬ spec.IsEntryObject (spec.value_view value.now) key seqno kind other) }
 {

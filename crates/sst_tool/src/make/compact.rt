@@ -161,32 +161,20 @@ fn compact_tables<A: Allocator + Copy>(
     ensures made { IfOk result (λ r. spec.HasMade (spec.writer_by options.now.tables) r.0) }
     // If the tables store lists, the new tables are those of the kept entries of all together; or
     // one of these may not follow.
-    ensures merged { (lists : List (List (List spec.Entry))) →
-        spec.RunsHoldLists (spec.each_alone tables.now) lists →
-        spec.AllByRecursion spec.HaveEntries lists → IfOk result (λ r.
-        spec.CameInOrder (spec.writer_by options.now.tables) (spec.kept_in options.now.rules lists)
-        r.0) }
+    ensures merged { spec.OnKept options.now tables.now (λ es. IfOk result (λ r.
+        spec.CameInOrder (spec.writer_by options.now.tables) es r.0)) }
     ensures through { IfOk result (λ r. spec.GoesThrough r.0) }
     ensures count { IfOk result (λ r. spec.HasCount r.0 r.1) }
     // If the tables may be compacted, the new tables are those of the kept entries. An error other
     // than OutOfMemory is the first of writing and opening them. If they fit, the only error is
     // OutOfMemory.
-    ensures tables { spec.AreCompactable (spec.each_alone tables.now) →
-        (lists : List (List (List spec.Entry))) →
-        spec.RunsHoldLists (spec.each_alone tables.now) lists → IfOk result (λ r.
-        spec.AreTablesBy (spec.writer_by options.now.tables) (spec.kept_in options.now.rules lists)
-        r.0) }
-    ensures refused { spec.AreCompactable (spec.each_alone tables.now) →
-        (lists : List (List (List spec.Entry))) →
-        spec.RunsHoldLists (spec.each_alone tables.now) lists → spec.Faults result
-        (spec.run_with_fault (spec.writer_by options.now.tables) (spec.kept_in options.now.rules lists)
-        0) }
-    ensures taken { spec.AreCompactable (spec.each_alone tables.now) →
-        (lists : List (List (List spec.Entry))) →
-        spec.RunsHoldLists (spec.each_alone tables.now) lists →
-        let kept = spec.kept_in options.now.rules lists in
-        spec.FitsBy (spec.writer_by options.now.tables) kept →
-        spec.highest_seqno kept + 0 < 2 ^ 64 → IfErr result (λ e. e ≡ spec.OutOfMemory) }
+    ensures tables { spec.IfCompactable options.now tables.now (λ es. IfOk result (λ r.
+        spec.AreTablesBy (spec.writer_by options.now.tables) es r.0)) }
+    ensures refused { spec.IfCompactable options.now tables.now (λ es. spec.Faults result
+        (spec.run_with_fault (spec.writer_by options.now.tables) es 0)) }
+    ensures taken { spec.IfCompactable options.now tables.now (λ es.
+        spec.FitsBy (spec.writer_by options.now.tables) es →
+        spec.highest_seqno es + 0 < 2 ^ 64 → IfErr result (λ e. e ≡ spec.OutOfMemory)) }
 {
     let runs = runs_of(alloc, tables)?;
     let writer = options.tables.writer(alloc)?;

@@ -1,5 +1,5 @@
 //! Packs files into runs.
-ghost use Rattle.std.specs.Prelude.{◌≡◌, IfErr, IfOk, List, OnOk, length, true};
+ghost use Rattle.std.specs.Prelude.{IfErr, IfOk, OnOk};
 ghost use Rattle.sst_tool.specs.make.Words as spec;
 
 use crate::files::{Place, ToolError, open_tables};
@@ -36,10 +36,8 @@ pub fn pack_files<'a, P: Place, A: Allocator + Copy>(
     paths: &[&'a str],
 ) -> Result<Packed<Table<A>, A>, ToolError<'a>>
     // The result has the tables of these files, packed.
-    ensures ok { IfOk result (λ packed. (opened : List spec.OpenTable)
-        × (length opened ≡ length paths.now)
-        × spec.AreOpenedFrom true (P.content place.now) paths.now opened
-        × spec.IsPackedOf spec.range_of opened packed) }
+    ensures ok { IfOk result (λ packed. spec.OpenAs (P.content place.now) paths.now
+        (λ opened. spec.IsPackedOf spec.range_of opened packed)) }
     // The error names the first file that does not open, or the first whose first key is above its
     // last; or it is OutOfMemory.
     ensures err { IfErr result (spec.RefusesToPack (P.content place.now) paths.now) }

@@ -1,6 +1,6 @@
 //! Writes lines into tables.
 ghost use Rattle.std.specs.Prelude.{◌≡◌, ◌⊎◌, ◌+◌, ◌<◌, Any, IfErr, IfOk, IsErrAnd};
-ghost use Rattle.std.specs.Prelude.{List, OnOk, length, map, ℕ};
+ghost use Rattle.std.specs.Prelude.{List, OnOk, length, map, true, ℕ};
 ghost use Rattle.sst_tool.specs.make.Words as spec;
 
 use crate::files::{
@@ -23,9 +23,7 @@ fn write_sorted<I: BufRead, A: Allocator + Copy>(
 ) -> Result<u64, ToolError<'static>>
     ensures ok { IfOk result
         (λ n. (es : List spec.Entry) × spec.HasEntries format (I.remaining input.old) es
-        × (n ≡ length es)
-        × ((sorted : List spec.Entry) × spec.IsSortOf spec.is_before es sorted
-        × spec.TookAll writer.old sorted writer.new)) }
+        × (n ≡ length es) × spec.TookSorted true writer.old es writer.new) }
     ensures refused { IfErr result
         (spec.StopsInOrder format (I.remaining input.old) writer.old) }
 {
@@ -217,11 +215,8 @@ pub fn write_entries<'a, P: Place, I: Read + Drop, A: Allocator + Copy>(
 ) -> Result<Made, ToolError<'a>>
     // On success the result has the number of tables and of the entries that the lines spell.
     // Exactly the files of these tables were written, with their bytes.
-    ensures lines { IfOk result (λ made. (fs : List (spec.FinishedTable A))
-        × (made.tables ≡ length fs)
-        × spec.AreOfLines options.now (I.remaining input) fs made.entries
-        × spec.AreTablesPlaced path.now options.now.tables.target fs
-        (P.there place.old) (P.done place.old) (P.done place.new)) }
+    ensures lines { IfOk result (λ made. spec.WritesLines A options.now (I.remaining input)
+        path.now (P.there place.old) made (P.done place.old) (P.done place.new)) }
     // Each file has the permissions of the regular file that it replaces, and replaces nothing
     // else.
     ensures kept { OnOk result

@@ -1,6 +1,5 @@
 //! Prints the entries of files, one on each line.
-ghost use Rattle.std.specs.Prelude.{◌≡◌, ◌-◌, IfErr, IfOk, List, OnOk, Option, Some};
-ghost use Rattle.std.specs.Prelude.{false, length, true};
+ghost use Rattle.std.specs.Prelude.{◌≡◌, ◌-◌, IfErr, IfOk, List, OnOk, Option, Some, length};
 ghost use Rattle.sst_tool.specs.show.Words as spec;
 
 use crate::files::ToolError;
@@ -41,13 +40,12 @@ pub fn dump<'a, A: Allocator + Copy, W: Write>(
 ) -> Result<u64, ToolError<'a>>
     // Whatever the bytes, on success all items in the range, in this order and up to this number,
     // are entries. No error is skipped.
-    ensures returned { OnOk result ((es : List spec.Entry)
-        × (spec.dumped options.now.reverse left (spec.readable options.now file.now.table)
-        ≡ spec.ok_results es)) }
+    ensures returned { OnOk result (spec.AreAllEntries
+        (spec.dumped options.now.reverse left (spec.readable options.now file.now.table))) }
     // If the bytes store a list, these are its entries.
-    ensures left { let t = file.now.table in (es : List spec.Entry) → spec.StoresList t.bytes es →
-        IfOk result (λ rest. rest ≡
-        left - length (spec.dumped options.now.reverse left (spec.chosen options.now t es))) }
+    ensures left { spec.OnStored file.now.table (λ es. IfOk result (λ rest. rest ≡
+        left - length (spec.dumped options.now.reverse left
+        (spec.chosen options.now file.now.table es)))) }
     ensures rest { IfOk result (λ rest. rest ≡
         left - length (spec.dumped options.now.reverse left
         (spec.readable options.now file.now.table))) }
@@ -56,8 +54,7 @@ pub fn dump<'a, A: Allocator + Copy, W: Write>(
     ensures named { let read = spec.dumped options.now.reverse left
         (spec.readable options.now file.now.table)
         in IfErr result (spec.NamesOnly file.now (λ e. spec.first_error read ≡ Some e)) }
-    ensures sound { (es : List spec.Entry) → spec.StoresList file.now.table.bytes es →
-        IfErr result spec.NamesNone }
+    ensures sound { spec.OnStored file.now.table (λ _. IfErr result spec.NamesNone) }
 {
     match dump_table(alloc, output, &file.table, options, left) {
         Ok(rest) => Ok(rest),
@@ -73,20 +70,18 @@ fn dump_table<A: Allocator + Copy, W: Write>(
     options: &DumpOptions<'_>,
     left: u64,
 ) -> Result<u64, ToolError<'static>>
-    ensures returned { OnOk result ((es : List spec.Entry)
-        × (spec.dumped options.now.reverse left (spec.readable options.now table.now)
-        ≡ spec.ok_results es)) }
-    ensures left { let t = table.now in (es : List spec.Entry) → spec.StoresList t.bytes es →
-        IfOk result (λ rest. rest ≡
-        left - length (spec.dumped options.now.reverse left (spec.chosen options.now t es))) }
+    ensures returned { OnOk result (spec.AreAllEntries
+        (spec.dumped options.now.reverse left (spec.readable options.now table.now))) }
+    ensures left { spec.OnStored table.now (λ es. IfOk result (λ rest. rest ≡
+        left - length (spec.dumped options.now.reverse left
+        (spec.chosen options.now table.now es)))) }
     ensures rest { IfOk result (λ rest. rest ≡
         left - length (spec.dumped options.now.reverse left
         (spec.readable options.now table.now))) }
     ensures refused { let read = spec.dumped options.now.reverse left
         (spec.readable options.now table.now) in
         IfErr result (spec.FailsAs (λ e. spec.first_error read ≡ Some e)) }
-    ensures sound { (es : List spec.Entry) → spec.StoresList table.now.bytes es →
-        IfErr result spec.NamesNone }
+    ensures sound { spec.OnStored table.now (λ _. IfErr result spec.NamesNone) }
 {
     let bounds = bounds_of(alloc, options)?;
     let items = table.range(bounds.0, bounds.1)?;
@@ -128,15 +123,14 @@ fn dump_items<
     requires can { spec.CanYield I.advances I.next_back_gives I.can_advance I.can_next_back items }
     // It prints the first items, or in reverse the last ones, and all of them are entries.
     ensures returned { (rs : List spec.Outcome) →
-        spec.DealsTo I.advances I.next_back_gives rs items → OnOk result ((es : List spec.Entry)
-        × (spec.dumped options.now.reverse most rs ≡ spec.ok_results es)) }
+        spec.DealsTo I.advances I.next_back_gives rs items →
+        OnOk result (spec.AreAllEntries (spec.dumped options.now.reverse most rs)) }
     ensures left { (rs : List spec.Outcome) → spec.DealsTo I.advances I.next_back_gives rs items →
         IfOk result (λ rest. rest ≡ most - length (spec.dumped options.now.reverse most rs)) }
     // It fails with the first error among these items.
-    ensures refused { (rs : List spec.Outcome) → spec.YieldsEnding I.advances I.next_back_gives
-        (λ _. Unit {0}) (λ _. Unit {0}) items rs →
+    ensures refused { spec.OnEnding I.advances I.next_back_gives items (λ rs.
         IfErr result (spec.FailsAs (λ e. spec.first_error (spec.dumped options.now.reverse most rs)
-        ≡ Some e)) }
+        ≡ Some e))) }
     ensures sound { (es : List spec.Entry) → spec.YieldsList I.advances I.next_back_gives es items →
         IfErr result spec.NamesNone }
 {
@@ -160,10 +154,8 @@ fn print_item<I: Lending + DoubleEndedIterator<Item = IterItem<A>>, A: Allocator
 ) -> Result<bool, ToolError<'static>>
     requires can { I.can_advance items.old }
     requires can_back { I.can_next_back items.old }
-    ensures { (item : Option spec.Outcome)
-        × (options.now.reverse ≡ false → I.advances items.old item items.new)
-        × (options.now.reverse ≡ true → I.next_back_gives items.old item items.new)
-        × spec.ShowsItem item result }
+    ensures { spec.ShowsInTurn I.advances I.next_back_gives options.now.reverse items.old result
+        items.new }
 {
     if options.reverse {
         print_last(alloc, output, items, options.format)

@@ -1,6 +1,6 @@
 //! Prints the visible version of a key.
-ghost use Rattle.std.specs.Prelude.{◌≡◌, ◌∷◌, [], List, IfErr, IfNone, IfOk, IfSome};
-ghost use Rattle.std.specs.Prelude.{None, Ok, Option, Some, false, is_some, map};
+ghost use Rattle.std.specs.Prelude.{◌≡◌, ◌∷◌, [], IfErr, IfNone, IfOk, IfSome};
+ghost use Rattle.std.specs.Prelude.{None, Some, false, is_some, map};
 ghost use Rattle.sst_tool.specs.show.Words as spec;
 ghost use Rattle.sst_entries.specs.declared.error.Error.TheVariants.{OutOfMemory};
 
@@ -52,20 +52,16 @@ pub fn get<'a, A: Allocator + Copy, W: Write>(
     // Whatever the bytes, if each key range is well formed the result is that of the tables' reads.
     // No error is skipped.
     ensures returned { spec.AllByRecursion (spec.IsInOrder spec.range_of) (spec.runs_in files.now) →
-        IfOk result (λ there. (found : Option spec.Entry)
-        × (spec.runs_result options.now.key.now (spec.seen_below options.now) None
-        (spec.runs_in files.now) ≡ Ok found) × (there ≡ is_some found)) }
+        IfOk result (spec.FindsIn options.now (spec.runs_in files.now)) }
     // If the files store lists, there is an entry exactly if these lists have a visible one.
-    ensures found { (lists : List (List (List spec.Entry))) →
-        spec.RunsHoldLists (spec.runs_in files.now) lists → IfOk result (λ there.
+    ensures found { spec.OnListsOf (spec.runs_in files.now) (λ lists. IfOk result (λ there.
         there ≡ is_some (spec.point (spec.union_in lists) options.now.key.now
-        (spec.seen_below options.now))) }
+        (spec.seen_below options.now)))) }
     // An error that names a file names the first whose table cannot be read, with its error. It
     // stores no list: if all do, no error names a file.
     ensures named { IfErr result
         (spec.NamesFaulty options.now.key.now (spec.seen_below options.now) files.now) }
-    ensures sound { (lists : List (List (List spec.Entry))) →
-        spec.RunsHoldLists (spec.runs_in files.now) lists → IfErr result spec.NamesNone }
+    ensures sound { spec.OnListsOf (spec.runs_in files.now) (λ _. IfErr result spec.NamesNone) }
 {
     let runs = runs_of(alloc, files)?;
     let is_there = print_read(alloc, output, &runs, files, options)?;
@@ -85,17 +81,15 @@ fn print_read<'a, A: Allocator + Copy, W: Write>(
     options: &GetOptions<'_>,
 ) -> Result<bool, ToolError<'a>>
     ensures returned { spec.AllByRecursion (spec.IsInOrder spec.range_of)
-        (map spec.arc_value runs.now) → IfOk result (λ there. (found : Option spec.Entry)
-        × (spec.runs_result options.now.key.now (spec.seen_below options.now) None
-        (map spec.arc_value runs.now) ≡ Ok found) × (there ≡ is_some found)) }
-    ensures list { (lists : List (List (List spec.Entry))) →
-        spec.RunsHoldLists (map spec.arc_value runs.now) lists → IfOk result (λ there.
+        (map spec.arc_value runs.now) →
+        IfOk result (spec.FindsIn options.now (map spec.arc_value runs.now)) }
+    ensures list { spec.OnListsOf (map spec.arc_value runs.now) (λ lists. IfOk result (λ there.
         there ≡ is_some (spec.point (spec.union_in lists) options.now.key.now
-        (spec.seen_below options.now))) }
+        (spec.seen_below options.now)))) }
     ensures named { IfErr result
         (spec.NamesFaulty options.now.key.now (spec.seen_below options.now) files.now) }
-    ensures sound { (lists : List (List (List spec.Entry))) →
-        spec.RunsHoldLists (map spec.arc_value runs.now) lists → IfErr result spec.NamesNone }
+    ensures sound { spec.OnListsOf (map spec.arc_value runs.now) (λ _.
+        IfErr result spec.NamesNone) }
 {
     let seqno = seen_below(options);
     match get_runs_ref(runs, options.key, seqno) {

@@ -1,6 +1,6 @@
 //! Prints the newest entries of several files as one list.
-ghost use Rattle.std.specs.Prelude.{◌≡◌, ◌<◌, IfErr, IfOk, IfSome, List, MatchResult};
-ghost use Rattle.std.specs.Prelude.{Option, false, length, map};
+ghost use Rattle.std.specs.Prelude.{◌≡◌, ◌<◌, IfErr, IfOk, IfSome, MatchResult};
+ghost use Rattle.std.specs.Prelude.{Option, length, map};
 ghost use Rattle.sst_tool.specs.show.Words as spec;
 
 use crate::files::ToolError;
@@ -37,22 +37,18 @@ pub fn dump_merged<'a, A: Allocator + Copy, W: Write>(
 ) -> Result<u64, ToolError<'a>>
     // If the files store lists, these are the newest visible versions of all lists together that
     // are in the range and no tombstones.
-    ensures list { (lists : List (List (List spec.Entry))) →
-        spec.RunsHoldLists (spec.runs_in files.now) lists → IfOk result (λ count. count ≡ length
-        (spec.merged_entries options.now.reverse most (spec.newest_in options.now seqno lists))) }
+    ensures list { spec.OnListsOf (spec.runs_in files.now) (λ lists. IfOk result (λ count.
+        count ≡ length (spec.merged_entries options.now.reverse most
+        (spec.newest_in options.now seqno lists)))) }
     // Whatever the bytes, if each key range is well formed and each file's entries in the range are
     // in order, all results that it read from the front are entries. No error is skipped.
-    ensures returned { options.now.reverse ≡ false →
-        spec.AllByRecursion (spec.IsInOrder spec.range_of) (spec.runs_in files.now) →
-        spec.AllByRecursion (λ rs. spec.Ascends (spec.entries_among rs))
-        (spec.ranges_in options.now (spec.runs_in files.now)) →
-        IfOk result (spec.PrintsMerged most
-        (spec.newest_found options.now seqno (spec.runs_in files.now))) }
+    ensures returned { spec.IfReadInOrder options.now (spec.runs_in files.now)
+        (IfOk result (spec.PrintsMerged most
+        (spec.newest_found options.now seqno (spec.runs_in files.now)))) }
     // An error that names a file names the first whose range cannot be read, with the first error
     // in the range. It stores no list: if all do, no error names a file.
     ensures named { IfErr result (spec.NamesUnread options.now files.now) }
-    ensures sound { (lists : List (List (List spec.Entry))) →
-        spec.RunsHoldLists (spec.runs_in files.now) lists → IfErr result spec.NamesNone }
+    ensures sound { spec.OnListsOf (spec.runs_in files.now) (λ _. IfErr result spec.NamesNone) }
 {
     let runs = runs_of(alloc, files)?;
     match print_merged(alloc, output, &runs, options, seqno, most) {
@@ -70,20 +66,16 @@ fn print_merged<A: Allocator + Copy, W: Write>(
     seqno: SeqNo,
     most: u64,
 ) -> Result<u64, ToolError<'static>>
-    ensures list { (lists : List (List (List spec.Entry))) →
-        spec.RunsHoldLists (map spec.arc_value runs.now) lists → IfOk result (λ count.
-        count ≡ length
-        (spec.merged_entries options.now.reverse most (spec.newest_in options.now seqno lists))) }
-    ensures returned { options.now.reverse ≡ false →
-        spec.AllByRecursion (spec.IsInOrder spec.range_of) (map spec.arc_value runs.now) →
-        spec.AllByRecursion (λ rs. spec.Ascends (spec.entries_among rs))
-        (spec.ranges_in options.now (map spec.arc_value runs.now)) →
-        IfOk result (spec.PrintsMerged most
-        (spec.newest_found options.now seqno (map spec.arc_value runs.now))) }
+    ensures list { spec.OnListsOf (map spec.arc_value runs.now) (λ lists. IfOk result (λ count.
+        count ≡ length (spec.merged_entries options.now.reverse most
+        (spec.newest_in options.now seqno lists)))) }
+    ensures returned { spec.IfReadInOrder options.now (map spec.arc_value runs.now)
+        (IfOk result (spec.PrintsMerged most
+        (spec.newest_found options.now seqno (map spec.arc_value runs.now)))) }
     // No file is named yet.
     ensures unnamed { IfErr result (spec.FailsOnlyAs (λ _. Unit {0})) }
-    ensures sound { (lists : List (List (List spec.Entry))) →
-        spec.RunsHoldLists (map spec.arc_value runs.now) lists → IfErr result spec.NamesNone }
+    ensures sound { spec.OnListsOf (map spec.arc_value runs.now) (λ _.
+        IfErr result spec.NamesNone) }
 {
     let bounds = bounds_of(alloc, options)?;
     if options.reverse {
@@ -122,10 +114,8 @@ fn print_newest_back<I: DoubleEndedIterator<Item = IterItem<A>>, A: Allocator + 
     format: Format,
     most: u64,
 ) -> Result<u64, ToolError<'static>>
-    requires can { spec.CanYield ⟦<NewestOf<I, A> as Iterator>⟧.next_gives
-        ⟦<NewestOf<I, A> as DoubleEndedIterator>⟧.next_back_gives
-        ⟦<NewestOf<I, A> as Iterator>⟧.can_next
-        ⟦<NewestOf<I, A> as DoubleEndedIterator>⟧.can_next_back newest }
+    requires can { let iter = ⟦<NewestOf<I, A> as DoubleEndedIterator>⟧ in
+        spec.CanYield iter.next_gives iter.next_back_gives iter.can_next iter.can_next_back newest }
     ensures unnamed { IfErr result (spec.FailsOnlyAs (λ _. Unit {0})) }
     ensures prints { spec.PrintsSteps ⟦<NewestOf<I, A> as DoubleEndedIterator>⟧.next_back_gives
         newest most result }
@@ -212,9 +202,9 @@ fn print_last<I: DoubleEndedIterator<Item = IterItem<A>>, A: Allocator + Copy, W
     requires { I.can_next_back items.old }
     ensures shows { (item : Option spec.Outcome) × I.next_back_gives items.old item items.new
         × spec.ShowsLive item result }
-    ensures lowers { spec.IsFinite (I.remaining items.old) →
-        IfOk result (λ shown. IfSome shown (λ _. spec.IsFinite (I.remaining items.new)
-        × (spec.size (I.remaining items.new) < spec.size (I.remaining items.old)))) }
+    ensures lowers { let was = I.remaining items.old in let left = I.remaining items.new in
+        spec.IsFinite was → IfOk result (λ r. IfSome r (λ _.
+        spec.IsFinite left × (spec.size left < spec.size was))) }
 {
     let Some(item) = items.next_back() else {
         return Ok(None);
