@@ -1,6 +1,6 @@
 //! The same workloads with borrowed entries.
 ghost use Rattle.std.specs.Prelude.{All, IfOk};
-ghost use Rattle.sst_entries.specs.Stream.{CanYield, nowhere};
+ghost use Rattle.lsm_runs.specs.RunLists.{CanLend};
 
 use crate::digest::{Digest, code};
 use crate::files::scanners_of;
@@ -17,7 +17,7 @@ use std::sync::Arc;
 
 // Iterates over all that is lent.
 fn drain<L: Lending>(source: &mut L, digest: &mut Digest) -> Result<(), Error>
-    requires { CanYield L.advances nowhere L.can_advance L.can_advance source.old }
+    requires { CanLend L.advances L.can_advance source.old }
 {
     while source.advance()? {
         if let Some(entry) = source.entry() {
@@ -52,9 +52,8 @@ fn newest_of<L: Lending + Drop>(
     alloc: Global,
     sources: Vec<L>,
 ) -> Result<LendingNewest<LendingMerger<L>>, Error>
-    requires { All (CanYield L.advances nowhere L.can_advance L.can_advance) sources.items }
-    ensures { IfOk result (CanYield ⟦<LendingNewest<LendingMerger<L>> as Lending>⟧.advances nowhere
-        ⟦<LendingNewest<LendingMerger<L>> as Lending>⟧.can_advance
+    requires { All (CanLend L.advances L.can_advance) sources.items }
+    ensures { IfOk result (CanLend ⟦<LendingNewest<LendingMerger<L>> as Lending>⟧.advances
         ⟦<LendingNewest<LendingMerger<L>> as Lending>⟧.can_advance) }
 {
     let merger = LendingMerger::new(alloc, sources)?;
@@ -66,8 +65,7 @@ fn drain_newest<L: Lending + Drop>(
     newest: &mut LentNewestOf<L, Global>,
     digest: &mut Digest,
 ) -> Result<(), Error>
-    requires { CanYield ⟦<LentNewestOf<L, Global> as Lending>⟧.advances nowhere
-        ⟦<LentNewestOf<L, Global> as Lending>⟧.can_advance
+    requires { CanLend ⟦<LentNewestOf<L, Global> as Lending>⟧.advances
         ⟦<LentNewestOf<L, Global> as Lending>⟧.can_advance newest.old }
 {
     drain(newest, digest)
@@ -105,7 +103,7 @@ pub(crate) fn drain_front<L: Lending + Drop>(
     count: usize,
     digest: &mut Digest,
 ) -> Result<(), Error>
-    requires { CanYield L.advances nowhere L.can_advance L.can_advance source }
+    requires { CanLend L.advances L.can_advance source }
 {
     for _ in 0..count {
         if !source.advance()? {

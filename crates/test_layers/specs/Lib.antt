@@ -1,3 +1,4 @@
 pub mod Keys
 pub mod Rows
+pub mod Sorted
 pub mod Words

@@ -1,13 +1,10 @@
 //! Combines the public laws on sources that are read from the front only, whatever errors are among
 //! them.
-ghost use Rattle.std.specs.Prelude.{◌≡◌, Bool, List, [], IfOk};
+ghost use Rattle.std.specs.Prelude.{IfOk};
 ghost use Rattle.lsm_sorted.specs.Words as spec;
-ghost use Rattle.sst_entries.specs.Stream.{ok_results};
-ghost use Rattle.sst_entries.specs.declared.error.Error.{Error};
-ghost use Rattle.lsm_sorted.specs.merge.Union.{all_errors, union_of};
-ghost use Rattle.lsm_sorted.specs.merge.MergeLaws.{CanMerge, YieldSorted, every_error};
-ghost use Rattle.lsm_sorted.specs.Compaction.{kept, unfiltered};
+ghost use Rattle.lsm_sorted.specs.merge.MergeLaws.{YieldsBeforeErrors};
 ghost use Rattle.lsm_sorted.specs.Gap.{GivesUpToGap};
+ghost use Rattle.test_layers.specs.Sorted.{CanMergeFront, KeepsSorted};
 
 use lsm_sorted::compaction::stream::{CompactionStream, NoCallback, NoFilter};
 use lsm_sorted::{Merger, from_both_ends, up_to_gap};
@@ -22,12 +19,8 @@ fn compaction_of<I: Iterator<Item = IterItem<A>>, A: Allocator + Clone>(
     iterators: Vec<I, A>,
     threshold: SeqNo,
 ) -> Result<CompactionStream<Merger<I, A>, NoFilter, NoCallback>, Error>
-    ensures kept { IfOk result (λ s. (stops : Error → Bool) (lists : List (List spec.R)) →
-        YieldSorted I.next_gives spec.nowhere stops iterators.items lists →
-        all_errors lists ≡ [] →
-        spec.YieldsExactly (spec.answer_stops stops)
-        ⟦<CompactionStream<Merger<I, A>, NoFilter, NoCallback> as Iterator>⟧.next_gives
-        spec.nowhere s (ok_results (kept (spec.rules_of s) (unfiltered (union_of lists))))) }
+    ensures kept { IfOk result (λ s. KeepsSorted I.next_gives iterators.items (spec.rules_of s)
+        ⟦<CompactionStream<Merger<I, A>, NoFilter, NoCallback> as Iterator>⟧.next_gives s) }
     // With errors among the items: the entries up to the first error that is met, and this error.
     ensures past { IfOk result (λ s.
         GivesUpToGap I.next_gives spec.nowhere iterators.items (spec.rules_of s)
@@ -46,14 +39,10 @@ fn merged_from_the_front<I: DoubleEndedIterator<Item = IterItem<A>>, A: Allocato
     alloc: A,
     iterators: Vec<I, A>,
 ) -> Result<Merger<I, A>, Error>
-    ensures yields { IfOk result (λ m. (stops : Error → Bool) (lists : List (List spec.R)) →
-        YieldSorted I.next_gives I.next_back_gives stops iterators.items lists →
-        spec.YieldsExactly (spec.answer_stops every_error) ⟦<Merger<I, A> as Iterator>⟧.next_gives
-        spec.nowhere m (ok_results (union_of lists))) }
-    ensures can { IfOk result (λ m.
-        CanMerge I.next_gives spec.nowhere I.can_next I.can_next I.remaining iterators.items
-        ⟦<Merger<I, A> as Iterator>⟧.next_gives spec.nowhere ⟦<Merger<I, A> as Iterator>⟧.can_next
-        ⟦<Merger<I, A> as Iterator>⟧.can_next m) }
+    ensures yields { IfOk result (YieldsBeforeErrors I.next_gives I.next_back_gives iterators.items
+        ⟦<Merger<I, A> as Iterator>⟧.next_gives spec.nowhere) }
+    ensures can { IfOk result (CanMergeFront I.next_gives I.can_next I.remaining iterators.items
+        ⟦<Merger<I, A> as Iterator>⟧.next_gives ⟦<Merger<I, A> as Iterator>⟧.can_next) }
 {
     let merger = Merger::new(alloc, iterators)?;
     from_both_ends(&merger);

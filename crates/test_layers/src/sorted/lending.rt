@@ -87,9 +87,8 @@ fn lists_of(alloc: Global, seed: u64, count: u8) -> Result<Vec<Vec<IterItem>>, E
 }
 
 fn merger_of(alloc: Global, lists: Vec<Vec<IterItem>>) -> Result<Merger<IntoIter<IterItem>>, Error>
-    ensures can { IfOk result (CanYield ⟦<Merger<IntoIter<IterItem>> as Iterator>⟧.next_gives
-        nowhere ⟦<Merger<IntoIter<IterItem>> as Iterator>⟧.can_next
-        ⟦<Merger<IntoIter<IterItem>> as Iterator>⟧.can_next) }
+    ensures can { let iter = ⟦<Merger<IntoIter<IterItem>> as Iterator>⟧ in
+        IfOk result (CanYield iter.next_gives nowhere iter.can_next iter.can_next) }
 {
     let mut sources = Vec::new(alloc);
     for list in lists {
