@@ -67,3 +67,10 @@ pub record StepsCompaction
   -- it is one call of the library's compaction
   pub steps : (s : Compacting) → w ≡ Compaction (Some s) →
       IsCompactionAs (HandsOut gives s code files next) v
+
+-- if the files' handle is closed and the other holds an object, its next table is handed out
+abbrev pub StepsHeld :
+    (Compacting → Option (Result (FinishedTable Global) TableStreamError) → Compacting → Type 0)
+    → (compaction after files made : Option Held) (code next : ℕ) → Type 0
+StepsHeld gives compaction after files made code next = (h : Held) → files ≡ None
+    → compaction ≡ Some h → IsSomeAnd after (λ k. StepsCompaction gives h.what code made next k.what)

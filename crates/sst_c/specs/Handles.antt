@@ -2,6 +2,7 @@
 -- kind.
 use Rattle.std.specs.Prelude.{◌≡◌, ◌≢◌, ◌⊎◌, ◌||◌, ℕ, Bool, false, true, List, Option, None, Some}
 use Rattle.std.specs.Prelude.{IsSomeAnd, is_some, nat_lt}
+use Rattle.sst_entries.specs.Entry.{Entry}
 use Rattle.sst_c.specs.Reported.{entry_facts, found_by, found_in}
 use Rattle.sst_c.specs.What.{writer_in}
 use Rattle.sst_c.specs.declared.entries.EntryReport.{EntryReport}
@@ -52,6 +53,16 @@ pub record OpensNewWithin (lower_kind upper_kind : ℕ) (is_kind : What → Bool
   pub memory : is_kind w ≡ true → nat_lt 2 lower_kind || nat_lt 2 upper_kind ≡ false
       → (code ≡ 0) ⊎ (code ≡ 1)
 
+-- if a handle is closed and the source holds an object, this holds of the object
+abbrev pub FromHeld : (handle source : Option Held) → (What → Type 0) → Type 0
+FromHeld handle source P = (h : Held) → handle ≡ None → source ≡ Some h → P h.what
+
+-- if the source holds an object and the code is 0, the opened handle holds one that is made of it so
+abbrev pub MakesFrom : (source : Option Held) (code : ℕ) (after : Option Held)
+    → (What → What → Type 0) → Type 0
+MakesFrom source code after Makes = (h : Held) → source ≡ Some h → code ≡ 0
+    → IsSomeAnd after (λ k. Makes h.what k.what)
+
 -- a call queries a handle that holds an object of some kind, and leaves it unchanged
 pub record QueriesHandle (is_kind : What → Bool) (handle after : Option Held) (code : ℕ) : Type 0
   where
@@ -67,6 +78,13 @@ pub record ReadsThrough (is_kind : What → Bool) (handle after : Option Held) (
   pub other : (h : Held) → handle ≡ Some h → is_kind h.what ≡ false
       → (code ≡ 102) × IsSomeAnd after (λ k. (found_by k ≡ None) × (k.what ≡ h.what))
   pub entry : report ≡ entry_facts (found_in after)
+
+-- if the handle holds an object, a read of this kind leads to the object that it holds after that,
+-- with the code and the entry found
+abbrev pub ReadsHeld : (handle : Option Held) (code : ℕ) (after : Option Held)
+    → (What → ℕ → Option Entry → What → Type 0) → Type 0
+ReadsHeld handle code after Reads = (h : Held) → handle ≡ Some h
+    → IsSomeAnd after (λ k. Reads h.what code (found_by k) k.what)
 
 -- the same in bulk: if the handle is closed or of another kind, nothing is copied or counted
 pub record TakesThrough (is_kind : What → Bool) (handle after : Option Held)

@@ -195,11 +195,16 @@ pub record RangesTable (low high : Bound (List ℕ)) (t : OpenTable) (s : Range 
   -- for bytes that store a list, both ends yield its entries within the bounds
   pub list : (es : List Entry) → StoresList t.bytes es → YieldsTable low high es t.global_seqno s
 
+-- the object is a range of this table within bounds as C passes them
+abbrev pub IsRangeWithin : ℕ → List ℕ → ℕ → List ℕ → OpenTable → What → Type 0
+IsRangeWithin lower_kind lower upper_kind upper t = IsRangeWhere
+    (RangesTable (decode_bound lower_kind lower) (decode_bound upper_kind upper) t)
+
 -- if the object w is a table, v is a range of it within bounds as C passes them
 pub record RangesHeld (lower_kind : ℕ) (lower : List ℕ) (upper_kind : ℕ) (upper : List ℕ) (w v : What)
     : Type 0 where
-  pub range : (t : OpenTable) → w ≡ Table t → IsRangeWhere
-      (RangesTable (decode_bound lower_kind lower) (decode_bound upper_kind upper) t) v
+  pub range : (t : OpenTable) → w ≡ Table t →
+      IsRangeWithin lower_kind lower upper_kind upper t v
 
 -- if the object w is a table, v is a verification of it that has read nothing yet
 pub record VerifiesHeld (w v : What) : Type 0 where

@@ -54,12 +54,14 @@ unfoldable pub use Rattle.sst_c.specs.Compact.{ReportsOutcome}
 pub use Rattle.sst_c.specs.Compacting.{Compacting as CompactionState, StartsCompaction, TakesNext}
 pub use Rattle.sst_c.specs.Compacting.{item_taken}
 pub use Rattle.sst_c.specs.CompactionSteps.{HandsOut, OpensCompaction, ReportsTable, StepsCompaction}
+pub use Rattle.sst_c.specs.CompactionSteps.{StepsHeld}
 pub use Rattle.sst_c.specs.Copies.{CopiesEntry, LendsEntry, copy_code, laid_over, lend_code}
 pub use Rattle.sst_c.specs.Facts.{table_facts}
 pub use Rattle.sst_c.specs.Files.{CopiesFile, CopiesPart, TellsFile, file_at}
 unfoldable pub use Rattle.sst_c.specs.Files.{file_facts}
-pub use Rattle.sst_c.specs.Handles.{OpensNew, OpensNewWithin, OpensFrom, OpensHandle, OpensWithin}
-pub use Rattle.sst_c.specs.Handles.{QueriesHandle, ReadsThrough, TakesThrough, UsesSource}
+pub use Rattle.sst_c.specs.Handles.{FromHeld, MakesFrom, OpensFrom, OpensHandle, OpensNew}
+pub use Rattle.sst_c.specs.Handles.{OpensNewWithin, OpensWithin, QueriesHandle, ReadsHeld}
+pub use Rattle.sst_c.specs.Handles.{ReadsThrough, TakesThrough, UsesSource}
 pub use Rattle.sst_c.specs.Handles.{WritesThrough}
 pub use Rattle.sst_c.specs.Many.{AnswersHeld, AnswersKeys, GetsMany, GivesMany, ManyResult, answer_at}
 pub use Rattle.sst_c.specs.Many.{copy_at_code, keys_cut, lend_at_code, many_kept, points_asked, points_of}
@@ -91,9 +93,9 @@ pub use Rattle.sst_c.specs.Verify.{verify_result}
 unfoldable pub use Rattle.sst_c.specs.Verify.{VerifyAnswers}
 pub use Rattle.sst_c.specs.What.{HoldsFiles, IsMergedWhere, IsOpenedAs, IsPackingWhere}
 pub use Rattle.sst_c.specs.What.{PacksHeld, RangesHeld, RangesTable, VerifiesHeld}
-pub use Rattle.sst_c.specs.What.{IsRangeWhere, IsRunsScanAs, IsRunsScanWhere, IsScanWhere}
-pub use Rattle.sst_c.specs.What.{IsVerificationWhere, MergedStepsBy, are_files, are_runs, begun}
-pub use Rattle.sst_c.specs.What.{decode_bound, files_held, is_packing, is_range, is_scan, is_table}
+pub use Rattle.sst_c.specs.What.{IsRangeWhere, IsRangeWithin, IsRunsScanAs, IsRunsScanWhere}
+pub use Rattle.sst_c.specs.What.{IsScanWhere, IsVerificationWhere, MergedStepsBy, are_files, are_runs}
+pub use Rattle.sst_c.specs.What.{begun, decode_bound, files_held, is_packing, is_range, is_scan, is_table}
 pub use Rattle.sst_c.specs.What.{is_verification, many_in, packed_chain, packed_runs, runs_held}
 pub use Rattle.sst_c.specs.What.{writer_in}
 pub use Rattle.sst_c.specs.Writing.{Finishes, decode_kind}

@@ -36,10 +36,8 @@ impl Model for Asked {
 impl Asked {
     /// Wraps a stream that can be stepped any number of times.
     pub(crate) fn new(newest: NewestAt) -> Asked
-        requires { spec.CanYield ⟦<NewestAt as Iterator>⟧.next_gives
-            ⟦<NewestAt as DoubleEndedIterator>⟧.next_back_gives
-            ⟦<NewestAt as Iterator>⟧.can_next
-            ⟦<NewestAt as DoubleEndedIterator>⟧.can_next_back newest }
+        requires { let iter = ⟦<NewestAt as DoubleEndedIterator>⟧ in spec.CanYield
+            iter.next_gives iter.next_back_gives iter.can_next iter.can_next_back newest }
         ensures { result ≡ newest }
     {
         Asked { newest }
@@ -64,14 +62,10 @@ fn step_of<S: DoubleEndedIterator<Item = IterItem<Global>>>(
     newest: &mut NewestOf<S, Global>,
     back: bool,
 ) -> Option<IterItem<Global>>
-    requires { spec.CanYield ⟦<NewestOf<S, Global> as Iterator>⟧.next_gives
-        ⟦<NewestOf<S, Global> as DoubleEndedIterator>⟧.next_back_gives
-        ⟦<NewestOf<S, Global> as Iterator>⟧.can_next
-        ⟦<NewestOf<S, Global> as DoubleEndedIterator>⟧.can_next_back newest.old }
-    ensures can { spec.CanYield ⟦<NewestOf<S, Global> as Iterator>⟧.next_gives
-        ⟦<NewestOf<S, Global> as DoubleEndedIterator>⟧.next_back_gives
-        ⟦<NewestOf<S, Global> as Iterator>⟧.can_next
-        ⟦<NewestOf<S, Global> as DoubleEndedIterator>⟧.can_next_back newest.new }
+    requires { let iter = ⟦<NewestOf<S, Global> as DoubleEndedIterator>⟧ in spec.CanYield
+        iter.next_gives iter.next_back_gives iter.can_next iter.can_next_back newest.old }
+    ensures can { let iter = ⟦<NewestOf<S, Global> as DoubleEndedIterator>⟧ in spec.CanYield
+        iter.next_gives iter.next_back_gives iter.can_next iter.can_next_back newest.new }
     ensures front { back ≡ false →
         ⟦<NewestOf<S, Global> as Iterator>⟧.next_gives newest.old result newest.new }
     ensures back { back ≡ true →

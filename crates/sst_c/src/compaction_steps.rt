@@ -194,10 +194,9 @@ pub extern "C" fn sst_compaction_next(
     ensures shut { files.old.boxed.value ≡ None → compaction.old.boxed.value ≡ None →
         (result ≡ 100) × (compaction.new.boxed.value ≡ None) }
     // It is one call of the library's compaction.
-    ensures steps { (h : spec.HeldValue) → files.old.boxed.value ≡ None →
-        compaction.old.boxed.value ≡ Some h → IsSomeAnd compaction.new.boxed.value (λ k.
-        spec.StepsCompaction ⟦<Compaction<Global> as Iterator>⟧.next_gives h.what result
-        files.new.boxed.value next_id.new k.what) }
+    ensures steps { spec.StepsHeld ⟦<Compaction<Global> as Iterator>⟧.next_gives
+        compaction.old.boxed.value compaction.new.boxed.value
+        files.old.boxed.value files.new.boxed.value result next_id.new }
     // The entry found by the last read is unchanged.
     ensures found { (h : spec.HeldValue) → compaction.old.boxed.value ≡ Some h →
         IsSomeAnd compaction.new.boxed.value (λ k. spec.found_by k ≡ spec.found_by h) }

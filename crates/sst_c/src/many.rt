@@ -217,9 +217,9 @@ pub extern "C" fn sst_table_get_many(
 ) -> u32
     ensures opens { spec.OpensFrom spec.is_table table.old.boxed.value table.new.boxed.value
         answers.old.boxed.value answers.new.boxed.value result }
-    ensures gets { (h : spec.HeldValue) → answers.old.boxed.value ≡ None →
-        table.old.boxed.value ≡ Some h → spec.GetsMany h.what keys.now key_lens.now seqno result
-        answers.new.boxed.value entries.old entries.new }
+    ensures gets { spec.FromHeld answers.old.boxed.value table.old.boxed.value (λ w.
+        spec.GetsMany w keys.now key_lens.now seqno result answers.new.boxed.value
+        entries.old entries.new) }
     ensures left { result ≢ 0 → entries.new ≡ entries.old }
 {
     if answers.is_open() {

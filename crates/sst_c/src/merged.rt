@@ -124,13 +124,12 @@ pub extern "C" fn sst_runs_range_open(
     ensures opens { spec.OpensWithin lower_kind upper_kind spec.are_runs runs.old.boxed.value
         runs.new.boxed.value range.old.boxed.value range.new.boxed.value result }
     // It yields the newest versions within the bounds and below `seqno`, from both ends.
-    ensures ranges { (h : spec.HeldValue) → runs.old.boxed.value ≡ Some h → result ≡ 0 →
-        IsSomeAnd range.new.boxed.value (λ r.
-        spec.RangesRunsHeld ⟦<ReaderAt as Iterator>⟧.next_gives
+    ensures ranges { spec.MakesFrom runs.old.boxed.value result range.new.boxed.value
+        (spec.RangesRunsHeld ⟦<ReaderAt as Iterator>⟧.next_gives
         ⟦<ReaderAt as DoubleEndedIterator>⟧.next_back_gives
         ⟦<NewestAt as Iterator>⟧.next_gives
         ⟦<NewestAt as DoubleEndedIterator>⟧.next_back_gives
-        lower_kind lower.now upper_kind upper.now seqno h.what r.what) }
+        lower_kind lower.now upper_kind upper.now seqno) }
 {
     if range.is_open() {
         return OPEN;

@@ -104,8 +104,8 @@ pub extern "C" fn sst_packing_open(alloc: Global, runs: &mut Handle, packing: &m
         runs.old.boxed.value ≡ Some h → spec.are_runs h.what ≡ true → (result ≡ 0) ⊎ (result ≡ 1) }
     // The tables are those of the list, and the order of each key's tables is kept. No fewer runs
     // suffice, and the chain has as many tables as there are runs.
-    ensures packed { (h : spec.HeldValue) → runs.old.boxed.value ≡ Some h → result ≡ 0 →
-        IsSomeAnd packing.new.boxed.value (λ k. spec.PacksHeld h.what k.what) }
+    ensures packed { spec.MakesFrom runs.old.boxed.value result packing.new.boxed.value
+        spec.PacksHeld }
 {
     if packing.is_open() {
         return OPEN;

@@ -1,5 +1,5 @@
 //! Ranges, read from both ends, and opening a range of a table.
-ghost use Rattle.std.specs.Prelude.{◌≡◌, ◌≢◌, ◌<◌, ◌⊎◌, false, IfErr, IfOk, IsSomeAnd, None, Some};
+ghost use Rattle.std.specs.Prelude.{◌≡◌, ◌≢◌, ◌<◌, ◌⊎◌, false, IfErr, IfOk, IsSomeAnd, None};
 ghost use Rattle.std.specs.Prelude.{is_some, true};
 ghost use Rattle.sst_c.specs.Words as spec;
 
@@ -83,8 +83,7 @@ fn begin_within(
     ensures memory { (result ≡ 0) ⊎ (result ≡ 1) }
     ensures new { result ≡ 0 → IsSomeAnd range.new.boxed.value (λ r. spec.found_by r ≡ None) }
     ensures ranges { result ≡ 0 → IsSomeAnd range.new.boxed.value (λ r.
-        spec.IsRangeWhere (spec.RangesTable (spec.decode_bound lower_kind lower.now)
-        (spec.decode_bound upper_kind upper.now) table.now) r.what) }
+        spec.IsRangeWithin lower_kind lower.now upper_kind upper.now table.now r.what) }
     ensures left { result ≢ 0 → range.new.boxed.value ≡ None }
 {
     match range_within(alloc, table, lower_kind, lower, upper_kind, upper) {
@@ -144,9 +143,8 @@ pub extern "C" fn sst_range_open(
     ensures opens { spec.OpensWithin lower_kind upper_kind spec.is_table table.old.boxed.value
         table.new.boxed.value range.old.boxed.value range.new.boxed.value result }
     // It reads the table within the bounds, from both ends.
-    ensures ranges { (h : spec.HeldValue) → table.old.boxed.value ≡ Some h → result ≡ 0 →
-        IsSomeAnd range.new.boxed.value (λ r.
-        spec.RangesHeld lower_kind lower.now upper_kind upper.now h.what r.what) }
+    ensures ranges { spec.MakesFrom table.old.boxed.value result range.new.boxed.value
+        (spec.RangesHeld lower_kind lower.now upper_kind upper.now) }
 {
     if range.is_open() {
         return OPEN;
@@ -257,11 +255,9 @@ pub extern "C" fn sst_range_next(
     ensures reads { spec.ReadsThrough spec.is_range range.old.boxed.value range.new.boxed.value
         result entry.new }
     // It is one step of the range from that end.
-    ensures steps { (h : spec.HeldValue) → range.old.boxed.value ≡ Some h →
-        IsSomeAnd range.new.boxed.value (λ k.
-        spec.StepsRange ⟦<NewestAt as Iterator>⟧.next_gives
-        ⟦<NewestAt as DoubleEndedIterator>⟧.next_back_gives back h.what result
-        (spec.found_by k) k.what) }
+    ensures steps { spec.ReadsHeld range.old.boxed.value result range.new.boxed.value
+        (spec.StepsRange ⟦<NewestAt as Iterator>⟧.next_gives
+        ⟦<NewestAt as DoubleEndedIterator>⟧.next_back_gives back) }
 {
     *entry = tell(None);
     let Some(mut held) = range.take(alloc) else {
@@ -333,11 +329,10 @@ pub extern "C" fn sst_range_take(
     ensures through { spec.TakesThrough spec.is_range range.old.boxed.value range.new.boxed.value
         entries.old entries.new bytes.old bytes.new count.new result found.new }
     // It makes as many steps as needed, each as `sst_range_next` does.
-    ensures takes { (h : spec.HeldValue) → range.old.boxed.value ≡ Some h →
-        IsSomeAnd range.new.boxed.value (λ k.
-        spec.TakesRange ⟦<NewestAt as Iterator>⟧.next_gives
-        ⟦<NewestAt as DoubleEndedIterator>⟧.next_back_gives back entries.old
-        entries.new bytes.old bytes.new count.new h.what result (spec.found_by k) k.what) }
+    ensures takes { spec.ReadsHeld range.old.boxed.value result range.new.boxed.value
+        (spec.TakesRange ⟦<NewestAt as Iterator>⟧.next_gives
+        ⟦<NewestAt as DoubleEndedIterator>⟧.next_back_gives back
+        entries.old entries.new bytes.old bytes.new count.new) }
 {
     *count = 0;
     *found = tell(None);

@@ -1,5 +1,5 @@
 //! Opening scans of several runs.
-ghost use Rattle.std.specs.Prelude.{◌≡◌, ◌<◌, IfErr, IfOk, IsSomeAnd, None, Some};
+ghost use Rattle.std.specs.Prelude.{◌≡◌, ◌<◌, IfErr, IfOk, IsSomeAnd, None};
 ghost use Rattle.sst_c.specs.Words as spec;
 
 use crate::codes::{CLOSED, NO_SUCH, OPEN, OTHER_KIND};
@@ -109,10 +109,9 @@ pub extern "C" fn sst_runs_scan_open(
     ensures opens { spec.OpensWithin lower_kind upper_kind spec.are_runs runs.old.boxed.value
         runs.new.boxed.value scan.old.boxed.value scan.new.boxed.value result }
     // It lends the newest versions within the bounds and below `seqno`.
-    ensures scans { (h : spec.HeldValue) → runs.old.boxed.value ≡ Some h → result ≡ 0 →
-        IsSomeAnd scan.new.boxed.value (λ k.
-        spec.ScansRunsHeld ⟦<LentAt as Lending>⟧.advances lower_kind lower.now
-        upper_kind upper.now seqno h.what k.what) }
+    ensures scans { spec.MakesFrom runs.old.boxed.value result scan.new.boxed.value
+        (spec.ScansRunsHeld ⟦<LentAt as Lending>⟧.advances lower_kind lower.now
+        upper_kind upper.now seqno) }
 {
     if scan.is_open() {
         return OPEN;

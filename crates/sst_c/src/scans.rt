@@ -78,8 +78,8 @@ pub extern "C" fn sst_scan_open(alloc: Global, table: &mut Handle, scan: &mut Ha
     ensures reports { (h : spec.HeldValue) (t : spec.OpenTable) → scan.old.boxed.value ≡ None →
         table.old.boxed.value ≡ Some h → h.what ≡ spec.TableOf t → spec.ReportsScan t result }
     // It yields all entries of the table, in order.
-    ensures scans { (h : spec.HeldValue) → table.old.boxed.value ≡ Some h → result ≡ 0 →
-        IsSomeAnd scan.new.boxed.value (λ k. spec.ScansHeld h.what k.what) }
+    ensures scans { spec.MakesFrom table.old.boxed.value result scan.new.boxed.value
+        spec.ScansHeld }
 {
     if scan.is_open() {
         return OPEN;
@@ -155,10 +155,8 @@ pub(crate) fn step(held: &mut Held) -> u32
 pub extern "C" fn sst_scan_next(alloc: Global, scan: &mut Handle, entry: &mut EntryReport) -> u32
     ensures reads { spec.ReadsThrough spec.is_scan scan.old.boxed.value scan.new.boxed.value result
         entry.new }
-    ensures steps { (h : spec.HeldValue) → scan.old.boxed.value ≡ Some h →
-        IsSomeAnd scan.new.boxed.value (λ k.
-        spec.StepsScan ⟦<LentAt as Lending>⟧.advances h.what result
-        (spec.found_by k) k.what) }
+    ensures steps { spec.ReadsHeld scan.old.boxed.value result scan.new.boxed.value
+        (spec.StepsScan ⟦<LentAt as Lending>⟧.advances) }
 {
     *entry = tell(None);
     let Some(mut held) = scan.take(alloc) else {
@@ -222,10 +220,9 @@ pub extern "C" fn sst_scan_take(
     ensures through { spec.TakesThrough spec.is_scan scan.old.boxed.value scan.new.boxed.value
         entries.old entries.new bytes.old bytes.new count.new result found.new }
     // It makes as many steps as needed, each as `sst_scan_next` does.
-    ensures takes { (h : spec.HeldValue) → scan.old.boxed.value ≡ Some h →
-        IsSomeAnd scan.new.boxed.value (λ k.
-        spec.TakesScan ⟦<LentAt as Lending>⟧.advances entries.old entries.new
-        bytes.old bytes.new count.new h.what result (spec.found_by k) k.what) }
+    ensures takes { spec.ReadsHeld scan.old.boxed.value result scan.new.boxed.value
+        (spec.TakesScan ⟦<LentAt as Lending>⟧.advances entries.old entries.new
+        bytes.old bytes.new count.new) }
 {
     *count = 0;
     *found = tell(None);

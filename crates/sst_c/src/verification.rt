@@ -51,8 +51,8 @@ pub extern "C" fn sst_verification_open(
     ensures memory { (h : spec.HeldValue) → verification.old.boxed.value ≡ None →
         table.old.boxed.value ≡ Some h → spec.is_table h.what ≡ true → (result ≡ 0) ⊎ (result ≡ 1) }
     // It verifies the table, and has read nothing yet.
-    ensures begun { (h : spec.HeldValue) → table.old.boxed.value ≡ Some h → result ≡ 0 →
-        IsSomeAnd verification.new.boxed.value (λ k. spec.VerifiesHeld h.what k.what) }
+    ensures begun { spec.MakesFrom table.old.boxed.value result verification.new.boxed.value
+        spec.VerifiesHeld }
 {
     if verification.is_open() {
         return OPEN;
