@@ -79,13 +79,6 @@ pub record ReadsThrough (is_kind : What → Bool) (handle after : Option Held) (
       → (code ≡ 102) × IsSomeAnd after (λ k. (found_by k ≡ None) × (k.what ≡ h.what))
   pub entry : report ≡ entry_facts (found_in after)
 
--- if the handle holds an object, a read of this kind leads to the object that it holds after that,
--- with the code and the entry found
-abbrev pub ReadsHeld : (handle : Option Held) (code : ℕ) (after : Option Held)
-    → (What → ℕ → Option Entry → What → Type 0) → Type 0
-ReadsHeld handle code after Reads = (h : Held) → handle ≡ Some h
-    → IsSomeAnd after (λ k. Reads h.what code (found_by k) k.what)
-
 -- the same in bulk: if the handle is closed or of another kind, nothing is copied or counted
 pub record TakesThrough (is_kind : What → Bool) (handle after : Option Held)
     (places returned : List EntryReport) (room copied : List ℕ) (count code : ℕ)
@@ -94,6 +87,13 @@ pub record TakesThrough (is_kind : What → Bool) (handle after : Option Held)
   pub closed : handle ≡ None → (count ≡ 0) × (returned ≡ places) × (copied ≡ room)
   pub none : (h : Held) → handle ≡ Some h → is_kind h.what ≡ false
       → (count ≡ 0) × (returned ≡ places) × (copied ≡ room)
+
+-- if the handle holds an object, a read of this kind leads to the object that it holds after that,
+-- with the code and the entry found
+abbrev pub ReadsHeld : (handle : Option Held) (code : ℕ) (after : Option Held)
+    → (What → ℕ → Option Entry → What → Type 0) → Type 0
+ReadsHeld handle code after Reads = (h : Held) → handle ≡ Some h
+    → IsSomeAnd after (λ k. Reads h.what code (found_by k) k.what)
 
 -- a call writes through a handle that holds a writer. If the handle is closed or holds none, nothing
 -- is written. The entry found by the last read is unchanged
