@@ -30,11 +30,14 @@ pub use Rattle.lsm_runs.specs.RunLists.{TableLists, each_run, single, span_list}
 pub use Rattle.lsm_runs.specs.RunScan.{BeginsNext, BeginsScan, IsScanOf, RunScansNext, ScansItem}
 pub use Rattle.lsm_runs.specs.RunScan.{early_scan_fault, lent_of_run, lent_of_scan, over_scan}
 pub use Rattle.lsm_runs.specs.RunScan.{run_scan_size, scan_fault, tables_between, tables_scan}
-pub use Rattle.lsm_runs.specs.RunYields.{IsReaderWithin, ReaderOpensFew, ReaderYieldsList}
+pub use Rattle.lsm_runs.specs.RunYields.{IfEachEnds, IsReaderWithin, ReaderOpensFew, ReaderYields}
+pub use Rattle.lsm_runs.specs.RunYields.{ReaderYieldsLeft, ReaderYieldsList, ReadersYield}
+pub use Rattle.lsm_runs.specs.RunYields.{RunsYieldAllBelow, RunsYieldNewest, RunsYieldNewestBelow}
 pub use Rattle.lsm_runs.specs.RunYields.{SpanOpensFew, SpanScans, SpanScansList, SpanYieldsList}
-pub use Rattle.lsm_runs.specs.RunYields.{ReaderYieldsLeft, span_scan}
-pub use Rattle.lsm_runs.specs.SpansRead.{IsOverSourcesBelow, IsOverSpans, IsOverSpansBelow}
-pub use Rattle.lsm_runs.specs.SpansRead.{spans_within, with_readers}
+pub use Rattle.lsm_runs.specs.RunYields.{span_scan}
+pub use Rattle.lsm_runs.specs.SpansRead.{AreReadersWithin, IsOverSourcesBelow, IsOverSpans}
+pub use Rattle.lsm_runs.specs.SpansRead.{IsOverSpansBelow, StepsOverSpans, spans_within}
+pub use Rattle.lsm_runs.specs.SpansRead.{with_readers}
 pub use Rattle.lsm_runs.specs.SeveralRuns.{LoadsEach, is_older, loads_together, run_read}
 pub use Rattle.lsm_runs.specs.SeveralRuns.{run_read_behind, runs_read, runs_read_by_age, runs_result}
 pub use Rattle.lsm_runs.specs.SeveralRuns.{union_in, worth_asking}
@@ -42,7 +45,8 @@ pub use Rattle.lsm_runs.specs.LentRun.{OpensNext, ReaderLends, RunLends, Stands,
 pub use Rattle.lsm_runs.specs.LentRun.{over_run}
 pub use Rattle.lsm_sorted.specs.LentBelow.{LendsBelow, MayLendBelow, lent_below, lent_passes}
 pub use Rattle.lsm_sorted.specs.LentBelow.{only_below}
-pub use Rattle.lsm_runs.specs.LentNewestRuns.{LendsNewest, LendsResults, runs_results_within}
+pub use Rattle.lsm_runs.specs.LentNewestRuns.{LendsNewest, LendsResults, RunsLendNewest}
+pub use Rattle.lsm_runs.specs.LentNewestRuns.{runs_results_within}
 pub use Rattle.std.specs.Arc.{arc_value}
 pub use Rattle.std.specs.Iterator.{IsFinite, at_most}
 pub use Rattle.std.specs.List.{AllByRecursion, AllZip}
@@ -56,4 +60,5 @@ pub use Rattle.lsm_iters.specs.walk.Walks.{WalkTakes}
 pub use Rattle.lsm_iters.specs.Range.{range_remains}
 pub use Rattle.lsm_iters.specs.Steps.{without_lent}
 pub use Rattle.lsm_run_parts.specs.Tables.{KeepsTables, coming_tables}
-pub use Rattle.lsm_runs.specs.RunPlaces.{IsThere, run_place, placed_in_run, placed_in_runs}
+pub use Rattle.lsm_runs.specs.RunPlaces.{IsThere, OnEntryStored, ReadsPlace, entry_stored, run_place}
+pub use Rattle.lsm_runs.specs.RunPlaces.{placed_in_run, placed_in_runs}
