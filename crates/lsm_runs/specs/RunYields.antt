@@ -135,7 +135,7 @@ abbrev pub RunsYieldAllBelow : {S Z : Type 0}
     (front back : S → Option (Result Entry Error) → S → Type 0) → ℕ → Bound (List ℕ)
     → Bound (List ℕ) → List (Arc (List OpenTable) Z) → Result S Error → Type 0
 RunsYieldAllBelow front back bound low high runs r = OnLists runs (λ lists.
-    All (λ e. e.seqno < bound) (union_in lists) →
+    All (λ (e : Entry). e.seqno < bound) (union_in lists) →
     IfOk r (YieldsList front back (newest (within low high (union_in lists)))))
 
 -- ---- further sources
